@@ -41,7 +41,7 @@ ROUNDS = 3
 FEW, SMALL, MANY = 1, (64, 256), 8
 # The places of a round in which a helper or the control marks.
 MARKING = set("MC KX MG MB MO MS MF GO I0 I1 H0 E1 E2 PH CS LV".split())
-LINE = "marking_hints: shen_base shen_graph heap_words trace_grammar trace_reading heap_machines hint_deque table_heap crossbeam_utils\n"
+LINE = "marking_hints: shen_base shen_graph heap_words trace_reading heap_machines table_heap crossbeam_utils\n"
 COUNTED = re.compile(r"^== (\d+)\ngreyed (\d+) own (\d+) stolen (\d+) hinted (\d+)$", re.M)
 
 

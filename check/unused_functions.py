@@ -15,7 +15,7 @@ import sys
 TOP = os.path.dirname(os.path.dirname(os.path.abspath(__file__)))
 CRATES = os.path.join(TOP, "crates")
 # Crates of tests alone: a call there is no use.
-TESTS = {"word_tests", "text_tests", "heap_tests", "hostile_tests"}
+TESTS = {"text_tests", "heap_tests"}
 # Calls that users of the libraries are promised, whether or not a program of this repository makes them: the graph by itself, the
 # parts as machines by themselves, a trace written, or taken line by line, the calls of an image one by one, a graph placed in a heap, a
 # heap that goes on from an image or a dump, or is renewed, bundles that are driven, seats that are given up together, dumps, and a test of

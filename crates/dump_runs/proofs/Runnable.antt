@@ -6,8 +6,8 @@ use Rattle.std.proofs.lemmas.List.Elements.{All-from_get_or}
 use Rattle.shen_graph.specs.declared.command.Command.{Command}
 use Rattle.heap_words.specs.declared.schedule.Item.{Item}
 use Rattle.shen_core.specs.Progress.{IsInSeats}
-use Rattle.trace_grammar.specs.Spelling.{line, schedule_line}
-use Rattle.trace_grammar.specs.Grammar.{scripts_of}
+use Rattle.trace_reading.specs.Spelling.{line, schedule_line}
+use Rattle.trace_reading.specs.Grammar.{scripts_of}
 use Rattle.dump_text.specs.Dumped.{Dumped, most_made}
 use Rattle.dump_text.specs.DumpText.{dump_text}
 use Rattle.dump_text.specs.Resumes.{run_version, Resumes, mark_line}

@@ -12,8 +12,8 @@ use Rattle.heap_words.specs.declared.config.Config.{Config}
 use Rattle.heap_words.specs.declared.schedule.Item.{Item}
 use Rattle.heap_words.specs.declared.schedule.Item.TheVariants.{Steps, Until, Replies}
 use Rattle.shen_core.specs.Progress.{IsInSeats}
-use Rattle.trace_grammar.specs.Spelling.{TraceLine, IsLine, line, space, newline, command_word, numbers, numbers_of, IsItem, IsScheduleLine}
-use Rattle.trace_grammar.specs.Grammar.{scripts_of, items_of, commands_in}
+use Rattle.trace_reading.specs.Spelling.{TraceLine, IsLine, line, space, newline, command_word, numbers, numbers_of, IsItem, IsScheduleLine}
+use Rattle.trace_reading.specs.Grammar.{scripts_of, items_of, commands_in}
 
 -- the commands of lines in range are valid
 valid_lines : (version threads : ℕ) (lines : List TraceLine) (t : ℕ) → AllByRecursion (IsLine version threads) lines → AllByRecursion IsValid (commands_in lines t)

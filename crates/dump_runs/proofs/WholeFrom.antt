@@ -48,8 +48,8 @@ use Rattle.shen_core.specs.State.{machine_at, Shows}
 use Rattle.step_core.specs.Machines.{order_by, is_resting}
 use Rattle.shen_core.specs.Progress.{Jobs, AreIdle, AllRest}
 use Rattle.shen_core.specs.Calls.{HasCalled, AllHaveCalled}
-use Rattle.trace_writing.specs.Answer.{answer_text}
-use Rattle.trace_writing.proofs.AnswerLemmas.{answer_text_same}
+use Rattle.trace_text.specs.Answer.{answer_text}
+use Rattle.trace_text.proofs.AnswerLemmas.{answer_text_same}
 use Rattle.dump_runs.specs.Resumed.{led_to, history_from, IsWholeFrom, IsAnswerFrom}
 use Rattle.dump_runs.specs.Resuming.{HasEndedFrom}
 

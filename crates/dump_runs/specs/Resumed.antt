@@ -21,7 +21,7 @@ use Rattle.step_core.specs.History.{history}
 use Rattle.step_core.specs.Schedule.{Scripts, schedule_events}
 use Rattle.heap_machines.specs.FromImage.{stage_from}
 use Rattle.shen_core.specs.Progress.{AreIdle}
-use Rattle.trace_writing.specs.Answer.{answer_text}
+use Rattle.trace_text.specs.Answer.{answer_text}
 use Rattle.graph_placing.specs.PlacedHeap.{IsPlaced}
 use Rattle.dump_text.specs.Dumped.{most_made, dumped, graph_in}
 

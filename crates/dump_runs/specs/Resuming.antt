@@ -11,7 +11,7 @@ use Rattle.shen_core.specs.declared.plain.Plain.{Plain}
 use Rattle.shen_core.specs.State.{config_of, Shows}
 use Rattle.shen_core.specs.Progress.{Jobs, Tells, AreIdle}
 use Rattle.shen_core.specs.Calls.{AllHaveCalled}
-use Rattle.trace_writing.specs.declared.answer.Answer.{Answer}
+use Rattle.trace_text.specs.declared.answer.Answer.{Answer}
 use Rattle.dump_runs.specs.declared.goes_on.Resumed.{Resumed}
 use Rattle.dump_runs.specs.declared.goes_on.Resumed.TheVariants.{Answered, Unfinished, TooSmall}
 use Rattle.dump_runs.specs.Resumed.{led_to}

@@ -1,6 +1,6 @@
 ghost use Rattle.std.specs.Prelude.{◌≡◌, ◌<◌, ℕ, List, IfOk, length};
 ghost use Rattle.shen_graph.specs.Work.{HasScript};
-ghost use Rattle.trace_writing.specs.Answer.{spelled_answer};
+ghost use Rattle.trace_text.specs.Answer.{spelled_answer};
 ghost use Rattle.graph_placing.specs.ByName.{Fits};
 ghost use Rattle.dump_text.specs.Dumped.{dumped};
 ghost use Rattle.dump_text.specs.Resumes.{Resumes};

@@ -8,7 +8,7 @@ ghost use Rattle.image_graph.specs.State as images;
 ghost use Rattle.shen_core.specs.State as memory;
 ghost use Rattle.heap_machines.specs.FromImage.{CanBeginFrom, stage_from};
 ghost use Rattle.shen_core.specs.Progress.{AllRest, IsInSeats};
-ghost use Rattle.trace_writing.specs.Answer.{spelled_answer};
+ghost use Rattle.trace_text.specs.Answer.{spelled_answer};
 ghost use Rattle.graph_placing.specs.ByName.{Fits};
 ghost use Rattle.graph_placing.specs.PlacedHeap.{IsPlaced};
 ghost use Rattle.dump_text.specs.Dumped.{dumped, graph_in, IsDump};
@@ -23,7 +23,7 @@ use image_graph::Image;
 use shen_core::{Plain, Ran};
 use shen_graph::{GraphText, Script, Work};
 use std::alloc::Global;
-use trace_writing::Answer;
+use trace_text::Answer;
 
 /// What comes of a run that goes on from a dump.
 #[derive(Drop)]

@@ -9,9 +9,9 @@ use Rattle.shen_graph.specs.declared.command.Command.{Command}
 use Rattle.shen_graph.specs.Graph.{Reference}
 use Rattle.shen_graph.specs.GraphText.{Row, Text, names_of, empty}
 use Rattle.shen_graph.specs.Reach.{InOrder, IsReach}
-use Rattle.trace_grammar.specs.Spelling.{newline, line, schedule_line}
-use Rattle.trace_grammar.specs.Grammar.{most_bytes}
-use Rattle.trace_grammar.specs.declared.why.Why.{Why}
+use Rattle.trace_reading.specs.Spelling.{newline, line, schedule_line}
+use Rattle.trace_reading.specs.Grammar.{most_bytes}
+use Rattle.trace_reading.specs.declared.why.Why.{Why}
 use Rattle.trace_reading.specs.Causes.{parts}
 use Rattle.trace_reading.specs.Refused.{Commands}
 use Rattle.trace_reading.proofs.Leads.{bytes_of_line}

@@ -5,10 +5,10 @@ use Rattle.std.specs.Fmt.{decimal}
 use Rattle.std.proofs.lemmas.List.Elements.{All-push, All-head, All-tail, All-nil}
 use Rattle.std.proofs.lemmas.Grind.{flat_map-append}
 use Rattle.heap_words.specs.declared.config.Config.{Config}
-use Rattle.trace_grammar.specs.Spelling.{numbers, titled, space}
-use Rattle.trace_grammar.specs.Front.{NoDigit}
-use Rattle.trace_grammar.specs.Scanning.{behind, numbers_at}
-use Rattle.trace_grammar.proofs.Numbers.{same_some, AreSmall, behind_takes, numbers_take, numbers_again}
+use Rattle.trace_reading.specs.Spelling.{numbers, titled, space}
+use Rattle.trace_reading.specs.Front.{NoDigit}
+use Rattle.trace_reading.specs.Scanning.{behind, numbers_at}
+use Rattle.trace_reading.proofs.GrammarNumbers.{same_some, AreSmall, behind_takes, numbers_take, numbers_again}
 use Rattle.dump_text.specs.Dumped.{most_made}
 use Rattle.dump_text.specs.DumpLines.{DumpStage, Spells, Counts, DumpFollows}
 use Rattle.dump_text.proofs.HeadLines.{title_of_text, rest_is}

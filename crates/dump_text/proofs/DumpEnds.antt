@@ -1,7 +1,7 @@
 -- Lines that lead to an end lead to that one alone: bytes are refused once, and none of them is read.
 use Rattle.std.proofs.Common.{ℕ, suc, ◌≡◌, ◌⊎◌, inl, inr, List, [], ◌∷◌, ◌++◌, length, refl, sym, ap, subst, ◌∙◌, Option, None, Some, arith, length-append}
-use Rattle.trace_grammar.specs.declared.why.Why.{Why}
-use Rattle.trace_grammar.specs.declared.why.Why.TheVariants.{DumpWanted}
+use Rattle.trace_reading.specs.declared.why.Why.{Why}
+use Rattle.trace_reading.specs.declared.why.Why.TheVariants.{DumpWanted}
 use Rattle.trace_reading.specs.Refused.{LineStage, Lead, cause_of}
 use Rattle.trace_reading.proofs.Exact.{one_end}
 use Rattle.dump_text.specs.DumpLines.{DumpStage, Version, Heap, Threads, Counts, Listed, Behind, DumpFollows, DumpLead, StopsFor, DumpStopsAt, ends_by}

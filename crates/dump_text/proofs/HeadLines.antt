@@ -8,12 +8,12 @@ use Rattle.heap_words.specs.declared.config.Config.{Config}
 use Rattle.heap_words.specs.Narrow.{IsNarrow}
 use Rattle.heap_words.specs.declared.config.BadConfig.{BadConfig}
 use Rattle.heap_words.specs.Faults.{fault_of}
-use Rattle.trace_grammar.specs.Kinds.{AreWithinLimits}
-use Rattle.trace_grammar.specs.Spelling.{newline, numbers, titled}
-use Rattle.trace_grammar.specs.Scanning.{behind, numbers_at}
-use Rattle.trace_grammar.proofs.Numbers.{same_some, behind_takes, behind_again, AreSmall, numbers_take, numbers_again}
-use Rattle.trace_grammar.proofs.Lines.{three_listed, two_listed, within_length}
-use Rattle.trace_grammar.proofs.Header.{no_fault}
+use Rattle.trace_reading.specs.Kinds.{AreWithinLimits}
+use Rattle.trace_reading.specs.Spelling.{newline, numbers, titled}
+use Rattle.trace_reading.specs.Scanning.{behind, numbers_at}
+use Rattle.trace_reading.proofs.GrammarNumbers.{same_some, behind_takes, behind_again, AreSmall, numbers_take, numbers_again}
+use Rattle.trace_reading.proofs.GrammarLines.{three_listed, two_listed, within_length}
+use Rattle.trace_reading.proofs.Header.{no_fault}
 use Rattle.trace_reading.proofs.Heads.{same_before_end}
 use Rattle.dump_text.specs.DumpLines.{Spells, IsHeapOf, heap_line, threads_line}
 

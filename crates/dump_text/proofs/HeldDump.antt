@@ -11,7 +11,7 @@ use Rattle.dump_text.proofs.Counted.{counted, reach_again}
 use Rattle.dump_text.specs.Dumped.{Dumped, IsNamed, IsRow, IsDump, IsInForm, most_made, names_in, graph_in}
 use Rattle.dump_text.specs.HeldReferences.{held, held_name, held_row}
 use Rattle.dump_text.specs.RowsReached.{graph_from}
-use Rattle.trace_grammar.specs.Spelling.{newline}
+use Rattle.trace_reading.specs.Spelling.{newline}
 use Rattle.trace_reading.specs.Causes.{is_same}
 use Rattle.trace_reading.proofs.Heads.{same_before_end}
 use Rattle.dump_text.specs.Resumes.{mark_line}

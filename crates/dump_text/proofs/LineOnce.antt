@@ -9,12 +9,12 @@ use Rattle.heap_words.specs.Narrow.{IsNarrow}
 use Rattle.shen_graph.specs.declared.name.Name.{Name}
 use Rattle.shen_graph.specs.Graph.{Reference}
 use Rattle.shen_graph.specs.GraphText.{Row}
-use Rattle.trace_grammar.specs.Spelling.{titled}
-use Rattle.trace_grammar.proofs.Once.{same_config}
+use Rattle.trace_reading.specs.Spelling.{titled}
+use Rattle.trace_reading.proofs.Once.{same_config}
 use Rattle.trace_reading.specs.Causes.{parts}
 use Rattle.trace_reading.proofs.Free.{IsWord}
 use Rattle.trace_reading.proofs.Heads.{titled_is, heap_again, threads_again}
-use Rattle.trace_writing.specs.Answer.{name_word}
+use Rattle.trace_text.specs.Answer.{name_word}
 use Rattle.dump_text.specs.Dumped.{Dumped, most_made}
 use Rattle.dump_text.specs.DumpLines.{DumpStage, Version, Heap, Threads, Counts, Listed, Behind, DumpFollows, IsHeapOf, Spells, AreReferences, with_row, with_roots, ObjectFollows, RootsFollow, heap_line}
 use Rattle.dump_text.proofs.References.{reference_once, named_small}

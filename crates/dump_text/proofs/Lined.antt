@@ -11,14 +11,14 @@ use Rattle.shen_graph.specs.declared.name.Name.{Name}
 use Rattle.shen_graph.specs.Graph.{Reference}
 use Rattle.shen_graph.specs.GraphText.{Row}
 use Rattle.shen_graph.specs.Reach.{InOrder}
-use Rattle.trace_grammar.specs.Spelling.{newline}
+use Rattle.trace_reading.specs.Spelling.{newline}
 use Rattle.trace_reading.specs.Causes.{parts, parts_behind}
 use Rattle.trace_reading.proofs.Cuts.{cut_parts, count_before}
 use Rattle.trace_reading.proofs.Words.{number_digits}
 use Rattle.trace_reading.proofs.Free.{IsWord, free_both, free_digits, parts_again}
 use Rattle.trace_reading.proofs.Numerals.{decimal_word}
 use Rattle.trace_reading.proofs.Heads.{joined, same_before_end}
-use Rattle.trace_writing.specs.Answer.{line_of, name_word}
+use Rattle.trace_text.specs.Answer.{line_of, name_word}
 use Rattle.dump_text.specs.DumpLines.{Spells, IsDumpReference, AreReferences}
 use Rattle.dump_text.specs.HeldReferences.{held_row}
 use Rattle.dump_text.specs.ObjectWords.{IsBehindLast}

@@ -5,10 +5,10 @@ use Rattle.std.proofs.lemmas.List.Concat.{flat_map-cons}
 use Rattle.shen_graph.specs.declared.command.Command.{Command}
 use Rattle.heap_words.specs.declared.config.Config.{Config}
 use Rattle.heap_words.specs.declared.schedule.Item.{Item}
-use Rattle.trace_grammar.specs.Spelling.{TraceLine, IsLine, line, newline, titled, schedule_line, IsScheduleLine}
-use Rattle.trace_grammar.specs.Grammar.{most_bytes, scripts_of, items_of}
-use Rattle.trace_grammar.specs.declared.why.Why.{Why}
-use Rattle.trace_grammar.specs.declared.why.Why.TheVariants.{DumpWanted}
+use Rattle.trace_reading.specs.Spelling.{TraceLine, IsLine, line, newline, titled, schedule_line, IsScheduleLine}
+use Rattle.trace_reading.specs.Grammar.{most_bytes, scripts_of, items_of}
+use Rattle.trace_reading.specs.declared.why.Why.{Why}
+use Rattle.trace_reading.specs.declared.why.Why.TheVariants.{DumpWanted}
 use Rattle.trace_reading.specs.Causes.{parts}
 use Rattle.trace_reading.specs.Refused.{LineStage, Commands, Turns, words_cause, end_cause, LineFollows, Lead}
 use Rattle.trace_reading.specs.Refused.LineStage.{Version as TraceVersion, Heap as TraceHeap, Threads as TraceThreads}

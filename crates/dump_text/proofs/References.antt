@@ -13,8 +13,8 @@ use Rattle.shen_graph.specs.Graph.{Reference}
 use Rattle.trace_reading.specs.Causes.{parts, parts_behind, is_plain_number, is_same}
 use Rattle.trace_reading.proofs.Heads.{is_same_again}
 use Rattle.trace_reading.proofs.Numerals.{number_spelled, decimal_is_number}
-use Rattle.trace_grammar.proofs.Numbers.{own}
-use Rattle.trace_writing.specs.Answer.{name_word}
+use Rattle.trace_reading.proofs.GrammarNumbers.{own}
+use Rattle.trace_text.specs.Answer.{name_word}
 use Rattle.dump_text.specs.Dumped.{IsNamed}
 use Rattle.dump_text.specs.HeldReferences.{nameless, fits, held_name, held}
 use Rattle.trace_reading.proofs.Words.{number_digits}

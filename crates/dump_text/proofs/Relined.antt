@@ -11,10 +11,10 @@ use Rattle.shen_graph.specs.declared.name.Name.{Name}
 use Rattle.shen_graph.specs.Graph.{Reference, hub}
 use Rattle.shen_graph.specs.GraphText.{Row, bare}
 use Rattle.shen_graph.specs.Reach.{InOrder}
-use Rattle.trace_grammar.specs.Spelling.{newline, titled}
+use Rattle.trace_reading.specs.Spelling.{newline, titled}
 use Rattle.trace_reading.proofs.Free.{IsWord, parts_at, joined_free}
 use Rattle.trace_reading.proofs.Heads.{titled_is}
-use Rattle.trace_writing.specs.Answer.{line_of, name_word, reference_word, object_line, thread_numbers}
+use Rattle.trace_text.specs.Answer.{line_of, name_word, reference_word, object_line, thread_numbers}
 use Rattle.dump_text.specs.Dumped.{Dumped, IsRow, IsDump, IsInForm, most_made}
 use Rattle.dump_text.specs.DumpText.{sizes_head, roots_line_in, dump_text}
 use Rattle.dump_text.specs.Resumes.{run_version, mark_line}

@@ -5,12 +5,12 @@ use Rattle.std.proofs.lemmas.List.Splits.{join_with_byte-slice_split}
 use Rattle.shen_graph.specs.declared.command.Command.{Command}
 use Rattle.heap_words.specs.declared.config.Config.{Config}
 use Rattle.heap_words.specs.declared.schedule.Item.{Item}
-use Rattle.trace_grammar.specs.Spelling.{TraceLine, line, IsLine, schedule_line, IsScheduleLine}
+use Rattle.trace_reading.specs.Spelling.{TraceLine, line, IsLine, schedule_line, IsScheduleLine}
 use Rattle.std.specs.List.{AllByRecursion}
-use Rattle.trace_grammar.specs.Grammar.{scripts_of, items_of}
-use Rattle.trace_grammar.specs.declared.why.Why.{Why}
-use Rattle.trace_grammar.proofs.Traces.{lines_once, turns_behind}
-use Rattle.trace_grammar.proofs.Once.{turns_once}
+use Rattle.trace_reading.specs.Grammar.{scripts_of, items_of}
+use Rattle.trace_reading.specs.declared.why.Why.{Why}
+use Rattle.trace_reading.proofs.Traces.{lines_once, turns_behind}
+use Rattle.trace_reading.proofs.Once.{turns_once}
 use Rattle.trace_reading.specs.Causes.{parts}
 use Rattle.trace_reading.proofs.Free.{parts_at}
 use Rattle.trace_reading.specs.Refused.{body_stage, cause_of}

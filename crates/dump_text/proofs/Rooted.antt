@@ -8,12 +8,12 @@ use Rattle.std.proofs.lemmas.List.{map-append, get_or-append_right}
 use Rattle.std.proofs.lemmas.List.Elements.{All-push, All-get_or}
 use Rattle.shen_graph.specs.Graph.{Reference}
 use Rattle.shen_graph.specs.GraphText.{Text, roots_of}
-use Rattle.trace_grammar.specs.Spelling.{newline}
+use Rattle.trace_reading.specs.Spelling.{newline}
 use Rattle.trace_reading.specs.Causes.{parts}
 use Rattle.trace_reading.proofs.Free.{parts_at}
 use Rattle.trace_reading.proofs.Heads.{same_before_end}
 use Rattle.trace_reading.proofs.Leads.{bytes_of_line}
-use Rattle.trace_writing.specs.Answer.{line_of, name_word}
+use Rattle.trace_text.specs.Answer.{line_of, name_word}
 use Rattle.dump_text.specs.Dumped.{Dumped}
 use Rattle.dump_text.specs.DumpLines.{DumpStage, Listed, DumpFollows, Spells}
 use Rattle.dump_text.specs.HeldReferences.{held}

@@ -11,7 +11,7 @@ use Rattle.shen_graph.specs.Reach.{IsBefore}
 use Rattle.shen_graph.proofs.RowLemmas.{length-change_last, whole}
 use Rattle.trace_reading.specs.Causes.{parts_behind}
 use Rattle.trace_reading.proofs.Cuts.{cut_parts}
-use Rattle.trace_writing.specs.Answer.{name_word}
+use Rattle.trace_text.specs.Answer.{name_word}
 use Rattle.dump_text.specs.Dumped.{IsNamed}
 use Rattle.dump_text.specs.DumpLines.{IsDumpReference}
 use Rattle.dump_text.specs.HeldReferences.{held, held_row}

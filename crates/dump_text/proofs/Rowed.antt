@@ -10,7 +10,7 @@ use Rattle.shen_graph.specs.GraphText.{Row, Text, names_of, with_whole_row}
 use Rattle.shen_graph.specs.Reach.{InOrder}
 use Rattle.trace_reading.specs.Causes.{parts, parts_behind}
 use Rattle.trace_reading.proofs.Leads.{bytes_of_line}
-use Rattle.trace_writing.specs.Answer.{name_word}
+use Rattle.trace_text.specs.Answer.{name_word}
 use Rattle.dump_text.specs.Dumped.{IsRow}
 use Rattle.dump_text.specs.DumpLines.{DumpStage, Listed, DumpFollows}
 use Rattle.dump_text.specs.HeldReferences.{held, held_row}

@@ -13,11 +13,11 @@ use Rattle.heap_words.specs.Narrow.{IsNarrow}
 use Rattle.shen_graph.specs.declared.name.Name.{Name}
 use Rattle.shen_graph.specs.Graph.{Reference, hub}
 use Rattle.shen_graph.specs.GraphText.{Row, bare}
-use Rattle.trace_grammar.specs.Spelling.{newline, titled}
+use Rattle.trace_reading.specs.Spelling.{newline, titled}
 use Rattle.trace_reading.specs.Causes.{parts}
 use Rattle.trace_reading.specs.Refused.{LineStage}
 use Rattle.trace_reading.proofs.Cuts.{cut_parts}
-use Rattle.trace_writing.specs.Answer.{line_of, name_word, reference_word, object_line, root_spellings, thread_numbers}
+use Rattle.trace_text.specs.Answer.{line_of, name_word, reference_word, object_line, root_spellings, thread_numbers}
 use Rattle.dump_text.specs.Dumped.{Dumped}
 use Rattle.dump_text.specs.DumpText.{sizes_head, roots_line_in, dump_text}
 use Rattle.dump_text.specs.DumpLines.{DumpStage, Version, Heap, Threads, Counts, Listed, Behind, DumpFollows, DumpLead, IsHeapOf, heap_line, threads_line, AreReferences, Spells, with_row, with_roots}

@@ -1,8 +1,8 @@
 -- Lines that lead on, and lines that stop.
 use Rattle.std.proofs.Common.{ℕ, ◌≡◌, ◌+◌, List, [], ◌∷◌, ◌++◌, length, refl, sym, ap, subst, ◌∙◌, append_assoc, length-append, Result, Ok, Err, arith}
-use Rattle.trace_grammar.specs.Spelling.{newline}
-use Rattle.trace_grammar.specs.declared.why.Why.{Why}
-use Rattle.trace_grammar.specs.declared.why.Why.TheVariants.{DumpWanted}
+use Rattle.trace_reading.specs.Spelling.{newline}
+use Rattle.trace_reading.specs.declared.why.Why.{Why}
+use Rattle.trace_reading.specs.declared.why.Why.TheVariants.{DumpWanted}
 use Rattle.std.specs.Result.{is_err}
 use Rattle.std.specs.Prelude.{OnOk, false}
 use Rattle.std.proofs.lemmas.Bool.{false≢true}

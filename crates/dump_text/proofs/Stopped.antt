@@ -5,9 +5,9 @@ use Rattle.std.proofs.lemmas.Bool.Decides.{nat_tests}
 use Rattle.std.proofs.lemmas.List.Concat.{flat_map-cons}
 use Rattle.heap_words.specs.declared.config.Config.{Config}
 use Rattle.heap_words.specs.declared.schedule.Item.{Item}
-use Rattle.trace_grammar.specs.Spelling.{TraceLine, IsLine, line, newline, schedule_line, IsScheduleLine}
-use Rattle.trace_grammar.specs.Grammar.{most_bytes}
-use Rattle.trace_grammar.specs.declared.why.Why.{Why}
+use Rattle.trace_reading.specs.Spelling.{TraceLine, IsLine, line, newline, schedule_line, IsScheduleLine}
+use Rattle.trace_reading.specs.Grammar.{most_bytes}
+use Rattle.trace_reading.specs.declared.why.Why.{Why}
 use Rattle.trace_reading.specs.Causes.{parts}
 use Rattle.trace_reading.specs.Refused.{LineStage, Commands, Turns, body_stage, LineFollows}
 use Rattle.trace_reading.proofs.Commands.{line_words, line_is}

@@ -8,7 +8,7 @@ use Rattle.std.specs.Prelude.{Option, true, false}
 use Rattle.std.specs.Option.{is_some}
 use Rattle.std.specs.Str.Parse.{digits_value}
 use Rattle.std.proofs.lemmas.Bool.{false≢true}
-use Rattle.trace_grammar.specs.declared.why.Why.{Why}
+use Rattle.trace_reading.specs.declared.why.Why.{Why}
 use Rattle.trace_reading.specs.Causes.{is_plain_number, number_cause}
 use Rattle.trace_reading.proofs.Words.{number_fine}
 use Rattle.trace_reading.proofs.Numerals.{number_spelled, number_again}

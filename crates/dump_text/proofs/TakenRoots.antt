@@ -8,7 +8,7 @@ use Rattle.std.specs.Str.Parse.{digits_value}
 use Rattle.std.proofs.Common.{eqb}
 use Rattle.std.proofs.lemmas.Bool.{false≢true, eqb-true}
 use Rattle.std.proofs.lemmas.Fmt.{digits_value-decimal}
-use Rattle.trace_grammar.proofs.Numbers.{own}
+use Rattle.trace_reading.proofs.GrammarNumbers.{own}
 use Rattle.trace_reading.specs.Causes.{is_same}
 use Rattle.trace_reading.proofs.Words.{both}
 use Rattle.shen_graph.specs.Graph.{Reference}

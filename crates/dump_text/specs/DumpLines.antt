@@ -7,14 +7,14 @@ use Rattle.heap_words.specs.Narrow.{IsNarrow}
 use Rattle.shen_graph.specs.Graph.{Reference}
 use Rattle.shen_graph.specs.GraphText.{Row}
 use Rattle.shen_graph.specs.Reach.{InOrder}
-use Rattle.trace_grammar.specs.Spelling.{newline, titled}
-use Rattle.trace_grammar.specs.Grammar.{most_bytes}
-use Rattle.trace_grammar.specs.declared.why.Why.{Why}
-use Rattle.trace_grammar.specs.declared.why.Why.TheVariants.{EndOfLine, DumpWanted}
+use Rattle.trace_reading.specs.Spelling.{newline, titled}
+use Rattle.trace_reading.specs.Grammar.{most_bytes}
+use Rattle.trace_reading.specs.declared.why.Why.{Why}
+use Rattle.trace_reading.specs.declared.why.Why.TheVariants.{EndOfLine, DumpWanted}
 use Rattle.trace_reading.specs.Causes.{parts, is_plain_number}
 use Rattle.trace_reading.specs.Refused.{LineStage, LineFollows, cause_of}
 use Rattle.trace_reading.specs.Refused.LineStage.{Commands}
-use Rattle.trace_writing.specs.Answer.{line_of, name_word}
+use Rattle.trace_text.specs.Answer.{line_of, name_word}
 use Rattle.dump_text.specs.Dumped.{Dumped, names_in, most_made, IsRow, IsDump}
 use Rattle.dump_text.specs.Resumes.{run_version, mark_line}
 

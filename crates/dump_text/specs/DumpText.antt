@@ -3,8 +3,8 @@ use Rattle.std.specs.Prelude.{ℕ, ◌-◌, List, [], ◌∷◌, ◌++◌, codes
 use Rattle.std.specs.List.{flat_map}
 use Rattle.heap_words.specs.declared.config.Config.{Config}
 use Rattle.shen_graph.specs.Graph.{Reference}
-use Rattle.trace_grammar.specs.Spelling.{titled}
-use Rattle.trace_writing.specs.Answer.{object_line, roots_line, thread_numbers}
+use Rattle.trace_reading.specs.Spelling.{titled}
+use Rattle.trace_text.specs.Answer.{object_line, roots_line, thread_numbers}
 use Rattle.dump_text.specs.Dumped.{Dumped}
 
 -- the lines of the version, of the sizes of the heap, and of the machines that work on it

@@ -5,7 +5,7 @@ use Rattle.shen_graph.specs.declared.name.Name.{Name}
 use Rattle.shen_graph.specs.Graph.{Reference, hub}
 use Rattle.shen_graph.specs.GraphText.{Row}
 use Rattle.shen_graph.specs.Reach.{IsBefore}
-use Rattle.trace_writing.specs.Answer.{name_word}
+use Rattle.trace_text.specs.Answer.{name_word}
 use Rattle.dump_text.specs.Dumped.{IsRow}
 use Rattle.dump_text.specs.DumpLines.{AreReferences}
 

@@ -3,9 +3,9 @@ use Rattle.std.specs.Prelude.{ℕ, ◌≡◌, ◌≤◌, List, [], ◌∷◌, �
 use Rattle.std.specs.List.{flat_map, AllByRecursion}
 use Rattle.shen_graph.specs.declared.command.Command.{Command}
 use Rattle.heap_words.specs.declared.schedule.Item.{Item}
-use Rattle.trace_grammar.specs.Spelling.{TraceLine, IsLine, line, IsScheduleLine, schedule_line}
-use Rattle.trace_grammar.specs.Grammar.{most_bytes, scripts_of, items_of}
-use Rattle.trace_writing.specs.Answer.{line_of}
+use Rattle.trace_reading.specs.Spelling.{TraceLine, IsLine, line, IsScheduleLine, schedule_line}
+use Rattle.trace_reading.specs.Grammar.{most_bytes, scripts_of, items_of}
+use Rattle.trace_text.specs.Answer.{line_of}
 use Rattle.dump_text.specs.Dumped.{Dumped, IsDump}
 use Rattle.dump_text.specs.DumpText.{dump_text}
 

@@ -6,7 +6,7 @@ ghost use Rattle.shen_graph.specs.Graph.{Reference};
 ghost use Rattle.shen_graph.specs.Reach.{IsBefore};
 ghost use Rattle.shen_graph.specs.GraphText.{Row, names_of, row_of, with_references, with_numbers, with_whole_row};
 ghost use Rattle.trace_reading.specs.Causes.{parts_behind};
-ghost use Rattle.trace_writing.specs.Answer.{name_word};
+ghost use Rattle.trace_text.specs.Answer.{name_word};
 ghost use Rattle.dump_text.specs.Dumped.{IsRow};
 ghost use Rattle.dump_text.specs.DumpLines.{AreReferences};
 ghost use Rattle.dump_text.specs.HeldReferences.{held, held_row};
@@ -15,8 +15,7 @@ ghost use Rattle.dump_text.specs.ObjectWords.{AreRefsWords, AreNumsWords, AreRow
 use crate::is_before;
 use crate::words::{name_in, reference_in};
 use shen_graph::{GraphText, Name};
-use trace_grammar::value_of;
-use trace_reading::{next_word, number_cause};
+use trace_reading::{next_word, number_cause, value_of};
 
 /// The most references of an object, and the most numbers.
 const MOST_FIELDS: usize = 16;

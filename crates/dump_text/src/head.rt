@@ -3,9 +3,9 @@ ghost use Rattle.std.specs.Prelude.{◌≡◌, ◌≢◌, ◌⊎◌, ◌++◌, �
 ghost use Rattle.heap_words.specs.declared.config.Config.{Config as Sizes};
 ghost use Rattle.heap_words.specs.Narrow.{IsNarrow};
 ghost use Rattle.std.specs.Option.{option_map};
-ghost use Rattle.trace_grammar.specs.Scanning.{numbers_at};
+ghost use Rattle.trace_reading.specs.Scanning.{numbers_at};
 ghost use Rattle.dump_text.specs.Dumped.{most_made};
-ghost use Rattle.trace_grammar.specs.Spelling.{titled};
+ghost use Rattle.trace_reading.specs.Spelling.{titled};
 ghost use Rattle.dump_text.specs.DumpLines.{Spells, IsHeapOf, heap_line, threads_line, Version, Heap, Threads, Counts as CountsStage, Listed};
 ghost use Rattle.dump_text.specs.Steps.{Leads, IsStop};
 
@@ -13,8 +13,7 @@ use crate::Counts;
 use crate::line::{dump_wanted, line_at};
 use heap_words::Config;
 use std::alloc::Global;
-use trace_grammar::{numbers_at, text_at};
-use trace_reading::TraceFault;
+use trace_reading::{TraceFault, numbers_at, text_at};
 
 /// The most objects that a dumped thread has made.
 const MOST_MADE: u64 = 4_000_000_000;

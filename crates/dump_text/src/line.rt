@@ -1,11 +1,10 @@
 //! One line after the other.
 ghost use Rattle.std.specs.Prelude.{◌≡◌, ℕ, List, [], ◌∷◌, ◌<◌, length, IfOk, IfErr, IfSome, MatchOption};
-ghost use Rattle.trace_grammar.specs.declared.why.Why.TheVariants as cause;
+ghost use Rattle.trace_reading.specs.declared.why.Why.TheVariants as cause;
 ghost use Rattle.trace_reading.specs.Causes.{parts, parts_behind};
 ghost use Rattle.dump_text.specs.DumpLines.{ends_by};
 
-use trace_grammar::Why;
-use trace_reading::{TraceFault, cut};
+use trace_reading::{TraceFault, Why, cut};
 
 /// The line of this number is refused where a line of a dump is wanted.
 pub(crate) fn dump_wanted(line: u64) -> TraceFault

@@ -7,8 +7,8 @@ ghost use Rattle.shen_graph.specs.Graph.{Reference};
 ghost use Rattle.shen_graph.specs.GraphText.{names_of};
 ghost use Rattle.shen_graph.specs.Reach.{InOrder, IsReach};
 ghost use Rattle.trace_reading.specs.Causes.{parts};
-ghost use Rattle.trace_grammar.specs.Grammar.{most_bytes, Came};
-ghost use Rattle.trace_grammar.specs.declared.why.Why.{Why as Cause};
+ghost use Rattle.trace_reading.specs.Grammar.{most_bytes, Came};
+ghost use Rattle.trace_reading.specs.declared.why.Why.{Why as Cause};
 ghost use Rattle.trace_reading.specs.Calls.{HasFewCalls};
 ghost use Rattle.trace_reading.specs.Faults.{IsTextFault};
 ghost use Rattle.dump_text.specs.Dumped.{Dumped, dumped};
@@ -27,8 +27,7 @@ use crate::whole::is_whole;
 use shen_base::Source;
 use shen_graph::GraphText;
 use std::alloc::Global;
-use trace_grammar::Trace;
-use trace_reading::{TraceFault, all_bytes, trace_behind};
+use trace_reading::{Trace, TraceFault, all_bytes, trace_behind};
 
 /// The version of the lines of commands behind a dump.
 const RUN_VERSION: u32 = 2;

@@ -3,9 +3,9 @@ ghost use Rattle.std.specs.Prelude.{ℕ, ◌≡◌, ◌≤◌, ◌++◌, List, l
 ghost use Rattle.std.specs.List.{flat_map, AllByRecursion};
 ghost use Rattle.heap_words.specs.declared.schedule.Item.{Item};
 ghost use Rattle.shen_graph.specs.declared.command.Command.{Command};
-ghost use Rattle.trace_grammar.specs.Spelling.{TraceLine, IsLine, line, IsScheduleLine, schedule_line};
-ghost use Rattle.trace_grammar.specs.Grammar.{most_bytes, scripts_of, items_of};
-ghost use Rattle.trace_grammar.specs.declared.why.Why.{Why};
+ghost use Rattle.trace_reading.specs.Spelling.{TraceLine, IsLine, line, IsScheduleLine, schedule_line};
+ghost use Rattle.trace_reading.specs.Grammar.{most_bytes, scripts_of, items_of};
+ghost use Rattle.trace_reading.specs.declared.why.Why.{Why};
 ghost use Rattle.dump_text.specs.Dumped.{Dumped, IsDump};
 ghost use Rattle.dump_text.specs.DumpText.{dump_text};
 ghost use Rattle.dump_text.specs.Resumes.{Resumes, IsSameReading, run_version, mark_line};

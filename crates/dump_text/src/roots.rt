@@ -10,8 +10,7 @@ ghost use Rattle.dump_text.specs.ObjectWords.{AreRootsWords};
 
 use crate::words::reference_in;
 use shen_graph::{Command, GraphText};
-use trace_grammar::number_in;
-use trace_reading::{cut, next_word};
+use trace_reading::{cut, next_word, number_in};
 
 /// The number of roots of a thread.
 const ROOTS: usize = Command::ROOTS as usize;

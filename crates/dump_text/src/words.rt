@@ -3,14 +3,13 @@ ghost use Rattle.std.specs.Prelude.{◌≡◌, ◌≢◌, ◌^◌, ◌≤◌, �
 ghost use Rattle.std.specs.Str.Parse.{AllDigits, digits_value};
 ghost use Rattle.shen_graph.specs.declared.name.Name.{Name as Named};
 ghost use Rattle.shen_graph.specs.Graph.{Reference};
-ghost use Rattle.trace_writing.specs.Answer.{name_word};
+ghost use Rattle.trace_text.specs.Answer.{name_word};
 ghost use Rattle.dump_text.specs.Dumped.{IsNamed};
 ghost use Rattle.dump_text.specs.DumpLines.{IsDumpReference};
 ghost use Rattle.dump_text.specs.HeldReferences.{held, held_name};
 
 use shen_graph::Name;
-use trace_grammar::value_of;
-use trace_reading::{cut, is_number};
+use trace_reading::{cut, is_number, value_of};
 
 /// The name of no object: it stands for each name with a number that no name of an object can have.
 const NOBODY: Name = Name {

@@ -1,13 +1,13 @@
 ghost use Rattle.std.specs.Prelude.{codes};
 ghost use Rattle.shen_base.specs.Sending.{Puts, Writes, outlet, stage};
-ghost use Rattle.trace_grammar.specs.Spelling.{titled};
+ghost use Rattle.trace_reading.specs.Spelling.{titled};
 ghost use Rattle.dump_text.specs.Dumped.{dumped, IsDump};
 ghost use Rattle.dump_text.specs.DumpText.{sizes_head, dump_text};
 
 use crate::dump::Dump;
 use heap_words::Config;
 use shen_base::{Block, Sink, WriteFault};
-use trace_writing::{put_objects, put_roots, put_title};
+use trace_text::{put_objects, put_roots, put_title};
 
 /// Writes the dump to the sink. It takes no memory, and calls the sink at most once per byte. After `WriteFault` a front of the
 /// dump was written.

@@ -5,3 +5,12 @@ mod Firsts
 mod Keeping
 mod Playing
 mod RowLaws
+mod KindLoop
+mod Blocks
+mod Said
+mod SaidLines
+mod SaidAgain
+mod Following
+mod Taken
+mod HeadFound
+mod TestLaws

@@ -1,12 +1,17 @@
--- Which number a name stands for.
-use Rattle.std.specs.Prelude.{ℕ, List, length, true, false, nat_eq, nat_lt, Option, Some, None, if◌then◌else◌}
+-- Which words can be names.
+use Rattle.std.specs.Prelude.{ℕ, ◌==◌, Bool, ◌&&◌, ◌||◌, List, length, nat_lt}
 use Rattle.std.specs.List.{prefix_len}
-use Rattle.std.specs.Cmp.Lexicographic.{pointwise}
+use Rattle.std.specs.Char.{is_ascii_digit, is_ascii_lowercase}
+use Rattle.trace_reading.specs.Scanning.{digit_count}
 
--- how many names stand before this one
-abbrev pub others : List (List ℕ) → List ℕ → ℕ
-others names name = prefix_len (λ n. if pointwise nat_eq n name then false else true) names
+-- a small letter, a digit or `_`
+abbrev pub is_name_byte : ℕ → Bool
+is_name_byte b = is_ascii_lowercase b || is_ascii_digit b || (b == 95)
 
--- the number of the first of these names that is this one, counted from 0
-abbrev pub number_of : List (List ℕ) → List ℕ → Option ℕ
-number_of names name = if nat_lt (others names name) (length names) then Some (others names name) else None
+-- how many such bytes stand at the front
+abbrev pub name_bytes : List ℕ → ℕ
+name_bytes w = prefix_len is_name_byte w
+
+-- some such bytes and nothing else, and no digit at the front
+abbrev pub is_name : List ℕ → Bool
+is_name w = nat_lt 0 (length w) && (digit_count w == 0) && (name_bytes w == length w)

@@ -1,6 +1,6 @@
 //! Names, each of which stands for its number.
 ghost use Rattle.std.specs.Prelude.{◌≡◌, ◌<◌, [], ◌∷◌, ◌++◌, length, IfOk, OnOk, OnErr, slice_index_or};
-ghost use Rattle.find_play.specs.Names.{others, number_of};
+ghost use Rattle.find_play.specs.NameNumbers.{others, number_of};
 
 use shen_graph::NoMemory;
 use std::alloc::Global;

@@ -7,8 +7,8 @@ use Rattle.shen_graph.specs.History.{Entry, after}
 use Rattle.heap_graph.specs.Shows.{ShowsGraph}
 use Rattle.step_core.specs.Begins.{first_graph}
 use Rattle.step_core.specs.Schedule.{Scripts}
-use Rattle.trace_grammar.specs.Grammar.{Reads, most_bytes}
-use Rattle.trace_grammar.specs.declared.why.Why.{Why}
+use Rattle.trace_reading.specs.Grammar.{Reads, most_bytes}
+use Rattle.trace_reading.specs.declared.why.Why.{Why}
 use Rattle.trace_reading.specs.Refused.{Refused}
 use Rattle.trace_runs.specs.Replayed.{IsWhole, IsUnfinished, events_of, history_of}
 use Rattle.find_play.specs.declared.test.Test.{Test}

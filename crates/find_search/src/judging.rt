@@ -22,7 +22,7 @@ pub enum Judged {
 const MOST_BYTES: usize = 16_777_216;
 
 // Whether two heaps are of the same sizes.
-#[tactic(auto, using(trace_grammar::proofs::Once::same_config))]
+#[tactic(auto, using(trace_reading::proofs::Once::same_config))]
 fn are_same(one: Config, other: Config) -> bool
     ensures same { result ≡ true → one ≡ other }
     ensures other { result ≡ false → one ≢ other }

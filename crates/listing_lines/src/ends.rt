@@ -12,7 +12,7 @@ use listing::{
 use shen_base::{Block, Sink, WriteFault};
 use shen_core::Plain;
 use shen_graph::{Command, Reply, Work};
-use trace_grammar::Trace;
+use trace_reading::Trace;
 
 // The version of the form of the objects.
 const VERSION: u64 = 2;

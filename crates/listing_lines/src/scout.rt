@@ -4,14 +4,14 @@ ghost use Rattle.shen_graph.specs.declared.order.Order.TheVariants.{Nothing};
 ghost use Rattle.shen_core.specs.State.{config_of, orders_of};
 ghost use Rattle.shen_core.specs.Progress.{CanRun};
 ghost use Rattle.shen_core.specs.Agendas.{IsWalkOf};
-ghost use Rattle.trace_grammar.specs.Grammar.{Reads};
+ghost use Rattle.trace_reading.specs.Grammar.{Reads};
 
 use heap_words::{Item, NoMemory, Schedule, Took};
 use listing::{Event, Stall};
 use shen_core::{Plain, Seen, Stepped, Walk};
 use shen_graph::Work;
 use std::alloc::Global;
-use trace_grammar::Trace;
+use trace_reading::Trace;
 
 /// An event as memory saw it, with its number.
 pub fn event_of(plain: &Plain, number: u64, seen: &Seen) -> Event {

@@ -2,7 +2,7 @@
 
 use heap_words::{Config, Place};
 use listing::Row;
-use trace_grammar::number_in;
+use trace_reading::number_in;
 
 // The most bytes of a text that is looked for.
 const MOST: usize = 64;

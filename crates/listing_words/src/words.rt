@@ -1,5 +1,5 @@
 use crate::filter::{Filter, Needle};
-use trace_grammar::number_in;
+use trace_reading::number_in;
 
 /// The events that are made at most where the words name no number.
 const USUAL_STEPS: u64 = 100_000_000;

@@ -9,10 +9,10 @@ use Rattle.shen_graph.specs.declared.command.Command.{Command}
 use Rattle.shen_graph.specs.Valid.{IsValid}
 use Rattle.heap_words.specs.declared.config.Config.{Config}
 use Rattle.heap_words.specs.declared.schedule.Item.{Item}
-use Rattle.trace_grammar.specs.Spelling.{TraceLine, IsLine, line, header, schedule_line}
-use Rattle.trace_grammar.specs.Grammar.{Reads}
-use Rattle.trace_grammar.specs.Grammar as grammar
-use Rattle.trace_grammar.proofs.Traces.{few_lines}
+use Rattle.trace_reading.specs.Spelling.{TraceLine, IsLine, line, header, schedule_line}
+use Rattle.trace_reading.specs.Grammar.{Reads}
+use Rattle.trace_reading.specs.Grammar as grammar
+use Rattle.trace_reading.proofs.Traces.{few_lines}
 use Rattle.shen_check.specs.Judged.{CanBeJudged}
 
 -- the commands of lines in range are valid

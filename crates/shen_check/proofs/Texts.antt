@@ -16,8 +16,8 @@ use Rattle.shen_graph.specs.History.{Entry, after, of_thread, script_of}
 use Rattle.shen_graph.specs.History as history
 use Rattle.shen_graph.specs.PlainGraph.{Plain, graph_of}
 use Rattle.shen_graph.specs.Work.{Progress, replies_of, next_of}
-use Rattle.trace_writing.specs.Answer.{IsAnswerText, answer_text}
-use Rattle.trace_writing.proofs.AnswerLemmas.{answer_text_same}
+use Rattle.trace_text.specs.Answer.{IsAnswerText, answer_text}
+use Rattle.trace_text.proofs.AnswerLemmas.{answer_text_same}
 use Rattle.churn.proofs.OneReach.{one_reach}
 use Rattle.shen_check.specs.Judged.{graph_after, HasLeft, FollowUpTo, AllFollow, IsFirstLeft}
 use Rattle.shen_check.specs.Judging.{HasJudged}

@@ -8,7 +8,7 @@ use Rattle.shen_graph.specs.Graph.{Graph, opening}
 use Rattle.shen_graph.specs.Step.{IsLegal}
 use Rattle.shen_graph.specs.History.{Entry, after, after_entry, of_thread, script_of, Follows}
 use Rattle.shen_graph.specs.Crowd.{IsCrowded, IsLegalHistory}
-use Rattle.trace_writing.specs.Answer.{IsAnswerText}
+use Rattle.trace_text.specs.Answer.{IsAnswerText}
 use Rattle.shen_check.specs.declared.verdict.Verdict.{Verdict}
 use Rattle.shen_check.specs.declared.verdict.Verdict.TheVariants.{Yes, Entry as NoEntry, Script, Text}
 

@@ -6,7 +6,7 @@ use crate::judge::Judge;
 use crate::verdict::Verdict;
 use shen_graph::{History, NoMemory};
 use std::alloc::Global;
-use trace_grammar::Trace;
+use trace_reading::Trace;
 
 /// Judges a history that somebody claims for a trace, and a body that is to be the text that answers for it, byte for byte.
 /// The trace is to have a script for each of its threads, of commands in range, each shorter than 2^32 − 1. `NoMemory` where

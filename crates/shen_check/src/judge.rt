@@ -7,7 +7,7 @@ ghost use Rattle.shen_graph.specs.Noting.{seen};
 ghost use Rattle.shen_graph.specs.PlainGraph.{graph_of, threads_of};
 ghost use Rattle.shen_graph.specs.Work.{HasScript, next_of};
 ghost use Rattle.shen_graph.specs.declared.command.Command.{Command as Asked};
-ghost use Rattle.trace_writing.specs.Answer.{IsAnswerText};
+ghost use Rattle.trace_text.specs.Answer.{IsAnswerText};
 ghost use Rattle.shen_check.specs.Judged.{MayFollow};
 ghost use Rattle.shen_check.specs.Judging.{HasJudged, HasPinsOf, IsFullFor, MayAnswer};
 
@@ -16,8 +16,8 @@ use crate::kept::is_text;
 use heap_words::Config;
 use shen_graph::{Command, Entry, GraphText, History, NoMemory, PlainGraph, Reply, Work};
 use std::alloc::Global;
-use trace_grammar::Trace;
-use trace_writing::Answer;
+use trace_reading::Trace;
+use trace_text::Answer;
 
 /// The graph after the entries so far, and the scripts with what was answered.
 #[derive(Drop)]

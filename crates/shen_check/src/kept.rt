@@ -1,12 +1,12 @@
 //! A text that is kept in memory, to be compared.
 ghost use Rattle.std.specs.Prelude.{◌≡◌, ◌<◌, ℕ, Some, length, IfOk, MatchBool};
 ghost use Rattle.shen_graph.specs.Work.{HasScript};
-ghost use Rattle.trace_writing.specs.Answer.{spelled_answer};
+ghost use Rattle.trace_text.specs.Answer.{spelled_answer};
 
 use shen_base::{Failed, Sink};
 use shen_graph::NoMemory;
 use std::alloc::Global;
-use trace_writing::{Answer, write_answer};
+use trace_text::{Answer, write_answer};
 
 /// A sink that keeps what is written. It fails only where memory is refused.
 #[derive(Drop)]

@@ -4,7 +4,7 @@ ghost use Rattle.heap_words.specs.declared.config.Config.{Config};
 ghost use Rattle.heap_words.specs.declared.schedule.Item.{Item};
 ghost use Rattle.shen_graph.specs.declared.command.Command.{Command};
 ghost use Rattle.shen_graph.specs.History.{Entry};
-ghost use Rattle.trace_grammar.specs.Grammar.{Reads};
+ghost use Rattle.trace_reading.specs.Grammar.{Reads};
 ghost use Rattle.shen_check.specs.Judged.{CanBeJudged, IsVerdict};
 ghost use Rattle.shen_check.specs.declared.verdict.Verdict.{Verdict};
 

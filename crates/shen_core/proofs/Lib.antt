@@ -21,3 +21,4 @@ pub mod Finding
 pub mod Items
 pub mod Walking
 pub mod WalkEnds
+pub mod Anew

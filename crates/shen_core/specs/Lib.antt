@@ -8,3 +8,4 @@ pub mod Noting
 pub mod Agendas
 pub mod Seen
 pub mod Nexts
+pub mod RenewedHeap

@@ -1,16 +1,11 @@
 //! `shenfind` looks for the schedule of a test that breaks one of its claims.
 #![tactic(auto)]
 
-mod report;
-mod status;
-mod top;
-mod words;
-
+use program_calls::shenfind;
 use shen_base::{InSource, OutSink};
 use std::alloc::AllocError;
 use std::process::ExitCode;
 use std::{env, io};
-use top::shenfind;
 
 /// The status number where the system refuses the words of the command line, or one is not UTF-8.
 const NO_WORDS: u8 = 8;

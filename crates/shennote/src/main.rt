@@ -1,15 +1,11 @@
 //! `shennote` runs a trace on threads, and writes it with the schedule of that very run.
 #![tactic(auto)]
 
-mod note;
-mod top;
-mod turns;
-
+use program_calls::shennote;
 use shen_base::{InSource, OutSink};
 use std::alloc::AllocError;
 use std::process::ExitCode;
 use std::{env, io};
-use top::shennote;
 
 /// The status number where the system refuses the words of the command line, or one is not UTF-8.
 const NO_WORDS: u8 = 8;

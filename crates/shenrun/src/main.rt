@@ -1,14 +1,12 @@
 //! `shenrun` runs traces of commands on a region heap.
 #![tactic(auto)]
 
-mod top;
-
+use program_calls::shenrun;
 use shen_base::{InSource, OutSink};
 use std::alloc::AllocError;
 use std::process::ExitCode;
 use std::{env, io};
 use table_heap::OpenGate;
-use top::shenrun;
 
 /// The status number where the system refuses the words of the command line, or one is not UTF-8.
 const NO_WORDS: u8 = 8;
@@ -35,8 +33,3 @@ fn main(rt: HostRuntime) -> ExitCode {
     let status = shenrun(&rt, rt.alloc(), &words, &mut source, &mut sink, &OpenGate);
     ExitCode::from(status.number())
 }
-
-#[cfg(test)]
-mod faults;
-#[cfg(test)]
-mod gates;

@@ -1,16 +1,12 @@
 //! `shensteps` lists what a trace and its schedule do on a region heap, atomic step by atomic step.
 #![tactic(auto)]
 
-mod list;
-mod named;
-mod status;
-
-use list::shensteps;
+use program_calls::shensteps;
 use shen_base::{InSource, OutSink};
 use std::alloc::AllocError;
 use std::process::ExitCode;
 use std::{env, io};
-use trace_grammar::number_in;
+use trace_reading::number_in;
 
 /// The status number where the system refuses the words of the command line, or one is not UTF-8.
 const NO_WORDS: u8 = 8;

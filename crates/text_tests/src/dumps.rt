@@ -4,8 +4,7 @@ use shen_base::{MemorySink, PlainSource};
 use shen_graph::Command;
 use std::alloc::{AllocError, Global};
 use std::test::Fail;
-use trace_grammar::Why;
-use trace_reading::TraceFault;
+use trace_reading::{TraceFault, Why};
 
 const HEAD: &str = "dump 1\nheap 4 64 0\nthreads 1 0\n";
 

@@ -1,6 +1,7 @@
 //! A test of interleavings that is read, and how its thread goes on.
-use find_play::{Claim, Next, Place, Statement, Test, Thread, Wanted};
-use find_reading::{TestFault, TestWhy, read_test};
+use find_play::{
+    Claim, Next, Place, Statement, Test, TestFault, TestWhy, Thread, Wanted, read_test,
+};
 use shen_base::PlainSource;
 use shen_graph::{Command, Name, Reply};
 use std::alloc::{AllocError, Global};

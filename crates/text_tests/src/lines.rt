@@ -1,11 +1,11 @@
 //! Lines of a trace, taken one by one.
-ghost use Rattle.trace_grammar.specs.Spelling.{IsVersion};
+ghost use Rattle.trace_reading.specs.Spelling.{IsVersion};
 
 use heap_words::{Config, Item};
 use shen_graph::Command;
 use std::alloc::{AllocError, Global};
 use std::test::Fail;
-use trace_grammar::Why;
+use trace_reading::Why;
 use trace_text::{LineFault, TraceLines};
 
 // No line yet of a version, of a heap of four regions and one thread.

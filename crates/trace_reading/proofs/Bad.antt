@@ -8,11 +8,11 @@ use Rattle.shen_graph.specs.declared.command.Command.{Command}
 use Rattle.heap_words.specs.declared.config.Config.{Config}
 use Rattle.heap_words.specs.Narrow.{IsNarrow}
 use Rattle.heap_words.specs.declared.schedule.Item.{Item}
-use Rattle.trace_grammar.specs.Spelling.{TraceLine, IsVersion, IsLine, line, header, schedule_line, IsScheduleLine}
-use Rattle.trace_grammar.specs.Front.{IsBehindCommands}
-use Rattle.trace_grammar.specs.Grammar.{HasReadLines}
-use Rattle.trace_grammar.specs.declared.why.Why.{Why}
-use Rattle.trace_grammar.proofs.Traces.{few_lines, few_turns, command_is_no_turn}
+use Rattle.trace_reading.specs.Spelling.{TraceLine, IsVersion, IsLine, line, header, schedule_line, IsScheduleLine}
+use Rattle.trace_reading.specs.Front.{IsBehindCommands}
+use Rattle.trace_reading.specs.Grammar.{HasReadLines}
+use Rattle.trace_reading.specs.declared.why.Why.{Why}
+use Rattle.trace_reading.proofs.Traces.{few_lines, few_turns, command_is_no_turn}
 use Rattle.trace_reading.specs.Causes.{parts}
 use Rattle.trace_reading.specs.Refused.{Commands, body_stage, cause_of, StopsAt}
 use Rattle.trace_reading.proofs.Begins.{Begun, begun_head, begun_lines, begun_turns, begun_stops}

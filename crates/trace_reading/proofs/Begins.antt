@@ -8,8 +8,8 @@ use Rattle.std.proofs.lemmas.List.{length-append}
 use Rattle.heap_words.specs.declared.config.Config.{Config}
 use Rattle.heap_words.specs.Narrow.{IsNarrow}
 use Rattle.heap_words.specs.declared.schedule.Item.{Item}
-use Rattle.trace_grammar.specs.Spelling.{TraceLine, IsVersion, IsLine, line, newline, titled, header, schedule_line, IsScheduleLine}
-use Rattle.trace_grammar.specs.declared.why.Why.{Why}
+use Rattle.trace_reading.specs.Spelling.{TraceLine, IsVersion, IsLine, line, newline, titled, header, schedule_line, IsScheduleLine}
+use Rattle.trace_reading.specs.declared.why.Why.{Why}
 use Rattle.trace_reading.specs.Causes.{parts}
 use Rattle.trace_reading.specs.Refused.{LineStage, Version, Heap, Threads, Commands, Turns, body_stage, cause_of, LineFollows, Lead, StopsAt}
 use Rattle.trace_reading.proofs.Heads.{titled_is, version_spelled, heap_spelled, threads_spelled}

@@ -4,13 +4,13 @@ use Rattle.std.specs.List.{join_with_byte, AllByRecursion}
 use Rattle.std.specs.Fmt.{decimal}
 use Rattle.std.specs.Cmp.Lexicographic.{same_text}
 use Rattle.std.proofs.lemmas.Bool.{eqb-true, ltb-true, ltb-false}
-use Rattle.trace_grammar.specs.declared.kind.CommandKind.{CommandKind}
-use Rattle.trace_grammar.specs.declared.kind.CommandKind.TheVariants.{New, Get, Set, Cas, Xchg, Rd, Wr, Copy, Drop, Same, Gc, Pin, Unpin}
-use Rattle.trace_grammar.specs.Kinds.{first_kinds, later_kinds, kinds, word, limits, command_from, AreWithinLimits}
-use Rattle.trace_grammar.specs.Spelling.{TraceLine, IsLine, line, newline, numbers, command_word, numbers_of}
-use Rattle.trace_grammar.specs.declared.why.Why.TheVariants.{Command}
-use Rattle.trace_grammar.proofs.Numbers.{AreSmall, same_some}
-use Rattle.trace_grammar.proofs.Lines.{HasKind, kinds_known, limits_small, kind_of, made_numbers, made_word, made_valid, made_known, known_kind, valid_within, word_again}
+use Rattle.trace_reading.specs.declared.kind.CommandKind.{CommandKind}
+use Rattle.trace_reading.specs.declared.kind.CommandKind.TheVariants.{New, Get, Set, Cas, Xchg, Rd, Wr, Copy, Drop, Same, Gc, Pin, Unpin}
+use Rattle.trace_reading.specs.Kinds.{first_kinds, later_kinds, kinds, word, limits, command_from, AreWithinLimits}
+use Rattle.trace_reading.specs.Spelling.{TraceLine, IsLine, line, newline, numbers, command_word, numbers_of}
+use Rattle.trace_reading.specs.declared.why.Why.TheVariants.{Command}
+use Rattle.trace_reading.proofs.GrammarNumbers.{AreSmall, same_some}
+use Rattle.trace_reading.proofs.GrammarLines.{HasKind, kinds_known, limits_small, kind_of, made_numbers, made_word, made_valid, made_known, known_kind, valid_within, word_again}
 use Rattle.trace_reading.specs.Causes.{is_same, numbers_cause, kind_named, ranges_of, numbers_of_kind, command_cause}
 use Rattle.trace_reading.proofs.Words.{up_to, up_to_length, agrees, kind_known}
 use Rattle.trace_reading.proofs.Free.{IsWord}

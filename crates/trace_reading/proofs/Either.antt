@@ -8,9 +8,9 @@ use Rattle.shen_graph.specs.declared.command.Command.{Command}
 use Rattle.heap_words.specs.declared.config.Config.{Config}
 use Rattle.heap_words.specs.Narrow.{IsNarrow}
 use Rattle.heap_words.specs.declared.schedule.Item.{Item}
-use Rattle.trace_grammar.specs.Spelling.{TraceLine, IsVersion, IsLine, line, newline, titled, header, schedule_line, IsScheduleLine}
-use Rattle.trace_grammar.specs.Grammar.{most_bytes, scripts_of, items_of, Reads}
-use Rattle.trace_grammar.specs.declared.why.Why.{Why}
+use Rattle.trace_reading.specs.Spelling.{TraceLine, IsVersion, IsLine, line, newline, titled, header, schedule_line, IsScheduleLine}
+use Rattle.trace_reading.specs.Grammar.{most_bytes, scripts_of, items_of, Reads}
+use Rattle.trace_reading.specs.declared.why.Why.{Why}
 use Rattle.trace_reading.specs.Causes.{parts}
 use Rattle.trace_reading.specs.Refused.{LineStage, Version, Heap, Threads, Commands, Turns, words_cause, end_cause, cause_of, LineFollows, Lead, Refused}
 use Rattle.trace_reading.proofs.Lines.{whole_line, cut_line}

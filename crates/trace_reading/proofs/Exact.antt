@@ -8,11 +8,11 @@ use Rattle.std.proofs.lemmas.Fmt.{digits_value-decimal}
 use Rattle.shen_graph.specs.declared.command.Command.{Command}
 use Rattle.heap_words.specs.declared.config.Config.{Config}
 use Rattle.heap_words.specs.declared.schedule.Item.{Item}
-use Rattle.trace_grammar.specs.Spelling.{IsVersion, line, schedule_line}
-use Rattle.trace_grammar.specs.Grammar.{Reads}
-use Rattle.trace_grammar.specs.declared.why.Why.{Why}
-use Rattle.trace_grammar.proofs.Numbers.{own, same_some}
-use Rattle.trace_grammar.proofs.Once.{same_config}
+use Rattle.trace_reading.specs.Spelling.{IsVersion, line, schedule_line}
+use Rattle.trace_reading.specs.Grammar.{Reads}
+use Rattle.trace_reading.specs.declared.why.Why.{Why}
+use Rattle.trace_reading.proofs.GrammarNumbers.{own, same_some}
+use Rattle.trace_reading.proofs.Once.{same_config}
 use Rattle.trace_reading.specs.Refused.{LineStage, Version, Heap, Threads, Commands, Turns, body_stage, cause_of, LineFollows, IsCommandLine, IsTurnItem, Lead, StopsAt}
 use Rattle.trace_reading.proofs.Heads.{version_again, heap_again, threads_again}
 use Rattle.trace_reading.proofs.Commands.{line_words}

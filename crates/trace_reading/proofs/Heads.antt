@@ -12,9 +12,9 @@ use Rattle.std.proofs.lemmas.List.Splits.{join_with_byte-slice_split}
 use Rattle.std.proofs.lemmas.Fmt.{digits_value-decimal}
 use Rattle.heap_words.specs.declared.config.Config.{Config}
 use Rattle.heap_words.specs.Narrow.{IsNarrow}
-use Rattle.trace_grammar.specs.Spelling.{IsVersion, newline, numbers, titled}
-use Rattle.trace_grammar.specs.declared.why.Why.TheVariants.{Header}
-use Rattle.trace_grammar.proofs.Numbers.{own}
+use Rattle.trace_reading.specs.Spelling.{IsVersion, newline, numbers, titled}
+use Rattle.trace_reading.specs.declared.why.Why.TheVariants.{Header}
+use Rattle.trace_reading.proofs.GrammarNumbers.{own}
 use Rattle.trace_reading.specs.Causes.{parts, is_same, numbers_cause, title_cause, heap_ranges}
 use Rattle.trace_reading.specs.Refused.{Version, Heap, Threads, words_cause}
 use Rattle.trace_reading.proofs.Words.{both, titled_words, number_fine}

@@ -8,9 +8,9 @@ use Rattle.std.proofs.lemmas.Fmt.{digits_decimal}
 use Rattle.std.proofs.lemmas.List.Splits.{join_with_byte-slice_split}
 use Rattle.heap_words.specs.declared.config.Config.{Config}
 use Rattle.heap_words.specs.declared.schedule.Item.{Item}
-use Rattle.trace_grammar.specs.Spelling.{TraceLine, IsLine, line, newline, item, schedule_line, IsScheduleLine, command_word, numbers_of}
-use Rattle.trace_grammar.specs.declared.why.Why.TheVariants.{EndOfLine}
-use Rattle.trace_grammar.proofs.Numbers.{own}
+use Rattle.trace_reading.specs.Spelling.{TraceLine, IsLine, line, newline, item, schedule_line, IsScheduleLine, command_word, numbers_of}
+use Rattle.trace_reading.specs.declared.why.Why.TheVariants.{EndOfLine}
+use Rattle.trace_reading.proofs.GrammarNumbers.{own}
 use Rattle.trace_reading.specs.Causes.{parts, parts_behind, is_same, schedule_cause, command_cause}
 use Rattle.trace_reading.specs.Refused.{LineStage, Version, Heap, Threads, Commands, Turns, body_stage, words_cause, end_cause, cause_of, LineFollows, IsCommandLine, IsTurnItem}
 use Rattle.trace_reading.proofs.Cuts.{count_before, cut_parts}

@@ -1,3 +1,13 @@
+pub mod Digits
+pub mod GrammarNumbers
+pub mod GrammarLines
+pub mod Header
+pub mod Traces
+pub mod Pieces
+pub mod ReadItems
+pub mod ScheduleLines
+pub mod Once
+mod LoopReading
 pub mod Cuts
 pub mod RefusedPlaces
 pub mod Words

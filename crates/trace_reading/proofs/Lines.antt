@@ -4,8 +4,8 @@ use Rattle.std.specs.Prelude.{codes, slice_index_or}
 use Rattle.std.specs.Str.Parse.{digits_value}
 use Rattle.std.proofs.lemmas.Bool.Decides.{nat_tests}
 use Rattle.heap_words.specs.declared.config.Config.{Config}
-use Rattle.trace_grammar.specs.declared.why.Why.{Why}
-use Rattle.trace_grammar.specs.declared.why.Why.TheVariants.{EndOfLine, Header, ScheduleLast}
+use Rattle.trace_reading.specs.declared.why.Why.{Why}
+use Rattle.trace_reading.specs.declared.why.Why.TheVariants.{EndOfLine, Header, ScheduleLast}
 use Rattle.trace_reading.specs.Causes.{parts, parts_behind, first_cause, is_same, number_cause, numbers_cause, title_cause, heap_ranges, schedule_cause, command_cause}
 use Rattle.trace_reading.specs.Refused.{LineStage, Version, Heap, Threads, Commands, Turns, body_stage, words_cause, end_cause, cause_of}
 use Rattle.trace_reading.proofs.Cuts.{cut_parts}

@@ -5,9 +5,9 @@ use Rattle.std.specs.Fmt.{decimal}
 use Rattle.std.specs.Str.Parse.{digits_value}
 use Rattle.std.proofs.lemmas.Bool.Decides.{nat_tests}
 use Rattle.std.proofs.lemmas.Fmt.{decimal-digits_value, digits_decimal, digits_value-decimal, decimal_nonempty}
-use Rattle.trace_grammar.specs.Scanning.{digit_count, is_numeral}
-use Rattle.trace_grammar.proofs.Numbers.{own, numeral_parts, numeral_made, lone_zero, digit_count-append, same_test}
-use Rattle.trace_grammar.specs.declared.why.Why.{Why}
+use Rattle.trace_reading.specs.Scanning.{digit_count, is_numeral}
+use Rattle.trace_reading.proofs.GrammarNumbers.{own, numeral_parts, numeral_made, lone_zero, digit_count-append, same_test}
+use Rattle.trace_reading.specs.declared.why.Why.{Why}
 use Rattle.trace_reading.specs.Causes.{first_cause, is_plain_number, range_cause, number_cause, numbers_cause}
 use Rattle.trace_reading.proofs.Words.{both, number_digits, number_fine}
 use Rattle.trace_reading.proofs.Free.{IsWord, free_digits}

@@ -4,7 +4,7 @@ use Rattle.std.proofs.lemmas.List.{take_all}
 use Rattle.heap_words.specs.declared.place.Place.{Place}
 use Rattle.heap_words.specs.Place.{code_of}
 use Rattle.heap_words.proofs.Codes.{same_code}
-use Rattle.trace_grammar.specs.Front.{BeginsWith, BeginsWithNone, IsAny}
+use Rattle.trace_reading.specs.Front.{BeginsWith, BeginsWithNone, IsAny}
 use Rattle.trace_reading.proofs.RefusedPlaces.{two_letters}
 
 -- two letters at the front

@@ -14,12 +14,12 @@ use Rattle.heap_words.specs.declared.schedule.Item.{Item}
 use Rattle.heap_words.specs.declared.schedule.Item.TheVariants.{Steps, Until, Replies}
 use Rattle.heap_words.specs.Place.{code_of}
 use Rattle.heap_words.specs.Ranges.{seat_count}
-use Rattle.trace_grammar.specs.Scanning.{digit_count}
-use Rattle.trace_grammar.specs.Spelling.{newline, number_of, aim, item, schedule_line, IsItem, IsScheduleLine}
-use Rattle.trace_grammar.specs.declared.why.Why.TheVariants.{Item as NoItem}
-use Rattle.trace_grammar.specs.Front.{NoDigit}
-use Rattle.trace_grammar.proofs.Numbers.{own, digit_count-append}
-use Rattle.trace_grammar.proofs.ReadItems.{aim_no_digit, seat_of}
+use Rattle.trace_reading.specs.Scanning.{digit_count}
+use Rattle.trace_reading.specs.Spelling.{newline, number_of, aim, item, schedule_line, IsItem, IsScheduleLine}
+use Rattle.trace_reading.specs.declared.why.Why.TheVariants.{Item as NoItem}
+use Rattle.trace_reading.specs.Front.{NoDigit}
+use Rattle.trace_reading.proofs.GrammarNumbers.{own, digit_count-append}
+use Rattle.trace_reading.proofs.ReadItems.{aim_no_digit, seat_of}
 use Rattle.trace_reading.specs.Codes.{is_code}
 use Rattle.trace_reading.specs.Causes.{first_cause, is_plain_number, range_cause, counted_cause, until_cause, aim_cause, item_cause, items_cause, schedule_cause}
 use Rattle.trace_reading.proofs.RefusedPlaces.{code_takes, code_again}

@@ -2,7 +2,7 @@
 use Rattle.std.proofs.Common.{◌≡◌, ◌⊎◌, ℕ, ◌≤◌, List, [], ◌∷◌, ◌++◌, length, None, inl, inr, sym, ap, ◌∙◌, append_assoc, arith}
 use Rattle.heap_words.specs.declared.config.Config.{Config}
 use Rattle.heap_words.specs.declared.schedule.Item.{Item}
-use Rattle.trace_grammar.specs.Spelling.{TraceLine, IsLine, line, schedule_line, IsScheduleLine}
+use Rattle.trace_reading.specs.Spelling.{TraceLine, IsLine, line, schedule_line, IsScheduleLine}
 use Rattle.trace_reading.specs.Causes.{parts}
 use Rattle.trace_reading.specs.Refused.{Commands, Turns, IsCommandLine, IsTurnItem, cause_of}
 use Rattle.trace_reading.proofs.Lines.{whole_line, cut_line}

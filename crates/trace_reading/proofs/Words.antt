@@ -4,14 +4,14 @@ use Rattle.std.specs.Str.Parse.{AllDigits, digits_value}
 use Rattle.std.proofs.lemmas.Bool.{eqb-true, ltb-false}
 use Rattle.std.proofs.lemmas.Bool.Decides.{nat_tests}
 use Rattle.std.proofs.lemmas.List.{take_all, drop_all}
-use Rattle.trace_grammar.specs.Scanning.{digit_count, is_numeral}
+use Rattle.trace_reading.specs.Scanning.{digit_count, is_numeral}
 use Rattle.heap_words.specs.declared.config.Config.{Config}
-use Rattle.trace_grammar.specs.declared.kind.CommandKind.{CommandKind}
-use Rattle.trace_grammar.specs.declared.kind.CommandKind.TheVariants.{New}
-use Rattle.trace_grammar.specs.Kinds.{kinds, word, limits}
-use Rattle.trace_grammar.specs.declared.why.Why.{Why}
-use Rattle.trace_grammar.specs.declared.why.Why.TheVariants.{Header, Command, Number, Range}
-use Rattle.trace_grammar.proofs.Digits.{digits_are_digits}
+use Rattle.trace_reading.specs.declared.kind.CommandKind.{CommandKind}
+use Rattle.trace_reading.specs.declared.kind.CommandKind.TheVariants.{New}
+use Rattle.trace_reading.specs.Kinds.{kinds, word, limits}
+use Rattle.trace_reading.specs.declared.why.Why.{Why}
+use Rattle.trace_reading.specs.declared.why.Why.TheVariants.{Header, Command, Number, Range}
+use Rattle.trace_reading.proofs.Digits.{digits_are_digits}
 use Rattle.trace_reading.specs.Causes.{first_cause, is_same, parts_behind, is_plain_number, range_cause, number_cause, numbers_cause, title_cause, kind_named, ranges_of, command_cause, item_cause, items_cause, schedule_cause}
 use Rattle.trace_reading.proofs.Cuts.{cut_parts}
 

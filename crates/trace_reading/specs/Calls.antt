@@ -2,7 +2,7 @@
 use Rattle.std.specs.Prelude.{ℕ, ◌+◌, ◌≤◌, List, Option, length}
 use Rattle.std.specs.Io.KnownBytes.{Consumes}
 use Rattle.shen_base.specs.Count.{CalledAtMost}
-use Rattle.trace_grammar.specs.Grammar.{most_bytes}
+use Rattle.trace_reading.specs.Grammar.{most_bytes}
 
 -- So many bytes at most were taken from a source, by at most one reading call for each of them and one for the end.
 abbrev pub TakesAtMost : (most : ℕ) → (before after : Option (List ℕ)) → (calls_before calls_after : ℕ) → Type 0

@@ -5,11 +5,11 @@ use Rattle.std.specs.Cmp.Lexicographic.{pointwise}
 use Rattle.std.specs.Str.Parse.{digits_value}
 use Rattle.heap_words.specs.declared.config.Config.{Config}
 use Rattle.heap_words.specs.Ranges.{seat_count}
-use Rattle.trace_grammar.specs.declared.kind.CommandKind.{CommandKind}
-use Rattle.trace_grammar.specs.Kinds.{kinds, word, limits}
-use Rattle.trace_grammar.specs.Scanning.{digit_count, is_numeral}
-use Rattle.trace_grammar.specs.declared.why.Why.{Why}
-use Rattle.trace_grammar.specs.declared.why.Why.TheVariants.{Header, Command, Item, Number, Range}
+use Rattle.trace_reading.specs.declared.kind.CommandKind.{CommandKind}
+use Rattle.trace_reading.specs.Kinds.{kinds, word, limits}
+use Rattle.trace_reading.specs.Scanning.{digit_count, is_numeral}
+use Rattle.trace_reading.specs.declared.why.Why.{Why}
+use Rattle.trace_reading.specs.declared.why.Why.TheVariants.{Header, Command, Item, Number, Range}
 use Rattle.trace_reading.specs.Codes.{is_code}
 
 -- what stands between such bytes

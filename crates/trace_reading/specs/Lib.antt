@@ -1,3 +1,9 @@
+pub mod Spelling
+pub mod Kinds
+pub mod Scanning
+pub mod Front
+pub mod Grammar
+pub mod Why
 pub mod Codes
 pub mod Causes
 pub mod Refused

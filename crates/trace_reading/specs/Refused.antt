@@ -3,10 +3,10 @@ use Rattle.std.specs.Prelude.{ℕ, ◌≡◌, ◌⊎◌, ◌+◌, ◌≤◌, Boo
 use Rattle.heap_words.specs.declared.config.Config.{Config}
 use Rattle.heap_words.specs.Narrow.{IsNarrow}
 use Rattle.heap_words.specs.declared.schedule.Item.{Item}
-use Rattle.trace_grammar.specs.Spelling.{space, newline, titled, TraceLine, line, IsVersion, IsLine, schedule_line, IsScheduleLine}
-use Rattle.trace_grammar.specs.Grammar.{most_bytes}
-use Rattle.trace_grammar.specs.declared.why.Why.{Why}
-use Rattle.trace_grammar.specs.declared.why.Why.TheVariants.{EndOfLine, ScheduleLast}
+use Rattle.trace_reading.specs.Spelling.{space, newline, titled, TraceLine, line, IsVersion, IsLine, schedule_line, IsScheduleLine}
+use Rattle.trace_reading.specs.Grammar.{most_bytes}
+use Rattle.trace_reading.specs.declared.why.Why.{Why}
+use Rattle.trace_reading.specs.declared.why.Why.TheVariants.{EndOfLine, ScheduleLast}
 use Rattle.trace_reading.specs.Causes.{parts, is_same, title_cause, version_ranges, heap_ranges, threads_ranges, command_cause, schedule_cause}
 
 -- what is to stand on a line

@@ -4,9 +4,9 @@ use Rattle.std.specs.List.{flat_map, AllByRecursion}
 use Rattle.shen_graph.specs.declared.command.Command.{Command}
 use Rattle.heap_words.specs.declared.config.Config.{Config}
 use Rattle.heap_words.specs.declared.schedule.Item.{Item}
-use Rattle.trace_grammar.specs.Spelling.{newline, TraceLine, line, IsLine, schedule_line, IsScheduleLine}
-use Rattle.trace_grammar.specs.Grammar.{scripts_of, items_of}
-use Rattle.trace_grammar.specs.declared.why.Why.{Why}
+use Rattle.trace_reading.specs.Spelling.{newline, TraceLine, line, IsLine, schedule_line, IsScheduleLine}
+use Rattle.trace_reading.specs.Grammar.{scripts_of, items_of}
+use Rattle.trace_reading.specs.declared.why.Why.{Why}
 use Rattle.trace_reading.specs.Causes.{parts}
 use Rattle.trace_reading.specs.Refused.{body_stage, cause_of}
 

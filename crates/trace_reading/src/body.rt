@@ -1,14 +1,14 @@
 //! The lines behind the head.
 ghost use Rattle.std.specs.Prelude.{◌≡◌, map};
-ghost use Rattle.trace_grammar.specs.Kinds.{kinds};
+ghost use Rattle.trace_reading.specs.Kinds.{kinds};
 ghost use Rattle.trace_reading.specs.Causes.{parts, parts_behind, numbers_cause, kind_named, command_cause};
 ghost use Rattle.trace_reading.specs.Refused.{cause_of, words_cause, body_stage};
 
 use crate::numbers::{number_cause, numbers_cause};
 use crate::parts::{count_words, cut, next_word};
 use crate::refused_items::schedule_cause;
+use crate::{CommandKind, Why, kinds_of};
 use heap_words::Config;
-use trace_grammar::{CommandKind, Why, kinds_of};
 
 /// The first of these kinds that has this word.
 fn kind_among(kinds: &[CommandKind], word: &[u8]) -> Option<CommandKind>

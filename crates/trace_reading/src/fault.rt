@@ -1,4 +1,4 @@
-use trace_grammar::Why;
+use crate::Why;
 
 /// Why no trace was read.
 #[derive(Clone, Copy, PartialEq, Eq)]

@@ -4,13 +4,13 @@ ghost use Rattle.std.specs.Str.Parse.{digits_value};
 ghost use Rattle.trace_reading.specs.Causes.{parts, number_cause, title_cause};
 ghost use Rattle.heap_words.specs.declared.config.Config.{Config};
 ghost use Rattle.heap_words.specs.Narrow.{IsNarrow};
-ghost use Rattle.trace_grammar.specs.Spelling.{IsVersion, header};
+ghost use Rattle.trace_reading.specs.Spelling.{IsVersion, header};
 ghost use Rattle.trace_reading.specs.Refused.{cause_of, StopsAt};
 ghost use Rattle.trace_reading.specs.Refused as stage;
 
 use crate::numbers::{is_number, numbers_cause};
 use crate::parts::{count_words, cut, next_word};
-use trace_grammar::{Why, value_of};
+use crate::{Why, value_of};
 
 /// Why a line is none of this title and of numbers in these ranges.
 fn title_cause(title: &[u8], ranges: &[(u64, u64)], text: &[u8]) -> Option<Why>

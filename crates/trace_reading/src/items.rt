@@ -2,11 +2,11 @@
 ghost use Rattle.std.specs.Prelude.{◌<◌, MatchOption};
 ghost use Rattle.heap_words.specs.Place.{code_of};
 ghost use Rattle.heap_words.specs.Ranges.{seat_count};
-ghost use Rattle.trace_grammar.specs.Spelling.{IsItem, aim, item};
-ghost use Rattle.trace_grammar.specs.Front.{BeginsWith, BeginsWithNone, IsAny, IsItemOf};
+ghost use Rattle.trace_reading.specs.Spelling.{IsItem, aim, item};
+ghost use Rattle.trace_reading.specs.Front.{BeginsWith, BeginsWithNone, IsAny, IsItemOf};
 
+use crate::positive_at;
 use heap_words::{Config, Item, Place};
-use trace_grammar::positive_at;
 
 /// The most steps, or replies, of an item.
 const MOST_COUNT: u64 = 4_000_000_000;

@@ -1,13 +1,13 @@
 //! A command's line.
 ghost use Rattle.std.specs.Prelude.{◌≡◌};
 ghost use Rattle.std.specs.Option.{option_map};
-ghost use Rattle.trace_grammar.specs.Scanning.{spelled_command, line_at};
+ghost use Rattle.trace_reading.specs.Scanning.{spelled_command, line_at};
 
+use crate::{kind_at, numbers_at, positive_at, text_at};
 use shen_graph::Command;
-use trace_grammar::{kind_at, numbers_at, positive_at, text_at};
 
 /// The command of a version at the front, and what is behind its numbers.
-#[tactic(auto, unfolding(trace_grammar::specs::Scanning::spelled_command))]
+#[tactic(auto, unfolding(crate::specs::Scanning::spelled_command))]
 pub fn command_at(version: u32, bytes: &[u8]) -> Option<(Command, &[u8])>
     ensures { option_map (λ x. (x.0, x.1.now)) result ≡ spelled_command version bytes.now }
 {
@@ -17,7 +17,7 @@ pub fn command_at(version: u32, bytes: &[u8]) -> Option<(Command, &[u8])>
 }
 
 /// The line of a command of a version at the front: the thread, the command, and the bytes behind the line.
-#[tactic(auto, unfolding(trace_grammar::specs::Scanning::line_at))]
+#[tactic(auto, unfolding(crate::specs::Scanning::line_at))]
 pub(crate) fn line_at(version: u32, threads: u32, bytes: &[u8]) -> Option<(u64, Command, &[u8])>
     ensures { option_map (λ x. (record { thread = x.0; command = x.1 }, x.2.now)) result ≡ line_at version threads bytes.now }
 {

@@ -4,7 +4,7 @@ ghost use Rattle.std.specs.Str.Parse.{AllDigits};
 ghost use Rattle.trace_reading.specs.Causes.{is_plain_number, range_cause, number_cause, numbers_cause, parts_behind};
 
 use crate::parts::next_word;
-use trace_grammar::{Why, digits_at, is_numeral, value_of};
+use crate::{Why, digits_at, is_numeral, value_of};
 
 /// Digits with no needless zero in front.
 pub fn is_number(word: &[u8]) -> bool

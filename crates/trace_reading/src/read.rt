@@ -4,11 +4,11 @@ ghost use Rattle.std.specs.Option.{option_map};
 ghost use Rattle.std.specs.Io.KnownBytes.{Consumes};
 ghost use Rattle.shen_base.specs.Count.{Rose};
 ghost use Rattle.heap_words.specs.Narrow.{IsNarrow};
-ghost use Rattle.trace_grammar.specs.Spelling.{TraceLine, IsVersion, IsLine, line, header};
-ghost use Rattle.trace_grammar.specs.Scanning.{sizes_at};
-ghost use Rattle.trace_grammar.specs.Front.{IsBehindCommands};
-ghost use Rattle.trace_grammar.specs.Grammar.{most_bytes, with_line, scripts_of, HasReadLines, Reads, HasNoHead, Came};
-ghost use Rattle.trace_grammar.specs.declared.why.Why.{Why as Cause};
+ghost use Rattle.trace_reading.specs.Spelling.{TraceLine, IsVersion, IsLine, line, header};
+ghost use Rattle.trace_reading.specs.Scanning.{sizes_at};
+ghost use Rattle.trace_reading.specs.Front.{IsBehindCommands};
+ghost use Rattle.trace_reading.specs.Grammar.{most_bytes, with_line, scripts_of, HasReadLines, Reads, HasNoHead, Came};
+ghost use Rattle.trace_reading.specs.declared.why.Why.{Why as Cause};
 ghost use Rattle.trace_reading.specs.Causes.{parts};
 ghost use Rattle.trace_reading.specs.Refused.{body_stage, cause_of, StopsAt, Refused};
 ghost use Rattle.trace_reading.specs.Calls.{HasFewCalls};
@@ -19,12 +19,11 @@ use crate::fault::{NotTaken, TraceFault};
 use crate::line::line_at;
 use crate::schedule_lines::take_schedule;
 use crate::source_bytes::all_bytes;
-use crate::{body_refusal, head_refusal};
+use crate::{Scripts, Trace, body_refusal, head_refusal, numbers_at, positive_at, text_at};
 use heap_words::{Config, Schedule};
 use shen_base::Source;
 use shen_graph::Script;
 use std::alloc::Global;
-use trace_grammar::{Scripts, Trace, numbers_at, positive_at, text_at};
 
 /// The numbers at the head of a trace: its version, those of its heap, and those of its threads.
 #[derive(Clone, Copy)]
@@ -35,7 +34,7 @@ struct HeadNumbers {
 }
 
 /// The numbers at the head of a trace, and the bytes behind its three lines.
-#[tactic(auto, unfolding(trace_grammar::specs::Scanning::sizes_at))]
+#[tactic(auto, unfolding(crate::specs::Scanning::sizes_at))]
 fn sizes_at(bytes: &[u8]) -> Option<(HeadNumbers, &[u8])>
     ensures { option_map (λ x. (record { version = x.0.version; heap = take 3 x.0.heap; threads = take 2 x.0.threads }, x.1.now)) result ≡ sizes_at bytes.now }
 {

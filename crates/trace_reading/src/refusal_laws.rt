@@ -3,8 +3,8 @@ ghost use Rattle.std.specs.Prelude.{◌≡◌, ◌⊎◌, ℕ, ◌≤◌, List, 
 ghost use Rattle.shen_graph.specs.declared.command.Command.{Command};
 ghost use Rattle.heap_words.specs.declared.config.Config.{Config};
 ghost use Rattle.heap_words.specs.declared.schedule.Item.{Item};
-ghost use Rattle.trace_grammar.specs.Grammar.{most_bytes, Reads};
-ghost use Rattle.trace_grammar.specs.declared.why.Why.{Why};
+ghost use Rattle.trace_reading.specs.Grammar.{most_bytes, Reads};
+ghost use Rattle.trace_reading.specs.declared.why.Why.{Why};
 ghost use Rattle.trace_reading.specs.Refused.{Refused};
 
 /// A law: bytes within the limit are a trace, or are refused at a line for a cause; never both, and never at two lines or

@@ -5,8 +5,8 @@ ghost use Rattle.trace_reading.specs.Causes.{counted_cause, until_cause, item_ca
 
 use crate::numbers::{is_number, range_cause};
 use crate::parts::next_word;
+use crate::{Why, digits_at};
 use heap_words::{Config, Place};
-use trace_grammar::{Why, digits_at};
 
 /// The most steps, or replies, of an item.
 const MOST_COUNT: u64 = 4_000_000_000;

@@ -2,21 +2,20 @@
 ghost use Rattle.std.specs.Prelude.{◌≡◌, ◌↔◌, List, ◌∷◌, [], ◌++◌, Err, IfOk, OnOk, IfErr, IsTrue, ◌≢◌, nat_lt, Some, ◌≤◌, ◌+◌, ◌<◌, ◌^◌, ℕ, length};
 ghost use Rattle.std.specs.List.{AllByRecursion};
 ghost use Rattle.heap_words.specs.declared.schedule.Item.{Item as Piece};
-ghost use Rattle.trace_grammar.specs.Spelling.{IsItem, spaced_item, items_and_end, IsScheduleLine, schedule_line};
-ghost use Rattle.trace_grammar.specs.Front.{IsLineEnd, IsBehindCommands, BeginsWith, BeginsWithNone};
-ghost use Rattle.trace_grammar.specs.Grammar.{HasScheduled};
-ghost use Rattle.trace_grammar.specs.declared.why.Why.{Why as Cause};
+ghost use Rattle.trace_reading.specs.Spelling.{IsItem, spaced_item, items_and_end, IsScheduleLine, schedule_line};
+ghost use Rattle.trace_reading.specs.Front.{IsLineEnd, IsBehindCommands, BeginsWith, BeginsWithNone};
+ghost use Rattle.trace_reading.specs.Grammar.{HasScheduled};
+ghost use Rattle.trace_reading.specs.declared.why.Why.{Why as Cause};
 ghost use Rattle.trace_reading.specs.Faults.{IsTextFault};
 ghost use Rattle.trace_reading.specs.Causes.{parts};
 ghost use Rattle.trace_reading.specs.Refused.{body_stage, cause_of};
 ghost use Rattle.trace_reading.specs.Stops.{StopsTurns};
 
-use crate::body_refusal;
 use crate::fault::{NotTaken, TraceFault};
 use crate::items::item_at;
+use crate::{body_refusal, text_at};
 use heap_words::{Config, Schedule};
 use std::alloc::Global;
-use trace_grammar::text_at;
 
 /// Takes a space and an item, and adds the item to the schedule.
 fn take_item<'a>(

@@ -2,8 +2,8 @@
 ghost use Rattle.std.specs.Prelude.{◌≡◌, ◌≢◌, ℕ, ◌+◌, ◌<◌, ◌≤◌, List, Option, length, vec_len, IfOk, OnOk, IfErr, OnErr, Err};
 ghost use Rattle.std.specs.Io.KnownBytes.{Consumes, IsAtEnd};
 ghost use Rattle.shen_base.specs.Count.{Rose, raised};
-ghost use Rattle.trace_grammar.specs.Grammar.{most_bytes, Came};
-ghost use Rattle.trace_grammar.specs.declared.why.Why.{Why};
+ghost use Rattle.trace_reading.specs.Grammar.{most_bytes, Came};
+ghost use Rattle.trace_reading.specs.declared.why.Why.{Why};
 ghost use Rattle.trace_reading.specs.Calls.{HasFewCalls};
 ghost use Rattle.trace_reading.specs.Faults.{IsReadingFault};
 

@@ -32,8 +32,8 @@ use Rattle.table_heap.specs.Core.{heap_kind, heap_opening, machine_in}
 use Rattle.table_heap.specs.State.{config_of, view_of}
 use Rattle.table_heap.proofs.Ended.{idle_takes, idle_turn}
 use Rattle.table_heap.proofs.Running.{role_at}
-use Rattle.trace_grammar.specs.Grammar.{Reads}
-use Rattle.trace_writing.specs.Answer.{answer_text}
+use Rattle.trace_reading.specs.Grammar.{Reads}
+use Rattle.trace_text.specs.Answer.{answer_text}
 use Rattle.trace_runs.specs.declared.parts.Part.{Part}
 use Rattle.trace_runs.specs.declared.load.Load.TheVariants.{Scripted}
 use Rattle.trace_runs.specs.DealtParts.{Assigned, LoadIsDone, IsDone}

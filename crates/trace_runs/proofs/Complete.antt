@@ -4,8 +4,8 @@ use Rattle.std.proofs.Common.{◌≡◌, ◌⊎◌, inl, inr, ℕ, ◌≤◌, Li
 use Rattle.std.specs.Io.KnownBytes.{Consumes, IsAtEnd}
 use Rattle.std.proofs.lemmas.List.{length-append, append-nil}
 use Rattle.shen_base.specs.Count.{Rose}
-use Rattle.trace_grammar.specs.Grammar.{most_bytes, Came}
-use Rattle.trace_grammar.specs.declared.why.Why.{Why}
+use Rattle.trace_reading.specs.Grammar.{most_bytes, Came}
+use Rattle.trace_reading.specs.declared.why.Why.{Why}
 use Rattle.trace_reading.proofs.Exact.{never_both}
 use Rattle.trace_text.proofs.PairLaws as pair
 use Rattle.dump_text.proofs.Reread as reread

@@ -20,8 +20,8 @@ use Rattle.step_core.specs.Schedule.{Scripts}
 use Rattle.heap_graph.specs.Shows.{ShowsGraph}
 use Rattle.shen_core.specs.declared.plain.Plain.{Plain}
 use Rattle.shen_core.specs.Progress.{Jobs}
-use Rattle.trace_grammar.specs.Spelling.{FitsWhenWritten}
-use Rattle.trace_grammar.specs.Grammar.{most_bytes, Reads}
+use Rattle.trace_reading.specs.Spelling.{FitsWhenWritten}
+use Rattle.trace_reading.specs.Grammar.{most_bytes, Reads}
 use Rattle.trace_text.proofs.MadePairs.{IsOfScript, each_asked}
 use Rattle.dump_text.specs.ObjectsMade.{is_allocation, is_name_reply, has_made, objects_made, objects_made_by_each, IsEntryInRange, IsDumpable}
 use Rattle.dump_text.specs.Dumped.{Dumped, IsDumpOf}

@@ -20,7 +20,7 @@ use Rattle.step_core.specs.Settled.{control_number}
 use Rattle.step_core.proofs.Theorem.EveryList.{every_list}
 use Rattle.shen_core.specs.Progress.{AreIdle}
 use Rattle.shen_core.proofs.Rounds.{scheduled_none}
-use Rattle.trace_writing.specs.Answer.{IsAnswerText}
+use Rattle.trace_text.specs.Answer.{IsAnswerText}
 use Rattle.trace_runs.specs.Replayed.{events_of, IsWhole, IsReplayed}
 
 -- no number has a turn

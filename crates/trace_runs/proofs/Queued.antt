@@ -33,8 +33,8 @@ use Rattle.table_heap.specs.Closed as closed
 use Rattle.table_heap.specs.Core.{heap_kind, heap_opening, nobody}
 use Rattle.table_heap.specs.Driven.{IsDrivenFrom, driver_after}
 use Rattle.table_heap.specs.State.{config_of, view_of, IsFresh}
-use Rattle.trace_writing.specs.Message.{line_text}
-use Rattle.trace_writing.specs.declared.message.Line.TheVariants as line
+use Rattle.trace_text.specs.Message.{line_text}
+use Rattle.trace_text.specs.declared.message.Line.TheVariants as line
 use Rattle.trace_runs.specs.declared.load.Load.TheVariants.{Scripted, Driven}
 use Rattle.trace_runs.specs.declared.parts.Part.{Part}
 use Rattle.trace_runs.specs.DealtParts.{crew_of, IsPart, HasUsed, IsCrewed, LoadIsDone, PartIsReady, IsDone, CanBeDealt}

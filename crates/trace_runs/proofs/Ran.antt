@@ -21,7 +21,7 @@ use Rattle.shen_core.specs.WholeRun.{HasRun, RunsSchedule}
 use Rattle.shen_core.specs.Noting.{IsEnding, IsHistory, NotesSchedule, commands_in}
 use Rattle.shen_core.proofs.Calls.{all_call_first}
 use Rattle.shen_core.proofs.Fresh.{can_run_first, tells_first}
-use Rattle.trace_grammar.specs.Grammar.{Reads}
+use Rattle.trace_reading.specs.Grammar.{Reads}
 use Rattle.trace_runs.specs.Replayed.{IsUnfinished, history_of}
 use Rattle.trace_runs.specs.Running.{HasFinished}
 

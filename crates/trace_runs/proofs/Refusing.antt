@@ -2,12 +2,12 @@
 use Rattle.std.proofs.Common.{◌≡◌, ℕ, ◌+◌, List, length, inl, inr, refl}
 use Rattle.std.specs.Io.KnownBytes.{Consumes}
 use Rattle.shen_base.specs.Count.{Rose}
-use Rattle.trace_grammar.specs.Grammar.{most_bytes}
-use Rattle.trace_grammar.specs.declared.why.Why.{Why}
+use Rattle.trace_reading.specs.Grammar.{most_bytes}
+use Rattle.trace_reading.specs.declared.why.Why.{Why}
 use Rattle.trace_reading.specs.declared.fault.TraceFault.{TraceFault}
 use Rattle.trace_reading.specs.declared.fault.TraceFault.TheVariants as fault
-use Rattle.trace_writing.specs.Message.{line_text}
-use Rattle.trace_writing.specs.declared.message.Line.TheVariants as line
+use Rattle.trace_text.specs.Message.{line_text}
+use Rattle.trace_text.specs.declared.message.Line.TheVariants as line
 use Rattle.trace_runs.specs.declared.mode.Mode.{Mode}
 use Rattle.trace_runs.specs.declared.status.Status.{Status}
 use Rattle.trace_runs.specs.declared.status.Status.TheVariants.{BadTrace, ReadFault, NoMemory}

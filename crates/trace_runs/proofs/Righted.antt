@@ -3,11 +3,11 @@ use Rattle.std.proofs.Common.{◌≡◌, ℕ, ◌≤◌, List, ◌++◌, length,
 use Rattle.std.proofs.lemmas.List.FromFn.{length-map-range_with_len}
 use Rattle.shen_graph.specs.Graph.{opening}
 use Rattle.shen_graph.specs.History.{EachIsLegal}
-use Rattle.trace_grammar.specs.Grammar.{most_bytes, commands_in}
-use Rattle.trace_writing.specs.Answer.{IsAnswerText}
-use Rattle.trace_writing.specs.History.{history_text}
-use Rattle.trace_writing.specs.Message.{line_text}
-use Rattle.trace_writing.specs.declared.message.Line.TheVariants as line
+use Rattle.trace_reading.specs.Grammar.{most_bytes, commands_in}
+use Rattle.trace_text.specs.Answer.{IsAnswerText}
+use Rattle.trace_text.specs.History.{history_text}
+use Rattle.trace_text.specs.Message.{line_text}
+use Rattle.trace_text.specs.declared.message.Line.TheVariants as line
 use Rattle.trace_text.specs.Pairs.{IsPair}
 use Rattle.trace_text.proofs.MadePairs.{made_pair}
 use Rattle.shen_check.specs.declared.verdict.Verdict.TheVariants.{Yes}

@@ -10,8 +10,8 @@ use Rattle.shen_graph.specs.Valid.{IsValid}
 use Rattle.heap_words.specs.declared.config.Config.{Config}
 use Rattle.heap_words.specs.declared.schedule.Item.{Item}
 use Rattle.shen_core.specs.Progress.{IsInSeats, IsRunnable}
-use Rattle.trace_grammar.specs.Spelling.{line, header, schedule_line}
-use Rattle.trace_grammar.specs.Grammar.{most_bytes, Reads}
+use Rattle.trace_reading.specs.Spelling.{line, header, schedule_line}
+use Rattle.trace_reading.specs.Grammar.{most_bytes, Reads}
 use Rattle.dump_runs.proofs.ScriptLines as lines
 
 pub count_scripts : (bytes : List ℕ) (v : ℕ) (c : Config) (scripts : List (List Command)) (items : List Item) → Reads bytes v c scripts items → length scripts ≡ c.mutators

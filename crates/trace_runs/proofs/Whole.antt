@@ -49,10 +49,10 @@ use Rattle.shen_core.specs.State.{machine_at, Shows}
 use Rattle.step_core.specs.Machines.{order_by, is_resting}
 use Rattle.shen_core.specs.Progress.{Jobs, AreIdle, AllRest}
 use Rattle.shen_core.specs.Calls.{HasCalled, AllHaveCalled}
-use Rattle.trace_grammar.specs.Grammar.{Reads}
-use Rattle.trace_writing.specs.Answer.{answer_text}
-use Rattle.trace_writing.specs.History.{history_text}
-use Rattle.trace_writing.proofs.AnswerLemmas.{answer_text_same}
+use Rattle.trace_reading.specs.Grammar.{Reads}
+use Rattle.trace_text.specs.Answer.{answer_text}
+use Rattle.trace_text.specs.History.{history_text}
+use Rattle.trace_text.proofs.AnswerLemmas.{answer_text_same}
 use Rattle.trace_runs.specs.Replayed.{events_of, history_of, end_of, IsWhole, IsReplayed, IsReplayedNoted}
 use Rattle.trace_runs.specs.Running.{HasFinished}
 

@@ -8,9 +8,9 @@ use Rattle.trace_text.specs.Pairs.{IsPair}
 use Rattle.shen_check.specs.declared.verdict.Verdict.{Verdict}
 use Rattle.shen_check.specs.declared.verdict.Verdict.TheVariants.{Yes, Entry as NoEntry, Script, Text}
 use Rattle.shen_check.specs.Judged.{IsVerdict}
-use Rattle.trace_writing.specs.Message.{line_text}
-use Rattle.trace_writing.specs.declared.message.Line.{Line}
-use Rattle.trace_writing.specs.declared.message.Line.TheVariants as line
+use Rattle.trace_text.specs.Message.{line_text}
+use Rattle.trace_text.specs.declared.message.Line.{Line}
+use Rattle.trace_text.specs.declared.message.Line.TheVariants as line
 
 -- the line of a verdict
 abbrev pub verdict_line : Verdict → Line

@@ -3,8 +3,8 @@ use Rattle.std.specs.Prelude.{ℕ, ◌≡◌, List}
 use Rattle.heap_words.specs.declared.config.Config.{Config}
 use Rattle.churn.specs.declared.summary.Summary.{Summary}
 use Rattle.churn.specs.Laws.{SumsUpTurns}
-use Rattle.trace_writing.specs.Message.{line_text}
-use Rattle.trace_writing.specs.declared.message.Line.TheVariants.{Churn}
+use Rattle.trace_text.specs.Message.{line_text}
+use Rattle.trace_text.specs.declared.message.Line.TheVariants.{Churn}
 
 -- The heap of a churn: 16 regions of 256 words, of which two are kept back, for three mutators and two helpers.
 pub record IsChurnHeap (c : Config) : Type 0 where

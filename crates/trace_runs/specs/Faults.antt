@@ -3,8 +3,8 @@ use Rattle.trace_runs.specs.declared.mode.Mode.{Mode}
 use Rattle.std.specs.Prelude.{◌≡◌}
 use Rattle.trace_reading.specs.declared.fault.TraceFault.{TraceFault}
 use Rattle.trace_reading.specs.declared.fault.TraceFault.TheVariants as fault
-use Rattle.trace_writing.specs.declared.message.Line.{Line}
-use Rattle.trace_writing.specs.declared.message.Line.TheVariants as line
+use Rattle.trace_text.specs.declared.message.Line.{Line}
+use Rattle.trace_text.specs.declared.message.Line.TheVariants as line
 use Rattle.trace_runs.specs.Readings.{reading_of, ReadTrace}
 use Rattle.trace_runs.specs.declared.status.Status.{Status}
 use Rattle.trace_runs.specs.declared.status.Status.TheVariants.{BadTrace, ReadFault, NoMemory}

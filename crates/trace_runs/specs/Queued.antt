@@ -11,8 +11,8 @@ use Rattle.managed_queue.specs.Workload.{queue_user, got_in, IsQueueRun, TellsQu
 use Rattle.table_heap.specs.declared.bundle.Bundle.{Bundle}
 use Rattle.table_heap.specs.declared.heap.Heap.{Heap}
 use Rattle.table_heap.specs.State.{config_of}
-use Rattle.trace_writing.specs.Message.{line_text}
-use Rattle.trace_writing.specs.declared.message.Line.TheVariants.{Queue}
+use Rattle.trace_text.specs.Message.{line_text}
+use Rattle.trace_text.specs.declared.message.Line.TheVariants.{Queue}
 use Rattle.trace_runs.specs.DealtParts.{BundlesAreFresh}
 use Rattle.trace_runs.specs.Replayed.{IsWhole}
 

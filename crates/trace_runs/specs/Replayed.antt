@@ -13,9 +13,9 @@ use Rattle.step_core.specs.Opening.{opening}
 use Rattle.step_core.specs.Schedule.{Scripts, schedule_events}
 use Rattle.step_core.specs.Begins.{reached, past}
 use Rattle.shen_core.specs.Progress.{AreIdle}
-use Rattle.trace_grammar.specs.Grammar.{Reads}
-use Rattle.trace_writing.specs.Answer.{IsAnswerText}
-use Rattle.trace_writing.specs.History.{history_text}
+use Rattle.trace_reading.specs.Grammar.{Reads}
+use Rattle.trace_text.specs.Answer.{IsAnswerText}
+use Rattle.trace_text.specs.History.{history_text}
 use Rattle.dump_text.specs.Dumped.{Dumped, IsDumpOf}
 use Rattle.dump_text.specs.DumpText.{dump_text}
 use Rattle.dump_text.specs.ObjectsMade.{objects_made_by_each}

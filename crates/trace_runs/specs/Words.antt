@@ -1,7 +1,7 @@
 -- The words of the command line.
 use Rattle.std.specs.Prelude.{ℕ, ◌≡◌, ◌≤◌, ◌⊎◌, List, [], ◌∷◌, ◌++◌, codes}
 use Rattle.std.specs.Fmt.{decimal}
-use Rattle.trace_grammar.specs.Spelling.{IsUpTo}
+use Rattle.trace_reading.specs.Spelling.{IsUpTo}
 use Rattle.trace_runs.specs.declared.mode.Mode.{Mode}
 use Rattle.trace_runs.specs.declared.mode.Mode.TheVariants.{Replay, Noted, Dump, Resume, Run, Churn, Queue, Check}
 

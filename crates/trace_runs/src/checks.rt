@@ -1,7 +1,7 @@
 //! `check`: a history that somebody claims for a trace, judged.
 ghost use Rattle.std.specs.Prelude.{◌≡◌, ℕ, List, IfOk, IfErr, OnOk};
 ghost use Rattle.shen_base.specs.Sending.{outlet};
-ghost use Rattle.trace_grammar.specs.Grammar.{Came};
+ghost use Rattle.trace_reading.specs.Grammar.{Came};
 ghost use Rattle.trace_text.specs.Pairs.{IsPair};
 ghost use Rattle.trace_runs.specs.Checked.{verdict_line};
 ghost use Rattle.trace_runs.specs.Words.{Asks};
@@ -13,8 +13,7 @@ use crate::status::Status;
 use shen_base::{Sink, Source};
 use shen_check::Verdict;
 use std::alloc::Global;
-use trace_text::{Pair, read_pair};
-use trace_writing::Line;
+use trace_text::{Line, Pair, read_pair};
 
 // The line of a verdict.
 fn verdict_line(verdict: Verdict) -> Line

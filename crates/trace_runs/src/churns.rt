@@ -17,7 +17,7 @@ use std::alloc::Global;
 use std::sync::Wait;
 use std::thread::Threads;
 use table_heap::Gate;
-use trace_writing::Line;
+use trace_text::Line;
 
 /// The sizes of the heap of a churn.
 fn churn_heap() -> Config

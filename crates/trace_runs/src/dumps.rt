@@ -2,8 +2,8 @@
 ghost use Rattle.std.specs.Prelude.{◌≡◌, ◌<◌, ◌++◌, ℕ, List, Err, IfOk, IfErr, OnOk, length};
 ghost use Rattle.shen_graph.specs.Work.{HasScript};
 ghost use Rattle.shen_base.specs.Sending.{outlet};
-ghost use Rattle.trace_grammar.specs.Grammar.{Came, Reads};
-ghost use Rattle.trace_writing.specs.Answer.{spelled_answer};
+ghost use Rattle.trace_reading.specs.Grammar.{Came, Reads};
+ghost use Rattle.trace_text.specs.Answer.{spelled_answer};
 ghost use Rattle.dump_text.specs.Dumped.{dumped, IsDump};
 ghost use Rattle.dump_text.specs.DumpText.{dump_text};
 ghost use Rattle.dump_text.specs.Resumes.{Resumes};
@@ -20,8 +20,8 @@ use dump_runs::{Resumed, answer_from};
 use dump_text::{Dump, Resumed as Read, dump_of, read_dump, write_dump};
 use shen_base::{Sink, Source};
 use std::alloc::Global;
-use trace_grammar::Trace;
-use trace_writing::Line;
+use trace_reading::Trace;
+use trace_text::Line;
 
 /// The dump of the heap at the end of a trace.
 fn dump_after(alloc: Global, trace: Trace, steps: u64) -> Result<Dump, Refusal>

@@ -1,8 +1,8 @@
 //! Laws of what the program writes.
 ghost use Rattle.std.specs.Prelude.{ℕ, ◌≤◌, List, ◌++◌, codes, length};
-ghost use Rattle.trace_grammar.specs.Grammar.{most_bytes};
-ghost use Rattle.trace_writing.specs.Message.{line_text};
-ghost use Rattle.trace_writing.specs.declared.message.Line.TheVariants as line;
+ghost use Rattle.trace_reading.specs.Grammar.{most_bytes};
+ghost use Rattle.trace_text.specs.Message.{line_text};
+ghost use Rattle.trace_text.specs.declared.message.Line.TheVariants as line;
 ghost use Rattle.trace_runs.specs.Replayed.{IsReplayedNoted};
 ghost use Rattle.trace_runs.specs.Checked.{IsChecked};
 

@@ -2,10 +2,10 @@
 ghost use Rattle.std.specs.Prelude.{◌≡◌, ◌<◌, ◌++◌, ℕ, List, IfOk, IfErr, OnOk, length};
 ghost use Rattle.shen_graph.specs.Work.{HasScript};
 ghost use Rattle.shen_base.specs.Sending.{outlet};
-ghost use Rattle.trace_grammar.specs.Grammar.{Came, Reads};
-ghost use Rattle.trace_writing.specs.Message.{line_text};
-ghost use Rattle.trace_writing.specs.Answer.{spelled_answer};
-ghost use Rattle.trace_writing.specs.History.{history_text};
+ghost use Rattle.trace_reading.specs.Grammar.{Came, Reads};
+ghost use Rattle.trace_text.specs.Message.{line_text};
+ghost use Rattle.trace_text.specs.Answer.{spelled_answer};
+ghost use Rattle.trace_text.specs.History.{history_text};
 ghost use Rattle.trace_runs.specs.CallEnds.{EndsWith};
 ghost use Rattle.trace_runs.specs.Faults.{fault_line, fault_status, ReadsOnlyTrace};
 ghost use Rattle.trace_runs.specs.Words.{Asked};
@@ -15,9 +15,8 @@ use crate::status::Status;
 use shen_base::{Sink, Source};
 use shen_graph::History;
 use std::alloc::Global;
-use trace_grammar::Trace;
-use trace_reading::{TraceFault, read_trace};
-use trace_writing::{Answer, Line, write_answer, write_history, write_line};
+use trace_reading::{Trace, TraceFault, read_trace};
+use trace_text::{Answer, Line, write_answer, write_history, write_line};
 
 /// Writes the one line of a status, or the lines of a churn.
 pub fn say<K: Sink>(sink: &mut K, line: Line, status: Status) -> Status

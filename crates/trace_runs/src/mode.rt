@@ -4,7 +4,7 @@ ghost use Rattle.std.specs.Fmt.{decimal};
 ghost use Rattle.std.specs.String.{string_bytes};
 ghost use Rattle.trace_runs.specs.Words.{IsNumbered, IsReplay, IsReplayThen, IsRunBy, IsChurn, IsQueue, IsCheck, IsResume, most_seed, Asks, Ask};
 
-use trace_grammar::number_in;
+use trace_reading::number_in;
 
 /// The steps that a replay may make where the words name no number.
 const USUAL_STEPS: u64 = 100_000_000;

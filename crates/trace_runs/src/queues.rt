@@ -3,8 +3,8 @@ ghost use Rattle.std.specs.Prelude.{◌≡◌, ◌+◌, ◌≤◌, ◌<◌, ◌^
 ghost use Rattle.shen_base.specs.Sending.{outlet};
 ghost use Rattle.managed_queue.specs.Users.{Use};
 ghost use Rattle.table_heap.specs.declared.heap.Heap.{Heap as Shared};
-ghost use Rattle.trace_writing.specs.Message.{line_text};
-ghost use Rattle.trace_writing.specs.declared.message.Line.TheVariants as lines;
+ghost use Rattle.trace_text.specs.Message.{line_text};
+ghost use Rattle.trace_text.specs.declared.message.Line.TheVariants as lines;
 ghost use Rattle.trace_runs.specs.Words.{most_numbers, Asks};
 ghost use Rattle.trace_runs.specs.DealtParts.{crew_of, AreReady};
 ghost use Rattle.trace_runs.specs.DealtParts.Assigned.{users};
@@ -25,7 +25,7 @@ use std::alloc::Global;
 use std::sync::Wait;
 use std::thread::Threads;
 use table_heap::{Bundle, Gate, Heap};
-use trace_writing::Line;
+use trace_text::Line;
 
 /// The sizes of the heap of a queue.
 fn queue_heap() -> Config

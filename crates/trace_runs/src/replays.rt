@@ -15,9 +15,9 @@ ghost use Rattle.shen_core.specs.State as memory;
 ghost use Rattle.shen_core.specs.State.{config_of};
 ghost use Rattle.shen_core.specs.Progress.{AllRest};
 ghost use Rattle.shen_base.specs.Sending.{outlet};
-ghost use Rattle.trace_grammar.specs.Grammar.{Came, Reads};
-ghost use Rattle.trace_writing.specs.Answer.{spelled_answer};
-ghost use Rattle.trace_writing.specs.History.{history_text};
+ghost use Rattle.trace_reading.specs.Grammar.{Came, Reads};
+ghost use Rattle.trace_text.specs.Answer.{spelled_answer};
+ghost use Rattle.trace_text.specs.History.{history_text};
 ghost use Rattle.trace_runs.specs.Words.{Asks};
 ghost use Rattle.trace_runs.specs.Replayed.{IsReplayed, IsReplayedNoted, IsUnfinished, IsWhole, events_of, history_of};
 ghost use Rattle.trace_runs.specs.Running.{HasFinished};
@@ -31,8 +31,8 @@ use shen_base::{Sink, Source};
 use shen_core::{Plain, Ran};
 use shen_graph::{GraphText, History, NoMemory, Work};
 use std::alloc::Global;
-use trace_grammar::Trace;
-use trace_writing::{Answer, Line};
+use trace_reading::Trace;
+use trace_text::{Answer, Line};
 
 /// Why a trace that was read is not answered.
 pub enum Refusal {

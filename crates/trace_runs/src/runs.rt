@@ -8,8 +8,8 @@ ghost use Rattle.heap_machines.specs.Pause.{pause_image};
 ghost use Rattle.shen_core.specs.Progress.{IsRunnable};
 ghost use Rattle.step_core.specs.Begins.{Run, ending, graph_after};
 ghost use Rattle.shen_base.specs.Sending.{outlet};
-ghost use Rattle.trace_grammar.specs.Grammar.{Reads};
-ghost use Rattle.trace_writing.specs.Answer.{spelled_answer};
+ghost use Rattle.trace_reading.specs.Grammar.{Reads};
+ghost use Rattle.trace_text.specs.Answer.{spelled_answer};
 ghost use Rattle.table_heap.specs.Closed.{config_of, stage_of, AllRest};
 ghost use Rattle.trace_runs.specs.Words.{Asks};
 ghost use Rattle.trace_runs.specs.Replayed.{IsRun};
@@ -29,8 +29,8 @@ use std::alloc::Global;
 use std::sync::Wait;
 use std::thread::Threads;
 use table_heap::{Closed, Gate, Heap};
-use trace_grammar::Trace;
-use trace_writing::{Answer, Line};
+use trace_reading::Trace;
+use trace_text::{Answer, Line};
 
 /// Runs scripts, one for each mutator, on a heap of their own, in so many bundles at most, until all machines are idle.
 pub fn run_scripts<R: Threads + Wait + Sync, G: Gate>(

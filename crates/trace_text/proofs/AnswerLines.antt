@@ -11,11 +11,11 @@ use Rattle.shen_graph.specs.declared.command.Reply.{Reply}
 use Rattle.shen_graph.specs.declared.command.Reply.TheVariants.{Ref, Null, Ok, Yes, No, Number, Bad, Full, At}
 use Rattle.shen_graph.specs.Graph.{Reference}
 use Rattle.shen_graph.specs.GraphText.{Row}
-use Rattle.trace_grammar.specs.Spelling.{newline}
+use Rattle.trace_reading.specs.Spelling.{newline}
 use Rattle.trace_reading.specs.Causes.{parts}
 use Rattle.trace_reading.proofs.Free.{is_free, free_both, parts_at, IsWord, parts_again, joined_free}
 use Rattle.trace_reading.proofs.Numerals.{decimal_word}
-use Rattle.trace_writing.specs.Answer.{line_of, name_word, reference_word, reply_word, reply_line, object_line, root_spellings, roots_line, pin_spellings, pins_line, pins_text, thread_numbers, answer_text}
+use Rattle.trace_text.specs.Answer.{line_of, name_word, reference_word, reply_word, reply_line, object_line, root_spellings, roots_line, pin_spellings, pins_line, pins_text, thread_numbers, answer_text}
 use Rattle.trace_text.specs.Entries.{FitsReply}
 use Rattle.trace_text.specs.LineCuts.{with_ends, IsCutAt}
 use Rattle.trace_text.proofs.CutLines.{AreOthers}

@@ -6,7 +6,7 @@ use Rattle.std.specs.Cmp.Lexicographic.{pointwise, told_text}
 use Rattle.std.proofs.lemmas.List.{length-append, take_at}
 use Rattle.std.proofs.lemmas.List.Concat.{flat_map-cons}
 use Rattle.std.proofs.lemmas.List.Splits.{join_with_byte-slice_split}
-use Rattle.trace_grammar.specs.Spelling.{newline}
+use Rattle.trace_reading.specs.Spelling.{newline}
 use Rattle.trace_reading.specs.Causes.{parts}
 use Rattle.trace_reading.proofs.Cuts.{cut_parts}
 use Rattle.trace_reading.proofs.Leads.{first_line, bytes_of_line}

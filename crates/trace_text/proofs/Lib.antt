@@ -1,3 +1,6 @@
+pub mod AnswerLemmas
+mod CanonicalLemmas
+pub mod Rewritten
 pub mod ReadReplies
 pub mod ReadEntries
 pub mod CutLines

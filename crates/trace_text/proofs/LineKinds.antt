@@ -11,14 +11,14 @@ use Rattle.std.proofs.lemmas.List.Concat.{flat_map-cons}
 use Rattle.heap_words.specs.declared.config.Config.{Config}
 use Rattle.heap_words.specs.declared.schedule.Item.{Item}
 use Rattle.shen_graph.specs.declared.command.Command.{Command}
-use Rattle.trace_grammar.specs.Spelling.{newline, numbers, TraceLine, line, IsLine, command_word, numbers_of, items_and_end, schedule_line, IsScheduleLine}
-use Rattle.trace_grammar.specs.Scanning.{behind}
-use Rattle.trace_grammar.specs.Front.{IsBehindCommands}
-use Rattle.trace_grammar.specs.Grammar.{items_of}
-use Rattle.trace_grammar.proofs.Numbers.{behind_takes, behind_again, positive_again, same_some}
-use Rattle.trace_grammar.proofs.Lines.{command_again_at}
-use Rattle.trace_grammar.proofs.Traces.{lines_once, turns_behind, command_is_no_turn}
-use Rattle.trace_grammar.proofs.Once.{turns_once}
+use Rattle.trace_reading.specs.Spelling.{newline, numbers, TraceLine, line, IsLine, command_word, numbers_of, items_and_end, schedule_line, IsScheduleLine}
+use Rattle.trace_reading.specs.Scanning.{behind}
+use Rattle.trace_reading.specs.Front.{IsBehindCommands}
+use Rattle.trace_reading.specs.Grammar.{items_of}
+use Rattle.trace_reading.proofs.GrammarNumbers.{behind_takes, behind_again, positive_again, same_some}
+use Rattle.trace_reading.proofs.GrammarLines.{command_again_at}
+use Rattle.trace_reading.proofs.Traces.{lines_once, turns_behind, command_is_no_turn}
+use Rattle.trace_reading.proofs.Once.{turns_once}
 use Rattle.trace_reading.specs.Causes.{parts}
 use Rattle.trace_reading.specs.Refused.{body_stage, words_cause, IsCommandLine, IsTurnItem}
 use Rattle.trace_reading.proofs.Heads.{same_before_end}

@@ -5,8 +5,8 @@ use Rattle.std.proofs.lemmas.List.{append_cancel_right}
 use Rattle.shen_graph.specs.declared.command.Command.{Command}
 use Rattle.heap_words.specs.declared.config.Config.{Config}
 use Rattle.heap_words.specs.declared.schedule.Item.{Item}
-use Rattle.trace_grammar.specs.Spelling.{line, header, schedule_line}
-use Rattle.trace_grammar.specs.Grammar.{Reads}
+use Rattle.trace_reading.specs.Spelling.{line, header, schedule_line}
+use Rattle.trace_reading.specs.Grammar.{Reads}
 use Rattle.trace_reading.specs.Causes.{title_cause, command_cause}
 use Rattle.trace_reading.specs.Refused.{LineStage, Version, Heap, Threads, Commands, Turns, body_stage, words_cause, LineFollows, Lead}
 use Rattle.trace_reading.proofs.Free.{parts_at}

@@ -19,11 +19,11 @@ use Rattle.shen_graph.specs.Step.{name_in}
 use Rattle.shen_graph.specs.History.{Entry, after, of_thread, commands_of, replies_of, script_of, Follows, EachIsLegal}
 use Rattle.heap_words.specs.declared.config.Config.{Config}
 use Rattle.heap_words.specs.declared.schedule.Item.{Item}
-use Rattle.trace_grammar.specs.Spelling.{TraceLine, IsLine, IsKnown, FitsWhenWritten, space, newline, command_word, numbers, numbers_of}
-use Rattle.trace_grammar.specs.Grammar.{most_bytes, commands_in, Reads}
+use Rattle.trace_reading.specs.Spelling.{TraceLine, IsLine, IsKnown, FitsWhenWritten, space, newline, command_word, numbers, numbers_of}
+use Rattle.trace_reading.specs.Grammar.{most_bytes, commands_in, Reads}
 use Rattle.std.specs.Fmt.{decimal}
-use Rattle.trace_writing.specs.Answer.{line_of, reply_word, IsAnswerText}
-use Rattle.trace_writing.specs.History.{entry_line, history_text}
+use Rattle.trace_text.specs.Answer.{line_of, reply_word, IsAnswerText}
+use Rattle.trace_text.specs.History.{entry_line, history_text}
 use Rattle.trace_text.specs.Entries.{FitsReply, IsClaim}
 use Rattle.trace_text.specs.Pairs.{IsPair}
 use Rattle.trace_text.proofs.SmallGraphs.{IsSmallName, IsSmallReference, IsSmallGraph, IsAsked, opening_small, named_small, element_small, history_small}

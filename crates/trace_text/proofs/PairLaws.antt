@@ -6,15 +6,15 @@ use Rattle.shen_graph.specs.declared.command.Command.{Command}
 use Rattle.shen_graph.specs.History.{Entry}
 use Rattle.heap_words.specs.declared.config.Config.{Config}
 use Rattle.heap_words.specs.declared.schedule.Item.{Item}
-use Rattle.trace_grammar.specs.Grammar.{most_bytes, Reads, IsSameTrace}
-use Rattle.trace_grammar.specs.declared.why.Why.{Why}
-use Rattle.trace_grammar.proofs.Once.{read_once}
+use Rattle.trace_reading.specs.Grammar.{most_bytes, Reads, IsSameTrace}
+use Rattle.trace_reading.specs.declared.why.Why.{Why}
+use Rattle.trace_reading.proofs.Once.{read_once}
 use Rattle.trace_reading.specs.Causes.{parts}
 use Rattle.trace_reading.specs.Refused.{StopsAt, Refused}
 use Rattle.trace_reading.proofs.Exact as exact
 use Rattle.trace_reading.proofs.Either as all
 use Rattle.trace_reading.proofs.Leads.{few_threads}
-use Rattle.trace_writing.specs.History.{entry_line}
+use Rattle.trace_text.specs.History.{entry_line}
 use Rattle.trace_text.specs.Entries.{IsClaim, BeginsWithNoEntry}
 use Rattle.trace_text.specs.LineCuts.{IsCutAt, HasNoLine, last_line}
 use Rattle.trace_text.specs.Pairs.{HasTrace, HasClaims, IsPair, IsSamePair}

@@ -7,12 +7,12 @@ use Rattle.std.proofs.lemmas.List.{length-append, append-nil}
 use Rattle.std.proofs.lemmas.List.Concat.{flat_map-cons}
 use Rattle.std.proofs.lemmas.Grind.{flat_map-append}
 use Rattle.shen_graph.specs.History.{Entry}
-use Rattle.trace_grammar.specs.Spelling.{command_word, numbers, numbers_of}
-use Rattle.trace_grammar.specs.Scanning.{◌>>=◌, behind, positive_at, spelled_command}
-use Rattle.trace_grammar.proofs.Numbers.{then_some, same_some, behind_takes, positive_takes, positive_again}
-use Rattle.trace_grammar.proofs.Lines.{command_takes, command_again_at}
-use Rattle.trace_writing.specs.Answer.{reply_word}
-use Rattle.trace_writing.specs.History.{entry_line}
+use Rattle.trace_reading.specs.Spelling.{command_word, numbers, numbers_of}
+use Rattle.trace_reading.specs.Scanning.{◌>>=◌, behind, positive_at, spelled_command}
+use Rattle.trace_reading.proofs.GrammarNumbers.{then_some, same_some, behind_takes, positive_takes, positive_again}
+use Rattle.trace_reading.proofs.GrammarLines.{command_takes, command_again_at}
+use Rattle.trace_text.specs.Answer.{reply_word}
+use Rattle.trace_text.specs.History.{entry_line}
 use Rattle.trace_text.specs.Entries.{IsClaim, BeginsWithNoEntry, spelled_reply, entry_at}
 use Rattle.trace_text.proofs.ReadReplies.{reply_takes, reply_again}
 

@@ -8,9 +8,9 @@ use Rattle.std.proofs.lemmas.Bool.{eqb-true, ltb-false}
 use Rattle.std.proofs.lemmas.Fmt.{digits_decimal, decimal_nonempty}
 use Rattle.shen_graph.specs.declared.command.Reply.{Reply}
 use Rattle.shen_graph.specs.declared.command.Reply.TheVariants.{Ref, Null, Ok, Yes, No, Number, Bad, Full, At}
-use Rattle.trace_grammar.specs.Scanning.{◌>>=◌, behind, spelled_number}
-use Rattle.trace_grammar.proofs.Numbers.{own, then_some, same_some, not_stopped, behind_takes, number_takes, number_again}
-use Rattle.trace_writing.specs.Answer.{reply_word, name_word}
+use Rattle.trace_reading.specs.Scanning.{◌>>=◌, behind, spelled_number}
+use Rattle.trace_reading.proofs.GrammarNumbers.{own, then_some, same_some, not_stopped, behind_takes, number_takes, number_again}
+use Rattle.trace_text.specs.Answer.{reply_word, name_word}
 use Rattle.trace_text.specs.Entries.{FitsReply, word_begun_by, spelled_word, count_at, number_or_name, numbered_at, spelled_place, spelled_reply}
 
 -- the bytes are this reply and those behind it, and its numbers fit

@@ -11,7 +11,7 @@ use Rattle.shen_graph.specs.declared.command.Command.TheVariants.{New, Get, Set,
 use Rattle.shen_graph.specs.Graph.{Reference, Object, Graph, same_name, same_reference, hub, blank, named, field_at, number_at, with_root, with_pin, with_object, with_named, with_field, with_number, with_fresh, fresh, opening}
 use Rattle.shen_graph.specs.Step.{Outcome, shown, yes_or_no, on, outcome, pinned_by, name_in, slot_of, IsPinning, IsLegal}
 use Rattle.shen_graph.specs.History.{Entry, after, after_entry, EachIsLegal}
-use Rattle.trace_grammar.specs.Spelling.{FitsWhenWritten}
+use Rattle.trace_reading.specs.Spelling.{FitsWhenWritten}
 use Rattle.trace_text.specs.Entries.{FitsReply}
 
 abbrev pub IsSmallName : Name → Type 0

@@ -7,9 +7,9 @@ use Rattle.std.proofs.lemmas.List.Concat.{flat_map-cons}
 use Rattle.heap_words.specs.declared.config.Config.{Config}
 use Rattle.heap_words.specs.Narrow.{IsNarrow}
 use Rattle.heap_words.specs.declared.schedule.Item.{Item}
-use Rattle.trace_grammar.specs.Spelling.{newline, TraceLine, line, IsVersion, IsLine, schedule_line, IsScheduleLine, header}
-use Rattle.trace_grammar.specs.Grammar.{most_bytes, scripts_of, items_of, with_line, HasReadLines, Reads}
-use Rattle.trace_grammar.proofs.Traces.{taken_more}
+use Rattle.trace_reading.specs.Spelling.{newline, TraceLine, line, IsVersion, IsLine, schedule_line, IsScheduleLine, header}
+use Rattle.trace_reading.specs.Grammar.{most_bytes, scripts_of, items_of, with_line, HasReadLines, Reads}
+use Rattle.trace_reading.proofs.Traces.{taken_more}
 use Rattle.trace_text.specs.LinesTaken.{Taken, none_taken, ended_lines, TakesCommand, TakesItems, TakesLine, TakesLines}
 
 abbrev ended : List ℕ → List ℕ

@@ -2,10 +2,10 @@
 use Rattle.std.proofs.Common.{◌≡◌, ℕ, List, ◌∷◌, ◌++◌, codes, refl, sym, ap, ◌∙◌, append_assoc}
 use Rattle.std.specs.List.{flat_map}
 use Rattle.shen_graph.specs.History.{Entry}
-use Rattle.trace_grammar.specs.declared.why.Why.TheVariants.{EntryWanted}
+use Rattle.trace_reading.specs.declared.why.Why.TheVariants.{EntryWanted}
 use Rattle.trace_reading.specs.Causes.{parts}
 use Rattle.trace_reading.proofs.Cuts.{cut_parts}
-use Rattle.trace_writing.specs.History.{entry_line}
+use Rattle.trace_text.specs.History.{entry_line}
 use Rattle.trace_text.specs.LineCuts.{IsCutAt}
 use Rattle.trace_text.specs.Refusals.{wanted_at}
 use Rattle.trace_text.proofs.CutLines.{behind_cut}

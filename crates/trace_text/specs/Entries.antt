@@ -5,9 +5,9 @@ use Rattle.shen_graph.specs.declared.command.Reply.{Reply}
 use Rattle.shen_graph.specs.declared.command.Reply.TheVariants.{Ref, Null, Ok, Yes, No, Number, Bad, Full, At}
 use Rattle.shen_graph.specs.Valid.{IsValid}
 use Rattle.shen_graph.specs.History.{Entry}
-use Rattle.trace_grammar.specs.Spelling.{IsKnown, FitsWhenWritten}
-use Rattle.trace_grammar.specs.Scanning.{◌>>=◌, behind, spelled_number, positive_at, spelled_command}
-use Rattle.trace_writing.specs.History.{entry_line}
+use Rattle.trace_reading.specs.Spelling.{IsKnown, FitsWhenWritten}
+use Rattle.trace_reading.specs.Scanning.{◌>>=◌, behind, spelled_number, positive_at, spelled_command}
+use Rattle.trace_text.specs.History.{entry_line}
 
 -- the numbers of a reply are no larger than they can be written
 abbrev pub FitsReply : Reply → Type 0

@@ -1,3 +1,7 @@
+pub mod Message
+pub mod Answer
+pub mod Canonical
+pub mod History
 pub mod Entries
 pub mod LineCuts
 pub mod Pairs

@@ -4,10 +4,10 @@ use Rattle.std.specs.List.{flat_map}
 use Rattle.shen_graph.specs.declared.command.Command.{Command}
 use Rattle.heap_words.specs.declared.config.Config.{Config}
 use Rattle.heap_words.specs.declared.schedule.Item.{Item}
-use Rattle.trace_grammar.specs.Spelling.{space, newline, TraceLine, line, IsLine, schedule_line, IsScheduleLine}
-use Rattle.trace_grammar.specs.Scanning.{◌>>=◌, behind, positive_at, spelled_command}
-use Rattle.trace_grammar.specs.Grammar.{scripts_of, with_line}
-use Rattle.trace_grammar.specs.declared.why.Why.{Why}
+use Rattle.trace_reading.specs.Spelling.{space, newline, TraceLine, line, IsLine, schedule_line, IsScheduleLine}
+use Rattle.trace_reading.specs.Scanning.{◌>>=◌, behind, positive_at, spelled_command}
+use Rattle.trace_reading.specs.Grammar.{scripts_of, with_line}
+use Rattle.trace_reading.specs.declared.why.Why.{Why}
 use Rattle.trace_reading.specs.Causes.{parts}
 use Rattle.trace_reading.specs.Refused.{body_stage, words_cause}
 

@@ -5,8 +5,8 @@ use Rattle.shen_graph.specs.declared.command.Command.{Command}
 use Rattle.shen_graph.specs.History.{Entry}
 use Rattle.heap_words.specs.declared.config.Config.{Config}
 use Rattle.heap_words.specs.declared.schedule.Item.{Item}
-use Rattle.trace_grammar.specs.Grammar.{most_bytes, Reads, IsSameTrace}
-use Rattle.trace_writing.specs.History.{entry_line}
+use Rattle.trace_reading.specs.Grammar.{most_bytes, Reads, IsSameTrace}
+use Rattle.trace_text.specs.History.{entry_line}
 use Rattle.trace_text.specs.Entries.{IsClaim}
 use Rattle.trace_text.specs.LineCuts.{IsCutAt}
 

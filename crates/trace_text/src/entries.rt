@@ -3,14 +3,13 @@ ghost use Rattle.std.specs.Prelude.{◌≡◌, ◌++◌, IfOk};
 ghost use Rattle.std.specs.List.{flat_map, AllByRecursion};
 ghost use Rattle.std.specs.Option.{option_map};
 ghost use Rattle.shen_graph.specs.Noting.{seen};
-ghost use Rattle.trace_writing.specs.History.{entry_line};
+ghost use Rattle.trace_text.specs.History.{entry_line};
 ghost use Rattle.trace_text.specs.Entries.{IsClaim, BeginsWithNoEntry, entry_at};
 
 use crate::replies::reply_at;
 use shen_graph::{Entry, History, NoMemory};
 use std::alloc::Global;
-use trace_grammar::{positive_at, text_at};
-use trace_reading::command_at;
+use trace_reading::{command_at, positive_at, text_at};
 
 /// The line of an entry at the front, of a version and where there are so many threads, and the bytes behind it.
 #[tactic(auto, unfolding(crate::specs::Entries::entry_at))]

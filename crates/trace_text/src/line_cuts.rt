@@ -1,6 +1,6 @@
 //! Bytes cut at a line.
 ghost use Rattle.std.specs.Prelude.{◌≡◌, ◌==◌, ◌≤◌, length, count_by, MatchOption};
-ghost use Rattle.trace_grammar.specs.Grammar.{most_bytes};
+ghost use Rattle.trace_reading.specs.Grammar.{most_bytes};
 ghost use Rattle.trace_text.specs.LineCuts.{IsCutAt, HasNoLine, last_line};
 
 use trace_reading::line_at;

@@ -2,8 +2,8 @@
 ghost use Rattle.std.specs.Prelude.{ℕ, ◌≤◌, ◌++◌, List, length};
 ghost use Rattle.heap_words.specs.declared.config.Config.{Config};
 ghost use Rattle.heap_words.specs.Narrow.{IsNarrow};
-ghost use Rattle.trace_grammar.specs.Spelling.{IsVersion, header};
-ghost use Rattle.trace_grammar.specs.Grammar.{most_bytes, Reads};
+ghost use Rattle.trace_reading.specs.Spelling.{IsVersion, header};
+ghost use Rattle.trace_reading.specs.Grammar.{most_bytes, Reads};
 ghost use Rattle.trace_text.specs.LinesTaken.{Taken, none_taken, ended_lines, TakesLines};
 
 /// A law: the head of a trace of a version, whose regions have at most 1,024 words, and lines that were taken one after the other, each

@@ -1,8 +1,8 @@
 //! Taking lines.
 ghost use Rattle.std.specs.Prelude.{◌≡◌, ◌↔◌, true, false, [], ◌∷◌, ◌++◌, Err, Some, IfOk, IfSome, OnOk, OnErr};
-ghost use Rattle.trace_grammar.specs.Spelling.{newline, IsVersion, schedule_line, IsScheduleLine};
-ghost use Rattle.trace_grammar.specs.Grammar.{scripts_of};
-ghost use Rattle.trace_grammar.specs.declared.why.Why.{Why as Cause};
+ghost use Rattle.trace_reading.specs.Spelling.{newline, IsVersion, schedule_line, IsScheduleLine};
+ghost use Rattle.trace_reading.specs.Grammar.{scripts_of};
+ghost use Rattle.trace_reading.specs.declared.why.Why.{Why as Cause};
 ghost use Rattle.trace_text.specs.LinesTaken.{none_taken, TakesCommand, TakesItems, TakesLine, line_cause, spelled_line, IsCommandText, IsItemsText};
 ghost use Rattle.std.specs.Option.{option_map};
 
@@ -10,8 +10,9 @@ use heap_words::{Config, Item, Schedule};
 use shen_graph::{Command, NoMemory, Script};
 use std::alloc::Global;
 use std::marker::Model;
-use trace_grammar::{Scripts, Trace, Why, positive_at, text_at};
-use trace_reading::{command_at, text_cause, trace_behind};
+use trace_reading::{
+    Scripts, Trace, Why, command_at, positive_at, text_at, text_cause, trace_behind,
+};
 
 /// Why a line was not taken.
 #[derive(Clone, Copy, PartialEq, Eq)]

@@ -3,8 +3,8 @@ ghost use Rattle.std.specs.Prelude.{◌≡◌, ◌⊎◌, ◌++◌, ◌+◌, ◌
 ghost use Rattle.std.specs.List.{flat_map, AllByRecursion};
 ghost use Rattle.std.specs.Io.KnownBytes.{Consumes};
 ghost use Rattle.shen_base.specs.Count.{Rose};
-ghost use Rattle.trace_grammar.specs.Grammar.{most_bytes, Came};
-ghost use Rattle.trace_grammar.specs.declared.why.Why.{Why as Cause};
+ghost use Rattle.trace_reading.specs.Grammar.{most_bytes, Came};
+ghost use Rattle.trace_reading.specs.declared.why.Why.{Why as Cause};
 ghost use Rattle.trace_reading.specs.Causes.{parts};
 ghost use Rattle.trace_reading.specs.Calls.{HasFewCalls};
 ghost use Rattle.trace_reading.specs.Faults.{IsTextFault};
@@ -18,8 +18,7 @@ use crate::line_cuts::{cut_at, last_line};
 use shen_base::Source;
 use shen_graph::History;
 use std::alloc::Global;
-use trace_grammar::{Trace, Why};
-use trace_reading::{TraceFault, all_bytes, line_at, trace_of};
+use trace_reading::{Trace, TraceFault, Why, all_bytes, line_at, trace_of};
 
 /// A trace, and what somebody claims that a heap has made of it.
 #[derive(Drop)]

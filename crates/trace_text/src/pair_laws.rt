@@ -5,10 +5,10 @@ ghost use Rattle.heap_words.specs.declared.schedule.Item.{Item};
 ghost use Rattle.shen_graph.specs.declared.command.Command.{Command};
 ghost use Rattle.shen_graph.specs.Graph.{opening};
 ghost use Rattle.shen_graph.specs.History.{Entry, EachIsLegal, Follows};
-ghost use Rattle.trace_grammar.specs.Grammar.{most_bytes, Reads};
-ghost use Rattle.trace_grammar.specs.declared.why.Why.{Why};
-ghost use Rattle.trace_writing.specs.Answer.{IsAnswerText};
-ghost use Rattle.trace_writing.specs.History.{history_text};
+ghost use Rattle.trace_reading.specs.Grammar.{most_bytes, Reads};
+ghost use Rattle.trace_reading.specs.declared.why.Why.{Why};
+ghost use Rattle.trace_text.specs.Answer.{IsAnswerText};
+ghost use Rattle.trace_text.specs.History.{history_text};
 ghost use Rattle.trace_text.specs.Pairs.{IsPair, IsSamePair};
 ghost use Rattle.trace_text.specs.Refusals.{IsPairRefused};
 

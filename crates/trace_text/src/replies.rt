@@ -4,7 +4,7 @@ ghost use Rattle.std.specs.Option.{option_map};
 ghost use Rattle.trace_text.specs.Entries.{word_begun_by, spelled_word, count_at, numbered_at, spelled_place, spelled_reply};
 
 use shen_graph::{Name, Reply};
-use trace_grammar::{number_at, text_at};
+use trace_reading::{number_at, text_at};
 
 /// The largest number of a name.
 const MOST_OF_NAME: u64 = 4_294_967_295;

@@ -1,7 +1,7 @@
 use Rattle.std.proofs.Common.{take, sym, lit<, arith}
 use Rattle.std.proofs.lemmas.List.{get_or-take}
-use Rattle.trace_grammar.proofs.Numbers.{numbers_take}
-use Rattle.trace_grammar.proofs.Lines.{within_at}
+use Rattle.trace_reading.proofs.GrammarNumbers.{numbers_take}
+use Rattle.trace_reading.proofs.GrammarLines.{within_at}
 use Rattle.dump_text.proofs.CountsLine.{count_limits, count_small}
 use Rattle.dump_text.proofs.head.count_at.Goals as goal
 

@@ -1,7 +1,7 @@
 use Rattle.std.proofs.Common.{◌≡◌, [], inr, sym, refl, ◌∙◌, arith}
 use Rattle.std.proofs.lemmas.Result.{err_from_is_err_and}
 use Rattle.trace_reading.specs.declared.fault.TraceFault.TheVariants.{BadLine}
-use Rattle.trace_grammar.specs.declared.why.Why.TheVariants.{DumpWanted}
+use Rattle.trace_reading.specs.declared.why.Why.TheVariants.{DumpWanted}
 use Rattle.dump_text.specs.DumpLines.{Counts, Listed, ends_by}
 use Rattle.dump_text.proofs.HeadLines.{title_there, empty_is, empty_not}
 use Rattle.dump_text.proofs.CountsLine.{counts_title, no_counts, counts_more, counts_spelled, counts_missing, counts_many, no_counts_line}

@@ -1,8 +1,8 @@
 use Rattle.std.proofs.Common.{ℕ, ◌≡◌, List, [], ◌∷◌, ◌++◌, ap, sym, refl, codes, ◌∙◌}
 use Rattle.std.proofs.lemmas.Result.{err_from_is_err_and}
 use Rattle.trace_reading.specs.declared.fault.TraceFault.TheVariants.{BadLine}
-use Rattle.trace_grammar.specs.Spelling.{newline}
-use Rattle.trace_grammar.specs.declared.why.Why.TheVariants.{DumpWanted}
+use Rattle.trace_reading.specs.Spelling.{newline}
+use Rattle.trace_reading.specs.declared.why.Why.TheVariants.{DumpWanted}
 use Rattle.dump_text.specs.DumpLines.{Version, Heap, ends_by}
 use Rattle.dump_text.proofs.References.{not_same}
 use Rattle.dump_text.proofs.TakenRoots.{same_bytes}

@@ -1,7 +1,7 @@
 use Rattle.std.proofs.Common.{◌≡◌, ◌+◌, ◌<◌, [], ◌∷◌, ◌++◌, length, refl, arith}
 use Rattle.std.proofs.lemmas.Result.{err_from_is_err_and}
 use Rattle.trace_reading.specs.declared.fault.TraceFault.TheVariants.{BadLine}
-use Rattle.trace_grammar.specs.declared.why.Why.TheVariants.{DumpWanted}
+use Rattle.trace_reading.specs.declared.why.Why.TheVariants.{DumpWanted}
 use Rattle.dump_text.specs.DumpLines.{Listed, ends_by}
 use Rattle.dump_text.proofs.Steps.{stops_here, stops_behind, ends_here, refused_here}
 use Rattle.dump_text.proofs.Rooted.{next_sixteen, roots_line_more, roots_line_refused}

@@ -2,7 +2,7 @@ use Rattle.std.proofs.Common.{◌≡◌, inr}
 use Rattle.std.proofs.lemmas.Result.{err_from_is_err_and}
 use Rattle.std.proofs.lemmas.Bool.{false≢true}
 use Rattle.trace_reading.specs.declared.fault.TraceFault.TheVariants.{BadLine}
-use Rattle.trace_grammar.specs.declared.why.Why.TheVariants.{DumpWanted}
+use Rattle.trace_reading.specs.declared.why.Why.TheVariants.{DumpWanted}
 use Rattle.dump_text.specs.DumpLines.{Listed, ends_by}
 use Rattle.dump_text.proofs.Steps.{stops_here, ends_here, refused_here}
 use Rattle.dump_text.proofs.HeldDump.{dump_is_held, mark_refused, not_mark}

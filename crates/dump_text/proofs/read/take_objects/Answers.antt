@@ -1,5 +1,5 @@
 use Rattle.std.proofs.Common.{◌+◌, [], refl, arith}
-use Rattle.trace_grammar.specs.declared.why.Why.TheVariants.{DumpWanted}
+use Rattle.trace_reading.specs.declared.why.Why.TheVariants.{DumpWanted}
 use Rattle.dump_text.specs.DumpLines.{Listed}
 use Rattle.dump_text.specs.Listing.{listed}
 use Rattle.dump_text.proofs.Rowed.{object_room, rows_more, rows_refused}

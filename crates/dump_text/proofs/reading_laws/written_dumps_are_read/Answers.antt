@@ -2,8 +2,8 @@ use Rattle.std.specs.Prelude.{ℕ, ◌≡◌, ◌≤◌, ◌++◌, List, length}
 use Rattle.std.proofs.Common.{refl}
 use Rattle.std.specs.List.{flat_map, AllByRecursion}
 use Rattle.heap_words.specs.declared.schedule.Item.{Item}
-use Rattle.trace_grammar.specs.Spelling.{TraceLine, line, IsLine, schedule_line, IsScheduleLine}
-use Rattle.trace_grammar.specs.Grammar.{most_bytes, scripts_of, items_of}
+use Rattle.trace_reading.specs.Spelling.{TraceLine, line, IsLine, schedule_line, IsScheduleLine}
+use Rattle.trace_reading.specs.Grammar.{most_bytes, scripts_of, items_of}
 use Rattle.dump_text.specs.Dumped.{Dumped, IsDump}
 use Rattle.dump_text.specs.DumpText.{dump_text}
 use Rattle.dump_text.specs.Resumes.{Resumes, run_version, mark_line}

@@ -2,8 +2,8 @@ use Rattle.std.proofs.Common.{ℕ, List, [], ◌∷◌, ◌++◌, ◌∙◌, ap,
 use Rattle.std.specs.Fmt.{decimal}
 use Rattle.std.proofs.lemmas.List.{take_all}
 use Rattle.shen_base.proofs.Stages.{puts_both, puts_same}
-use Rattle.trace_grammar.specs.Spelling.{space, newline, numbers}
-use Rattle.trace_writing.proofs.AnswerLemmas.{flat_map-take_more}
+use Rattle.trace_reading.specs.Spelling.{space, newline, numbers}
+use Rattle.trace_text.proofs.AnswerLemmas.{flat_map-take_more}
 use Rattle.dump_text.proofs.write.put_counts.Goals as goal
 
 abbrev title : List ℕ

@@ -1,6 +1,6 @@
 use Rattle.std.proofs.Common.{◌++◌, codes, take}
 use Rattle.shen_base.specs.Sending.{Puts, stage}
-use Rattle.trace_grammar.specs.Spelling.{numbers}
+use Rattle.trace_reading.specs.Spelling.{numbers}
 use Rattle.dump_text.proofs.write.put_counts.Given as goal
 
 abbrev pub invariant-loop-count : goal.invariant-loop-count

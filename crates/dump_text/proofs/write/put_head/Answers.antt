@@ -1,6 +1,6 @@
 use Rattle.std.proofs.Common.{◌≡◌, [], ◌∷◌, codes, refl}
 use Rattle.shen_base.proofs.Stages.{puts_both, puts_same}
-use Rattle.trace_grammar.specs.Spelling.{titled}
+use Rattle.trace_reading.specs.Spelling.{titled}
 use Rattle.dump_text.proofs.write.put_head.Goals as goal
 
 pub returns : goal.returns

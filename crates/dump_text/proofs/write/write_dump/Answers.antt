@@ -2,8 +2,8 @@ use Rattle.std.proofs.Common.{ap}
 use Rattle.std.specs.Prelude.{codes}
 use Rattle.std.specs.List.{flat_map}
 use Rattle.shen_base.proofs.Stages.{puts_both, puts_same, taken_by_new}
-use Rattle.trace_grammar.specs.Spelling.{titled}
-use Rattle.trace_writing.specs.Answer.{thread_numbers}
+use Rattle.trace_reading.specs.Spelling.{titled}
+use Rattle.trace_text.specs.Answer.{thread_numbers}
 use Rattle.dump_text.specs.DumpText.{roots_line_in}
 use Rattle.dump_text.proofs.write.write_dump.Goals as goal
 

@@ -1,6 +1,6 @@
 use Rattle.std.proofs.Common.{◌≡◌, List, length, sym, ap, ◌∙◌, refl}
-use Rattle.trace_grammar.specs.declared.kind.CommandKind.{CommandKind}
-use Rattle.trace_grammar.specs.Kinds.{limits}
+use Rattle.trace_reading.specs.declared.kind.CommandKind.{CommandKind}
+use Rattle.trace_reading.specs.Kinds.{limits}
 use Rattle.trace_reading.specs.Causes.{parts_behind, kind_named}
 use Rattle.trace_reading.proofs.Words.{no_command_word, no_kind, other_numbers, command_numbers}
 use Rattle.trace_reading.proofs.body.command_cause.Goals as goal

@@ -1,5 +1,5 @@
 use Rattle.std.proofs.Common.{◌∷◌, ap, ℕ, ◌∙◌, lit<, arith}
-use Rattle.trace_grammar.proofs.ReadItems.{number_read, no_number, steps_read, replies_read, no_steps, no_replies}
+use Rattle.trace_reading.proofs.ReadItems.{number_read, no_number, steps_read, replies_read, no_steps, no_replies}
 use Rattle.trace_reading.proofs.items.aim_at.Goals as goal
 
 pub returns-in_err-count-in-58 : goal.returns-in_err-count-in-58

@@ -1,6 +1,6 @@
 use Rattle.std.proofs.Common.{◌≡◌, arith}
 use Rattle.heap_words.specs.Ranges.{seat_count}
-use Rattle.trace_grammar.proofs.ReadItems.{number_read, no_number, no_machine, machine_found}
+use Rattle.trace_reading.proofs.ReadItems.{number_read, no_number, no_machine, machine_found}
 use Rattle.trace_reading.proofs.items.item_at.Goals as goal
 
 pub returns-in_err-machine : goal.returns-in_err-machine

@@ -1,6 +1,6 @@
 use Rattle.std.proofs.Common.{ℕ, List, length, take, sym}
-use Rattle.trace_grammar.proofs.Lines.{limits_small, suits}
-use Rattle.trace_grammar.proofs.Numbers.{numbers_take}
+use Rattle.trace_reading.proofs.GrammarLines.{limits_small, suits}
+use Rattle.trace_reading.proofs.GrammarNumbers.{numbers_take}
 use Rattle.trace_reading.proofs.line.command_at.Goals as goal
 
 pub command-requires : goal.command-requires

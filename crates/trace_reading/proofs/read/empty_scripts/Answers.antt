@@ -2,7 +2,7 @@ use Rattle.std.proofs.Common.{◌≡◌, ℕ, ◌++◌, ◌∷◌, [], List, ap,
 use Rattle.std.specs.Prelude.{replicate}
 use Rattle.std.proofs.lemmas.List.{replicate_more}
 use Rattle.shen_graph.specs.declared.command.Command.{Command}
-use Rattle.trace_grammar.proofs.Traces.{scripts_of_none}
+use Rattle.trace_reading.proofs.Traces.{scripts_of_none}
 use Rattle.trace_reading.proofs.read.empty_scripts.Goals as goal
 
 pub loop-preserved : goal.loop-preserved

@@ -1,9 +1,9 @@
 use Rattle.std.proofs.Common.{ℕ, ◌-◌, ◌∷◌, [], ◌++◌, List, slice_set, sym, ap, ◌∙◌, arith}
 use Rattle.std.proofs.lemmas.List.{get_or_read}
 use Rattle.shen_graph.specs.declared.command.Command.{Command}
-use Rattle.trace_grammar.specs.Spelling.{TraceLine}
-use Rattle.trace_grammar.specs.Scanning.{line_at}
-use Rattle.trace_grammar.proofs.Lines.{line_takes, line_again}
+use Rattle.trace_reading.specs.Spelling.{TraceLine}
+use Rattle.trace_reading.specs.Scanning.{line_at}
+use Rattle.trace_reading.proofs.GrammarLines.{line_takes, line_again}
 use Rattle.trace_reading.proofs.read.take_line.Goals as goal
 
 pub returns-in_default-clause-refused : goal.returns-in_default-clause-refused

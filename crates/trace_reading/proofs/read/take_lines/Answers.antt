@@ -1,8 +1,8 @@
 use Rattle.std.proofs.Common.{ℕ, [], ◌∷◌, length, length-append, append-nil, refl, sym, ap, subst, ◌∙◌, arith}
 use Rattle.std.proofs.lemmas.List.FromFn.{length-map-range_with_len}
-use Rattle.trace_grammar.specs.Spelling.{IsLine, line}
-use Rattle.trace_grammar.specs.Grammar.{commands_in}
-use Rattle.trace_grammar.proofs.Traces.{taken_more, taken_count, few_lines}
+use Rattle.trace_reading.specs.Spelling.{IsLine, line}
+use Rattle.trace_reading.specs.Grammar.{commands_in}
+use Rattle.trace_reading.proofs.Traces.{taken_more, taken_count, few_lines}
 use Rattle.trace_reading.proofs.Bad.{lines_fit}
 use Rattle.trace_reading.proofs.read.take_lines.Goals as goal
 

@@ -1,5 +1,5 @@
 use Rattle.std.proofs.Common.{◌≡◌, ◌+◌, length}
-use Rattle.trace_grammar.specs.Grammar.{HasReadLines}
+use Rattle.trace_reading.specs.Grammar.{HasReadLines}
 use Rattle.trace_reading.proofs.read.take_lines.Given as goal
 
 abbrev pub invariant-lines : goal.invariant-lines

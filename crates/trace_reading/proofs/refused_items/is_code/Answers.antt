@@ -1,5 +1,5 @@
 use Rattle.std.proofs.Common.{sym, ap, ◌∙◌, arith}
-use Rattle.trace_grammar.proofs.Lines.{two_listed}
+use Rattle.trace_reading.proofs.GrammarLines.{two_listed}
 use Rattle.trace_reading.specs.Codes.{is_code}
 use Rattle.trace_reading.proofs.RefusedPlaces.{code_asked, other_length}
 use Rattle.trace_reading.proofs.refused_items.is_code.Goals as goal

@@ -1,10 +1,10 @@
 use Rattle.std.proofs.Common.{◌∷◌, [], ◌++◌, refl}
 use Rattle.std.proofs.lemmas.Bool.{false≢true}
 use Rattle.std.proofs.lemmas.Result.{err_from_is_err_and}
-use Rattle.trace_grammar.specs.Spelling.{IsItem, spaced_item}
-use Rattle.trace_grammar.specs.Front.{IsLineEnd}
-use Rattle.trace_grammar.proofs.Pieces.{one_taken}
-use Rattle.trace_grammar.proofs.ScheduleLines.{items_are_pieces, behind_end, line_taken, no_items, item_more}
+use Rattle.trace_reading.specs.Spelling.{IsItem, spaced_item}
+use Rattle.trace_reading.specs.Front.{IsLineEnd}
+use Rattle.trace_reading.proofs.Pieces.{one_taken}
+use Rattle.trace_reading.proofs.ScheduleLines.{items_are_pieces, behind_end, line_taken, no_items, item_more}
 use Rattle.trace_reading.proofs.schedule_lines.take_items.Goals as goal
 
 pub returns-in_err-rest-clause-refused : goal.returns-in_err-rest-clause-refused

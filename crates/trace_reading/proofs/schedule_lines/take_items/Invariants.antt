@@ -1,8 +1,8 @@
 use Rattle.std.proofs.Common.{◌≡◌, List, ◌++◌, length}
 use Rattle.heap_words.specs.declared.schedule.Item.{Item}
-use Rattle.trace_grammar.specs.Spelling.{IsItem, spaced_item}
-use Rattle.trace_grammar.specs.Front.{IsLineEnd}
-use Rattle.trace_grammar.proofs.Pieces.{HasBegun}
+use Rattle.trace_reading.specs.Spelling.{IsItem, spaced_item}
+use Rattle.trace_reading.specs.Front.{IsLineEnd}
+use Rattle.trace_reading.proofs.Pieces.{HasBegun}
 use Rattle.trace_reading.proofs.schedule_lines.take_items.Given as goal
 
 abbrev pub invariant-items : goal.invariant-items

@@ -1,8 +1,8 @@
 use Rattle.std.proofs.Common.{◌∷◌, [], ◌++◌, sym, arith}
 use Rattle.std.proofs.lemmas.List.{length-append}
-use Rattle.trace_grammar.specs.Spelling.{IsScheduleLine, schedule_line}
-use Rattle.trace_grammar.proofs.Pieces.{one_taken}
-use Rattle.trace_grammar.proofs.ScheduleLines.{IsEmpty, lines_are_pieces, not_empty, items_more}
+use Rattle.trace_reading.specs.Spelling.{IsScheduleLine, schedule_line}
+use Rattle.trace_reading.proofs.Pieces.{one_taken}
+use Rattle.trace_reading.proofs.ScheduleLines.{IsEmpty, lines_are_pieces, not_empty, items_more}
 use Rattle.trace_reading.proofs.Bad.{turns_fit, not_none}
 use Rattle.trace_reading.proofs.schedule_lines.take_schedule.Goals as goal
 

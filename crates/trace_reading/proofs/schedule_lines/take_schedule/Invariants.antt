@@ -1,9 +1,9 @@
 use Rattle.std.proofs.Common.{◌≡◌, List, ◌+◌, ◌++◌, length}
 use Rattle.heap_words.specs.declared.schedule.Item.{Item}
-use Rattle.trace_grammar.specs.Spelling.{IsScheduleLine, schedule_line}
-use Rattle.trace_grammar.specs.Grammar.{items_of}
-use Rattle.trace_grammar.proofs.Pieces.{HasBegun}
-use Rattle.trace_grammar.proofs.ScheduleLines.{IsEmpty}
+use Rattle.trace_reading.specs.Spelling.{IsScheduleLine, schedule_line}
+use Rattle.trace_reading.specs.Grammar.{items_of}
+use Rattle.trace_reading.proofs.Pieces.{HasBegun}
+use Rattle.trace_reading.proofs.ScheduleLines.{IsEmpty}
 use Rattle.trace_reading.proofs.schedule_lines.take_schedule.Given as goal
 
 abbrev pub invariant-turns : goal.invariant-turns

@@ -1,6 +1,6 @@
 use Rattle.std.proofs.Common.{◌∷◌, [], refl, sym}
-use Rattle.trace_grammar.proofs.Numbers.{behind_takes}
-use Rattle.trace_grammar.proofs.ScheduleLines.{empty_line}
+use Rattle.trace_reading.proofs.GrammarNumbers.{behind_takes}
+use Rattle.trace_reading.proofs.ScheduleLines.{empty_line}
 use Rattle.trace_reading.proofs.schedule_lines.take_schedule_line.Goals as goal
 
 pub returns-then-is_line_end-clause-refused : goal.returns-then-is_line_end-clause-refused

@@ -1,7 +1,7 @@
 use Rattle.std.proofs.Common.{◌+◌, ◌-◌, ◌<◌, ◌≤◌, vec_len}
 use Rattle.std.specs.Io.KnownBytes.{Consumes}
 use Rattle.shen_base.specs.Count.{CalledAtMost}
-use Rattle.trace_grammar.specs.Grammar.{most_bytes}
+use Rattle.trace_reading.specs.Grammar.{most_bytes}
 use Rattle.trace_reading.proofs.source_bytes.all_bytes.Given as goal
 
 abbrev pub invariant-pieces : goal.invariant-pieces

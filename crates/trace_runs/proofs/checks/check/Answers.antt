@@ -1,9 +1,9 @@
 use Rattle.std.proofs.Common.{ℕ, List, refl, subst}
 use Rattle.shen_check.specs.Judged.{IsVerdict}
 use Rattle.shen_check.proofs.ScriptsLeft.{can_be_judged}
-use Rattle.trace_writing.specs.Message.{line_text}
-use Rattle.trace_writing.specs.declared.message.Line.{Line}
-use Rattle.trace_writing.specs.declared.message.Line.TheVariants as line
+use Rattle.trace_text.specs.Message.{line_text}
+use Rattle.trace_text.specs.declared.message.Line.{Line}
+use Rattle.trace_text.specs.declared.message.Line.TheVariants as line
 use Rattle.shen_base.specs.Sending.{outlet}
 use Rattle.trace_runs.specs.declared.mode.Mode.TheVariants.{Check}
 use Rattle.trace_runs.specs.declared.status.Status.TheVariants.{Ok, NoMemory}

@@ -1,6 +1,6 @@
 use Rattle.std.proofs.Common.{refl}
-use Rattle.trace_writing.specs.Message.{line_text}
-use Rattle.trace_writing.specs.declared.message.Line.TheVariants as line
+use Rattle.trace_text.specs.Message.{line_text}
+use Rattle.trace_text.specs.declared.message.Line.TheVariants as line
 use Rattle.trace_runs.specs.declared.mode.Mode.TheVariants.{Churn}
 use Rattle.trace_runs.specs.declared.status.Status.TheVariants.{Ok, NoMemory}
 use Rattle.trace_runs.specs.Churned.{IsChurned}

@@ -1,6 +1,6 @@
 use Rattle.std.proofs.Common.{refl, subst}
-use Rattle.trace_writing.specs.Message.{line_text}
-use Rattle.trace_writing.specs.declared.message.Line.TheVariants as line
+use Rattle.trace_text.specs.Message.{line_text}
+use Rattle.trace_text.specs.declared.message.Line.TheVariants as line
 use Rattle.dump_text.specs.Dumped.{dumped}
 use Rattle.dump_text.specs.DumpText.{dump_text}
 use Rattle.shen_base.specs.Sending.{outlet}

@@ -1,8 +1,8 @@
 use Rattle.std.proofs.Common.{◌≡◌, ◌<◌, ℕ, List, ◌++◌, length, inr, refl, subst}
 use Rattle.shen_graph.specs.Work.{HasScript}
-use Rattle.trace_writing.specs.Message.{line_text}
-use Rattle.trace_writing.specs.declared.message.Line.TheVariants as line
-use Rattle.trace_writing.specs.Answer.{spelled_answer}
+use Rattle.trace_text.specs.Message.{line_text}
+use Rattle.trace_text.specs.declared.message.Line.TheVariants as line
+use Rattle.trace_text.specs.Answer.{spelled_answer}
 use Rattle.shen_base.specs.Sending.{outlet}
 use Rattle.graph_placing.specs.ByName.{Fits}
 use Rattle.dump_runs.specs.Resumed.{IsResumed}

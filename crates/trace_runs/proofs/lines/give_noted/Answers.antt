@@ -1,6 +1,6 @@
 use Rattle.shen_base.specs.Sending.{Outlet, outlet}
-use Rattle.trace_writing.specs.Answer.{spelled_answer}
-use Rattle.trace_writing.specs.History.{history_text}
+use Rattle.trace_text.specs.Answer.{spelled_answer}
+use Rattle.trace_text.specs.History.{history_text}
 use Rattle.trace_runs.specs.declared.status.Status.TheVariants.{Ok}
 use Rattle.trace_runs.proofs.CallEnds.{ends_in_first, ends_in_second}
 use Rattle.trace_runs.proofs.lines.give_noted.Goals as goal

@@ -1,7 +1,7 @@
 use Rattle.std.proofs.Common.{refl, subst}
-use Rattle.trace_writing.specs.Message.{line_text}
-use Rattle.trace_writing.specs.declared.message.Line.TheVariants as line
-use Rattle.trace_writing.specs.Answer.{spelled_answer}
+use Rattle.trace_text.specs.Message.{line_text}
+use Rattle.trace_text.specs.declared.message.Line.TheVariants as line
+use Rattle.trace_text.specs.Answer.{spelled_answer}
 use Rattle.shen_base.specs.Sending.{outlet}
 use Rattle.trace_runs.specs.Answered.{Input, Output}
 use Rattle.trace_runs.specs.CallEnds.{EndsWith}

@@ -2,7 +2,7 @@ use Rattle.std.proofs.Common.{◌≡◌, List, [], ◌∷◌, ◌++◌, ◌^◌,
 use Rattle.std.specs.List.{flat_map, AllByRecursion}
 use Rattle.shen_graph.specs.History.{Entry}
 use Rattle.shen_graph.specs.Noting.{seen}
-use Rattle.trace_writing.specs.History.{entry_line}
+use Rattle.trace_text.specs.History.{entry_line}
 use Rattle.trace_text.specs.Entries.{IsClaim}
 use Rattle.trace_text.proofs.ReadEntries.{entry_takes, entry_shorter, all_more, spelled_more, none_read}
 use Rattle.trace_text.proofs.entries.entries_in.Goals as goal

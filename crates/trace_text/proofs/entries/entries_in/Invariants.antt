@@ -1,6 +1,6 @@
 use Rattle.std.proofs.Common.{◌≡◌, ◌++◌, length}
 use Rattle.std.specs.List.{flat_map, AllByRecursion}
-use Rattle.trace_writing.specs.History.{entry_line}
+use Rattle.trace_text.specs.History.{entry_line}
 use Rattle.trace_text.specs.Entries.{IsClaim}
 use Rattle.trace_text.proofs.entries.entries_in.Given as goal
 

@@ -1,5 +1,5 @@
 use Rattle.std.proofs.Common.{ℕ, List, sym, arith}
-use Rattle.trace_grammar.proofs.Numbers.{positive_takes}
+use Rattle.trace_reading.proofs.GrammarNumbers.{positive_takes}
 use Rattle.trace_text.proofs.entries.entry_at.Goals as goal
 
 pub overflow_cast-entry : goal.overflow_cast-entry

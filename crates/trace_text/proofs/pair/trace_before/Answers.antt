@@ -1,5 +1,5 @@
 use Rattle.std.proofs.Common.{codes, inl}
-use Rattle.trace_grammar.specs.Grammar.{most_bytes}
+use Rattle.trace_reading.specs.Grammar.{most_bytes}
 use Rattle.trace_text.proofs.CutLines.{cut_short}
 use Rattle.trace_text.proofs.pair.trace_before.Goals as goal
 

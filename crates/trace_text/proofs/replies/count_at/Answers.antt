@@ -1,5 +1,5 @@
 use Rattle.std.proofs.Common.{ℕ, List, sym, lit<, arith}
-use Rattle.trace_grammar.proofs.Numbers.{number_takes}
+use Rattle.trace_reading.proofs.GrammarNumbers.{number_takes}
 use Rattle.trace_text.proofs.replies.count_at.Goals as goal
 
 pub overflow_cast-name : goal.overflow_cast-name

@@ -1,5 +1,5 @@
 use Rattle.std.proofs.Common.{◌≡◌, ◌+◌, drop}
-use Rattle.find_play.specs.Names.{others}
+use Rattle.find_play.specs.NameNumbers.{others}
 use Rattle.find_play.proofs.names.Names.before.Given as goal
 
 abbrev pub invariant-loop-count : goal.invariant-loop-count

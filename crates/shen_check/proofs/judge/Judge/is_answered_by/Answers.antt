@@ -2,7 +2,7 @@ use Rattle.std.proofs.Common.{◌-◌, length, sym, subst, ap, refl, arith}
 use Rattle.shen_graph.specs.GraphText.{root_of, pin_of, IsTextOf}
 use Rattle.shen_graph.specs.PlainGraph.{graph_of}
 use Rattle.shen_graph.specs.Work.{replies_of}
-use Rattle.trace_writing.specs.Answer.{answer_text}
+use Rattle.trace_text.specs.Answer.{answer_text}
 use Rattle.shen_check.proofs.Texts.{answered, map_ok}
 use Rattle.shen_check.proofs.Full.{live_once}
 use Rattle.shen_check.proofs.judge.Judge.is_answered_by.Goals as goal

@@ -2,7 +2,7 @@ use Rattle.std.proofs.Common.{◌≡◌, ℕ, ◌-◌, ◌<◌, ◌≤◌, ◌�
 use Rattle.std.specs.Result.{is_ok}
 use Rattle.std.proofs.lemmas.List.{get_or_read}
 use Rattle.shen_graph.specs.declared.command.Command.{Command}
-use Rattle.trace_grammar.specs.Grammar.{with_line}
+use Rattle.trace_reading.specs.Grammar.{with_line}
 use Rattle.trace_text.specs.LinesTaken.{Taken, spelled_line}
 use Rattle.trace_text.proofs.LineKinds.{command_read, read_some, read_is, is_leb, set_past, on_ok}
 use Rattle.trace_text.proofs.lines.TraceLines.take_command.Goals as goal

@@ -1,0 +1,190 @@
+-- What is read was said by the words.
+use Rattle.std.proofs.Common.{◌≡◌, ℕ, ◌^◌, ◌<◌, ◌≤◌, Bool, ◌&&◌, true, false, cond, ltb, List, [], ◌∷◌, codes, Option, Some, None, is_none, Ok, Err, Result, refl, sym, ap, subst, ◌∙◌, arith}
+use Rattle.std.specs.Fmt.{decimal}
+use Rattle.std.specs.Cmp.Lexicographic.{same_text}
+use Rattle.std.specs.Str.Parse.{digits_value}
+use Rattle.std.proofs.lemmas.Bool.{ltb-true, ltb-false}
+use Rattle.find_play.specs.declared.wanted.Wanted.TheVariants as wanted
+use Rattle.trace_reading.specs.declared.why.Why.TheVariants as cause
+use Rattle.trace_reading.specs.Causes.{is_same, is_plain_number}
+use Rattle.trace_reading.proofs.Words.{both}
+use Rattle.trace_reading.proofs.Numerals.{number_spelled}
+use Rattle.find_play.specs.declared.fault.TestWhy.{TestWhy}
+use Rattle.find_play.specs.declared.fault.TestWhy.TheVariants as why
+use Rattle.find_play.specs.declared.slot.Value.{Value}
+use Rattle.find_play.specs.declared.slot.Value.TheVariants as value
+use Rattle.find_play.specs.declared.wanted.Wanted.{Wanted}
+use Rattle.find_play.specs.NameNumbers.{number_of}
+use Rattle.find_play.specs.declared.slot.Slot.{Slot}
+use Rattle.find_play.specs.declared.slot.Slot.TheVariants as slot
+use Rattle.find_play.specs.declared.kind.LineKind.{LineKind}
+use Rattle.find_play.specs.Told.{Told}
+use Rattle.find_play.specs.Names.{is_name}
+use Rattle.find_play.specs.Lines.{as_small, as_large, as_root, as_number, as_index, names_beside, value_in, with_rest, without_word, take_value, with_first, then_values, values_in}
+use Rattle.find_play.specs.WordsSaid.{ranged, number_between, number_wanted, as_wanted, wanted_in}
+use Rattle.find_play.specs.Spelling.{wanted_word, FitsWhenWanted, Says, AreSaid}
+
+same_ok : {A : Type 0} (x y : A) → ◌≡◌ {A = Result A TestWhy} (Ok x) (Ok y) → x ≡ y
+same_ok x y e = cc
+
+pub number_said : (least most n : ℕ) (w : List ℕ) → most < 2 ^ 64 → number_between least most w ≡ Ok n → (w ≡ decimal n) × (least ≤ n) × (n ≤ most)
+unfolding number_between ranged
+number_said least most n w small e = by_tests (is_plain_number w) (ltb (digits_value 10 w) least) (ltb most (digits_value 10 w)) refl refl refl e
+  where
+    by_tests : (plain low high : Bool) → is_plain_number w ≡ plain → ltb (digits_value 10 w) least ≡ low → ltb most (digits_value 10 w) ≡ high
+        → ◌≡◌ {A = Result ℕ TestWhy} (cond plain (cond low (Err (why.Trace cause.Range)) (cond high (Err (why.Trace cause.Range)) (Ok (digits_value 10 w)))) (Err (why.Trace cause.Number))) (Ok n)
+        → (w ≡ decimal n) × (least ≤ n) × (n ≤ most)
+    by_tests true false false p a b e =
+        let same : digits_value 10 w ≡ n = same_ok _ _ e in
+        let low : least ≤ digits_value 10 w = ltb-false _ _ a in
+        let high : digits_value 10 w ≤ most = ltb-false _ _ b in
+        (number_spelled w p (omega (arith, high, small)) ∙ ap decimal same, omega (arith, low, same), omega (arith, high, same))
+    by_tests true false true p a b e = absurd cc
+    by_tests true true high p a b e = absurd cc
+    by_tests false low high p a b e = absurd cc
+
+-- ---- replies
+
+-- the value is what a reply is asked to be, and the word is its
+abbrev IsReply : ℕ → List ℕ → Value → Type 0
+IsReply version w v = (x : Wanted) × (v ≡ value.Wanted x) × (w ≡ wanted_word x) × FitsWhenWanted version x
+
+one_reply : (version : ℕ) (w name : List ℕ) (x : Wanted) (other : Result Value TestWhy) (v : Value) → name ≡ wanted_word x → FitsWhenWanted version x → cond (is_same w name) (Ok (value.Wanted x)) other ≡ Ok v
+    → (other ≡ Ok v → IsReply version w v) → IsReply version w v
+one_reply version w name x other v spelled fits e others = by_test (is_same w name) refl e
+  where
+    by_test : (test : Bool) → is_same w name ≡ test → cond test (Ok (value.Wanted x)) other ≡ Ok v → IsReply version w v
+    by_test true same e = (x, sym (same_ok _ _ e), same_text w name (sym same) ∙ spelled, fits)
+    by_test false same e = others e
+
+-- the word of a place, which version 1 has not
+pinned_reply : (version : ℕ) (w : List ℕ) (other : Result Value TestWhy) (v : Value) → cond (ltb 1 version && is_same w (codes "pinned")) (Ok (value.Wanted wanted.Pinned)) other ≡ Ok v
+    → (other ≡ Ok v → IsReply version w v) → IsReply version w v
+pinned_reply version w other v e others = by_tests (ltb 1 version) (is_same w (codes "pinned")) refl refl e
+  where
+    by_tests : (a b : Bool) → ltb 1 version ≡ a → is_same w (codes "pinned") ≡ b → cond (a && b) (Ok (value.Wanted wanted.Pinned)) other ≡ Ok v → IsReply version w v
+    by_tests true true later same e = (wanted.Pinned, sym (same_ok _ _ e), same_text w (codes "pinned") (sym same), ltb-true 1 version later)
+    by_tests true false later same e = others e
+    by_tests false b later same e = others e
+
+number_reply : (version : ℕ) (w : List ℕ) (v : Value) → number_wanted w ≡ Ok v → IsReply version w v
+number_reply version w v e = by_test (is_plain_number w) e
+  where
+    by_number : (r : Result ℕ TestWhy) → number_between 0 18446744073709551615 w ≡ r → as_wanted r ≡ Ok v → IsReply version w v
+    by_number (Ok n) is e = let said = number_said 0 18446744073709551615 n w (omega arith) is in (wanted.Number n, sym (same_ok _ _ e), said.0, omega (arith, said.2))
+    by_number (Err why) is e = absurd cc
+
+    by_test : (test : Bool) → cond test (as_wanted (number_between 0 18446744073709551615 w)) (Err why.Reply) ≡ Ok v → IsReply version w v
+    by_test true e = by_number (number_between 0 18446744073709551615 w) refl e
+    by_test false e = absurd cc
+
+pub reply_said : (version : ℕ) (w : List ℕ) (v : Value) → wanted_in version w ≡ Ok v → IsReply version w v
+unfolding wanted_in
+reply_said version w v e =
+    one_reply version w (codes "yes") wanted.Yes _ v refl tt e (λ e.
+    one_reply version w (codes "no") wanted.No _ v refl tt e (λ e.
+    one_reply version w (codes "null") wanted.Null _ v refl tt e (λ e.
+    one_reply version w (codes "object") wanted.Object _ v refl tt e (λ e.
+    one_reply version w (codes "ok") wanted.Ok _ v refl tt e (λ e.
+    one_reply version w (codes "full") wanted.Full _ v refl tt e (λ e.
+    one_reply version w (codes "bad") wanted.Bad _ v refl tt e (λ e.
+    pinned_reply version w _ v e (λ e. number_reply version w v e))))))))
+
+-- ---- values
+
+-- the numbers of a slot fit 64 bits
+abbrev pub is_small_slot : Slot → Bool
+is_small_slot (slot.Small most) = ltb most 18446744073709551616
+is_small_slot (slot.Large least most) = ltb most 18446744073709551616
+is_small_slot _ = true
+
+pub value_said : (d : Told) (k : LineKind) (s : Slot) (w : List ℕ) (v : Value) → is_small_slot s ≡ true → value_in d k s w ≡ Ok v → Says d k s v w
+unfolding value_in
+value_said d k slot.Nothing w v small e = absurd cc
+value_said d k (slot.Small most) w v small e = by_number (number_between 0 most w) refl e
+  where
+    by_number : (r : Result ℕ TestWhy) → number_between 0 most w ≡ r → as_small r ≡ Ok v → Says d k (slot.Small most) v w
+    by_number (Ok n) is e = let said = number_said 0 most n w (ltb-true most _ small) is in subst (λ (u : Value). Says d k (slot.Small most) u w) (same_ok _ _ e) (said.0, said.2)
+    by_number (Err why) is e = absurd cc
+value_said d k (slot.Large least most) w v small e = by_number (number_between least most w) refl e
+  where
+    by_number : (r : Result ℕ TestWhy) → number_between least most w ≡ r → as_large r ≡ Ok v → Says d k (slot.Large least most) v w
+    by_number (Ok n) is e = subst (λ (u : Value). Says d k (slot.Large least most) u w) (same_ok _ _ e) (number_said least most n w (ltb-true most _ small) is)
+    by_number (Err why) is e = absurd cc
+value_said d k slot.Root w v small e = by_number (number_of d.roots w) refl e
+  where
+    by_test : (n : ℕ) (test : Bool) → ltb n 16 ≡ test → number_of d.roots w ≡ Some n → cond test (Ok (value.Small n)) (Err why.Name) ≡ Ok v → Says d k slot.Root v w
+    by_test n true small is e = subst (λ (u : Value). Says d k slot.Root u w) (same_ok _ _ e) (is, omega (arith, ltb-true n 16 small))
+    by_test n false small is e = absurd cc
+
+    by_number : (o : Option ℕ) → number_of d.roots w ≡ o → as_root o ≡ Ok v → Says d k slot.Root v w
+    by_number (Some n) is e = by_test n (ltb n 16) refl is e
+    by_number None is e = absurd cc
+value_said d k slot.Note w v small e = by_number (number_of d.notes w) refl e
+  where
+    by_number : (o : Option ℕ) → number_of d.notes w ≡ o → as_index (as_number o) ≡ Ok v → Says d k slot.Note v w
+    by_number (Some n) is e = subst (λ (u : Value). Says d k slot.Note u w) (same_ok _ _ e) is
+    by_number None is e = absurd cc
+value_said d k slot.Place w v small e = by_number (number_of d.place_names w) refl e
+  where
+    by_number : (o : Option ℕ) → number_of d.place_names w ≡ o → as_index (as_number o) ≡ Ok v → Says d k slot.Place v w
+    by_number (Some n) is e = subst (λ (u : Value). Says d k slot.Place u w) (same_ok _ _ e) is
+    by_number None is e = absurd cc
+value_said d k slot.Wanted w v small e =
+    let said = reply_said d.version w v e in
+    subst (λ (u : Value). Says d k slot.Wanted u w) (sym said.1) (said.2, said.3)
+value_said d k slot.Fresh w v small e = by_tests (is_name w) (number_of (names_beside d k) w) refl refl e
+  where
+    by_tests : (name : Bool) (number : Option ℕ) → is_name w ≡ name → number_of (names_beside d k) w ≡ number → cond (name && is_none number) (Ok value.Nothing) (Err why.Fresh) ≡ Ok v → Says d k slot.Fresh v w
+    by_tests true None is free e = subst (λ (u : Value). Says d k slot.Fresh u w) (same_ok _ _ e) (is, free)
+    by_tests true (Some n) is free e = absurd cc
+    by_tests false number is free e = absurd cc
+
+-- ---- lines
+
+abbrev pub are_small : List Slot → Bool
+are_small [] = true
+are_small (s ∷ ss) = is_small_slot s && are_small ss
+
+taken : (r : Result Value TestWhy) (rest : List (List ℕ)) (x : Value × List (List ℕ)) → with_rest r rest ≡ Ok x → (r ≡ Ok x.0) × (x.1 ≡ rest)
+taken (Ok v) rest x e = let made : Value × List (List ℕ) = (v, rest) in let same : made ≡ x = same_ok made x e in (ap (λ (y : Value × List (List ℕ)). Ok y.0) same, sym (ap (λ (y : Value × List (List ℕ)). y.1) same))
+taken (Err why) rest x e = absurd cc
+
+nothing_said : (s : Slot) (v : Value) → without_word s ≡ Ok v → (s ≡ slot.Nothing) × (v ≡ value.Nothing)
+nothing_said slot.Nothing v e = (refl, sym (same_ok _ _ e))
+nothing_said _ v e = absurd cc
+
+pub values_said : (d : Told) (k : LineKind) (ss : List Slot) (ws : List (List ℕ)) (vs : List Value) → are_small ss ≡ true → values_in d k ss ws ≡ Ok vs → AreSaid d k ss vs ws
+unfolding values_in take_value
+values_said d k [] [] vs small e = subst (λ (us : List Value). AreSaid d k [] us []) (same_ok [] vs e) tt
+values_said d k [] (w ∷ ws) vs small e = absurd cc
+values_said d k (s ∷ ss) [] vs small e = by_value (λ more is. values_said d k ss [] more (both (is_small_slot s) (are_small ss) small).1 is) (with_rest (without_word s) []) refl e
+  where
+    by_rest : ((more : List Value) → values_in d k ss [] ≡ Ok more → AreSaid d k ss more []) → (x : Value × List (List ℕ)) (r : Result (List Value) TestWhy)
+        → with_rest (without_word s) [] ≡ Ok x → values_in d k ss x.1 ≡ r → with_first x.0 r ≡ Ok vs → AreSaid d k (s ∷ ss) vs []
+    by_rest later x (Err why) t is e = absurd cc
+    by_rest later x (Ok more) t is e =
+        let first = taken (without_word s) [] x t in
+        let none = nothing_said s x.0 first.0 in
+        let others = later more (subst (λ (us : List (List ℕ)). values_in d k ss us ≡ Ok more) first.1 is) in
+        subst (λ (us : List Value). AreSaid d k (s ∷ ss) us []) (same_ok (x.0 ∷ more) vs e) (none.0, none.1, others)
+
+    by_value : ((more : List Value) → values_in d k ss [] ≡ Ok more → AreSaid d k ss more []) → (r : Result (Value × List (List ℕ)) TestWhy)
+        → with_rest (without_word s) [] ≡ r → then_values r (λ rest. values_in d k ss rest) ≡ Ok vs → AreSaid d k (s ∷ ss) vs []
+    by_value later (Err why) t e = absurd cc
+    by_value later (Ok x) t e = by_rest later x (values_in d k ss x.1) t refl e
+values_said d k (s ∷ ss) (w ∷ ws) vs small e = by_value (λ more is. values_said d k ss ws more (both (is_small_slot s) (are_small ss) small).1 is) (with_rest (value_in d k s w) ws) refl e
+  where
+    by_rest : ((more : List Value) → values_in d k ss ws ≡ Ok more → AreSaid d k ss more ws) → (x : Value × List (List ℕ)) (r : Result (List Value) TestWhy)
+        → with_rest (value_in d k s w) ws ≡ Ok x → values_in d k ss x.1 ≡ r → with_first x.0 r ≡ Ok vs → AreSaid d k (s ∷ ss) vs (w ∷ ws)
+    by_rest later x (Err why) t is e = absurd cc
+    by_rest later x (Ok more) t is e =
+        let first = taken (value_in d k s w) ws x t in
+        let pass = both (is_small_slot s) (are_small ss) small in
+        let others = later more (subst (λ (us : List (List ℕ)). values_in d k ss us ≡ Ok more) first.1 is) in
+        subst (λ (us : List Value). AreSaid d k (s ∷ ss) us (w ∷ ws)) (same_ok (x.0 ∷ more) vs e) (value_said d k s w x.0 pass.0 first.0, others)
+
+    by_value : ((more : List Value) → values_in d k ss ws ≡ Ok more → AreSaid d k ss more ws) → (r : Result (Value × List (List ℕ)) TestWhy)
+        → with_rest (value_in d k s w) ws ≡ r → then_values r (λ rest. values_in d k ss rest) ≡ Ok vs → AreSaid d k (s ∷ ss) vs (w ∷ ws)
+    by_value later (Err why) t e = absurd cc
+    by_value later (Ok x) t e = by_rest later x (values_in d k ss x.1) t refl e

@@ -1,0 +1,181 @@
+-- Words that say something are read as that.
+use Rattle.std.proofs.Common.{◌≡◌, inl, inr, ℕ, ◌^◌, ◌<◌, ◌≤◌, Bool, ◌&&◌, true, false, not, cond, ltb, List, [], ◌∷◌, ◌++◌, codes, Some, Ok, refl, sym, ap, ◌∙◌, arith}
+use Rattle.std.specs.Prelude.{Contains}
+use Rattle.std.specs.Fmt.{decimal}
+use Rattle.std.specs.Cmp.Lexicographic.{same_text}
+use Rattle.std.specs.Str.Parse.{digits_value}
+use Rattle.std.proofs.lemmas.Bool.{ltb-true}
+use Rattle.std.proofs.lemmas.Bool.Decides.{nat_tests}
+use Rattle.std.proofs.lemmas.Fmt.{digits_value-decimal}
+use Rattle.trace_reading.specs.declared.kind.CommandKind.TheVariants as command
+use Rattle.trace_reading.proofs.GrammarNumbers.{own}
+use Rattle.trace_reading.specs.Causes.{is_same, is_plain_number}
+use Rattle.trace_reading.proofs.Words.{both}
+use Rattle.trace_reading.proofs.Numerals.{decimal_is_number}
+use Rattle.shen_graph.proofs.ReachLemmas.{Contains-nil, Contains-cons_cases}
+use Rattle.find_play.specs.declared.wanted.Wanted.{Wanted}
+use Rattle.find_play.specs.declared.wanted.Wanted.TheVariants as wanted
+use Rattle.find_play.specs.declared.slot.Value.{Value}
+use Rattle.find_play.specs.declared.slot.Value.TheVariants as value
+use Rattle.find_play.specs.declared.slot.Slot.{Slot}
+use Rattle.find_play.specs.declared.slot.Slot.TheVariants as slot
+use Rattle.find_play.specs.declared.kind.LineKind.{LineKind}
+use Rattle.find_play.specs.declared.kind.LineKind.TheVariants as line
+use Rattle.find_play.specs.Told.{Told}
+use Rattle.find_play.specs.Kinds.{line_word, line_slots, first_line_kinds, later_line_kinds, line_kinds, kind_of_word}
+use Rattle.find_play.specs.Lines.{value_in, take_value, values_in, line_in}
+use Rattle.find_play.specs.WordsSaid.{ranged, number_between, wanted_in}
+use Rattle.find_play.specs.Spelling.{wanted_word, FitsWhenWanted, Says, AreSaid, IsLineSaid}
+use Rattle.find_play.proofs.Said.{is_small_slot, are_small}
+use Rattle.find_play.proofs.SaidLines.{line_small}
+
+not_below : (n least : ℕ) → least ≤ n → ltb n least ≡ false
+not_below n least le = grind (arith, nat_tests)
+
+pub number_again : (least most n : ℕ) (w : List ℕ) → most < 2 ^ 64 → w ≡ decimal n → least ≤ n → n ≤ most → number_between least most w ≡ Ok n
+unfolding number_between ranged
+number_again least most n w small spelled low high =
+    let fits : n < 2 ^ 64 = omega (arith, small, high) in
+    let value : digits_value 10 (decimal n) ≡ n = digits_value-decimal own n fits in
+    rw (spelled, decimal_is_number n fits, value, not_below n least low, not_below most n high) refl
+
+-- ---- replies
+
+-- a number is none of the words
+digits_first : (n : ℕ) (w : List ℕ) → n < 2 ^ 64 → is_plain_number w ≡ false → is_same (decimal n) w ≡ false
+digits_first n w small other = by_test (is_same (decimal n) w) refl
+  where
+    by_test : (test : Bool) → is_same (decimal n) w ≡ test → is_same (decimal n) w ≡ false
+    by_test true same = let one = decimal_is_number n small in let e = same_text (decimal n) w (sym same) in let two = ap is_plain_number e in absurd cc
+    by_test false same = same
+
+none_and : (b : Bool) → (b && false) ≡ false
+none_and true = refl
+none_and false = refl
+
+above : (n m : ℕ) → n < m → ltb n m ≡ true
+above n m lt = grind (arith, nat_tests)
+
+pub reply_again : (version : ℕ) (x : Wanted) (w : List ℕ) → w ≡ wanted_word x → FitsWhenWanted version x → wanted_in version w ≡ Ok (value.Wanted x)
+unfolding wanted_in
+reply_again version wanted.Yes w e fits = rw e refl
+reply_again version wanted.No w e fits = rw e refl
+reply_again version wanted.Null w e fits = rw e refl
+reply_again version wanted.Object w e fits = rw e refl
+reply_again version wanted.Ok w e fits = rw e refl
+reply_again version wanted.Full w e fits = rw e refl
+reply_again version wanted.Bad w e fits = rw e refl
+reply_again version wanted.Pinned w e fits = rw (e, above 1 version fits) refl
+reply_again version (wanted.Number n) w e fits =
+    rw (
+      e,
+      digits_first n (codes "yes") fits refl,
+      digits_first n (codes "no") fits refl,
+      digits_first n (codes "null") fits refl,
+      digits_first n (codes "object") fits refl,
+      digits_first n (codes "ok") fits refl,
+      digits_first n (codes "full") fits refl,
+      digits_first n (codes "bad") fits refl,
+      digits_first n (codes "pinned") fits refl,
+      none_and (ltb 1 version),
+      decimal_is_number n fits,
+      number_again 0 18446744073709551615 n (decimal n) (omega arith) refl (omega arith) (omega arith),
+    ) refl
+
+-- ---- values
+
+pub value_again : (d : Told) (k : LineKind) (s : Slot) (w : List ℕ) (v : Value) → is_small_slot s ≡ true → Says d k s v w → value_in d k s w ≡ Ok v
+unfolding value_in
+value_again d k slot.Nothing w v small said = absurd said
+value_again d k (slot.Small most) w (value.Small n) small said = rw (number_again 0 most n w (ltb-true most _ small) said.0 (omega arith) said.1) refl
+value_again d k (slot.Large least most) w (value.Large n) small said = rw (number_again least most n w (ltb-true most _ small) said.0 said.1 said.2) refl
+value_again d k slot.Root w (value.Small n) small said = rw (said.0, below n said.1) refl
+  where
+    below : (n : ℕ) → n ≤ 15 → ltb n 16 ≡ true
+    below n le = grind (arith, nat_tests)
+value_again d k slot.Note w (value.Index n) small said = rw said refl
+value_again d k slot.Place w (value.Index n) small said = rw said refl
+value_again d k slot.Wanted w (value.Wanted x) small said = reply_again d.version x w said.0 said.1
+value_again d k slot.Fresh w value.Nothing small said = rw (said.0, said.1) refl
+value_again d k _ w _ small said = absurd said
+
+pub values_again : (d : Told) (k : LineKind) (ss : List Slot) (ws : List (List ℕ)) (vs : List Value) → are_small ss ≡ true → AreSaid d k ss vs ws → values_in d k ss ws ≡ Ok vs
+unfolding values_in take_value
+values_again d k [] [] [] small said = refl
+values_again d k [] [] (v ∷ vs) small said = absurd said
+values_again d k [] (w ∷ ws) [] small said = absurd said
+values_again d k [] (w ∷ ws) (v ∷ vs) small said = absurd said
+values_again d k (s ∷ ss) [] [] small said = absurd said
+values_again d k (s ∷ ss) (w ∷ ws) [] small said = absurd said
+values_again d k (s ∷ ss) [] (v ∷ vs) small said =
+    let pass = both (is_small_slot s) (are_small ss) small in
+    rw (said.0, said.1, values_again d k ss [] vs pass.1 said.2) refl
+values_again d k (s ∷ ss) (w ∷ ws) (v ∷ vs) small said =
+    let pass = both (is_small_slot s) (are_small ss) small in
+    rw (value_again d k s w v pass.0 said.0, values_again d k ss ws vs pass.1 said.1) refl
+
+-- ---- lines
+
+-- a kind that version 1 has not
+abbrev is_later : LineKind → Bool
+is_later (line.Command command.Pin) = true
+is_later (line.Command command.Unpin) = true
+is_later _ = false
+
+unfoldable none_later : List LineKind → Bool
+none_later [] = true
+none_later (k ∷ ks) = not (is_later k) && none_later ks
+
+-- where none of these is later, a kind among them is not
+not_later : (ks : List LineKind) (k : LineKind) → none_later ks ≡ true → Contains ks k → is_later k ≡ false
+unfolding none_later
+not_later [] k none there = absurd (Contains-nil k there)
+not_later (x ∷ ks) k none there =
+    let pass = both (not (is_later x)) (none_later ks) none in
+    elim (Contains-cons_cases x ks k there) [
+      | inl same ↦ ap is_later (sym same) ∙ not_true (is_later x) pass.0
+      | inr behind ↦ not_later ks k pass.1 behind
+    ]
+  where
+    not_true : (b : Bool) → not b ≡ true → b ≡ false
+    not_true true e = absurd cc
+    not_true false e = refl
+
+-- a kind of version 1, whatever kinds follow
+named_first : (more : List LineKind) (k : LineKind) → is_later k ≡ false → kind_of_word (first_line_kinds ++ more) (line_word k) ≡ Some k
+unfolding kind_of_word
+named_first more (line.Command command.Pin) first = absurd cc
+named_first more (line.Command command.Unpin) first = absurd cc
+named_first more (line.Command _) first = refl
+named_first more line.Bounds first = refl
+named_first more _ first = refl
+
+named_later : (k : LineKind) → is_later k ≡ true → kind_of_word (first_line_kinds ++ later_line_kinds) (line_word k) ≡ Some k
+unfolding kind_of_word
+named_later (line.Command command.Pin) later = refl
+named_later (line.Command command.Unpin) later = refl
+named_later (line.Command _) later = absurd cc
+named_later line.Bounds later = absurd cc
+named_later _ later = absurd cc
+
+named_all : (k : LineKind) (later : Bool) → is_later k ≡ later → kind_of_word (first_line_kinds ++ later_line_kinds) (line_word k) ≡ Some k
+named_all k true is = named_later k is
+named_all k false is = named_first later_line_kinds k is
+
+first_there : (k : LineKind) → Contains first_line_kinds k → kind_of_word first_line_kinds (line_word k) ≡ Some k
+unfolding none_later
+first_there k there = named_first [] k (not_later first_line_kinds k refl there)
+
+-- a kind that a version has is the one that has its word
+named : (version : ℕ) (k : LineKind) → Contains (line_kinds version) k → kind_of_word (line_kinds version) (line_word k) ≡ Some k
+named version k there = by_test (ltb version 2) there
+  where
+    by_test : (b : Bool) → Contains (cond b first_line_kinds (first_line_kinds ++ later_line_kinds)) k → kind_of_word (cond b first_line_kinds (first_line_kinds ++ later_line_kinds)) (line_word k) ≡ Some k
+    by_test true in_first = first_there k in_first
+    by_test false any = named_all k (is_later k) refl
+
+-- a line that is said is read
+pub line_again : (d : Told) (ws : List (List ℕ)) (k : LineKind) (vs : List Value) → IsLineSaid d ws k vs → line_in d ws ≡ Ok (k, vs)
+line_again d [] k vs said = absurd said
+line_again d (w ∷ ws) k vs said =
+    rw (said.0, named d.version k said.1, said.2, values_again d k (line_slots k) ws vs (line_small k) said.3) refl

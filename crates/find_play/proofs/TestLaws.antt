@@ -1,0 +1,160 @@
+-- Bytes are one test at most, or they are refused, once.
+use Rattle.std.proofs.Common.{◌≡◌, ◌⊎◌, inl, inr, ℕ, ◌+◌, ◌≤◌, Bool, ◌&&◌, true, false, eqb, List, [], ◌∷◌, ◌++◌, length, get_or, Option, Some, None, refl, sym, ap, subst, ◌∙◌, arith}
+use Rattle.heap_words.specs.declared.config.Config.{Config}
+use Rattle.heap_words.specs.declared.schedule.Item.{Item}
+use Rattle.heap_words.specs.Narrow.{IsNarrow}
+use Rattle.shen_graph.specs.declared.command.Command.{Command}
+use Rattle.trace_reading.specs.Spelling.{IsVersion, header}
+use Rattle.trace_reading.specs.Scanning.{HeadNumbers, sizes_at}
+use Rattle.trace_reading.specs.Grammar.{most_bytes, Reads, HasNoHead}
+use Rattle.trace_reading.specs.declared.why.Why.{Why}
+use Rattle.trace_reading.proofs.GrammarNumbers.{same_some}
+use Rattle.trace_reading.proofs.Header.{numbers_in_head, sizes_again}
+use Rattle.trace_reading.proofs.Once.{same_config}
+use Rattle.trace_reading.specs.Causes.{parts}
+use Rattle.trace_reading.specs.Refused.{Refused}
+use Rattle.trace_reading.proofs.Cuts.{cut_parts}
+use Rattle.trace_reading.proofs.Exact.{refused_once as trace_once}
+use Rattle.trace_reading.proofs.Either.{either}
+use Rattle.find_play.specs.declared.test.Bounds.{Bounds}
+use Rattle.find_play.specs.declared.fault.TestWhy.{TestWhy}
+use Rattle.find_play.specs.declared.fault.TestWhy.TheVariants as whys
+use Rattle.find_play.specs.Told.{Told, untold}
+use Rattle.find_play.specs.Drafts.{has_all_threads}
+use Rattle.find_play.specs.Tests.{LineStops, TestSaid, said_in_all, IsWholeTest, IsTestBody, IsTest, StopsBehind, StopsInHead, StopsInBody, RefusesTest}
+use Rattle.find_play.proofs.HeadFound.{HasHead, head_or_none}
+use Rattle.find_play.proofs.Following.{version_stays, IsEnding, Ends, all_end, one_end, one_cause, never_whole}
+
+-- ---- one head
+
+-- a head, and what is behind it, are one
+same_head : (v w : ℕ) (c d : Config) (rest after : List ℕ) → IsVersion v → IsVersion w → IsNarrow c → IsNarrow d → header v c ++ rest ≡ header w d ++ after → (v ≡ w) × (c ≡ d) × (rest ≡ after)
+same_head v w c d rest after known other p q e =
+    let one : HeadNumbers × List ℕ = (numbers_in_head v c, rest) in
+    let two : HeadNumbers × List ℕ = (numbers_in_head w d, after) in
+    let same : one ≡ two = same_some one two (sym (sizes_again v c rest known p) ∙ ap sizes_at e ∙ sizes_again w d after other q) in (
+      ap (λ (x : HeadNumbers × List ℕ). x.0.version) same,
+      same_config c d (ap (λ (x : HeadNumbers × List ℕ). get_or x.0.heap 0 0) same) (ap (λ (x : HeadNumbers × List ℕ). get_or x.0.heap 1 0) same)
+          (ap (λ (x : HeadNumbers × List ℕ). get_or x.0.threads 0 0) same) (ap (λ (x : HeadNumbers × List ℕ). get_or x.0.threads 1 0) same) (ap (λ (x : HeadNumbers × List ℕ). get_or x.0.heap 2 0) same),
+      ap (λ (x : HeadNumbers × List ℕ). x.1) same,
+    )
+
+-- what holds of a head and what is behind it holds of the same
+of_same : (P : ℕ → Config → List ℕ → Type 0) (v w : ℕ) (c d : Config) (rest after : List ℕ) → (v ≡ w) × (c ≡ d) × (rest ≡ after) → P v c rest → P w d after
+of_same P v w c d rest after same holds =
+    subst (P w d) same.2 (subst (λ (e : Config). P w e rest) same.1 (subst (λ (u : ℕ). P u c rest) same.0 holds))
+
+-- ---- one test
+
+said_once : (config : Config) (d : Told) (t u : TestSaid) → IsWholeTest config d t → IsWholeTest config d u → t ≡ u
+said_once config d t u a b =
+    let bounds : t.bounds ≡ u.bounds = same_some t.bounds u.bounds (sym a.bounds ∙ b.bounds) in
+    a.test_is ∙ ap (λ (x : Bounds). said_in_all config x d) bounds ∙ sym b.test_is
+
+body_once : (version : ℕ) (config : Config) (bytes : List ℕ) (t u : TestSaid) → IsTestBody version config bytes t → IsTestBody version config bytes u → t ≡ u
+body_once version config bytes t u a b =
+    let one = one_end (untold version config.mutators) a.lines b.lines a.said b.said ([] ∷ []) ([] ∷ []) a.lead b.lead (sym a.cut ∙ b.cut) (inr (refl, a.whole.whole)) (inr (refl, b.whole.whole)) in
+    said_once config b.said t u (subst (λ (d : Told). IsWholeTest config d t) one.1 a.whole) b.whole
+
+pub test_once : (bytes : List ℕ) (t u : TestSaid) → IsTest bytes t → IsTest bytes u → t ≡ u
+test_once bytes t u a b =
+    let same = same_head t.version u.version t.config u.config a.behind b.behind a.known b.known a.narrow b.narrow (sym a.head ∙ b.head) in
+    body_once u.version u.config b.behind t u (of_same (λ v c bs. IsTestBody v c bs t) t.version u.version t.config u.config a.behind b.behind same a.body) b.body
+
+-- ---- never both
+
+body_not_refused : (version : ℕ) (config : Config) (bytes : List ℕ) (t : TestSaid) (n : ℕ) (why : TestWhy) → IsTestBody version config bytes t → StopsBehind (untold version config.mutators) 4 bytes n why → ⊥
+body_not_refused version config bytes t n why a s =
+    let one = one_end (untold version config.mutators) a.lines s.before a.said s.said ([] ∷ []) s.from_it a.lead s.lead (sym a.cut ∙ s.cut) (inr (refl, a.whole.whole)) (inl (why, s.cause)) in
+    never_whole s.said s.from_it why (sym one.2) (ap has_all_threads (sym one.1) ∙ a.whole.whole) s.cause
+
+pub never_both : (bytes : List ℕ) (t : TestSaid) (n : ℕ) (why : TestWhy) → IsTest bytes t → RefusesTest bytes n why → ⊥
+never_both bytes t n why a r = by_part r.stops
+  where
+    by_part : StopsInHead bytes n why ⊎ StopsInBody bytes n why → ⊥
+    by_part (inl s) = s.no_head t.version t.config a.behind a.known a.narrow a.head
+    by_part (inr s) =
+        let same = same_head t.version s.version t.config s.config a.behind s.behind a.known s.known a.narrow s.narrow (sym a.head ∙ s.head) in
+        body_not_refused s.version s.config s.behind t n why (of_same (λ v c bs. IsTestBody v c bs t) t.version s.version t.config s.config a.behind s.behind same a.body) s.stops
+
+-- ---- refused once
+
+body_refused_once : (d : Told) (bytes : List ℕ) (n m : ℕ) (why other : TestWhy) → StopsBehind d 4 bytes n why → StopsBehind d 4 bytes m other → (n ≡ m) × (why ≡ other)
+body_refused_once d bytes n m why other s t =
+    let one = one_end d s.before t.before s.said t.said s.from_it t.from_it s.lead t.lead (sym s.cut ∙ t.cut) (inl (why, s.cause)) (inl (other, t.cause)) in
+    let cause = subst (λ (e : Told). LineStops e t.from_it why) one.1 (subst (λ (ts : List (List ℕ)). LineStops s.said ts why) one.2 s.cause) in
+    (omega (arith, s.number, t.number, one.0), one_cause t.said t.from_it why other cause t.cause)
+
+pub refused_once : (bytes : List ℕ) (n m : ℕ) (why other : TestWhy) → RefusesTest bytes n why → RefusesTest bytes m other → (n ≡ m) × (why ≡ other)
+refused_once bytes n m why other r q = by_part r.stops q.stops
+  where
+    by_part : StopsInHead bytes n why ⊎ StopsInBody bytes n why → StopsInHead bytes m other ⊎ StopsInBody bytes m other → (n ≡ m) × (why ≡ other)
+    by_part (inl s) (inl t) = let one = trace_once bytes n m s.cause t.cause s.stops t.stops in (one.0, s.why_is ∙ ap whys.Trace one.1 ∙ sym t.why_is)
+    by_part (inl s) (inr t) = absurd (s.no_head t.version t.config t.behind t.known t.narrow t.head)
+    by_part (inr s) (inl t) = absurd (t.no_head s.version s.config s.behind s.known s.narrow s.head)
+    by_part (inr s) (inr t) =
+        let same = same_head t.version s.version t.config s.config t.behind s.behind t.known s.known t.narrow s.narrow (sym t.head ∙ s.head) in
+        let stops = of_same (λ v c bs. StopsBehind (untold v c.mutators) 4 bs m other) t.version s.version t.config s.config t.behind s.behind same t.stops in
+        body_refused_once (untold s.version s.config.mutators) s.behind n m why other s.stops stops
+
+-- ---- one or the other
+
+no_bounds : (d : Told) → has_all_threads d ≡ true → d.bounds ≡ None → ⊥
+no_bounds d whole none = by_tests (eqb (length d.programs) d.threads) (eqb (length d.blocks) 0) (rw none at whole)
+  where
+    by_tests : (a b : Bool) → ((a && b) && false) ≡ true → ⊥
+    by_tests true true e = cc
+    by_tests true false e = cc
+    by_tests false b e = cc
+
+-- a body behind a head is a test
+whole_test : (bytes : List ℕ) (version : ℕ) (config : Config) (rest : List ℕ) (said : ℕ) → version ≡ said → length bytes ≤ most_bytes → IsVersion version → IsNarrow config → bytes ≡ header version config ++ rest
+    → (t : TestSaid) → t.version ≡ said → t.config ≡ config → IsTestBody version config rest t → IsTest bytes t
+whole_test bytes version config rest said same short known narrow head t version_is config_is body =
+    let one : version ≡ t.version = same ∙ sym version_is in
+    let two : config ≡ t.config = sym config_is in
+    record {
+      known = subst IsVersion one known;
+      narrow = subst IsNarrow two narrow;
+      behind = rest;
+      head = head ∙ ap (λ (v : ℕ). header v config ++ rest) one ∙ ap (λ (c : Config). header t.version c ++ rest) two;
+      body = of_same (λ v c bs. IsTestBody v c bs t) version t.version config t.config rest rest (one, two, refl) body;
+      short = short;
+    }
+
+-- what was said of all threads is a test
+whole_said : (config : Config) (d : Told) → has_all_threads d ≡ true → (bounds : Bounds) × IsWholeTest config d (said_in_all config bounds d)
+whole_said config d whole = by_bounds d.bounds refl
+  where
+    by_bounds : (o : Option Bounds) → d.bounds ≡ o → (bounds : Bounds) × IsWholeTest config d (said_in_all config bounds d)
+    by_bounds (Some b) is = (b, record { whole = whole; bounds = is; test_is = refl })
+    by_bounds None is = absurd (no_bounds d whole is)
+
+behind_head : (bytes : List ℕ) (version : ℕ) (config : Config) (rest : List ℕ) → length bytes ≤ most_bytes → IsVersion version → IsNarrow config → bytes ≡ header version config ++ rest
+    → ((t : TestSaid) × IsTest bytes t) ⊎ ((n : ℕ) × (why : TestWhy) × RefusesTest bytes n why)
+behind_head bytes version config rest short known narrow head = by_ends (subst (Ends (untold version config.mutators)) (sym (cut_parts 10 rest)) (all_end (untold version config.mutators) _ _))
+  where
+    by_ending : (e : Ends (untold version config.mutators) (parts 10 rest)) → IsEnding e.said e.from_it → ((t : TestSaid) × IsTest bytes t) ⊎ ((n : ℕ) × (why : TestWhy) × RefusesTest bytes n why)
+    by_ending e (inl it) =
+        inr (4 + length e.before, it.0, record { stops = inr (record { version = version; config = config; known = known; narrow = narrow; behind = rest; head = head; stops = record { before = e.before; from_it = e.from_it; cut = e.cut; number = refl; said = e.said; lead = e.lead; cause = it.1 } }); short = short })
+    by_ending e (inr it) =
+        let all = whole_said config e.said it.1 in
+        let cut : parts 10 rest ≡ e.before ++ [] ∷ [] = e.cut ∙ ap (λ (ts : List (List ℕ)). e.before ++ ts) it.0 in
+        let same : version ≡ e.said.version = sym (version_stays (untold version config.mutators) e.said e.before e.lead) in
+        inl (said_in_all config all.0 e.said, whole_test bytes version config rest e.said.version same short known narrow head (said_in_all config all.0 e.said) refl refl (record { lines = e.before; cut = cut; said = e.said; lead = e.lead; whole = all.1 }))
+
+    by_ends : Ends (untold version config.mutators) (parts 10 rest) → ((t : TestSaid) × IsTest bytes t) ⊎ ((n : ℕ) × (why : TestWhy) × RefusesTest bytes n why)
+    by_ends e = by_ending e e.ending
+
+-- bytes within the limit are a test or are refused
+pub test_or_refused : (bytes : List ℕ) → length bytes ≤ most_bytes → ((t : TestSaid) × IsTest bytes t) ⊎ ((n : ℕ) × (why : TestWhy) × RefusesTest bytes n why)
+test_or_refused bytes short = by_head (head_or_none bytes)
+  where
+    by_trace : HasNoHead bytes → ((v : ℕ) × (c : Config) × (scripts : List (List Command)) × (items : List Item) × Reads bytes v c scripts items) ⊎ ((n : ℕ) × (why : Why) × Refused bytes n why)
+        → ((t : TestSaid) × IsTest bytes t) ⊎ ((n : ℕ) × (why : TestWhy) × RefusesTest bytes n why)
+    by_trace none (inl t) = absurd (none t.0 t.1 _ t.4.known t.4.narrow t.4.spelled)
+    by_trace none (inr r) = inr (r.0, whys.Trace r.1, record { stops = inl (record { no_head = none; cause = r.1; why_is = refl; stops = r.2.0 }); short = short })
+
+    by_head : HasHead bytes ⊎ HasNoHead bytes → ((t : TestSaid) × IsTest bytes t) ⊎ ((n : ℕ) × (why : TestWhy) × RefusesTest bytes n why)
+    by_head (inl h) = behind_head bytes h.0 h.1 h.2 short h.3 h.4 h.5
+    by_head (inr none) = by_trace none (either bytes short)

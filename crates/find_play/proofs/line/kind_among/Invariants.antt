@@ -1,0 +1,6 @@
+use Rattle.std.proofs.Common.{◌≡◌, drop}
+use Rattle.find_play.specs.Kinds.{kind_of_word}
+use Rattle.find_play.proofs.line.kind_among.Given as goal
+
+abbrev pub invariant-loop-kind : goal.invariant-loop-kind
+invariant-loop-kind l = kind_of_word (drop l.kind-index l.kinds) l.word ≡ kind_of_word l.kinds l.word

@@ -1,0 +1,6 @@
+use Rattle.std.proofs.Common.{◌≡◌, ◌+◌, drop}
+use Rattle.find_play.specs.Names.{name_bytes}
+use Rattle.find_play.proofs.words.name_bytes.Given as goal
+
+abbrev pub invariant-loop-count : goal.invariant-loop-count
+invariant-loop-count l = l.count + name_bytes (drop l.count l.word) ≡ name_bytes l.word

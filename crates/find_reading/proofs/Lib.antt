@@ -1,9 +1,0 @@
-mod KindLoop
-mod Blocks
-mod Said
-mod SaidLines
-mod SaidAgain
-mod Following
-mod Taken
-mod HeadFound
-mod TestLaws

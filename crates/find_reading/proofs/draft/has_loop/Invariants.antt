@@ -1,6 +1,0 @@
-use Rattle.std.proofs.Common.{◌≡◌, drop}
-use Rattle.find_reading.specs.Drafts.{has_loop}
-use Rattle.find_reading.proofs.draft.has_loop.Given as goal
-
-abbrev pub invariant-loop-block : goal.invariant-loop-block
-invariant-loop-block l = has_loop (drop l.block-index l.blocks) ≡ has_loop l.blocks

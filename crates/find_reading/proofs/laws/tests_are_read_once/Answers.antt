@@ -1,5 +1,0 @@
-use Rattle.find_reading.proofs.TestLaws.{test_once}
-use Rattle.find_reading.proofs.laws.tests_are_read_once.Goals as goal
-
-pub returns : goal.returns
-returns c = test_once

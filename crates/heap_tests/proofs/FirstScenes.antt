@@ -1,0 +1,72 @@
+-- Heaps before the first event, with scripts that nothing was done of.
+use Rattle.std.proofs.Common.{◌≡◌, ◌<◌, ◌≤◌, ◌%◌, ℕ, Bool, true, List, [], length, get_or, All, Some, None, sym, ap, ◌∙◌, subst, arith}
+use Rattle.std.specs.Prelude.{slice_get, ◌==◌, if◌then◌else◌, is_some, unwrap_or}
+use Rattle.std.specs.Option.{option_map}
+use Rattle.std.proofs.lemmas.Bool.Decides.{nat_tests}
+use Rattle.std.proofs.lemmas.List.FromFn.{get_or-map-range_with_len}
+use Rattle.std.proofs.lemmas.Option.{slice_get-get_or}
+use Rattle.heap_words.specs.declared.config.Config.{Config}
+use Rattle.heap_words.specs.Ranges.{seat_count}
+use Rattle.shared_table.specs.Views.{machine_of, whole, dealt_to, is_dealt_to, kept_one}
+use Rattle.shared_table.proofs.Kept.{machine_of-kept}
+use Rattle.shared_table.proofs.ViewsShow.{machine_of-whole, machine_of-picked}
+use Rattle.shen_graph.specs.declared.command.Command.{Command}
+use Rattle.shen_graph.specs.Work as work
+use Rattle.shen_graph.specs.declared.order.Order.TheVariants.{Nothing}
+use Rattle.step_core.specs.Machines.{may_begin}
+use Rattle.step_core.specs.Opening.{opening, opening_machine, opening_actor}
+use Rattle.heap_machines.specs.Shown.{no_machine}
+use Rattle.heap_machines.proofs.Openings.{first_actor, first_free_to_begin}
+use Rattle.shen_core.specs.declared.plain.Plain.{Plain}
+use Rattle.shen_core.specs.State as plain
+use Rattle.shen_core.specs.State.{Shows}
+use Rattle.shen_core.specs.Progress.{CanRun, IsRunnable}
+use Rattle.shen_core.proofs.Fresh.{can_run_first}
+use Rattle.table_heap.specs.declared.bundle.Bundle.{Bundle}
+use Rattle.table_heap.specs.declared.heap.Heap.{Heap}
+use Rattle.table_heap.specs.Core.{heap_opening, machine_in}
+use Rattle.table_heap.specs.State.{IsFresh, view_of, machines_of}
+use Rattle.table_heap.specs.Running.{Jobs}
+use Rattle.table_heap.proofs.Rounds.{at_start}
+use Rattle.table_heap.proofs.Starting.{fresh_can_start}
+use Rattle.heap_tests.specs.Ordered.{IsPlaying}
+
+-- a heap that one thread has can run them
+pub can_run : (p : Plain) (c : Config) (scripts : List (List Command)) (jobs : Jobs) → plain.config_of p ≡ c → Shows p (opening c) → All (λ order. order ≡ Nothing) (plain.orders_of p) → c.mutators ≡ length scripts → length scripts ≤ 8 → All IsRunnable scripts → jobs ≡ work.opened scripts
+    → CanRun p jobs
+can_run p c scripts jobs same shows orders count few served opened =
+    let mutators = ap (λ (d : Config). d.mutators) same in
+    subst (CanRun p) (sym opened) (can_run_first p scripts (subst (λ (d : Config). Shows p (opening d)) (sym same) shows) orders (omega (arith, mutators, count)) few served)
+
+-- a machine of a heap whose machines lie in one bundle
+fresh_at : (c : Config) (b : Bundle) (number : ℕ) → view_of b ≡ dealt_to 1 0 (whole (heap_opening c).machines) → number < seat_count c.mutators c.helpers → machine_of (machines_of b) number ≡ Some (opening_machine c number)
+fresh_at c b number fresh within =
+    let here : machine_of (view_of b) number ≡ Some (opening_actor c number) =
+    ap (λ v. machine_of v number) fresh ∙ machine_of-picked (is_dealt_to 1 0) (whole (heap_opening c).machines) number
+    ∙ ap (λ t. if t then machine_of (whole (heap_opening c).machines) number else None) test
+    ∙ machine_of-whole (heap_opening c).machines number ∙ first_actor c number within in
+    ap (λ v. machine_of v number) (sym b.kept) ∙ machine_of-kept machine_in (view_of b) number ∙ ap (kept_one machine_in) here
+  where
+    test : (number % 1 == 0) ≡ true
+    test = grind (arith, nat_tests)
+
+-- nothing was done of a script
+script_first : (scripts : List (List Command)) (t : ℕ) → t < length scripts → length scripts ≤ 8 → work.progress_of (work.opened scripts) t ≡ Some (work.begun (get_or scripts t []))
+script_first scripts t below few =
+    get_or-map-range_with_len (λ m. option_map work.begun (slice_get scripts m)) 0 8 t t None (omega arith) (omega arith)
+    ∙ ap (option_map work.begun) (slice_get-get_or scripts t [] below)
+
+-- and one that threads could share can
+pub is_playing : (h : Heap) (b : Bundle) (c : Config) (scripts : List (List Command)) (jobs : Jobs) (between : List Bool) → IsFresh h b (dealt_to 1 0 (whole (heap_opening c).machines)) → h.config ≡ c → c.mutators ≡ length scripts → length scripts ≤ 8 → All IsRunnable scripts
+    → jobs ≡ work.opened scripts → length between ≡ 8 → IsPlaying h b jobs c between
+is_playing h b c scripts jobs between fresh same count few served opened long = record {
+  of = fresh.of;
+  works = at_start b jobs (fresh_can_start h b c 1 0 jobs fresh (λ number below dealt.
+      let within : number < length scripts = omega (arith, below, count) in
+      let runs = served number [] within in
+      (get_or scripts number [], ap (λ js. work.progress_of js number) opened ∙ script_first scripts number within few, runs.0, runs.1)));
+  same = fresh.of.config ∙ same;
+  here = λ k within. ap is_some (fresh_at c b k fresh.machines within);
+  rests = λ k below set. ap (λ o. may_begin (unwrap_or o no_machine)) (fresh_at c b k fresh.machines (omega arith)) ∙ first_free_to_begin c k below;
+  long = long;
+}

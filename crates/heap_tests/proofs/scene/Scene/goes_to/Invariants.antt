@@ -1,0 +1,7 @@
+use Rattle.shen_core.specs.State.{config_of}
+use Rattle.shen_core.specs.Progress.{CanRun}
+use Rattle.shen_core.specs.Agendas.{IsWalkOf}
+use Rattle.heap_tests.proofs.scene.Scene.goes_to.Given as goal
+
+abbrev pub invariant-loop : goal.invariant-loop
+invariant-loop l = CanRun l.self.plain l.self.work × IsWalkOf (config_of l.self.plain) l.self.walk

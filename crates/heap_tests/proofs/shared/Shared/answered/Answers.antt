@@ -1,0 +1,12 @@
+use Rattle.std.proofs.Common.{ap, arith}
+use Rattle.std.proofs.lemmas.Bool.{lt-ltb}
+use Rattle.heap_words.specs.declared.config.Config.{Config}
+use Rattle.table_heap.proofs.Running.{has_script}
+use Rattle.heap_tests.proofs.shared.Shared.answered.Goals as goal
+
+pub replies-requires : goal.replies-requires
+replies-requires c =
+    let s = c.args.self.now in
+    let same = c.requires.same in
+    let mutators = ap (λ (k : Config). k.mutators) same in
+    has_script s.bundle s.work c.loop-thread.thread c.requires.works (c.requires.here c.loop-thread.thread (omega arith)) (lt-ltb c.loop-thread.thread s.bundle.config.mutators (omega (arith, mutators)))

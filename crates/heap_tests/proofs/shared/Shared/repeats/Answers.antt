@@ -1,0 +1,31 @@
+use Rattle.std.proofs.Common.{false, get_or, sym, ◌∙◌, subst, arith}
+use Rattle.std.specs.Prelude.{slice_set}
+use Rattle.std.proofs.lemmas.List.{length-set}
+use Rattle.std.proofs.lemmas.Option.{slice_get-get_or}
+use denote.Enum.Bare.{same_true}
+use Rattle.heap_machines.specs.contracts.stepped.Stepped.{the_type}
+use Rattle.heap_machines.specs.declared.stepped.Stepped.TheVariants.{Done}
+use Rattle.heap_tests.specs.declared.shared.Shared.{Shared}
+use Rattle.heap_tests.specs.Ordered.{IsPlaying}
+use Rattle.heap_tests.proofs.TurnsAgain.{plays_on, may_set, may_kept}
+use Rattle.heap_tests.proofs.shared.Shared.repeats.Goals.{then-number-mutators-2, else-number-mutators-2}
+use Rattle.heap_tests.proofs.shared.Shared.repeats.Goals as goal
+
+pub returns : goal.returns
+returns c =
+    let s = c.args.self.now in
+    let number = c.args.turn_then.number in
+    let b = c.turn-said.new.bundle in
+    elim c.if-number-mutators-2.branch [
+      | then-number-mutators-2 w ↦
+          subst (λ (t : Shared). IsPlaying t.heap t.bundle t.work t.config t.between) (sym w.self-is)
+          (plays_on s.heap s.bundle b s.work c.turn-said.new.work s.config s.between (slice_set s.between number w.eq.result) c.requires c.turn-said.ensures.same c.turn-said.ensures.work
+          (may_set s.config.mutators number s.between s.bundle b (get_or s.between number false) w.eq.result
+          (slice_get-get_or s.between number false (omega (arith, c.requires.long, c.args.self.now.config.in_range.most_mutators))) c.requires.rests c.turn-said.ensures.others
+          (λ set. c.turn-said.ensures.done (same_true the_type tt c.turn-said.result Done (sym w.eq.ensures ∙ set))))
+          (length-set s.between number w.eq.result ∙ c.requires.long))
+      | else-number-mutators-2 w ↦
+          subst (λ (t : Shared). IsPlaying t.heap t.bundle t.work t.config t.between) (sym w.self-is)
+          (plays_on s.heap s.bundle b s.work c.turn-said.new.work s.config s.between s.between c.requires c.turn-said.ensures.same c.turn-said.ensures.work
+          (may_kept s.config.mutators number s.between s.bundle b (omega arith) c.requires.rests c.turn-said.ensures.others) c.requires.long)
+    ]

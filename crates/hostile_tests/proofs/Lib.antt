@@ -1,2 +1,0 @@
-pub mod TurnsAgain
-pub mod FirstScenes

@@ -1,8 +1,0 @@
-use Rattle.std.proofs.Common.{All, subst}
-use Rattle.heap_words.specs.declared.config.Config.{Config}
-use Rattle.shen_core.specs.Progress.{IsInSeats}
-use Rattle.shen_core.specs.State.{config_of}
-use Rattle.hostile_tests.proofs.scene.Scene.open.Goals as goal
-
-pub returns : goal.returns
-returns c = (c.in_ok-plain.ensures, c.open-walk.ensures.fits (config_of c.in_ok-plain.plain) (subst (λ (k : Config). All (IsInSeats k) c.in_ok-schedule.field-0) c.config.ensures c.in_ok-schedule.ensures))

@@ -1,6 +1,0 @@
-use Rattle.std.proofs.Common.{All}
-use Rattle.shen_core.specs.Progress.{IsInSeats}
-use Rattle.hostile_tests.proofs.scene.schedule.Given as goal
-
-abbrev pub invariant-loop-number : goal.invariant-loop-number
-invariant-loop-number l = All (IsInSeats l.config) l.schedule

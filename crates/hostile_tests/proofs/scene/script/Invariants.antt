@@ -1,6 +1,0 @@
-use Rattle.std.proofs.Common.{◌≤◌, length, All}
-use Rattle.shen_graph.specs.Valid.{IsValid}
-use Rattle.hostile_tests.proofs.scene.script.Given as goal
-
-abbrev pub invariant-loop-number : goal.invariant-loop-number
-invariant-loop-number l = All IsValid l.script × (length l.script ≤ l.number)

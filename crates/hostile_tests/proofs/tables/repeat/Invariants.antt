@@ -1,5 +1,0 @@
-use Rattle.hostile_tests.specs.Ordered.{IsPlaying}
-use Rattle.hostile_tests.proofs.tables.repeat.Given as goal
-
-abbrev pub invariant-loop-turn : goal.invariant-loop-turn
-invariant-loop-turn g l = IsPlaying l.shared.heap l.shared.bundle l.shared.work l.shared.config l.shared.between

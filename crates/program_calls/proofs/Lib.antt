@@ -1,0 +1,5 @@
+pub mod Schedules
+pub mod Replays
+pub mod Statuses
+pub mod Reports
+pub mod CallParts

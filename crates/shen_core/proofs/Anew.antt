@@ -1,0 +1,41 @@
+-- A heap on one thread that begins from words in which objects were placed under new names.
+use Rattle.std.proofs.Common.{◌≡◌, ℕ, List, sym, subst}
+use Rattle.heap_words.specs.declared.config.Config.{Config}
+use Rattle.shen_graph.specs.Graph.{Graph}
+use Rattle.shen_graph.specs.GraphText.{Text, names_of}
+use Rattle.heap_graph.specs.Shows.{ShowsGraph}
+use Rattle.image_graph.specs.declared.image.Image.{Image}
+use Rattle.image_graph.specs.State as images
+use Rattle.step_core.specs.Begins.{Begins}
+use Rattle.heap_machines.specs.FromImage.{CanBeginFrom, stage_from}
+use Rattle.shen_core.specs.declared.plain.Plain.{Plain}
+use Rattle.shen_core.specs.State.{config_of, Shows}
+use Rattle.graph_placing.specs.PlaceableText.{IsPlaceable}
+use Rattle.graph_placing.specs.TextGraph.{text_graph}
+use Rattle.graph_placing.specs.NamesAnew.{name_anew, text_anew}
+use Rattle.graph_placing.specs.Renaming.{AreOfThreads, AreCountsOf}
+use Rattle.graph_placing.specs.Renewed.{HoldsNothing}
+use Rattle.graph_placing.proofs.SameGraphs.{same_anew}
+use Rattle.graph_placing.proofs.ShownRenewable.{renewable_anew}
+use Rattle.heap_machines.proofs.Placed.{text_unpinned}
+use Rattle.shen_core.specs.RenewedHeap.{BeginsAnew}
+
+module _ (c : Config) (t : Text) (whole : IsPlaceable c t) (threads : AreOfThreads c.mutators (names_of t)) (g : Graph) (shows : ShowsGraph t c.mutators g) (counts : List ℕ) (are : AreCountsOf (names_of t) c.mutators counts) where
+  pub begins_anew : (new : Plain) (image : Image) → config_of new ≡ c → images.config_of image ≡ c → Shows new (stage_from (images.config_of image) (images.words_of image) counts)
+      → ((h : Graph) → CanBeginFrom (images.config_of image) (images.memory_of image) counts h → Begins (images.config_of image) (stage_from (images.config_of image) (images.words_of image) counts) h)
+      → CanBeginFrom c (images.memory_of image) counts (text_graph (text_anew t) counts) → HoldsNothing c.mutators g → BeginsAnew c g new
+  begins_anew new image sizes same shown begins can_now none =
+      let h : Graph = text_graph (text_anew t) counts in
+      record {
+        sizes = sizes;
+        unpinned = none;
+        start = stage_from (images.config_of image) (images.words_of image) counts;
+        shows = shown;
+        graph = h;
+        begins = subst (λ (d : Config). Begins d (stage_from (images.config_of image) (images.words_of image) counts) h) same
+            (begins h (subst (λ (d : Config). CanBeginFrom d (images.memory_of image) counts h) (sym same) can_now));
+        names = name_anew (names_of t);
+        same = same_anew c t whole threads counts are g shows;
+        no_pins = text_unpinned (text_anew t) counts;
+        renewable = renewable_anew c t whole threads counts;
+      }

@@ -1,0 +1,13 @@
+-- The heap of the test can be packed, by tests that compute.
+use Rattle.std.proofs.Common.{ℕ, Bool, true, false, List, [], ◌∷◌, arith, refl}
+use Rattle.regions.proofs.Checked.{marked_if, can_compact_if}
+use Rattle.text_tests.proofs.packed_heaps.renews_by_current_copies.Goals as goal
+
+abbrev heap : List ℕ
+heap = 79 ∷ 65536 ∷ 12 ∷ 1 ∷ 65793 ∷ 11 ∷ 8 ∷ 100 ∷ 7 ∷ 7 ∷ 7 ∷ 1 ∷ 65536 ∷ 12 ∷ 7 ∷ 7 ∷ []
+
+abbrev marks : List Bool
+marks = false ∷ false ∷ false ∷ true ∷ false ∷ false ∷ false ∷ false ∷ false ∷ false ∷ false ∷ true ∷ false ∷ false ∷ false ∷ false ∷ []
+
+pub compact_marked-requires-clause-compact : goal.compact_marked-requires-clause-compact
+compact_marked-requires-clause-compact c t = can_compact_if 8 heap marks (marked_if 8 heap marks (omega arith) refl (omega arith) refl refl) refl refl

@@ -1,0 +1,58 @@
+-- Pieces taken one after the other from the front of bytes, until a tail stands there.
+use Rattle.std.proofs.Common.{◌≡◌, ℕ, List, [], ◌∷◌, ◌++◌, sym, ap, subst, ◌∙◌, append_assoc}
+use Rattle.std.specs.List.{flat_map, AllByRecursion}
+use Rattle.std.proofs.lemmas.List.{append-nil}
+use Rattle.std.proofs.lemmas.List.Concat.{flat_map-cons}
+use Rattle.std.proofs.lemmas.Grind.{flat_map-append}
+use Rattle.trace_reading.specs.Front.{NoDigit, BeginsWith, BeginsWithNone}
+
+-- These pieces were taken, and every way to spell the bytes by pieces and a tail begins with them.
+pub record HasBegun {A : Type 0} (spelling : A → List ℕ) (IsGood : A → Type 0) (IsTail : List ℕ → Type 0) (bytes rest : List ℕ) (pieces : List A) : Type 0 where
+  pub good : AllByRecursion IsGood pieces
+  pub spelled : bytes ≡ flat_map spelling pieces ++ rest
+  pub only : (ys : List A) (tail : List ℕ) → AllByRecursion IsGood ys → IsTail tail → bytes ≡ flat_map spelling ys ++ tail → (more : List A) × (ys ≡ pieces ++ more) × AllByRecursion IsGood more × (rest ≡ flat_map spelling more ++ tail)
+
+-- what is spelled by pieces and a tail begins with no digit, and a tail is no piece
+pub record ArePieces {A : Type 0} (spelling : A → List ℕ) (IsTail : List ℕ → Type 0) : Type 0 where
+  pub ends : (ys : List A) (tail : List ℕ) → IsTail tail → NoDigit (flat_map spelling ys ++ tail)
+  pub no_tail : (y : A) (after : List ℕ) → IsTail (spelling y ++ after) → ⊥
+
+pub all_and : {A : Type 0} (P : A → Type 0) (xs : List A) (x : A) → AllByRecursion P xs → P x → AllByRecursion P (xs ++ x ∷ [])
+all_and P [] x all one = (one, tt)
+all_and P (y ∷ xs) x all one = (all.0, all_and P xs x all.1 one)
+
+pub first_piece : {A : Type 0} (spelling : A → List ℕ) (y : A) (ys : List A) (tail : List ℕ) → flat_map spelling (y ∷ ys) ++ tail ≡ spelling y ++ (flat_map spelling ys ++ tail)
+first_piece spelling y ys tail = ap (λ (bs : List ℕ). bs ++ tail) (flat_map-cons spelling y ys) ∙ append_assoc (spelling y) (flat_map spelling ys) tail
+
+pub one_taken : {A : Type 0} (spelling : A → List ℕ) (IsGood : A → Type 0) (IsTail : List ℕ → Type 0) (bytes rest after : List ℕ) (pieces : List A) (x : A) → ArePieces spelling IsTail
+    → HasBegun spelling IsGood IsTail bytes rest pieces → (IsTail rest → ⊥) → BeginsWith spelling IsGood rest x after → HasBegun spelling IsGood IsTail bytes after (pieces ++ x ∷ [])
+one_taken {A} spelling IsGood IsTail bytes rest after pieces x laws begun more_left front = record {
+  good = all_and IsGood pieces x begun.good front.good;
+  spelled = begun.spelled ∙ ap (λ (bs : List ℕ). flat_map spelling pieces ++ bs) front.spelled ∙ sym (append_assoc (flat_map spelling pieces) (spelling x) after) ∙ ap (λ (bs : List ℕ). bs ++ after) (sym (flat_map-append spelling pieces (x ∷ []) ∙ ap (λ (bs : List ℕ). flat_map spelling pieces ++ bs) (flat_map-cons spelling x [] ∙ append-nil (spelling x))));
+  only = λ ys tail all is_tail e. let m = begun.only ys tail all is_tail e in by_more ys tail is_tail m.0 m.1 m.2 m.3;
+}
+  where
+    by_more : (ys : List A) (tail : List ℕ) → IsTail tail → (more : List A) → ys ≡ pieces ++ more → AllByRecursion IsGood more → rest ≡ flat_map spelling more ++ tail
+        → (later : List A) × (ys ≡ (pieces ++ x ∷ []) ++ later) × AllByRecursion IsGood later × (after ≡ flat_map spelling later ++ tail)
+    by_more ys tail is_tail [] same all e = absurd (more_left (subst IsTail (sym e) is_tail))
+    by_more ys tail is_tail (y ∷ later) same all e =
+        let one = front.only y (flat_map spelling later ++ tail) all.0 (laws.ends later tail is_tail) (e ∙ first_piece spelling y later tail) in
+        (later, same ∙ ap (λ (z : A). pieces ++ z ∷ later) (sym one.0) ∙ sym (append_assoc pieces (x ∷ []) later), all.1, one.1)
+
+pub none_follows : {A : Type 0} (spelling : A → List ℕ) (IsGood : A → Type 0) (IsTail : List ℕ → Type 0) (bytes rest : List ℕ) (pieces : List A) → ArePieces spelling IsTail
+    → HasBegun spelling IsGood IsTail bytes rest pieces → (IsTail rest → ⊥) → BeginsWithNone spelling IsGood rest
+    → (ys : List A) (tail : List ℕ) → AllByRecursion IsGood ys → IsTail tail → bytes ≡ flat_map spelling ys ++ tail → ⊥
+none_follows {A} spelling IsGood IsTail bytes rest pieces laws begun more_left none ys tail all is_tail e = let m = begun.only ys tail all is_tail e in by_more m.0 m.2 m.3
+  where
+    by_more : (more : List A) → AllByRecursion IsGood more → rest ≡ flat_map spelling more ++ tail → ⊥
+    by_more [] all_more same = more_left (subst IsTail (sym same) is_tail)
+    by_more (y ∷ later) all_more same = none y (flat_map spelling later ++ tail) all_more.0 (laws.ends later tail is_tail) (same ∙ first_piece spelling y later tail)
+
+pub all_taken : {A : Type 0} (spelling : A → List ℕ) (IsGood : A → Type 0) (IsTail : List ℕ → Type 0) (bytes rest : List ℕ) (pieces : List A) → ArePieces spelling IsTail
+    → HasBegun spelling IsGood IsTail bytes rest pieces → IsTail rest
+    → (ys : List A) (tail : List ℕ) → AllByRecursion IsGood ys → IsTail tail → bytes ≡ flat_map spelling ys ++ tail → (pieces ≡ ys) × (rest ≡ tail)
+all_taken {A} spelling IsGood IsTail bytes rest pieces laws begun at_tail ys tail all is_tail e = let m = begun.only ys tail all is_tail e in by_more m.0 m.1 m.3
+  where
+    by_more : (more : List A) → ys ≡ pieces ++ more → rest ≡ flat_map spelling more ++ tail → (pieces ≡ ys) × (rest ≡ tail)
+    by_more [] same e1 = (sym (same ∙ append-nil pieces), e1)
+    by_more (y ∷ later) same e1 = absurd (laws.no_tail y (flat_map spelling later ++ tail) (subst IsTail (e1 ∙ first_piece spelling y later tail) at_tail))

@@ -1,0 +1,144 @@
+-- The text of a trace is one of its spellings.
+use Rattle.std.proofs.Common.{◌≡◌, ◌≢◌, ℕ, zero, suc, ◌+◌, ◌<◌, ◌≤◌, true, false, eqb, List, [], ◌∷◌, ◌++◌, length, map, get_or, take, refl, sym, ap, subst, ◌∙◌, append_assoc, append-nil, add-one, arith}
+use Rattle.std.specs.Prelude.{filter}
+use Rattle.std.specs.List.{flat_map, range_with_len, AllByRecursion}
+use Rattle.std.proofs.lemmas.Bool.Decides.{nat_tests}
+use Rattle.std.proofs.lemmas.List.{map-append, take_all}
+use Rattle.std.proofs.lemmas.List.Elements.{filter-append}
+use Rattle.std.proofs.lemmas.List.Concat.{flat_map-append}
+use Rattle.std.proofs.lemmas.List.Folds.{flat_map-map}
+use Rattle.shen_graph.specs.declared.command.Command.{Command}
+use Rattle.heap_words.specs.declared.config.Config.{Config}
+use Rattle.heap_words.specs.declared.schedule.Item.{Item}
+use Rattle.trace_reading.specs.Spelling.{newline, TraceLine, line, spaced_item, schedule_line, IsItem, IsScheduleLine}
+use Rattle.trace_reading.specs.Grammar.{commands_in, scripts_of, items_of, Reads}
+use Rattle.trace_text.proofs.AnswerLemmas.{flat_map-take_more}
+use Rattle.trace_text.specs.Canonical.{lines_of, lines_from, turns_of, spelling_of, IsWritable}
+
+-- ---- each thread has its script
+
+pub is_own : (t : ℕ) → eqb t t ≡ true
+is_own t = grind (arith, nat_tests)
+
+pub is_other : (a b : ℕ) → a ≢ b → eqb a b ≡ false
+is_other a b h = grind (arith, nat_tests)
+
+commands_in-append : (xs ys : List TraceLine) (t : ℕ) → commands_in (xs ++ ys) t ≡ commands_in xs t ++ commands_in ys t
+commands_in-append xs ys t =
+    let p = λ (x : TraceLine). eqb x.thread t in
+    ap (map (λ (x : TraceLine). x.command)) (filter-append p xs ys) ∙ map-append (λ (x : TraceLine). x.command) (filter p xs) (filter p ys)
+
+own_lines : (t : ℕ) (script : List Command) → commands_in (lines_of t script) t ≡ script
+own_lines t [] = refl
+own_lines t (c ∷ script) = rw (is_own t) (ap (λ (cs : List Command). c ∷ cs) (own_lines t script))
+
+other_lines : (u t : ℕ) (script : List Command) → u ≢ t → commands_in (lines_of u script) t ≡ []
+other_lines u t [] ne = refl
+other_lines u t (c ∷ script) ne = rw (is_other u t ne) (other_lines u t script ne)
+
+-- threads before the first one have no line
+no_lines : (first t : ℕ) (scripts : List (List Command)) → t < first → commands_in (lines_from first scripts) t ≡ []
+no_lines first t [] lt = refl
+no_lines first t (script ∷ scripts) lt =
+    let ne : first ≢ t = λ e. absurd (omega arith) in
+    commands_in-append (lines_of first script) (lines_from (first + 1) scripts) t
+    ∙ ap (λ (cs : List Command). cs ++ commands_in (lines_from (first + 1) scripts) t) (other_lines first t script ne)
+    ∙ no_lines (first + 1) t scripts (omega arith)
+
+pub map-range_same : {X : Type 0} (f h : ℕ → X) (from n : ℕ) → ((k : ℕ) → from ≤ k → f k ≡ h k) → map f (range_with_len from n) ≡ map h (range_with_len from n)
+map-range_same f h from zero same = refl
+map-range_same {X} f h from (suc n) same =
+    let first : f from ≡ h from = same from (omega arith) in
+    let others : (k : ℕ) → from + 1 ≤ k → f k ≡ h k = λ k low. same k (omega arith) in
+    ap (λ (t : X). t ∷ map f (range_with_len (from + 1) n)) first
+    ∙ ap (λ (t : List X). h from ∷ t) (map-range_same f h (from + 1) n others)
+
+-- the lines of the scripts are those of these scripts
+scripts_again : (first : ℕ) (scripts : List (List Command)) → map (commands_in (lines_from first scripts)) (range_with_len first (length scripts)) ≡ scripts
+scripts_again first [] = refl
+scripts_again first (script ∷ scripts) =
+    let all = lines_from first (script ∷ scripts) in
+    let others = lines_from (first + 1) scripts in
+    let own : commands_in all first ≡ script =
+    commands_in-append (lines_of first script) others first
+    ∙ ap (λ (cs : List Command). cs ++ commands_in others first) (own_lines first script)
+    ∙ ap (λ (cs : List Command). script ++ cs) (no_lines (first + 1) first scripts (omega arith)) ∙ append-nil script in
+    let behind : (k : ℕ) → first + 1 ≤ k → commands_in all k ≡ commands_in others k = λ k low.
+    let ne : first ≢ k = λ e. absurd (omega arith) in
+    commands_in-append (lines_of first script) others k ∙ ap (λ (cs : List Command). cs ++ commands_in others k) (other_lines first k script ne) in
+    ap (λ (s : List Command). s ∷ map (commands_in all) (range_with_len (first + 1) (length scripts))) own
+    ∙ ap (λ (ss : List (List Command)). script ∷ ss)
+    (map-range_same (commands_in all) (commands_in others) (first + 1) (length scripts) behind ∙ scripts_again (first + 1) scripts)
+
+-- ---- the schedule has its items
+
+turns_fit : (c : Config) (items : List Item) → AllByRecursion (IsItem c) items → AllByRecursion (IsScheduleLine c) (turns_of items)
+turns_fit c [] all = tt
+turns_fit c (i ∷ items) all = (record { some = omega arith; in_range = all }, tt)
+
+items_again : (items : List Item) → items ≡ items_of (turns_of items)
+items_again [] = refl
+items_again (i ∷ items) = sym (append-nil (i ∷ items))
+
+-- ---- the text is read as the trace
+
+pub reads_again : (version : ℕ) (c : Config) (scripts : List (List Command)) (items : List Item) → IsWritable version c scripts items → Reads (spelling_of version c scripts items) version c scripts items
+reads_again version c scripts items h = record {
+  known = h.known;
+  narrow = h.narrow;
+  lines = lines_from 1 scripts;
+  in_range = h.lines_fit;
+  turns = turns_of items;
+  turns_in_range = turns_fit c items h.items_fit;
+  spelled = refl;
+  by_thread = sym (subst (λ (n : ℕ). scripts_of n (lines_from 1 scripts) ≡ scripts) h.threads (scripts_again 1 scripts));
+  in_order = items_again items;
+  short = h.short;
+}
+
+-- ---- what is put in turn
+
+-- each item fits
+pub each_fits : (c : Config) (items : List Item) (i : ℕ) (d : Item) → i < length items → AllByRecursion (IsItem c) items → IsItem c (get_or items i d)
+each_fits c [] i d lt all = absurd (omega arith)
+each_fits c (x ∷ items) zero d lt all = all.0
+each_fits c (x ∷ items) (suc i) d lt all = each_fits c items i d (omega arith) all.1
+
+-- a line more of a thread
+pub line_more : (thread : ℕ) (script : List Command) (i : ℕ) (d : Command) → i < length script
+    → flat_map line (lines_of thread (take i script)) ++ line (record { thread = thread; command = get_or script i d }) ≡ flat_map line (lines_of thread (take (i + 1) script))
+line_more thread script i d lt =
+    let put = λ (c : Command). line (record { thread = thread; command = c }) in
+    let as_lines = λ (cs : List Command). flat_map-map line (λ (c : Command). record { thread = thread; command = c }) cs in
+    ap (λ (bs : List ℕ). bs ++ put (get_or script i d)) (as_lines (take i script)) ∙ flat_map-take_more put script i d lt ∙ sym (as_lines (take (i + 1) script))
+
+-- the lines of one script more
+lines_more : (first i : ℕ) (scripts : List (List Command)) (d : List Command) → i < length scripts
+    → lines_from first (take (suc i) scripts) ≡ lines_from first (take i scripts) ++ lines_of (first + i) (get_or scripts i d)
+lines_more first i [] d lt = absurd (omega arith)
+lines_more first zero (script ∷ scripts) d lt =
+    let same : first ≡ first + 0 = omega arith in
+    append-nil (lines_of first script) ∙ ap (λ (n : ℕ). lines_of n script) same
+lines_more first (suc i) (script ∷ scripts) d lt =
+    let later : first + 1 + i ≡ first + suc i = omega arith in
+    ap (λ (ls : List TraceLine). lines_of first script ++ ls) (lines_more (first + 1) i scripts d (omega arith))
+    ∙ sym (append_assoc (lines_of first script) (lines_from (first + 1) (take i scripts)) (lines_of (first + 1 + i) (get_or scripts i d)))
+    ∙ ap (λ (n : ℕ). (lines_of first script ++ lines_from (first + 1) (take i scripts)) ++ lines_of n (get_or scripts i d)) later
+
+-- one script more of a trace
+pub script_more : (scripts : List (List Command)) (i : ℕ) (d : List Command) → i < length scripts
+    → flat_map line (lines_from 1 (take i scripts)) ++ flat_map line (lines_of (i + 1) (get_or scripts i d)) ≡ flat_map line (lines_from 1 (take (i + 1) scripts))
+script_more scripts i d lt =
+    let next : 1 + i ≡ i + 1 = omega arith in
+    sym (ap (λ (n : ℕ). flat_map line (lines_from 1 (take n scripts))) (add-one i)
+    ∙ ap (flat_map line) (lines_more 1 i scripts d lt ∙ ap (λ (n : ℕ). lines_from 1 (take i scripts) ++ lines_of n (get_or scripts i d)) next)
+    ∙ flat_map-append line (lines_from 1 (take i scripts)) (lines_of (i + 1) (get_or scripts i d)))
+
+-- all scripts of a trace
+pub all_scripts : (scripts : List (List Command)) (i : ℕ) → length scripts ≤ i → flat_map line (lines_from 1 (take i scripts)) ≡ flat_map line (lines_from 1 scripts)
+all_scripts scripts i le = ap (λ (ss : List (List Command)). flat_map line (lines_from 1 ss)) (take_all i scripts le)
+
+-- the line of a schedule that has an item
+pub one_line : (items : List Item) → 1 ≤ length items → 33 ∷ (flat_map spaced_item items ++ newline ∷ []) ≡ flat_map schedule_line (turns_of items)
+one_line [] some = absurd (omega arith)
+one_line (i ∷ items) some = sym (append-nil (schedule_line (i ∷ items)))

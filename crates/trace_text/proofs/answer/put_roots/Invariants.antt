@@ -1,0 +1,8 @@
+use Rattle.std.specs.List.{flat_map}
+use Rattle.shen_graph.specs.GraphText.{root_of}
+use Rattle.trace_text.specs.Answer.{roots_line, thread_numbers}
+use Rattle.shen_base.specs.Sending.{Puts, stage}
+use Rattle.trace_text.proofs.answer.put_roots.Given as goal
+
+abbrev pub invariant-loop-mutator : goal.invariant-loop-mutator
+invariant-loop-mutator g l = Puts (stage (g.K.Sink.written l.initial.sink) (g.K.Sink.faults l.initial.sink) (g.K.Sink.calls l.initial.sink) l.initial.block) (stage (g.K.Sink.written l.sink) (g.K.Sink.faults l.sink) (g.K.Sink.calls l.sink) l.block) (flat_map (λ t. roots_line t (root_of l.graph t)) (thread_numbers l.mutator))

@@ -1,3 +1,0 @@
-pub mod AnswerLemmas
-mod CanonicalLemmas
-pub mod Rewritten

@@ -1,9 +1,0 @@
-use Rattle.std.proofs.Common.{take}
-use Rattle.std.specs.List.{flat_map}
-use Rattle.shen_base.specs.Sending.{Puts, stage}
-use Rattle.trace_grammar.specs.Spelling.{line}
-use Rattle.trace_writing.specs.Canonical.{lines_of}
-use Rattle.trace_writing.proofs.trace.put_script.Given as goal
-
-abbrev pub invariant-loop-command : goal.invariant-loop-command
-invariant-loop-command g l = Puts (stage (g.K.Sink.written l.initial.sink) (g.K.Sink.faults l.initial.sink) (g.K.Sink.calls l.initial.sink) l.initial.block) (stage (g.K.Sink.written l.sink) (g.K.Sink.faults l.sink) (g.K.Sink.calls l.sink) l.block) (flat_map line (lines_of l.thread (take l.command-index l.script)))

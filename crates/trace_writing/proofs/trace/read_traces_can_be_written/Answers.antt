@@ -1,5 +1,0 @@
-use Rattle.trace_writing.proofs.Rewritten.{can_be_written}
-use Rattle.trace_writing.proofs.trace.read_traces_can_be_written.Goals as goal
-
-pub returns : goal.returns
-returns c = can_be_written

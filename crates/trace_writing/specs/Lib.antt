@@ -1,4 +1,0 @@
-pub mod Message
-pub mod Answer
-pub mod Canonical
-pub mod History

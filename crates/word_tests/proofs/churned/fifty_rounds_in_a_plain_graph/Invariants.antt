@@ -1,9 +1,0 @@
-use Rattle.std.proofs.Common.{ℕ, ◌≡◌, ◌≤◌, ◌*◌}
-use Rattle.shen_graph.specs.PlainGraph.{graph_of, threads_of}
-use Rattle.word_tests.proofs.churned.fifty_rounds_in_a_plain_graph.Given as goal
-
-abbrev pub invariant-loop-turn : goal.invariant-loop-turn
-invariant-loop-turn g l = record {
-  threads : threads_of l.plain ≡ 3;
-  made : (t : ℕ) → (graph_of l.plain).count t ≤ 402 * l.turn;
-}

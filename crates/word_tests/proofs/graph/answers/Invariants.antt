@@ -1,9 +1,0 @@
-use Rattle.std.proofs.Common.{ℕ, ◌≡◌, ◌≤◌, ◌+◌}
-use Rattle.shen_graph.specs.PlainGraph.{graph_of, threads_of}
-use Rattle.word_tests.proofs.graph.answers.Given as goal
-
-abbrev pub invariant-loop-command : goal.invariant-loop-command
-invariant-loop-command g l = record {
-  threads : threads_of l.plain ≡ threads_of l.initial.plain;
-  made : (t : ℕ) → (graph_of l.plain).count t ≤ (graph_of l.initial.plain).count t + l.command-index;
-}

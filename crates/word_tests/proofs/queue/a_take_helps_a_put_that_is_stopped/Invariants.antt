@@ -1,9 +1,0 @@
-use Rattle.std.proofs.Common.{ℕ, ◌≡◌, ◌≤◌}
-use Rattle.shen_graph.specs.PlainGraph.{graph_of, threads_of}
-use Rattle.word_tests.proofs.queue.a_take_helps_a_put_that_is_stopped.Given as goal
-
-abbrev pub invariant-loop-row : goal.invariant-loop-row
-invariant-loop-row g l = record {
-  threads : threads_of l.plain ≡ 2;
-  made : (t : ℕ) → (graph_of l.plain).count t ≤ l.row-index;
-}
