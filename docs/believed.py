@@ -19,11 +19,11 @@ PAGE = os.path.join(TOP, "docs", "DEFINITIONS.md")
 MARKS = re.compile(r"(<!-- counts -->\n)(.*?)(<!-- end -->)", re.S)
 # What says that some legal history has these scripts and this text; and the rest of the clause.
 GRAPH = [
-    ("trace_grammar", "Grammar", "Reads"),
-    ("trace_grammar", "Grammar", "Came"),
+    ("trace_reading", "Grammar", "Reads"),
+    ("trace_reading", "Grammar", "Came"),
     ("shen_graph", "History", "Follows"),
     ("shen_graph", "Crowd", "IsLegalHistory"),
-    ("trace_writing", "Answer", "IsAnswerText"),
+    ("trace_text", "Answer", "IsAnswerText"),
     ("trace_runs", "Words", "Asks"),
     ("trace_runs", "Churned", "IsChurned"),
 ]
