@@ -185,7 +185,7 @@ impl Control {
     }
 
     /// The access of its next step.
-    #[inline(never)]
+    #[inline(always)]
     pub fn plan(&self) -> Access
         requires { is_gone (seen_control self.now).spot ≡ false }
         ensures row { result ≡ control_access (config_in self.now) (control_hinted (config_in self.now) (hint_of self.now) (seen_control self.now)) }
@@ -195,9 +195,15 @@ impl Control {
             return self.plan_apart();
         }
         match self.spot {
-            ControlSpot::LookLeft => ControlSpot::LookLeft.access(self.image.config(), 0),
-            ControlSpot::LookAsked => ControlSpot::LookAsked.access(self.image.config(), 0),
-            ControlSpot::LookFree => ControlSpot::LookFree.access(self.image.config(), 0),
+            ControlSpot::LookLeft => Access::Load {
+                at: self.image.config().left_at(),
+            },
+            ControlSpot::LookAsked => Access::Load {
+                at: self.image.config().ask_at(),
+            },
+            ControlSpot::LookFree => Access::Load {
+                at: self.image.config().free_at(),
+            },
             _ => self.plan_apart(),
         }
     }
@@ -359,7 +365,7 @@ impl Control {
     }
 
     /// Goes on with the word that its access has found. A pause goes on to the next phase of the cycle, or makes room.
-    #[inline(never)]
+    #[inline(always)]
     pub fn took(&mut self, got: u64) -> Took
         requires busy { is_gone (seen_control self.old).spot ≡ false }
         requires fit { IsFit (config_in self.old) (control_hinted (config_in self.old) (hint_of self.old) (seen_control self.old)) got }
@@ -400,6 +406,7 @@ impl Control {
 
     // Goes on with the word, where it has no hint. Outside pauses it looks at three words in turn: while there are mutators left, nothing
     // is asked for in phase 0, and half of the regions are free, it pays for nothing that the others put aside.
+    #[inline(always)]
     fn took_word(&mut self, got: u64) -> Took
         requires none { hint_of self.old ≡ None }
         requires busy { is_gone (seen_control self.old).spot ≡ false }

@@ -54,6 +54,7 @@ impl LoadSpot {
     }
 
     /// The next access of the mutator of a seat.
+    #[inline(always)]
     pub(crate) fn access(self, config: Config, seat: usize, command: Command) -> Access
         requires { touch_fits config (rows.load_touch seat command self) ≡ true }
         ensures { result ≡ placed config (rows.load_touch seat command self) }
@@ -68,6 +69,7 @@ impl LoadSpot {
     }
 
     /// Where the call goes on, in its phase, with the word that was loaded.
+    #[inline(always)]
     pub(crate) fn after(self, phase: u64, command: Command, got: u64) -> Spot
         ensures { result ≡ rows.load_next phase command self got }
     {

@@ -187,7 +187,7 @@ impl Mutator {
     }
 
     /// The access of its next step.
-    #[inline(never)]
+    #[inline(always)]
     pub fn plan(&self) -> Access
         requires { is_idle self.now ≡ false }
         ensures row { result ≡ placed (config_of self.now) (touch_of (config_of self.now) (seen self.now) (order_of self.now)) }
@@ -198,6 +198,7 @@ impl Mutator {
 
     // The same by its spot. That it is inside follows from what a mutator's numbers are. The longer parts of a call have a function
     // of their own, so that the others do not pay for what those put aside.
+    #[inline(always)]
     fn access(&self) -> Access
         requires { is_idle self.now ≡ false }
         ensures { result ≡ placed (config_of self.now) (touch_of (config_of self.now) (seen self.now) (order_of self.now)) }
@@ -272,7 +273,7 @@ impl Mutator {
     }
 
     /// Goes on with the word that its access has found.
-    #[inline(never)]
+    #[inline(always)]
     pub fn took(&mut self, got: u64) -> Took
         requires busy { is_idle self.old ≡ false }
         requires fit { IsFit (config_of self.old) (seen self.old) (order_of self.old) got }
@@ -306,6 +307,7 @@ impl Mutator {
 
     // Goes on in a call with the word that its access has found. The longer parts go on in a function of their own, so that the
     // others do not pay for what those put aside.
+    #[inline(always)]
     fn go_on(&mut self, got: u64) -> Took
         requires none { order_of self.old ≡ Order.Nothing }
         requires takes { takes_at (seen self.old).spot (seen self.old).made Order.Nothing ≡ true }

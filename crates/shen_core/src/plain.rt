@@ -158,6 +158,7 @@ impl Plain {
     }
 
     /// Gives the machine of this number one step.
+    #[inline(always)]
     pub fn step(&mut self, number: usize) -> Stepped
         requires { number < seats_of self.old }
         ensures idle { (result ≡ Stepped.Idle) ↔ (has_turn self.old number ≡ false) }

@@ -25,7 +25,9 @@ pub enum Ran {
 impl Plain {
     ghost use Rattle.shen_core.specs.WholeRun.{RunsSchedule};
 
-    // One turn of a machine: it goes on with its call, begins the next command of its script, or ends.
+    // One turn of a machine: it goes on with its call, begins the next command of its script, or ends. It stands in the loop that calls
+    // it, with all that a common step does, so that neither an access nor an answer goes by memory.
+    #[inline(always)]
     fn turn(&mut self, work: &mut Work, number: usize) -> Stepped
         requires number { number < seats_of self.old }
         requires run { CanRun self.old work.old }
