@@ -6,13 +6,13 @@ usage: wrong_bodies.py [--jobs N] [NAME..]   tries them all, or the bodies of th
                                              bench/behind.txt does not name, and where that names one that is tried
 
 A wrong body, bench/edits/CRATE/NAME.edit, changes the code of one crate, so that its own contract must refuse it. The gate tries those
-of crates/NAME/must-fail, three for each crate with code; those here each show what no other shows.
+of crates/NAME/must-fail, three for each library with code; those here each show what no other shows.
 They are tried on a throwaway copy of the crates as they stand, without the edits of the gate, by `rt ci CRATE..`, which takes what the gate
 proved on this machine, or, with a kit whose `rt ci` takes no names, by `rt must-fail CRATE..` over the libraries that `rt check` kept in this
 tree: a crate costs one check of its own and ten to thirty seconds for each edit.
 
-A wrong protocol, bench/protocols/NAME.protocol, changes code and row together, so that the code is its row still, and a law above has
-to refuse it. Its file says in words what is turned and what would go wrong, and then, a line each:
+A wrong protocol, bench/protocols/NAME.protocol, changes code and row together, so that the code is its row still, or the definition to
+which the code of a pause is held, and a law above has to refuse it. Its file says in words what is turned and what would go wrong, and then, a line each:
     own: CRATE               the row's crate, which must be proved still; several such lines are several crates, `none` is none
     own: CRATE but F, G      so is all of it but these, which are the laws that refuse, or lemmas that contracts above cite
     law: CRATE::F            the law that must refuse it, or `none`: this is a finding, and says which promise would be needed
