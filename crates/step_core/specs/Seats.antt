@@ -1,7 +1,7 @@
 -- What the ghost state says of a seat is what its machine does, by where it stands; and what a mutator may use, and has asked for.
-use Rattle.std.specs.Prelude.{ℕ, ◌≡◌, ◌⊎◌, ◌+◌, ◌<◌, ◌≤◌, Bool, true, false, Option, Some, None, length}
+use Rattle.std.specs.Prelude.{ℕ, ◌≡◌, ◌⊎◌, ◌+◌, ◌<◌, ◌≤◌, Bool, true, false, Option, Some, None, length, ⊤}
 use Rattle.heap_words.specs.declared.config.Config.{Config}
-use Rattle.heap_words.specs.Words.{Cset, Root, Wait, Answer, Heap}
+use Rattle.heap_words.specs.Words.{Phase, Cset, Root, Wait, Answer, Heap}
 use Rattle.shen_graph.specs.declared.command.Command.{Command}
 use Rattle.shen_graph.specs.declared.command.Command.TheVariants.{New}
 use Rattle.shen_graph.specs.declared.command.Reply.{Reply}
@@ -19,19 +19,20 @@ use Rattle.load_barrier.specs.declared.evac_spot.EvacSpot.TheVariants as evac
 use Rattle.unit_part.specs.declared.spot.UnitSpot.{UnitSpot}
 use Rattle.unit_part.specs.declared.spot.UnitSpot.TheVariants.{Scanning, Evacuating, Updating, Ended}
 use Rattle.heap_words.specs.declared.access.Unit.TheVariants.{Worked}
-use Rattle.cycle_steps.specs.Scanning.{scanning_of}
-use Rattle.cycle_steps.specs.Resolving.Facts.{IsResolvingRoom}
-use Rattle.cycle_steps.specs.Evacuation.Facts.{working_of}
-use Rattle.cycle_steps.specs.Updating.Facts.{pass_of}
+use Rattle.cycle_steps.specs.Scanning.{scanning_of, CanScan}
+use Rattle.cycle_steps.specs.Resolving.Facts.{IsResolvingRoom, CanResolve}
+use Rattle.cycle_steps.specs.Evacuation.Facts.{working_of, CanEvacuate}
+use Rattle.cycle_steps.specs.Updating.Facts.{pass_of, CanUpdate}
+use Rattle.cycle_steps.specs.Updating.Following.{CanFollow}
 use Rattle.mutator.specs.declared.spot.Kept.{Kept}
 use Rattle.mutator.specs.declared.spot.Spot.{Spot}
-use Rattle.mutator.specs.declared.spot.Spot.TheVariants.{Entering, Loading, OnField, Resolving, Recording, OnNumber, Showing, StoreRoot, Making, Pinning, Waiting}
+use Rattle.mutator.specs.declared.spot.Spot.TheVariants.{Entering, LoadSet, Loading, OnField, Resolving, Recording, OnNumber, Showing, StoreRoot, Making, AskCycle, Pinning, Waiting}
 use Rattle.mutator.specs.declared.spot.Entered.TheVariants.{Waited}
 use Rattle.mutator.specs.declared.loads.LoadSpot.{LoadSpot}
 use Rattle.mutator.specs.declared.loads.LoadSpot.TheVariants as load
 use Rattle.mutator.specs.declared.fields.FieldSpot.{FieldSpot}
 use Rattle.mutator.specs.declared.fields.FieldSpot.TheVariants as fields
-use Rattle.mutator.specs.Commands.{command_roots}
+use Rattle.mutator.specs.Commands.{command_roots, index_of}
 use Rattle.mutator.specs.declared.makes.MakeSpot.{MakeSpot}
 use Rattle.mutator.specs.declared.makes.MakeSpot.TheVariants as make
 use Rattle.mutator.specs.declared.overwrites.Overwritten.{Overwritten}
@@ -45,7 +46,7 @@ use Rattle.helper.specs.declared.spot.HelpSpot.{HelpSpot}
 use Rattle.helper.specs.declared.spot.HelpSpot.TheVariants as help
 use Rattle.control_rows.specs.declared.spot.ControlSpot.{ControlSpot}
 use Rattle.control_rows.specs.declared.spot.ControlSpot.TheVariants as control
-use Rattle.heap_world.specs.World.{World, Block, Scan, hand, room_of, Body, body_at, body_words, IsCollected, UsableIn, TargetIn}
+use Rattle.heap_world.specs.World.{World, Block, Scan, hand, room_of, Body, body_at, body_words, IsCollected, IsCovered, UsableIn, TargetIn}
 use Rattle.heap_world.specs.Asking.{HasNoPromise}
 use Rattle.step_core.specs.Actor.{Machine, mutating, helping, controlling}
 use Rattle.step_core.specs.Own.{IsRoomOf}
@@ -109,6 +110,14 @@ unit_region c _ = None
 abbrev pub UnitRoom : (seat : ℕ) → UnitSpot → ℕ → Block → Type 0
 UnitRoom seat (Evacuating cset at) a x = IsRoomIn seat at a x
 UnitRoom seat _ a x = IsSpare seat x
+
+-- What who works on a unit counts on, by the kind of unit: it is the phase of such units, and its walk has come where its spot says. In
+-- evacuating no object behind the walk has its current copy there, unless there was no room.
+abbrev pub CanWorkOn : Config → World → (seat : ℕ) → UnitSpot → Type 0
+CanWorkOn c w seat (Scanning at) = CanScan c w seat at
+CanWorkOn c w seat (Evacuating cset at) = CanEvacuate c w seat cset at
+CanWorkOn c w seat (Updating cset at) = CanUpdate c w seat cset at
+CanWorkOn c w seat (Ended unit) = ⊤
 
 -- What the machine of a seat is about to record, whether it copies, and what room it has.
 abbrev pub records_of : Machine → Option ℕ
@@ -235,7 +244,7 @@ pub record StandsThere (c : Config) (w : World) (x : Carried) : Type 0 where
   pub within : x.index < body_words body
   pub same : x.word ≡ w.memory (Heap (x.object + x.index))
 
--- The ghost state has of the seat what its machine does. The seat's room is free words of its buffer, what the machine has in hand, and what it
+-- The ghost state has of the seat what its machine does, and who works on a unit can go on in it. The seat's room is free words of its buffer, what the machine has in hand, and what it
 -- has carved until that is the seat's buffer; what the machine has in hand is the seat's. Who takes room has what its taking counts on; and a
 -- word that is on its way from an object into a copy is the object's word.
 pub record IsInSeat (c : Config) (w : World) (seat : ℕ) (machine : Machine) : Type 0 where
@@ -243,6 +252,7 @@ pub record IsInSeat (c : Config) (w : World) (seat : ℕ) (machine : Machine) : 
   pub scans : w.ghost.scanning seat ≡ unit_scan c (unit_in machine)
   pub copies : w.ghost.copying seat ≡ copies_of machine
   pub works : w.ghost.working seat ≡ unit_region c (unit_in machine)
+  pub goes_on : CanWorkOn c w seat (unit_in machine)
   pub rooms : (a : ℕ) (x : Block) → w.block a ≡ Some x → room_of x ≡ Some seat → HasRoom seat machine a x
   pub holds : (a : ℕ) → hand_of machine ≡ Some a → (words : ℕ) × (w.block a ≡ Some (hand seat words))
   pub takes : (t : Taking) → taking_of machine ≡ Some t → TakeFacts c w seat t.words t.take
@@ -329,8 +339,35 @@ abbrev pub is_clearing : Spot → Bool
 is_clearing (Waiting (wait.ClearAnswer reply)) = true
 is_clearing _ = false
 
+-- The machine of a seat resolves an address: objects are evacuated, and it can go on in that, with the words that it has copied so far; or
+-- references to them are updated.
+abbrev pub IsResolving : Config → World → (seat address : ℕ) → ResolveSpot → Type 0
+IsResolving c w seat address at = CanResolve c w seat address at ⊎ CanFollow c w seat address at
+
+-- whether the phase that a call has loaded is the phase: from there on until it waits or leaves
+abbrev pub has_phase : Spot → Bool
+has_phase LoadSet = true
+has_phase (Loading at) = true
+has_phase (OnField object at) = true
+has_phase (Resolving address at next) = true
+has_phase (Recording at address next) = true
+has_phase (OnNumber object refs at) = true
+has_phase (Showing value at) = true
+has_phase (StoreRoot value) = true
+has_phase (Making at) = true
+has_phase AskCycle = true
+has_phase (Pinning value at) = true
+has_phase _ = false
+
+-- whether the collection set that a call has loaded is the set: from there on until it waits or leaves
+abbrev pub has_set : Spot → Bool
+has_set LoadSet = false
+has_set spot = has_phase spot
+
 -- What a mutator may use, in each phase: its roots, and the object on which its call works. Who waits makes an object, up to the store that
 -- clears its answer, and a request and an answer are of who waits; behind the store into the root the answer names what was taken.
+-- The phase and the collection set that a call has loaded are those that stand; and where it is about to overwrite a field by a store, what the
+-- snapshot has there needs no marking, or is noted. Who resolves an address can go on in that.
 pub record IsServed (c : Config) (w : World) (command : Command) (m : Mutating) : Type 0 where
   pub roots : (i : ℕ) → i < 16 → UsableIn c w (w.memory (Root m.seat i))
   pub resolved : (object : ℕ) → works_on m.spot ≡ Some object → UsableIn c w object
@@ -339,4 +376,8 @@ pub record IsServed (c : Config) (w : World) (command : Command) (m : Mutating) 
   pub waits : is_waiting m.spot ≡ true → MakesObject command
   pub answered : is_answered m.spot ≡ true → 0 < w.memory (Answer m.seat)
   pub stored : (address : ℕ) → m.spot ≡ Waiting (wait.StoreRoot address) → w.memory (Answer m.seat) ≡ address
+  pub knows_phase : has_phase m.spot ≡ true → m.kept.phase ≡ w.memory Phase
+  pub knows_set : has_set m.spot ≡ true → m.kept.cset ≡ w.memory Cset
+  pub resolves : (address : ℕ) (at : ResolveSpot) (next : Loaded) → m.spot ≡ Resolving address at next → IsResolving c w m.seat address at
+  pub covers : (object value : ℕ) → m.spot ≡ OnField object (fields.Store value) → IsCovered c w object (index_of m.kept.command)
   pub taken : (reply : Reply) → m.spot ≡ Waiting (wait.ClearAnswer reply) → AsksNothing w m.seat × HasTaken c w m.seat reply

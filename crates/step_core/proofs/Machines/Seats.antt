@@ -54,7 +54,7 @@ use Rattle.control_rows.specs.declared.spot.ControlSpot.{ControlSpot}
 use Rattle.control_rows.specs.declared.spot.ControlSpot.TheVariants as control
 use Rattle.heap_world.specs.World.{World, Block, Body, body_words, hand, room_of, UsableIn}
 use Rattle.step_core.specs.Actor.{Machine, mutating, helping, controlling, Actor}
-use Rattle.step_core.specs.Seats.{copies_in, IsRoomIn, help_unit, control_unit, unit_scan, unit_copies, unit_region, UnitRoom, resolve_hand, evac_hand, unit_hand, make_hand, call_hand, Taking, resolve_taking, evac_taking, unit_taking, make_taking, call_taking, take_looks, looks_in, Carried, resolve_carries, evac_carries, unit_carries, call_carries, StandsThere, IsInSeat, before_record, before_resolve, works_on, AsksNothing, MakesObject, IsServed, IsOfRoots, IsOfField, IsOfLoaded, IsOfOverwritten, IsOfCall, is_answered}
+use Rattle.step_core.specs.Seats.{copies_in, IsRoomIn, help_unit, control_unit, unit_scan, unit_copies, unit_region, CanWorkOn, UnitRoom, resolve_hand, evac_hand, unit_hand, make_hand, call_hand, Taking, resolve_taking, evac_taking, unit_taking, make_taking, call_taking, take_looks, looks_in, Carried, resolve_carries, evac_carries, unit_carries, call_carries, StandsThere, IsInSeat, before_record, before_resolve, works_on, AsksNothing, MakesObject, IsServed, IsOfRoots, IsOfField, IsOfLoaded, IsOfOverwritten, IsOfCall, is_answered}
 use Rattle.step_core.proofs.Machines.Owed.{IsResting, CanWork, HelpFacts, ControlFacts, IsMachine}
 use Rattle.step_core.proofs.Machines.Stepped.{HasObject, FieldFacts, NumberFacts, ShowFacts, RecordFacts, LoadedFacts, MakeFacts, IsResolving, IsMaking, IsPolling, IsAnswered, WaitFacts, SpotFacts, Mine, HasTaken, IsCas, IsCopy, IsDrop, IsOfSlot, PinFacts, LoadFacts}
 
@@ -149,6 +149,7 @@ record AtUnit (c : Config) (w : World) (seat : ℕ) (at : UnitSpot) : Type 0 whe
   scans : w.ghost.scanning seat ≡ unit_scan c at
   copies : w.ghost.copying seat ≡ unit_copies at
   works : w.ghost.working seat ≡ unit_region c at
+  goes_on : CanWorkOn c w seat at
   rooms : (a : ℕ) (x : Block) → w.block a ≡ Some x → room_of x ≡ Some seat → UnitRoom seat at a x
   takes : (t : Taking) → unit_taking at ≡ Some t → TakeFacts c w seat t.words t.take
   carries : (x : Carried) → unit_carries at ≡ Some x → StandsThere c w x
@@ -161,6 +162,7 @@ module _ (c : Config) (w : World) (seat : ℕ) where
     scans = rests.scans_none;
     copies = rests.copies_none;
     works = rests.works_none;
+    goes_on = tt;
     rooms = rests.rooms;
     takes = λ t is. absurd cc;
     carries = λ x is. absurd cc;
@@ -173,6 +175,7 @@ module _ (c : Config) (w : World) (seat : ℕ) where
     scans = facts.0.scanning;
     copies = facts.1;
     works = facts.2;
+    goes_on = facts.0;
     rooms = facts.3;
     takes = λ t is. absurd cc;
     carries = λ x is. absurd cc;
@@ -180,12 +183,13 @@ module _ (c : Config) (w : World) (seat : ℕ) where
   }
   at_unit (Evacuating cset at) facts =
       let unit = on_unit c w seat at facts.facts in
-      record { records = unit.records; scans = unit.scans; copies = unit.copies; works = facts.working; rooms = unit.rooms; takes = unit.takes; carries = unit.carries; holds = unit.holds }
+      record { records = unit.records; scans = unit.scans; copies = unit.copies; works = facts.working; goes_on = facts; rooms = unit.rooms; takes = unit.takes; carries = unit.carries; holds = unit.holds }
   at_unit (Updating cset at) facts = record {
     records = facts.records_none;
     scans = facts.scanning;
     copies = facts.copying;
     works = facts.working;
+    goes_on = facts;
     rooms = facts.rooms;
     takes = λ t is. absurd cc;
     carries = λ x is. absurd cc;
@@ -266,6 +270,7 @@ in_seat c words w entries number a (mutating m) thread =
       scans = thread.mine.marking.scans;
       copies = thread.mine.copying.copies_is;
       works = thread.mine.copying.works_none;
+      goes_on = tt;
       rooms = thread.mine.rooms;
       takes = λ t is. call_takes c w m.seat m.made m.kept a.command thread.fixed m.spot t is thread.mine.facts;
       carries = λ x is. call_stands c w m.seat m.made m.kept a.command thread.fixed m.spot x is thread.mine.facts;
@@ -273,10 +278,10 @@ in_seat c words w entries number a (mutating m) thread =
     })
 in_seat c words w entries number a (helping h) facts =
     let at = help_at c w number h.spot facts.facts in
-    record { records = at.records; scans = at.scans; copies = at.copies; works = at.works; rooms = at.rooms; takes = at.takes; carries = at.carries; holds = at.holds }
+    record { records = at.records; scans = at.scans; copies = at.copies; works = at.works; goes_on = at.goes_on; rooms = at.rooms; takes = at.takes; carries = at.carries; holds = at.holds }
 in_seat c words w entries number a (controlling k) facts =
     let at = control_at c w number k.spot facts.facts in
-    record { records = at.records; scans = at.scans; copies = at.copies; works = at.works; rooms = at.rooms; takes = at.takes; carries = at.carries; holds = at.holds }
+    record { records = at.records; scans = at.scans; copies = at.copies; works = at.works; goes_on = at.goes_on; rooms = at.rooms; takes = at.takes; carries = at.carries; holds = at.holds }
 
 -- What a mutator may use: an object on which it works, by each part of a call.
 module _ (c : Config) (w : World) (seat : ℕ) (k command : Command) (fixed : Option Reply) where
@@ -440,5 +445,9 @@ served c w m command fixed mine = record {
   loaded = λ a is. call_usable c w m.seat m.made m.kept command fixed m.spot mine.facts a is;
   answered = λ is. has_answer c w m.seat m.made m.kept command fixed m.spot is mine.facts;
   stored = λ address is. (facts_at c w m.seat m.made m.kept command fixed m.spot (Waiting (wait.StoreRoot address)) is mine.facts).1;
+  knows_phase = mine.marking.phase_is;
+  knows_set = mine.copying.set_is;
+  resolves = λ address at next is. (facts_at c w m.seat m.made m.kept command fixed m.spot (Resolving address at next) is mine.facts).0;
+  covers = λ object value is. (facts_at c w m.seat m.made m.kept command fixed m.spot (OnField object (fields.Store value)) is mine.facts).2;
   taken = λ reply is. clearing_taken c w m.seat m.made m.kept command fixed reply (facts_at c w m.seat m.made m.kept command fixed m.spot (Waiting (wait.ClearAnswer reply)) is mine.facts);
 }

@@ -46,11 +46,9 @@ use Rattle.mutator.specs.Told.{told_of}
 use Rattle.mutator.specs.Fit.{IsReady}
 use Rattle.step_core.specs.Actor.{entry_of, command_by}
 use Rattle.step_core.specs.Own.{root_now, IsRoomOf}
-pub use Rattle.step_core.specs.Seats.{recording_of, copies_at, HasTaken, MakesObject}
+pub use Rattle.step_core.specs.Seats.{recording_of, copies_at, has_phase, has_set, IsResolving, HasTaken, MakesObject}
 use Rattle.cycle_steps.specs.Recording.{CanRecord}
 use Rattle.load_barrier.specs.declared.spot.ResolveSpot.{ResolveSpot}
-use Rattle.cycle_steps.specs.Resolving.Facts.{CanResolve}
-use Rattle.cycle_steps.specs.Updating.Following.{CanFollow}
 use Rattle.heap_world.specs.World.{World, Block, Plot, Scan, hand, room_of, name_at, Points, TargetIn, IsUsable, UsableIn, IsCovered, Shared}
 use Rattle.heap_world.specs.Asking as asking
 use Rattle.heap_world.specs.Asking.{Asking, HasNoPromise, IsAsked}
@@ -302,10 +300,6 @@ WaitFacts c w seat made k command fixed (wait.StoreRoot address) =
 WaitFacts c w seat made k command fixed (wait.ClearAnswer reply) =
     (fixed ≡ Some reply) × (w.memory (Wait seat) ≡ 0) × HasNoPromise w.block seat × HasTaken c w seat reply × MakesObject command
 
--- the machine of a seat resolves an address: objects are evacuated, or references to them updated
-abbrev pub IsResolving : Config → World → (seat address : ℕ) → ResolveSpot → Type 0
-IsResolving c w seat address at = CanResolve c w seat address at ⊎ CanFollow c w seat address at
-
 -- and at each spot
 abbrev pub SpotFacts : Config → World → ℕ → ℕ → Kept → Command → Option Reply → Spot → Type 0
 SpotFacts c w seat made kept command fixed Rest = fixed ≡ None
@@ -346,21 +340,6 @@ IsSeatedIn c w seat made waiting =
 abbrev pub Seated : Config → World → Mutating → Type 0
 Seated c w m = IsSeatedIn c w m.seat m.made (is_waiting m.spot)
 
--- whether the phase that a call has loaded is the phase: from there on until it waits or leaves
-abbrev pub has_phase : Spot → Bool
-has_phase LoadSet = true
-has_phase (Loading at) = true
-has_phase (OnField object at) = true
-has_phase (Resolving address at next) = true
-has_phase (Recording at address next) = true
-has_phase (OnNumber object refs at) = true
-has_phase (Showing value at) = true
-has_phase (StoreRoot value) = true
-has_phase (Making at) = true
-has_phase AskCycle = true
-has_phase (Pinning value at) = true
-has_phase _ = false
-
 -- Of marking a mutator counts on this: what it is about to record is what its spot says, it scans nothing, and where its call has
 -- loaded the phase, that is the phase.
 pub record HasMarking (phase : ℕ) (recording : Option ℕ) (scanning : Option Scan) (in_hand : Option ℕ) (loaded : ℕ) (knows : Bool) : Type 0 where
@@ -374,11 +353,6 @@ HasMarkingBy w seat in_hand loaded knows = HasMarking (w.memory Phase) (w.ghost.
 
 abbrev pub HasMarkingIn : World → ℕ → Kept → Spot → Type 0
 HasMarkingIn w seat kept spot = HasMarkingBy w seat (recording_of spot) kept.phase (has_phase spot)
-
--- whether the collection set that a call has loaded is the set: from there on until it waits or leaves
-abbrev pub has_set : Spot → Bool
-has_set LoadSet = false
-has_set spot = has_phase spot
 
 -- Of evacuation a mutator counts on this: it copies where its spot says so, it works on no unit, and where its call has loaded the
 -- collection set, that is the set.
