@@ -20,7 +20,7 @@ import sys
 TOP = os.path.dirname(os.path.dirname(os.path.abspath(__file__)))
 PAGE = os.path.join(TOP, "docs", "INVARIANTS.md")
 # The crates whose code makes the accesses of the heap's machines.
-MACHINES = "alloc_buffers control_rows evac_room handshake helper load_barrier mutator regions satb_barrier unit_part".split()
+MACHINES = "alloc_buffers collector_rows evac_room handshake load_barrier mutator regions satb_barrier unit_part".split()
 LINE = re.compile(r"^\s*// keeps (.*)$")
 WRITE = re.compile(r"\bAccess::(?:Store|Swap|Exchange|And|Or|Add|Sub) \{")
 NAME = re.compile(r"([A-Za-z]\w*(?:\.\w+)?)(?: of (\w+))?")

@@ -6,14 +6,14 @@ use Rattle.std.proofs.lemmas.Bool.{cond-true, cond-false, eqb-true}
 use Rattle.std.proofs.lemmas.Grind.{same_number_lists}
 use Rattle.heap_words.specs.declared.config.Config.{Config}
 use Rattle.heap_words.specs.Words.{Word, Phase, Evac, Ask, Current, Root, Pin, Answer}
-use Rattle.heap_graph.specs.Walk.{has}
+use Rattle.heap_world.specs.Walk.{has}
 use Rattle.heap_world.specs.Change.{image_words, image_view}
 use Rattle.image_graph.specs.SeatBuffers.{IsInside, AreInside}
 use Rattle.mark_core.specs.Trace.{IsNullOrInside, HasRootsInside}
-use Rattle.control_rows.specs.declared.extent.Extent.{Extent}
-use Rattle.control_rows.specs.declared.extent.Extent.TheVariants.{Whole, OffHeap, Ahead}
-use Rattle.control_rows.specs.Extent.{is_of_extent, counts}
-use Rattle.control_rows.specs.ByParts.{IsImagePart, IsMadeOf}
+use Rattle.collector_rows.specs.declared.extent.Extent.{Extent}
+use Rattle.collector_rows.specs.declared.extent.Extent.TheVariants.{Whole, OffHeap, Ahead}
+use Rattle.collector_rows.specs.Extent.{is_of_extent, counts}
+use Rattle.collector_rows.specs.ByParts.{IsImagePart, IsMadeOf}
 use Rattle.cycle_pauses.specs.Collect.{is_room_needed, collected, collect_image}
 use Rattle.cycle_pauses.specs.Brief.{is_off_heap, is_ahead, IsPartOf}
 use Rattle.cycle_pauses.proofs.Images.{collected_length, collected_by_name}

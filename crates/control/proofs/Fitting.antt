@@ -14,10 +14,10 @@ use Rattle.heap_world.specs.Change.{image_view}
 use Rattle.image_graph.specs.SeatBuffers.{IsInside, AreInside}
 use Rattle.mark_core.specs.Trace.{IsNullOrInside, HasRootsInside}
 use Rattle.mark_core.proofs.MarkingBegun.{held_inside_some}
-use Rattle.control_rows.specs.declared.extent.Extent.{Extent}
-use Rattle.control_rows.specs.declared.extent.Extent.TheVariants.{Whole, OffHeap, Ahead}
-use Rattle.control_rows.specs.Extent.{extent_by}
-use Rattle.control_rows.specs.ByParts.{IsImagePart}
+use Rattle.collector_rows.specs.declared.extent.Extent.{Extent}
+use Rattle.collector_rows.specs.declared.extent.Extent.TheVariants.{Whole, OffHeap, Ahead}
+use Rattle.collector_rows.specs.Extent.{extent_by}
+use Rattle.collector_rows.specs.ByParts.{IsImagePart}
 use Rattle.cycle_pauses.specs.Collect.{CanPauseSome}
 use Rattle.cycle_pauses.specs.Brief.{is_off_heap, is_ahead, IsPartOf}
 use Rattle.cycle_pauses.proofs.Brief.Indices.{off_heap_at, ahead_at}

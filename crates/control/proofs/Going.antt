@@ -14,18 +14,18 @@ use Rattle.handshake.specs.declared.stop_spot.StopSpot.{StopSpot}
 use Rattle.handshake.specs.declared.stop_spot.StopSpot.TheVariants as stop
 use Rattle.unit_part.specs.declared.spot.UnitSpot.{UnitSpot}
 use Rattle.unit_part.specs.declared.spot.UnitSpot.TheVariants.{Ended}
-use Rattle.heap_graph.specs.Walk.{has}
+use Rattle.heap_world.specs.Walk.{has}
 use Rattle.heap_world.specs.Change.{Change, image_words}
-use Rattle.control_rows.specs.declared.extent.Extent.{Extent}
-use Rattle.control_rows.specs.declared.extent.Extent.TheVariants.{Whole, OffHeap, Ahead}
-use Rattle.control_rows.specs.Extent.{is_of_extent, extent_after, says_room, first_extent, next_loaded, counts, next_stored}
-use Rattle.control_rows.specs.declared.spot.ControlSpot.{ControlSpot}
-use Rattle.control_rows.specs.declared.spot.ControlSpot.TheVariants.{LookLeft, StoreEnd, LookAsked, LookFree, Working, Stopping, LoadWord, StoreWord, Go, Gone}
-use Rattle.control_rows.specs.Ready.{is_ready}
-use Rattle.control_rows.specs.Rows.{Controlling, takes_hint, hinted_by, control_hinted, access_with, word_stored, control_access, after_unit, stopping, begins_pause, unasked, wants_pause, after_load, after_store, next_spot, stored_next, control_next, next_image, next_seen, next_phase, next_set}
+use Rattle.collector_rows.specs.declared.extent.Extent.{Extent}
+use Rattle.collector_rows.specs.declared.extent.Extent.TheVariants.{Whole, OffHeap, Ahead}
+use Rattle.collector_rows.specs.Extent.{is_of_extent, extent_after, says_room, first_extent, next_loaded, counts, next_stored}
+use Rattle.collector_rows.specs.declared.control_spot.ControlSpot.{ControlSpot}
+use Rattle.collector_rows.specs.declared.control_spot.ControlSpot.TheVariants.{LookLeft, StoreEnd, LookAsked, LookFree, Working, Stopping, LoadWord, StoreWord, Go, Gone}
+use Rattle.collector_rows.specs.ControlReady.{is_ready}
+use Rattle.collector_rows.specs.ControlRows.{Controlling, takes_hint, hinted_by, control_hinted, access_with, word_stored, control_access, after_unit, stopping, begins_pause, unasked, wants_pause, after_load, after_store, next_spot, stored_next, control_next, next_image, next_seen, next_phase, next_set}
 use Rattle.handshake.specs.Rows.{stop_next}
 use Rattle.unit_part.specs.Rows as units
-use Rattle.control_rows.proofs.Extents.{early, next_is, stored_next_is, stored_next_one}
+use Rattle.collector_rows.proofs.Extents.{early, next_is, stored_next_is, stored_next_one}
 use Rattle.control.specs.Image.{part_in, is_seen, image_shown, words_seen, SeesOwn, IsLoadedFrom}
 use Rattle.control.proofs.PartShown.{made_reads}
 use Rattle.control.proofs.Loaded.{goes_on, stays}

@@ -8,12 +8,12 @@ use Rattle.std.proofs.lemmas.List.{get_or_past, get_or-take, get_or-set_same, ge
 use Rattle.std.proofs.lemmas.List.FromFn.{get_or-map-range_with_len, length-map-range_with_len}
 use Rattle.heap_words.specs.declared.config.Config.{Config}
 use Rattle.heap_words.specs.Words.{Word, IsWord, is_image, word_at, image_start}
-use Rattle.heap_graph.specs.Walk.{has}
+use Rattle.heap_world.specs.Walk.{has}
 use Rattle.heap_world.specs.Change.{Change, image_words, image_view}
-use Rattle.control_rows.specs.declared.extent.Extent.{Extent}
-use Rattle.control_rows.specs.declared.extent.Extent.TheVariants.{Whole, OffHeap, Ahead}
-use Rattle.control_rows.specs.Extent.{is_of_extent, extent_after, padded}
-use Rattle.control_rows.proofs.Extents.{padded_reads, padded_long, early, changes_early}
+use Rattle.collector_rows.specs.declared.extent.Extent.{Extent}
+use Rattle.collector_rows.specs.declared.extent.Extent.TheVariants.{Whole, OffHeap, Ahead}
+use Rattle.collector_rows.specs.Extent.{is_of_extent, extent_after, padded}
+use Rattle.collector_rows.proofs.Extents.{padded_reads, padded_long, early, changes_early}
 use Rattle.cycle_pauses.proofs.Brief.Indices.{image_reads}
 use Rattle.control.specs.Image.{shown_by, part_in, is_seen, image_shown}
 

@@ -9,11 +9,11 @@ use Rattle.heap_words.specs.declared.config.Config.{Config}
 use Rattle.heap_words.specs.Ranges.{seat_count}
 use Rattle.heap_words.specs.Words.{Word, Current, Heap, IsWord, word_at, image_start, heap_size}
 use Rattle.heap_words.specs.Encoding.{next_in, end_in}
-use Rattle.heap_graph.specs.Walk.{has}
-use Rattle.control_rows.specs.declared.extent.Extent.{Extent}
-use Rattle.control_rows.specs.declared.extent.Extent.TheVariants.{Whole, OffHeap, Ahead}
-use Rattle.control_rows.specs.Extent.{is_of_extent, heap_index, roots_index}
-use Rattle.control_rows.proofs.Extents.{off_within}
+use Rattle.heap_world.specs.Walk.{has}
+use Rattle.collector_rows.specs.declared.extent.Extent.{Extent}
+use Rattle.collector_rows.specs.declared.extent.Extent.TheVariants.{Whole, OffHeap, Ahead}
+use Rattle.collector_rows.specs.Extent.{is_of_extent, heap_index, roots_index}
+use Rattle.collector_rows.proofs.Extents.{off_within}
 use Rattle.cycle_pauses.proofs.Brief.Fills.{BeginsAt, IsNoFirst}
 use Rattle.control.specs.Starts.{start_index, AreStarts, IsHeapIndex, AreHeapIndices}
 

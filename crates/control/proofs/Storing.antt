@@ -6,11 +6,11 @@ use Rattle.std.proofs.lemmas.Bool.{cases_Bool, cases_eq, cases_lt, cond-false, e
 use Rattle.std.proofs.lemmas.List.{take_all}
 use Rattle.std.proofs.lemmas.List.Folds.{list_any_at}
 use Rattle.heap_words.specs.declared.config.Config.{Config}
-use Rattle.heap_graph.specs.Walk.{has}
+use Rattle.heap_world.specs.Walk.{has}
 use Rattle.heap_world.specs.Change.{image_words}
-use Rattle.control_rows.specs.declared.extent.Extent.{Extent}
-use Rattle.control_rows.specs.Extent.{is_of_extent, next_loaded, counts, next_stored}
-use Rattle.control_rows.proofs.Extents.{IsStoredNext, stored_next_is, stored_next_one, next_is}
+use Rattle.collector_rows.specs.declared.extent.Extent.{Extent}
+use Rattle.collector_rows.specs.Extent.{is_of_extent, next_loaded, counts, next_stored}
+use Rattle.collector_rows.proofs.Extents.{IsStoredNext, stored_next_is, stored_next_one, next_is}
 use Rattle.control.specs.Image.{is_seen, image_shown}
 use Rattle.control.proofs.PartShown.{either_zero, made_reads, seen_reads}
 use Rattle.control.proofs.Starting.{has_more}

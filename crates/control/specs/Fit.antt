@@ -6,13 +6,13 @@ use Rattle.heap_words.specs.Phases.{idle_phase, marking_phase}
 use Rattle.heap_world.specs.Change.{image_view}
 use Rattle.image_graph.specs.SeatBuffers.{AreInside}
 use Rattle.mark_core.specs.Trace.{HasRootsInside}
-use Rattle.control_rows.specs.declared.extent.Extent.{Extent}
-use Rattle.control_rows.specs.declared.extent.Extent.TheVariants.{Whole, OffHeap, Ahead}
-use Rattle.control_rows.specs.Extent.{extent_after}
-use Rattle.control_rows.specs.declared.spot.ControlSpot.{ControlSpot}
-use Rattle.control_rows.specs.declared.spot.ControlSpot.TheVariants.{LoadWord}
-use Rattle.control_rows.specs.Rows.{Controlling, loads_more, loaded_all}
-use Rattle.control_rows.specs.Ready.{UnitGoesOn}
+use Rattle.collector_rows.specs.declared.extent.Extent.{Extent}
+use Rattle.collector_rows.specs.declared.extent.Extent.TheVariants.{Whole, OffHeap, Ahead}
+use Rattle.collector_rows.specs.Extent.{extent_after}
+use Rattle.collector_rows.specs.declared.control_spot.ControlSpot.{ControlSpot}
+use Rattle.collector_rows.specs.declared.control_spot.ControlSpot.TheVariants.{LoadWord}
+use Rattle.collector_rows.specs.ControlRows.{Controlling, loads_more, loaded_all}
+use Rattle.collector_rows.specs.ControlReady.{UnitGoesOn}
 use Rattle.cycle_pauses.specs.Collect.{is_room_needed, CanPauseSome}
 
 -- The words off the heap are those of a heap in which marking can begin: no room is needed and no cycle runs; roots, answers and

@@ -2,7 +2,7 @@
 use Rattle.std.specs.Prelude.{ℕ, Option}
 use Rattle.heap_words.specs.declared.config.Config.{Config}
 use Rattle.image_graph.specs.State.{config_of}
-use Rattle.control_rows.specs.Rows.{Controlling}
+use Rattle.collector_rows.specs.ControlRows.{Controlling}
 use Rattle.control.specs.Image.{image_in, words_seen}
 use Rattle.control.specs.declared.machine.Control.{Control}
 

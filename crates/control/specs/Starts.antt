@@ -4,7 +4,7 @@ use Rattle.heap_words.specs.declared.config.Config.{Config}
 use Rattle.heap_words.specs.Ranges.{seat_count}
 use Rattle.heap_words.specs.Words.{Word, Current, Heap, word_at, image_start, heap_size}
 use Rattle.heap_words.specs.Encoding.{next_in, end_in}
-use Rattle.control_rows.specs.Extent.{heap_index}
+use Rattle.collector_rows.specs.Extent.{heap_index}
 
 -- of a buffer, by its word; where it has no free words, where those of the heap begin
 abbrev pub start_index : Config → ℕ → ℕ

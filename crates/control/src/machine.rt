@@ -1,14 +1,14 @@
 ghost use Rattle.std.specs.Prelude.{◌≡◌, ◌+◌, true};
 ghost use Rattle.heap_world.specs.Change.{image_words};
 ghost use Rattle.image_graph.specs.State.{config_of};
-ghost use Rattle.control_rows.specs.Ready.{is_ready, IsHintFor};
+ghost use Rattle.collector_rows.specs.ControlReady.{is_ready, IsHintFor};
 ghost use Rattle.control.specs.Clear.{IsClear};
 ghost use Rattle.control.specs.Image.{SeesOwn};
 ghost use Rattle.control.specs.Starts.{AreHeapIndices};
 
 use crate::pause::{clear, load, put_word, take_found};
 use crate::starts::{next_stored, no_starts};
-use control_rows::{ControlSpot, Extent, LastPause, image_words};
+use collector_rows::{ControlSpot, Extent, LastPause, image_words};
 use heap_words::phase::IDLE;
 use heap_words::{Access, Config, Place, Took};
 use image_graph::Image;
@@ -49,8 +49,8 @@ impl Control {
     ghost use Rattle.image_graph.specs.State.{memory_of};
     ghost use Rattle.image_graph.specs.Holds.{HoldsSome};
     ghost use Rattle.image_graph.specs.Left.{StandsForSome, ShowsTheGraph};
-    ghost use Rattle.control_rows.specs.Rows.{is_gone, control_place, control_access, control_next, control_says, takes_hint, hinted_by, control_hinted, greys_at, stored_next};
-    ghost use Rattle.control_rows.specs.Waits.{WaitsAt};
+    ghost use Rattle.collector_rows.specs.ControlRows.{is_gone, control_place, control_access, control_next, control_says, takes_hint, hinted_by, control_hinted, greys_at, stored_next};
+    ghost use Rattle.collector_rows.specs.ControlWaits.{WaitsAt};
     ghost use Rattle.cycle_pauses.specs.Collect.{collect_image};
     ghost use Rattle.control.specs.Fit.{IsFit};
     ghost use Rattle.control.specs.Image.{image_from, is_storing, is_inside_image, IsLoadedFrom};

@@ -4,11 +4,11 @@ ghost use Rattle.std.specs.Prelude.{ℕ, ◌≡◌, ◌≢◌, ◌+◌, ◌<◌,
 ghost use Rattle.heap_words.specs.Words.{Phase, Cset, image_start, table_words};
 ghost use Rattle.heap_world.specs.Change.{image_view, image_words};
 ghost use Rattle.image_graph.specs.State.{config_of, memory_of};
-ghost use Rattle.control_rows.specs.declared.extent.Extent.TheVariants.{Whole};
-ghost use Rattle.control_rows.specs.declared.spot.ControlSpot.TheVariants.{LoadWord};
-ghost use Rattle.control_rows.specs.Extent.{is_of_extent, extent_after};
-ghost use Rattle.control_rows.specs.Ready.{is_ready};
-ghost use Rattle.control_rows.specs.Rows.{after_load, stored_next, next_spot, next_image, seen_after, next_seen, next_phase, next_set};
+ghost use Rattle.collector_rows.specs.declared.extent.Extent.TheVariants.{Whole};
+ghost use Rattle.collector_rows.specs.declared.control_spot.ControlSpot.TheVariants.{LoadWord};
+ghost use Rattle.collector_rows.specs.Extent.{is_of_extent, extent_after};
+ghost use Rattle.collector_rows.specs.ControlReady.{is_ready};
+ghost use Rattle.collector_rows.specs.ControlRows.{after_load, stored_next, next_spot, next_image, seen_after, next_seen, next_phase, next_set};
 ghost use Rattle.cycle_pauses.specs.Collect.{collect_image, CanPauseSome};
 ghost use Rattle.control.specs.Clear.{IsClear};
 ghost use Rattle.control.specs.Fit.{CanCollectPart, fits_with};
@@ -17,7 +17,7 @@ ghost use Rattle.control.specs.Starts.{AreHeapIndices};
 
 use crate::collect::{collect, collect_by_part};
 use crate::starts::{clear_starts, starts_in};
-use control_rows::{ControlSpot, Extent, LastPause, image_words};
+use collector_rows::{ControlSpot, Extent, LastPause, image_words};
 use heap_words::phase::IDLE;
 use image_graph::Image;
 

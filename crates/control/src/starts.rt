@@ -2,18 +2,18 @@
 
 ghost use Rattle.std.specs.Prelude.{ℕ, ◌≡◌, ◌≢◌, ◌<◌, if◌then◌else◌, slice_index};
 ghost use Rattle.image_graph.specs.SeatBuffers.{IsInside, AreInside};
-ghost use Rattle.heap_graph.specs.Walk.{has};
+ghost use Rattle.heap_world.specs.Walk.{has};
 ghost use Rattle.heap_world.specs.Change.{image_words};
 ghost use Rattle.image_graph.specs.State.{config_of, memory_of};
-ghost use Rattle.control_rows.specs.Extent as extents;
-ghost use Rattle.control_rows.specs.Extent.{next_stored};
+ghost use Rattle.collector_rows.specs.Extent as extents;
+ghost use Rattle.collector_rows.specs.Extent.{next_stored};
 ghost use Rattle.control.specs.Clear.{IsClear};
 ghost use Rattle.control.specs.Image.{image_in, image_shown};
 ghost use Rattle.control.specs.Starts as starts;
 ghost use Rattle.control.specs.Starts.{AreStarts, IsHeapIndex, AreHeapIndices};
 
 use crate::pause::put_word;
-use control_rows::Extent;
+use collector_rows::Extent;
 use heap_words::{Config, end_of, next_of};
 use image_graph::Image;
 

@@ -9,7 +9,7 @@ pub mod full_laws;
 pub mod marking_laws;
 pub mod updating_laws;
 
-ghost use Rattle.control_rows.specs.ByParts.{PausesByParts};
+ghost use Rattle.collector_rows.specs.ByParts.{PausesByParts};
 ghost use Rattle.cycle_pauses.specs.Brief.{CollectsByPart};
 ghost use Rattle.cycle_pauses.specs.Collect.{collect_image};
 ghost use Rattle.cycle_pauses.specs.Laws.{EndedIsPaused, SetIsFreedFirst, RepresentingCanCollect, EndedCanBegin, RunningCanEnd, ImageIsCollected, TableIsCollected, CollectIsPause};

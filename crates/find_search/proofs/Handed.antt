@@ -14,9 +14,9 @@ use Rattle.shen_graph.specs.Work.{Progress, HasScript, progress_of, script_in, r
 use Rattle.shen_graph.proofs.Parts.{progress_of-opened}
 use Rattle.step_core.specs.Machines.{made_of_machine, at_hand_of, is_resting, takes_of}
 use Rattle.shen_core.specs.declared.plain.Plain.{Plain}
-use Rattle.control_rows.specs.Rows.{is_gone}
-use Rattle.control_rows.specs.declared.spot.ControlSpot.{ControlSpot}
-use Rattle.control_rows.specs.declared.spot.ControlSpot.TheVariants.{StoreWord}
+use Rattle.collector_rows.specs.ControlRows.{is_gone}
+use Rattle.collector_rows.specs.declared.control_spot.ControlSpot.{ControlSpot}
+use Rattle.collector_rows.specs.declared.control_spot.ControlSpot.TheVariants.{StoreWord}
 use Rattle.shen_graph.specs.declared.order.Order.TheVariants.{Nothing}
 use Rattle.step_core.specs.Actor.{Machine, mutating, helping, controlling}
 use Rattle.step_core.specs.Settled.{image_read, stored_image}

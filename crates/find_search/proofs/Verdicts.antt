@@ -4,7 +4,7 @@ use Rattle.heap_words.specs.declared.config.Config.{Config}
 use Rattle.heap_words.specs.declared.schedule.Item.{Item}
 use Rattle.shen_graph.specs.GraphText.{Text}
 use Rattle.shen_graph.specs.History.{Entry, after}
-use Rattle.heap_graph.specs.Shows.{ShowsGraph}
+use Rattle.heap_world.specs.Shows.{ShowsGraph}
 use Rattle.step_core.specs.Begins.{first_graph}
 use Rattle.step_core.specs.Schedule.{Scripts}
 use Rattle.trace_reading.specs.Grammar.{Reads, most_bytes}

@@ -5,7 +5,7 @@ use Rattle.std.proofs.lemmas.Bool.{cond-true, cond-false, cases_Bool, ne_eqb}
 use Rattle.heap_words.specs.declared.config.Config.{Config}
 use Rattle.heap_words.specs.Words.{Word, Heap, IsWord}
 use Rattle.heap_words.specs.Encoding.{refs_in, object_words}
-use Rattle.heap_graph.specs.Walk.{has, with_address, with_addresses}
+use Rattle.heap_world.specs.Walk.{has, with_address, with_addresses}
 use Rattle.image_graph.specs.Plot.{heap_end}
 use Rattle.image_graph.specs.Full.{now_in, held_in, kept_in, copies_of}
 use Rattle.image_graph.specs.declared.image.Image.{Image}

@@ -6,8 +6,8 @@ use Rattle.std.proofs.lemmas.List.{map-append}
 use Rattle.std.proofs.lemmas.List.FromFn.{map-range_with_len_more}
 use Rattle.heap_words.specs.declared.config.Config.{Config}
 use Rattle.heap_words.specs.Words.{Word, Root, Answer, Pin, heap_size}
-use Rattle.heap_graph.specs.Walk.{with_address, with_addresses}
-use Rattle.heap_graph.proofs.Marks.{with_addresses-push}
+use Rattle.heap_world.specs.Walk.{with_address, with_addresses}
+use Rattle.heap_world.proofs.Marks.{with_addresses-push}
 use Rattle.image_graph.specs.Full.{copies_of, roots_below, answers_below, root_words, held_words, field_words, held_in}
 use Rattle.image_graph.specs.Pinned.{pins_below}
 use Rattle.image_graph.proofs.FoundInTurn.{noted_both}

@@ -10,7 +10,7 @@ use Rattle.heap_words.specs.Words.{Word, Pause, Left, End, State, Phase, Cset, F
 use Rattle.heap_words.specs.Encoding.{refs_in, object_words, is_forwarded, forwardee_in}
 use Rattle.heap_words.proofs.Bounds.{heap_size_le}
 use Rattle.heap_words.proofs.Stores.{is_word_true, view_word, view_none}
-use Rattle.heap_graph.specs.Walk.{has, IsMarked}
+use Rattle.heap_world.specs.Walk.{has, IsMarked}
 use Rattle.regions.specs.Places.{open_kept, new_place, LieApart}
 use Rattle.regions.specs.Tops.{top_before, words_in}
 use Rattle.regions.proofs.Placed.{covering, is_open, stays_above, places_apart}

@@ -6,7 +6,7 @@ use Rattle.std.proofs.lemmas.Nat.{div-add-mod', mod_below}
 use Rattle.heap_words.specs.declared.config.Config.{Config}
 use Rattle.heap_words.specs.Words.{Word, Top, Heap}
 use Rattle.heap_words.specs.Encoding.{plain_header, filler_header, object_words}
-use Rattle.heap_graph.specs.Walk.{has}
+use Rattle.heap_world.specs.Walk.{has}
 use Rattle.regions.specs.Place.{base_of, region_with}
 use Rattle.regions.specs.Walk.{is_filler, start_of, stride_at}
 use Rattle.regions.proofs.PlaceLemmas.{regions_tile}

@@ -3,7 +3,7 @@
 ghost use Rattle.std.specs.Prelude.{ℕ, ◌≡◌, ◌+◌, ◌<◌, ◌≤◌, map};
 ghost use Rattle.std.specs.List.{range_with_len};
 ghost use Rattle.heap_words.specs.Words.{Root, Answer, Pin};
-ghost use Rattle.heap_graph.specs.Walk.{with_address, with_addresses};
+ghost use Rattle.heap_world.specs.Walk.{with_address, with_addresses};
 ghost use Rattle.image_graph.specs.Full.{copies_of, roots_below, answers_below, field_words, held_in, kept_in};
 ghost use Rattle.image_graph.specs.Pinned.{pins_below};
 ghost use Rattle.image_graph.specs.State.{config_of, memory_of, found_of, AreFound, IsUnchanged};

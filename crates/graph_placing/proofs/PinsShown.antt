@@ -4,7 +4,7 @@ use Rattle.shen_graph.specs.declared.pin.Pinned.{Pinned}
 use Rattle.shen_graph.specs.Graph.{Graph, Reference}
 use Rattle.shen_graph.specs.GraphText.{Text, pin_of}
 use Rattle.shen_graph.specs.Step.{name_in}
-use Rattle.heap_graph.specs.Shows.{ShowsGraph}
+use Rattle.heap_world.specs.Shows.{ShowsGraph}
 use Rattle.graph_placing.specs.Renewed.{PinsNothing, HoldsNothing}
 use Rattle.graph_placing.proofs.TextShown.{shown_pin}
 

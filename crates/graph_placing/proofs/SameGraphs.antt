@@ -11,7 +11,7 @@ use Rattle.shen_graph.specs.PlainGraph.{object_in, graph_of}
 use Rattle.shen_graph.specs.Reach.{IsReachable}
 use Rattle.shen_graph.proofs.PlainLemmas.{same_name-true}
 use Rattle.heap_world.specs.World.{IsGiven}
-use Rattle.heap_graph.specs.Shows.{ShowsGraph}
+use Rattle.heap_world.specs.Shows.{ShowsGraph}
 use Rattle.graph_placing.specs.ByName.{Fits}
 use Rattle.graph_placing.specs.PlaceableText.{IsPlaceable}
 use Rattle.graph_placing.specs.TextGraph.{row_object, text_graph, AreGiven, IsGraphOf}

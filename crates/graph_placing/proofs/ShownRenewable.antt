@@ -13,7 +13,7 @@ use Rattle.shen_graph.specs.Graph.{Graph, Object, Reference, hub}
 use Rattle.shen_graph.specs.GraphText.{Text, Row, row_of, bare, names_of, root_of}
 use Rattle.shen_graph.specs.PlainGraph.{object_in, graph_of}
 use Rattle.shen_graph.specs.Reach.{IsReachable, from_root, from_field}
-use Rattle.heap_graph.specs.Shows.{ShowsGraph}
+use Rattle.heap_world.specs.Shows.{ShowsGraph}
 use Rattle.graph_placing.specs.PlaceableText.{IsShort, IsPlaceable}
 use Rattle.graph_placing.specs.TextGraph.{row_object, text_graph}
 use Rattle.graph_placing.proofs.TextGraphs.{has_object}

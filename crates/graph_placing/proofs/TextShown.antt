@@ -7,7 +7,7 @@ use Rattle.std.proofs.lemmas.List.FromFn.{get_or-map-range_with_len}
 use Rattle.shen_graph.specs.Graph.{Graph, Reference, hub}
 use Rattle.shen_graph.specs.GraphText.{Text, Row, row_of, row_in, bare, names_of, root_of, pin_of}
 use Rattle.shen_graph.specs.Step.{name_in}
-use Rattle.heap_graph.specs.Shows.{ShowsGraph}
+use Rattle.heap_world.specs.Shows.{ShowsGraph}
 use Rattle.graph_placing.proofs.Searching.{names_count, name_of_row}
 
 -- each row has a name of the text

@@ -3,7 +3,7 @@ use Rattle.std.specs.Prelude.{ℕ, ◌≡◌, ◌≤◌, ◌<◌, List, length, 
 use Rattle.heap_words.specs.declared.config.Config.{Config}
 use Rattle.shen_graph.specs.Graph.{Graph}
 use Rattle.shen_graph.specs.GraphText.{Text, pin_of}
-use Rattle.heap_graph.specs.Shows.{ShowsGraph}
+use Rattle.heap_world.specs.Shows.{ShowsGraph}
 use Rattle.graph_placing.specs.ByName.{Fits}
 use Rattle.image_graph.specs.declared.image.Image.{Image}
 use Rattle.graph_placing.specs.declared.renewing.Renewed.{Renewed}

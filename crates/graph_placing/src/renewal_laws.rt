@@ -2,7 +2,7 @@
 
 ghost use Rattle.std.specs.Prelude.{ℕ, List};
 ghost use Rattle.heap_words.specs.declared.config.Config.{Config};
-ghost use Rattle.heap_graph.specs.Shows.{ShowsGraph};
+ghost use Rattle.heap_world.specs.Shows.{ShowsGraph};
 ghost use Rattle.shen_graph.specs.declared.name.Name.{Name};
 ghost use Rattle.shen_graph.specs.Graph.{Graph};
 ghost use Rattle.shen_graph.specs.GraphText.{Text, names_of};

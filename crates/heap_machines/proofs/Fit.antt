@@ -3,11 +3,11 @@ use Rattle.std.proofs.Common.{ℕ, List}
 use Rattle.std.proofs.Math.Logic.{∥∥₁_elim}
 use Rattle.heap_words.specs.declared.config.Config.{Config}
 use Rattle.heap_world.specs.Change.{image_view}
-use Rattle.control_rows.specs.Extent.{extent_after}
-use Rattle.control_rows.specs.declared.spot.ControlSpot.{ControlSpot}
-use Rattle.control_rows.specs.declared.spot.ControlSpot.TheVariants.{LoadWord}
-use Rattle.control_rows.specs.Ready.{UnitGoesOn}
-use Rattle.control_rows.specs.Rows.{loaded_all}
+use Rattle.collector_rows.specs.Extent.{extent_after}
+use Rattle.collector_rows.specs.declared.control_spot.ControlSpot.{ControlSpot}
+use Rattle.collector_rows.specs.declared.control_spot.ControlSpot.TheVariants.{LoadWord}
+use Rattle.collector_rows.specs.ControlReady.{UnitGoesOn}
+use Rattle.collector_rows.specs.ControlRows.{loaded_all}
 use Rattle.control.specs.Fit.{fits_with}
 use Rattle.control.proofs.Fitting.{part_of_some_can, can_collect_prop}
 use Rattle.step_core.specs.Fit.{IsWholeImage}

@@ -3,9 +3,9 @@ use Rattle.std.proofs.Common.{◌≡◌, ℕ, Bool, true, false, Option, Some, N
 use Rattle.std.specs.Prelude.{◌&&◌, if◌then◌else◌}
 use Rattle.heap_words.specs.declared.config.Config.{Config}
 use Rattle.shen_graph.specs.Order.{hint_in, hinting}
-use Rattle.helper.specs.Rows.{Helping, help_hinted}
-use Rattle.control_rows.specs.Rows.{Controlling, control_hinted}
-use Rattle.control_rows.proofs.Hinted.{by_unit}
+use Rattle.collector_rows.specs.HelperRows.{Helping, help_hinted}
+use Rattle.collector_rows.specs.ControlRows.{Controlling, control_hinted}
+use Rattle.collector_rows.proofs.ControlHinted.{by_unit}
 use Rattle.step_core.specs.Fit.{IsWholeImage}
 use Rattle.step_core.specs.Machines.{helping_by, controlling_by}
 

@@ -7,9 +7,9 @@ use Rattle.heap_words.specs.Access.{table_index}
 use Rattle.heap_words.specs.Words.{Pause, word_at, image_start}
 use Rattle.shen_graph.specs.declared.command.Command.{Command}
 use Rattle.shen_graph.specs.declared.order.Order.TheVariants.{Nothing}
-use Rattle.control_rows.specs.declared.extent.Extent.TheVariants.{Whole}
-use Rattle.control_rows.specs.declared.spot.ControlSpot.{ControlSpot}
-use Rattle.control_rows.specs.declared.spot.ControlSpot.TheVariants.{LoadWord, StoreWord}
+use Rattle.collector_rows.specs.declared.extent.Extent.TheVariants.{Whole}
+use Rattle.collector_rows.specs.declared.control_spot.ControlSpot.{ControlSpot}
+use Rattle.collector_rows.specs.declared.control_spot.ControlSpot.TheVariants.{LoadWord, StoreWord}
 use Rattle.control.specs.Image as controls
 use Rattle.step_core.specs.Actor.{Machine, controlling, mutating, helping}
 use Rattle.step_core.specs.Machines.{order_for, takes_of, plan_of, greys_of, answer_of}

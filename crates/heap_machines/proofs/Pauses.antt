@@ -1,5 +1,5 @@
 -- What pauses of the heap do is what a pause owes, and goes by parts.
-use Rattle.control_rows.specs.ByParts.{PausesByParts}
+use Rattle.collector_rows.specs.ByParts.{PausesByParts}
 use Rattle.control.proofs.Fitting.{collect_pauses_by_parts}
 use Rattle.heap_machines.specs.Pause.{pause_image}
 

@@ -18,15 +18,15 @@ use Rattle.mutator.specs.Orders.{is_between_calls}
 use Rattle.mutator.specs.Rows.{Mutating}
 use Rattle.heap_world.specs.World.{World, Shared, name_at, Points}
 use Rattle.heap_world.specs.Change.{image_words}
-use Rattle.control_rows.specs.declared.spot.ControlSpot.{ControlSpot}
-use Rattle.control_rows.specs.declared.spot.ControlSpot.TheVariants.{LoadWord, StoreWord}
-use Rattle.control_rows.specs.Ready.{is_ready}
-use Rattle.control_rows.specs.Extent.{is_of_extent}
+use Rattle.collector_rows.specs.declared.control_spot.ControlSpot.{ControlSpot}
+use Rattle.collector_rows.specs.declared.control_spot.ControlSpot.TheVariants.{LoadWord, StoreWord}
+use Rattle.collector_rows.specs.ControlReady.{is_ready}
+use Rattle.collector_rows.specs.Extent.{is_of_extent}
 use Rattle.control.specs.Image.{image_from, part_in, IsLoadedFrom}
 use Rattle.control.proofs.PartShown.{part_long, part_reads}
 use Rattle.heap_machines.specs.Roles.{CanShow}
-use Rattle.heap_graph.specs.Shows.{WordsStand}
-use Rattle.heap_graph.proofs.Tables.{table_stands}
+use Rattle.heap_world.specs.Shows.{WordsStand}
+use Rattle.heap_world.proofs.Tables.{table_stands}
 use Rattle.step_core.specs.Actor.{Machine, mutating, Actor, entries_of}
 use Rattle.step_core.specs.Own.{root_now}
 use Rattle.step_core.specs.Machines.{is_resting}

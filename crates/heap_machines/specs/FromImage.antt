@@ -8,7 +8,7 @@ use Rattle.heap_words.specs.Steps.{Stage}
 use Rattle.shen_graph.specs.declared.command.Command.TheVariants.{Gc}
 use Rattle.shen_graph.specs.Graph.{Graph}
 use Rattle.mutator.specs.Rows.{mutator_after}
-use Rattle.control_rows.specs.declared.spot.ControlSpot.TheVariants.{LookLeft}
+use Rattle.collector_rows.specs.declared.control_spot.ControlSpot.TheVariants.{LookLeft}
 use Rattle.heap_world.specs.Asking.{nothing}
 use Rattle.heap_world.specs.Represents.{Represents}
 use Rattle.step_core.specs.Actor.{Machine, mutating, fresh_helper, controlling, Actor}

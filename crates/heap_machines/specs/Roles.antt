@@ -2,7 +2,7 @@
 use Rattle.std.specs.Prelude.{ℕ, List, Option, Some, None}
 use Rattle.heap_words.specs.declared.config.Config.{Config}
 use Rattle.control.specs.Image.{IsLoadedFrom}
-use Rattle.control_rows.specs.Rows.{Controlling}
+use Rattle.collector_rows.specs.ControlRows.{Controlling}
 use Rattle.step_core.specs.Actor.{Machine}
 use Rattle.step_core.specs.Machines.{control_in}
 pub use Rattle.step_core.specs.Machines.{is_mutating, reply_of_step}

@@ -8,8 +8,8 @@ use Rattle.heap_words.specs.Rows.{name_of}
 use Rattle.shen_graph.specs.declared.command.Command.{Command}
 use Rattle.shen_graph.specs.declared.command.Reply.{Reply}
 use Rattle.mutator.specs.Told.{told_of}
-use Rattle.control_rows.specs.declared.spot.ControlSpot.{ControlSpot}
-use Rattle.control_rows.specs.declared.spot.ControlSpot.TheVariants.{StoreWord}
+use Rattle.collector_rows.specs.declared.control_spot.ControlSpot.{ControlSpot}
+use Rattle.collector_rows.specs.declared.control_spot.ControlSpot.TheVariants.{StoreWord}
 use Rattle.step_core.specs.Actor.{Machine, mutating, controlling}
 
 -- of a mutator, the reply of its call in progress

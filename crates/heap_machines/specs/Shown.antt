@@ -5,7 +5,7 @@ use Rattle.heap_words.specs.declared.config.Config.{Config}
 use Rattle.shen_graph.specs.declared.order.Order.{Order}
 use Rattle.shen_graph.specs.Order.{hinting}
 use Rattle.mutator.specs.Seen as seen
-use Rattle.helper.specs.Seen as helpers
+use Rattle.collector_rows.specs.Seen as helpers
 use Rattle.control.specs.Seen as controls
 use Rattle.step_core.specs.Actor as actors
 use Rattle.step_core.specs.Machines.{takes_of}

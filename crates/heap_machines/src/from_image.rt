@@ -10,9 +10,9 @@ ghost use Rattle.heap_machines.specs.Shown.{shown, order_of, heap_of};
 ghost use Rattle.heap_machines.specs.FromImage.{machine_from};
 
 use crate::machine::Machine;
+use collector_rows::Helper;
 use control::Control;
 use heap_words::{Config, NoMemory};
-use helper::Helper;
 use image_graph::Image;
 use mutator::Mutator;
 use std::alloc::Global;

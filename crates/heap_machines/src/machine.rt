@@ -6,9 +6,9 @@ ghost use Rattle.shen_graph.specs.Order.{hinting};
 ghost use Rattle.heap_machines.specs.Turn.{first_place_of};
 
 use crate::refusal::refused;
+use collector_rows::Helper;
 use control::Control;
 use heap_words::{Access, Config, NoMemory, Place, Took};
-use helper::Helper;
 use image_graph::Image;
 use mutator::Mutator;
 use shen_graph::{Command, GraphText, Order, Reply};

@@ -11,7 +11,7 @@ use Rattle.shen_graph.specs.GraphText.{Text, names_of}
 use Rattle.shen_graph.specs.History.{Entry}
 use Rattle.shen_graph.specs.Valid as ranges
 use Rattle.shen_graph.proofs.ValidLemmas.{is_valid-Decides}
-use Rattle.heap_graph.specs.Shows.{ShowsGraph}
+use Rattle.heap_world.specs.Shows.{ShowsGraph}
 use Rattle.heap_words.specs.Steps.{Stage, Event}
 use Rattle.heap_machines.specs.Pause.{pause_image}
 use Rattle.heap_machines.proofs.Pauses.{heap_pauses}

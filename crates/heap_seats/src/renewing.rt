@@ -1,7 +1,7 @@
 ghost use Rattle.std.specs.Prelude.{ℕ, ◌≡◌, ◌<◌, ◌≤◌, length, slice_index, IfOk, IfErr, IfSome};
 ghost use Rattle.shen_graph.specs.Graph.{Graph};
 ghost use Rattle.shen_graph.specs.GraphText.{names_of};
-ghost use Rattle.heap_graph.specs.Shows.{ShowsGraph};
+ghost use Rattle.heap_world.specs.Shows.{ShowsGraph};
 ghost use Rattle.step_core.specs.AtRest.{IsAtRest};
 ghost use Rattle.step_core.specs.Machines.{made_of_machine};
 ghost use Rattle.graph_placing.specs.PlaceableText.{IsPlaceable};

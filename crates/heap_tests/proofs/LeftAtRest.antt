@@ -14,7 +14,7 @@ use Rattle.mutator.specs.declared.spot.Spot.TheVariants.{Rest, Ended, Gone}
 use Rattle.mutator.specs.Orders.{is_between_calls}
 use Rattle.mutator.specs.Rows.{fresh_mutator}
 use Rattle.handshake.specs.Standing.{is_within}
-use Rattle.control_rows.specs.Rows.{Controlling}
+use Rattle.collector_rows.specs.ControlRows.{Controlling}
 use Rattle.heap_world.specs.Asking.{Asking, nothing, IsAsked}
 use Rattle.heap_world.specs.Change.{Answers}
 use Rattle.heap_world.specs.Represents.{Represents}

@@ -27,3 +27,14 @@ pub mod Objects
 pub mod NewObject
 pub mod SharedOut
 pub mod RootChanges
+pub mod Marks
+pub mod CopyRows
+pub mod Walks
+pub mod ObjectRows
+pub mod Texts
+pub mod CellRows
+pub mod Sizes
+pub mod Standing
+pub mod Shown
+pub mod Merely
+pub mod Tables

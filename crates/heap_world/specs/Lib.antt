@@ -7,3 +7,7 @@ pub mod Asking
 pub mod Represents
 pub mod Change
 pub mod Regions
+pub mod Stands
+pub mod Walk
+pub mod Rows
+pub mod Shows

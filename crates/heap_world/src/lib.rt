@@ -1,13 +1,12 @@
 //! What it means that the words of a heap stand for a graph: pieces of regions, the facts that all machines share, what
-//! machines rely on, and the moves that several of their steps make.
+//! machines rely on, and the moves that several of their steps make; and that graph itself, by the current copies of its objects.
 #![tactic(auto)]
 
-ghost use Rattle.heap_words.specs.declared.config.Config.{Config};
-ghost use Rattle.heap_world.specs.World.{World, Shared};
-ghost use Rattle.heap_world.specs.Regions.{AreSharedOut};
+pub mod graph_laws;
+pub mod region_laws;
+mod rows;
+mod walk;
+mod write;
 
-/// A law: where words stand for a graph, as they do after every list of steps of the heap's machines, the room of two machines
-/// (in hand, the free words of a buffer, or carved for one) is apart, and no room lies in a free region or in the collection set.
-pub fn regions_are_shared_out()
-    ensures { (c : Config) (w : World) → Shared c w → AreSharedOut c w }
-{}
+pub use walk::{forget, take_down};
+pub use write::write_graph;

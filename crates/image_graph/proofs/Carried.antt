@@ -7,7 +7,7 @@ use Rattle.heap_words.specs.Words.{Word, Cset, Free, Top, Current, Root, Wait, A
 use Rattle.heap_words.specs.Encoding.{plain_header, is_forwarded, forwardee_in, refs_in, nums_in, shape_word, request_count_in, request_shape_in}
 use Rattle.shen_graph.specs.declared.name.Name.{Name}
 use Rattle.shen_graph.specs.Graph.{Graph, Object, Reference}
-use Rattle.heap_graph.specs.Walk.{has}
+use Rattle.heap_world.specs.Walk.{has}
 use Rattle.heap_world.specs.World.{thing, Plot, name_at, Points, IsPlotted, IsFilled, IsThing, IsFreeWord, ShareIsOpen, AreBuffers}
 use Rattle.heap_world.proofs.Pointing.{named_piece, named_if_not_0, piece_inside}
 use Rattle.image_graph.specs.Held.{IsLedTo, from_root, from_field, IsAmong, IsCopy, HoldsGraph}

@@ -10,7 +10,7 @@ use Rattle.heap_words.specs.Encoding.{filler_header, object_words, is_forwarded}
 use Rattle.regions.specs.Place.{base_of, region_with}
 use Rattle.regions.specs.Walk.{is_filler, stride, stride_at, start_of}
 use Rattle.regions.proofs.PlaceLemmas.{regions_tile}
-use Rattle.heap_graph.specs.Walk.{has}
+use Rattle.heap_world.specs.Walk.{has}
 use Rattle.image_graph.specs.Pinned.{object_of, is_in_use, begins, filled_in, is_filled_from, CanFill}
 use Rattle.image_graph.specs.declared.leftovers.Leftover.{Leftover}
 use Rattle.image_graph.specs.declared.leftovers.Leftover.TheVariants.{Moved, NotFound}

@@ -1,7 +1,7 @@
 -- What is found in turns, each of which takes the next address of a list and adds its fields.
 use Rattle.std.proofs.Common.{◌≡◌, ℕ, ◌+◌, ◌-◌, ◌≤◌, zero, suc, List, [], ◌∷◌, ◌++◌, length, slice_get, Option, Some, None, refl, sym, ap, ◌∙◌, arith}
-use Rattle.heap_graph.specs.Walk.{with_addresses}
-use Rattle.heap_graph.proofs.Marks.{with_addresses-append}
+use Rattle.heap_world.specs.Walk.{with_addresses}
+use Rattle.heap_world.proofs.Marks.{with_addresses-append}
 use Rattle.image_graph.specs.Held.{with_fields, found_in}
 
 -- one list after another

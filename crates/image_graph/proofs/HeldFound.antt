@@ -9,8 +9,8 @@ use Rattle.std.proofs.lemmas.List.FromFn.{length-range_with_len}
 use Rattle.std.proofs.lemmas.Map.Keys.{IsDistinct-push, IsDistinct-from_apart}
 use Rattle.std.proofs.lemmas.Map.Made.{length-le_from_is_member}
 use Rattle.std.proofs.lemmas.Option.{slice_get_within, none-some, same_Some}
-use Rattle.heap_graph.specs.Walk.{has, with_address, with_addresses}
-use Rattle.heap_graph.proofs.Marks.{has-range, kept, new, only, prefix}
+use Rattle.heap_world.specs.Walk.{has, with_address, with_addresses}
+use Rattle.heap_world.proofs.Marks.{has-range, kept, new, only, prefix}
 use Rattle.image_graph.specs.Held.{with_fields, found_in}
 
 -- one step of the recursion

@@ -13,7 +13,7 @@ use Rattle.shen_graph.specs.Graph.{Graph, Object, Reference, named, fresh}
 use Rattle.shen_graph.specs.Reach.{IsReachable}
 use Rattle.shen_graph.specs.Reach as reach
 use Rattle.shen_graph.specs.Step.{name_in}
-use Rattle.heap_graph.specs.Walk.{has}
+use Rattle.heap_world.specs.Walk.{has}
 use Rattle.heap_world.specs.World.{Block, thing, filler, room_of, words_of, Plot, name_at, IsPlotted, IsFilled, IsFreeWord, ShareIsOpen, AreBuffers}
 use Rattle.heap_world.proofs.Pointing.{named_if_not_0}
 use Rattle.heap_world.proofs.Joined as joined

@@ -9,7 +9,7 @@ use Rattle.heap_words.proofs.Bounds.{heap_size_le}
 use Rattle.heap_words.proofs.Rows.{word_inside}
 use Rattle.regions.specs.Place.{base_of, region_with}
 use Rattle.regions.proofs.PlaceLemmas.{regions_tile}
-use Rattle.heap_graph.specs.Walk.{has}
+use Rattle.heap_world.specs.Walk.{has}
 use Rattle.image_graph.specs.Laid.{laid_words, used_end, LiesRight}
 
 -- what was read at the place of a word is the word

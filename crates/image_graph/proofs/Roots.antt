@@ -7,8 +7,8 @@ use Rattle.std.proofs.lemmas.List.Folds.{list_any-append}
 use Rattle.heap_words.specs.declared.config.Config.{Config}
 use Rattle.heap_words.specs.Words.{Word, Root, Answer, Pin, Heap}
 use Rattle.heap_words.specs.Encoding.{is_forwarded}
-use Rattle.heap_graph.specs.Walk.{has}
-use Rattle.heap_graph.proofs.Marks.{has-range, has-left, has-right}
+use Rattle.heap_world.specs.Walk.{has}
+use Rattle.heap_world.proofs.Marks.{has-range, has-left, has-right}
 use Rattle.shen_graph.specs.declared.name.Name.{Name}
 use Rattle.shen_graph.specs.declared.pin.Pinned.{Pinned}
 use Rattle.shen_graph.specs.Graph.{Graph, Reference}

@@ -7,7 +7,7 @@ use Rattle.heap_words.specs.Words.{image_start, heap_size, heap_start, roots_sta
 use Rattle.shen_graph.specs.declared.name.Name.{Name}
 use Rattle.shen_graph.specs.Graph.{Graph}
 use Rattle.shen_graph.specs.GraphText.{Text}
-use Rattle.heap_graph.specs.Shows.{WordsStand}
+use Rattle.heap_world.specs.Shows.{WordsStand}
 use Rattle.image_graph.specs.Left.{StandsForSome, ShowsTheGraph}
 
 drop_nothing : (n : ℕ) → drop {A = ℕ} n [] ≡ []

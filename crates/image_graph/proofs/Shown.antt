@@ -15,13 +15,13 @@ use Rattle.shen_graph.specs.Reach.{IsReachable}
 use Rattle.shen_graph.specs.Reach as reach
 use Rattle.heap_world.specs.Roots.{is_root_of, HasNoMore, is_slot_of, HasNoMorePins}
 use Rattle.heap_world.specs.World.{Block, thing, moved, Plot, name_at, Points, IsThing}
-use Rattle.heap_graph.specs.Walk.{has}
-use Rattle.heap_graph.specs.Shows.{WordsStand}
-use Rattle.heap_graph.specs.Stands.{HoldsPin}
+use Rattle.heap_world.specs.Walk.{has}
+use Rattle.heap_world.specs.Shows.{WordsStand}
+use Rattle.heap_world.specs.Stands.{HoldsPin}
 use Rattle.heap_world.specs.Objects.{IsObject}
 use Rattle.heap_world.proofs.Pointing.{named_thing}
 use Rattle.image_graph.proofs.ImagesStand.{own_copy}
-use Rattle.heap_graph.proofs.Tables.{AreCopies, copies_stand}
+use Rattle.heap_world.proofs.Tables.{AreCopies, copies_stand}
 use Rattle.image_graph.specs.Held.{IsLedTo, from_root, from_field, IsAmong, AreHeldKept}
 use Rattle.image_graph.specs.Full.{now_in, held_words, held_in, kept_in}
 use Rattle.image_graph.specs.Promised.{Promises, with_promised}

@@ -5,8 +5,8 @@ use Rattle.std.proofs.lemmas.Bool.{cond-true, cond-false, cases_Bool, cases_eq, 
 use Rattle.heap_words.specs.declared.config.Config.{Config}
 use Rattle.heap_words.specs.Words.{Word, Top, Heap}
 use Rattle.heap_words.specs.Encoding.{refs_in, object_words}
-use Rattle.heap_graph.specs.Walk.{has}
-use Rattle.heap_graph.proofs.Marks.{has-range}
+use Rattle.heap_world.specs.Walk.{has}
+use Rattle.heap_world.proofs.Marks.{has-range}
 use Rattle.shen_graph.specs.Graph.{Graph}
 use Rattle.heap_world.specs.World.{Plot, thing}
 use Rattle.heap_world.proofs.Pointing.{piece_inside}

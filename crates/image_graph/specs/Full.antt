@@ -14,7 +14,7 @@ use Rattle.regions.specs.Walk.{is_filler}
 use Rattle.regions.specs.ServedRooms.{lowest_room}
 use Rattle.regions.specs.Slide.{renewed, slid}
 use Rattle.image_graph.specs.LetGo.{let_go}
-use Rattle.heap_graph.specs.Walk.{has}
+use Rattle.heap_world.specs.Walk.{has}
 use Rattle.image_graph.specs.Held.{found_in}
 use Rattle.image_graph.specs.Pinned.{pins_below, set_of, is_row_pinned, begins}
 use Rattle.image_graph.specs.Plot.{heap_end, packed_top}

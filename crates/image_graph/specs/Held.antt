@@ -5,7 +5,7 @@ use Rattle.heap_words.specs.Encoding.{refs_in, object_words}
 use Rattle.shen_graph.specs.declared.name.Name.{Name}
 use Rattle.shen_graph.specs.declared.pin.Pinned.{Pinned}
 use Rattle.shen_graph.specs.Graph.{Graph, Object}
-use Rattle.heap_graph.specs.Walk.{has, with_addresses}
+use Rattle.heap_world.specs.Walk.{has, with_addresses}
 use Rattle.heap_world.specs.World.{Plot, thing, name_at, IsPlotted, IsThing}
 
 -- The addresses of the objects that some words lead to. `now` gives the address of an object's current copy.

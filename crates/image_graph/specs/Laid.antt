@@ -6,7 +6,7 @@ use Rattle.heap_words.specs.Words.{Word, Cset, Free, Top, Current, Root, Wait, A
 use Rattle.heap_words.specs.Encoding.{plain_header, refs_in, nums_in, object_words, shape_word, thread_in, count_in, request_count_in, request_shape_in}
 use Rattle.regions.specs.Place.{base_of, region_with}
 use Rattle.regions.specs.Sets.{IsIn}
-use Rattle.heap_graph.specs.Walk.{has}
+use Rattle.heap_world.specs.Walk.{has}
 use Rattle.heap_world.specs.World.{ShareIsOpen}
 
 -- how many words the object at an address has

@@ -8,7 +8,7 @@ use Rattle.image_graph.specs.Full.{asked_in}
 use Rattle.image_graph.specs.Served.{tops_at_turn}
 use Rattle.shen_graph.specs.Graph.{Graph}
 use Rattle.shen_graph.specs.GraphText.{Text}
-use Rattle.heap_graph.specs.Shows.{WordsStand, StandForSome, ShowsGraph}
+use Rattle.heap_world.specs.Shows.{WordsStand, StandForSome, ShowsGraph}
 use Rattle.heap_world.specs.World.{Plot}
 use Rattle.image_graph.specs.Promised.{Promises}
 use Rattle.image_graph.specs.Image.{ImageStands}

@@ -3,7 +3,7 @@ use Rattle.std.specs.Prelude.{ℕ, ◌&&◌, not, Bool, List}
 use Rattle.heap_words.specs.Words.{Word, Heap}
 use Rattle.heap_words.specs.Encoding.{is_forwarded}
 use Rattle.regions.specs.Walk.{is_filler}
-use Rattle.heap_graph.specs.Walk.{has}
+use Rattle.heap_world.specs.Walk.{has}
 use Rattle.image_graph.specs.declared.leftovers.Leftover.{Leftover}
 use Rattle.image_graph.specs.declared.leftovers.Leftover.TheVariants.{Moved, NotFound}
 

@@ -5,7 +5,7 @@ use Rattle.heap_words.specs.Words.{Word, Current, Share, view}
 use Rattle.heap_words.specs.Encoding.{end_in}
 use Rattle.regions.specs.Place.{IsOf}
 use Rattle.heap_words.specs.Ranges.{seat_count}
-use Rattle.heap_graph.specs.Walk.{IsMarked}
+use Rattle.heap_world.specs.Walk.{IsMarked}
 use Rattle.image_graph.specs.declared.image.Image.{Image}
 
 -- its heap

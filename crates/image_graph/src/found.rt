@@ -2,11 +2,11 @@
 
 ghost use Rattle.std.specs.Prelude.{◌≡◌, ◌≢◌, ◌+◌, ◌<◌, [], slice_get};
 ghost use Rattle.heap_words.specs.Words.{Heap, IsWord};
-ghost use Rattle.heap_graph.specs.Walk.{has, with_address};
+ghost use Rattle.heap_world.specs.Walk.{has, with_address};
 ghost use Rattle.image_graph.specs.State.{config_of, found_of, AreFound, IsUnchanged};
 
 use crate::image::Image;
-use heap_graph::{forget, take_down};
+use heap_world::{forget, take_down};
 
 impl Image {
     /// Forgets which objects were found. Takes time linear in these.

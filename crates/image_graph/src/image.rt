@@ -1,9 +1,9 @@
 ghost use Rattle.std.specs.Prelude.{◌≡◌, ◌≤◌, length, vec_capacity};
 ghost use Rattle.heap_words.specs.Words.{table_words, heap_size};
-ghost use Rattle.heap_graph.specs.Walk.{IsMarked};
+ghost use Rattle.heap_world.specs.Walk.{IsMarked};
 
-use heap_graph::write_graph;
 use heap_words::{Config, NoMemory, end_of, forwarded, forwardee, heap_in, pins_in, roots_in};
+use heap_world::write_graph;
 use regions::base;
 use shen_graph::GraphText;
 use std::alloc::Global;

@@ -3,7 +3,7 @@
 ghost use Rattle.std.specs.Prelude.{ℕ, ◌≡◌, ◌+◌, ◌*◌, ◌^◌, ◌<◌, ◌≤◌, IsTrue, length, slice_index};
 ghost use Rattle.heap_words.specs.Words.{Top, Heap, IsWord};
 ghost use Rattle.heap_words.specs.Encoding.{refs_in};
-ghost use Rattle.heap_graph.specs.Walk.{has};
+ghost use Rattle.heap_world.specs.Walk.{has};
 ghost use Rattle.image_graph.specs.State.{config_of, memory_of};
 ghost use Rattle.image_graph.specs.Laid.{laid_words, IsReference, LiesRight, IsNamedRight, IsShape, ReadsRight, AreInOrder};
 

@@ -1,5 +1,6 @@
 //! The line of a pause, and the words that it has changed.
 
+use crate::PauseForm;
 use crate::columns::{ACCESS, FOUND, PLACE};
 use crate::course::Listing;
 use crate::pen::Pen;
@@ -8,7 +9,6 @@ use listing::{
     Event, Pauses, Row, Table, json_access, json_key, json_number, json_pause, json_text,
     json_value, look_within, put_access, put_pause, put_value,
 };
-use listing_words::PauseForm;
 use shen_base::Sink;
 use std::ops::Range;
 

@@ -10,7 +10,7 @@ use Rattle.heap_words.specs.Words.{Word, Count, Grey, Black, Heap, bit_words, vi
 use Rattle.heap_words.specs.Encoding.{refs_in}
 use Rattle.heap_words.proofs.Stores.{view_none}
 use Rattle.shen_graph.specs.Graph.{Graph}
-use Rattle.heap_graph.specs.Walk.{has}
+use Rattle.heap_world.specs.Walk.{has}
 use Rattle.heap_world.specs.World.{Plot}
 use Rattle.image_graph.specs.Promised.{Promises}
 use Rattle.image_graph.proofs.Reached.{refs_read}

@@ -11,8 +11,8 @@ use Rattle.std.proofs.Math.Path.{fun_ext}
 use Rattle.heap_words.specs.declared.config.Config.{Config}
 use Rattle.heap_words.specs.Words.{Word, Grey, Black, write}
 use Rattle.regions.specs.Marks.{mark_word, mark_bit, mark_mask}
-use Rattle.heap_graph.specs.Walk.{has}
-use Rattle.heap_graph.proofs.Marks.{has-push}
+use Rattle.heap_world.specs.Walk.{has}
+use Rattle.heap_world.proofs.Marks.{has-push}
 use Rattle.cycle_words.specs.Marking.Marks.{mark_bits}
 use Rattle.cycle_words.proofs.Marking.Bits.{one, bits_at, bits_small}
 use Rattle.mark_core.specs.Steps.{greyed, marked}

@@ -2,7 +2,7 @@
 use Rattle.std.proofs.Common.{◌≡◌, ℕ, slice_get, Some, sym, subst, arith}
 use Rattle.heap_words.specs.declared.config.Config.{Config}
 use Rattle.heap_words.specs.Words.{Heap, IsWord}
-use Rattle.heap_graph.specs.Walk.{IsMarked}
+use Rattle.heap_world.specs.Walk.{IsMarked}
 use Rattle.image_graph.proofs.HeldFound.{has_at}
 use Rattle.image_graph.specs.declared.image.Image.{Image}
 use Rattle.image_graph.specs.State.{config_of, marks_of, found_of, AreFound}

@@ -14,8 +14,8 @@ use Rattle.image_graph.specs.Edge.{edge}
 use Rattle.image_graph.proofs.Elsewhere.{settled_same}
 use Rattle.image_graph.proofs.Edges.{edges_same, edge_zero}
 use Rattle.shen_graph.specs.Graph.{Graph}
-use Rattle.heap_graph.specs.Walk.{has, with_addresses}
-use Rattle.heap_graph.proofs.Marks as found
+use Rattle.heap_world.specs.Walk.{has, with_addresses}
+use Rattle.heap_world.proofs.Marks as found
 use Rattle.heap_world.specs.World.{Plot, thing}
 use Rattle.heap_world.proofs.Pointing.{piece_inside}
 use Rattle.image_graph.specs.Held.{IsAmong}

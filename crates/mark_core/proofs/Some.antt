@@ -3,7 +3,7 @@ use Rattle.std.proofs.Common.{ℕ, Bool}
 use Rattle.std.proofs.Math.Logic.{∥∥₁_map}
 use Rattle.heap_words.specs.declared.config.Config.{Config}
 use Rattle.heap_words.specs.Words.{Word}
-use Rattle.heap_graph.specs.Walk.{has}
+use Rattle.heap_world.specs.Walk.{has}
 use Rattle.image_graph.specs.Full.{held_in}
 use Rattle.image_graph.specs.Holds.{HoldsSome}
 use Rattle.image_graph.specs.Buffers.{settled_block}

@@ -3,7 +3,7 @@
 ghost use Rattle.std.specs.Prelude.{ℕ, ◌≡◌, ◌<◌, ◌≤◌, [], map};
 ghost use Rattle.std.specs.List.{range_with_len};
 ghost use Rattle.heap_words.specs.Words.{Cset, Root, Answer, Pin};
-ghost use Rattle.heap_graph.specs.Walk.{with_address, with_addresses};
+ghost use Rattle.heap_world.specs.Walk.{with_address, with_addresses};
 ghost use Rattle.image_graph.specs.Full.{roots_below, answers_below, held_words};
 ghost use Rattle.image_graph.specs.Pinned.{pins_below};
 ghost use Rattle.image_graph.specs.SeatBuffers.{AreInside};

@@ -3,7 +3,7 @@
 ghost use Rattle.std.specs.Prelude.{◌≡◌, ◌+◌, ◌≤◌, [], bit_or};
 ghost use Rattle.heap_words.specs.Words.{Grey, Black, Heap, IsWord, word_at, bit_words, table_words, write};
 ghost use Rattle.regions.specs.Marks as bits;
-ghost use Rattle.heap_graph.specs.Walk.{has};
+ghost use Rattle.heap_world.specs.Walk.{has};
 ghost use Rattle.image_graph.specs.State.{config_of, memory_of, found_of, marks_of, AreFound};
 ghost use Rattle.mark_core.specs.Steps.{greyed, marked};
 

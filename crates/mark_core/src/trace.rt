@@ -3,7 +3,7 @@
 ghost use Rattle.std.specs.Prelude.{ℕ, ◌≡◌, ◌+◌, ◌*◌, ◌<◌, map, true, false};
 ghost use Rattle.std.specs.List.{range_with_len};
 ghost use Rattle.heap_words.specs.Words.{Count, Buffer, Heap, IsWord, heap_size};
-ghost use Rattle.heap_graph.specs.Walk.{with_address, with_addresses};
+ghost use Rattle.heap_world.specs.Walk.{with_address, with_addresses};
 ghost use Rattle.image_graph.specs.Full.{field_words};
 ghost use Rattle.image_graph.specs.State.{config_of, memory_of, found_of, AreFound, IsUnchanged};
 ghost use Rattle.cycle_words.specs.Marking.Marks as marks;

@@ -12,8 +12,9 @@ use crate::list_status::Status;
 use crate::named::may_be_made;
 use heap_words::{Config, Schedule};
 use listing::Row;
-use listing_lines::{Listing, limit_of, write_head};
-use listing_words::{Asked, FORM, Needle, Refusal, Stranger, Wanted, asked_by};
+use listing_lines::{
+    Asked, FORM, Listing, Needle, Refusal, Stranger, Wanted, asked_by, limit_of, write_head,
+};
 use shen_base::{Sink, Source, write_all};
 use shen_core::{Plain, Ran, Seen, Walk};
 use shen_graph::{GraphText, Work};

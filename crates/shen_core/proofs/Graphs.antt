@@ -10,11 +10,11 @@ use Rattle.std.proofs.lemmas.Option.{slice_get-map, get_or_from_slice_get}
 use Rattle.heap_words.specs.declared.config.Config.{Config}
 use Rattle.heap_words.specs.Words.{heap_in, roots_in, pins_in}
 use Rattle.image_graph.specs.Left.{StandsForSome}
-use Rattle.heap_graph.specs.Shows.{WordsStand}
+use Rattle.heap_world.specs.Shows.{WordsStand}
 use Rattle.shen_graph.specs.declared.name.Name.{Name}
-use Rattle.control_rows.specs.declared.spot.ControlSpot.{ControlSpot}
-use Rattle.control_rows.specs.declared.spot.ControlSpot.TheVariants.{LoadWord, StoreWord}
-use Rattle.control_rows.specs.Rows.{Controlling}
+use Rattle.collector_rows.specs.declared.control_spot.ControlSpot.{ControlSpot}
+use Rattle.collector_rows.specs.declared.control_spot.ControlSpot.TheVariants.{LoadWord, StoreWord}
+use Rattle.collector_rows.specs.ControlRows.{Controlling}
 use Rattle.heap_machines.specs.Image.{image_from, part_in, IsLoadedFrom}
 use Rattle.heap_machines.specs.Roles.{CanShowBy, CanShow}
 use Rattle.heap_machines.proofs.RestedGraph as standing

@@ -28,11 +28,11 @@ use Rattle.mutator.specs.declared.spot.Spot.TheVariants.{Rest, Ended, Gone, Load
 use Rattle.mutator.specs.Orders.{is_between_calls, takes_commands, takes_at}
 use Rattle.mutator.specs.Rows.{Mutating, next_at, next_of}
 use Rattle.mutator.specs.Told.{told_at, told_of}
-use Rattle.helper.specs.Rows.{Helping}
-use Rattle.control_rows.specs.declared.spot.ControlSpot.{ControlSpot}
-use Rattle.control_rows.specs.Extent.{Counting}
-use Rattle.control_rows.specs.declared.spot.ControlSpot.TheVariants.{StoreWord}
-use Rattle.control_rows.specs.Rows.{Controlling}
+use Rattle.collector_rows.specs.HelperRows.{Helping}
+use Rattle.collector_rows.specs.declared.control_spot.ControlSpot.{ControlSpot}
+use Rattle.collector_rows.specs.Extent.{Counting}
+use Rattle.collector_rows.specs.declared.control_spot.ControlSpot.TheVariants.{StoreWord}
+use Rattle.collector_rows.specs.ControlRows.{Controlling}
 use Rattle.heap_machines.specs.Pause.{pause_image}
 use Rattle.heap_machines.proofs.Pauses.{heap_pauses}
 use Rattle.heap_machines.specs.Settles.{reply_settled, command_in, refused_word, refused_at, refused_by}

@@ -39,7 +39,7 @@ impl Plain {
     ghost use Rattle.image_graph.specs.State as images;
     ghost use Rattle.step_core.specs.Begins.{Begins, Run, ending, graph_after};
     ghost use Rattle.heap_machines.specs.FromImage.{CanBeginFrom, stage_from};
-    ghost use Rattle.heap_graph.specs.Shows as texts;
+    ghost use Rattle.heap_world.specs.Shows as texts;
     ghost use Rattle.shen_core.specs.State.{config_of, words_of, machines_of, orders_of, notes_of, order_at, seats_of, Shows, machine_at, has_turn, word_found_by, next_machine, IsStep, IsUnchanged, IsHalted};
     ghost use Rattle.heap_machines.specs.Answer.{says};
     ghost use Rattle.heap_machines.specs.Inside.{is_inside_image};

@@ -1,5 +1,5 @@
 ghost use Rattle.std.specs.Prelude.{◌≡◌, length, All, IfOk};
-ghost use Rattle.heap_graph.specs.Shows.{ShowsGraph};
+ghost use Rattle.heap_world.specs.Shows.{ShowsGraph};
 ghost use Rattle.heap_machines.specs.Pause.{pause_image};
 ghost use Rattle.step_core.specs.Begins.{Run, ending, graph_after};
 ghost use Rattle.shen_graph.specs.declared.order.Order.TheVariants.{Nothing};

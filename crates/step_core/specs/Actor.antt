@@ -6,10 +6,10 @@ use Rattle.shen_graph.specs.declared.order.Order.{Order}
 use Rattle.shen_graph.specs.declared.order.Order.TheVariants.{Nothing, Begin, End, Hint}
 use Rattle.shen_graph.specs.History.{Entry}
 use Rattle.mutator.specs.Rows.{Mutating}
-use Rattle.helper.specs.Rows as helpers
-use Rattle.helper.specs.Rows.{Helping}
-use Rattle.control_rows.specs.declared.spot.ControlSpot.TheVariants.{LookLeft}
-use Rattle.control_rows.specs.Rows.{Controlling}
+use Rattle.collector_rows.specs.HelperRows as helpers
+use Rattle.collector_rows.specs.HelperRows.{Helping}
+use Rattle.collector_rows.specs.declared.control_spot.ControlSpot.TheVariants.{LookLeft}
+use Rattle.collector_rows.specs.ControlRows.{Controlling}
 use Rattle.heap_words.specs.Phases.{idle_phase}
 
 -- what memory keeps of a machine, by its role

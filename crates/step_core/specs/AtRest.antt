@@ -5,7 +5,7 @@ use Rattle.heap_words.specs.declared.config.Config.{Config}
 use Rattle.heap_words.specs.Steps.{Stage}
 use Rattle.handshake.specs.Standing.{is_within}
 use Rattle.mutator.specs.Orders.{is_between_calls}
-use Rattle.control_rows.specs.Rows.{Controlling}
+use Rattle.collector_rows.specs.ControlRows.{Controlling}
 use Rattle.step_core.specs.Actor.{controlling, Actor}
 use Rattle.step_core.specs.Machines.{standing_of}
 use Rattle.step_core.specs.Seats.{is_working}

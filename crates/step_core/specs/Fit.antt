@@ -5,12 +5,12 @@ use Rattle.shen_graph.specs.Graph.{Graph}
 use Rattle.heap_world.specs.Asking.{Asking}
 use Rattle.heap_world.specs.Represents.{Represents}
 use Rattle.heap_world.specs.Change.{image_view, image_words}
-use Rattle.control_rows.specs.declared.extent.Extent.{Extent}
-use Rattle.control_rows.specs.Extent.{extent_by, extent_after}
-use Rattle.control_rows.specs.ByParts.{IsImagePart}
-use Rattle.control_rows.specs.declared.spot.ControlSpot.{ControlSpot}
-use Rattle.control_rows.specs.declared.spot.ControlSpot.TheVariants.{LoadWord}
-use Rattle.control_rows.specs.Rows.{loads_more, loaded_all}
+use Rattle.collector_rows.specs.declared.extent.Extent.{Extent}
+use Rattle.collector_rows.specs.Extent.{extent_by, extent_after}
+use Rattle.collector_rows.specs.ByParts.{IsImagePart}
+use Rattle.collector_rows.specs.declared.control_spot.ControlSpot.{ControlSpot}
+use Rattle.collector_rows.specs.declared.control_spot.ControlSpot.TheVariants.{LoadWord}
+use Rattle.collector_rows.specs.ControlRows.{loads_more, loaded_all}
 
 -- a part of an image was loaded, of the extent of its own words, and the image stands for some graph, with the requests of some threads
 abbrev pub IsPartOfSome : Config → Extent → List ℕ → Type 0

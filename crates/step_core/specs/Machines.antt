@@ -34,18 +34,18 @@ use Rattle.mutator.specs.Rows as mutators
 use Rattle.mutator.specs.Told.{told_of}
 use Rattle.mutator.specs.Fit.{IsFit}
 use Rattle.mutator.specs.Waits.{WaitsAt}
-use Rattle.helper.specs.declared.spot.HelpSpot.TheVariants.{LoadEnd}
-use Rattle.helper.specs.Rows as help
-use Rattle.helper.specs.Rows.{Helping, help_place, help_touch, help_next, help_says, help_hinted}
-use Rattle.helper.specs.Waits as helpers
-use Rattle.helper.specs.Ready as ready
-use Rattle.control_rows.specs.declared.spot.ControlSpot.{ControlSpot}
-use Rattle.control_rows.specs.declared.spot.ControlSpot.TheVariants.{LookLeft, StoreWord}
-use Rattle.control_rows.specs.Rows.{Controlling, control_place, control_access, control_next, control_says, is_gone, control_hinted}
-use Rattle.control_rows.specs.Rows as controls
-use Rattle.control_rows.specs.Waits as control
-use Rattle.control_rows.specs.Extent.{Counting}
-use Rattle.control_rows.specs.Ready.{UnitGoesOn}
+use Rattle.collector_rows.specs.declared.help_spot.HelpSpot.TheVariants.{LoadEnd}
+use Rattle.collector_rows.specs.HelperRows as help
+use Rattle.collector_rows.specs.HelperRows.{Helping, help_place, help_touch, help_next, help_says, help_hinted}
+use Rattle.collector_rows.specs.HelperWaits as helpers
+use Rattle.collector_rows.specs.HelperReady as ready
+use Rattle.collector_rows.specs.declared.control_spot.ControlSpot.{ControlSpot}
+use Rattle.collector_rows.specs.declared.control_spot.ControlSpot.TheVariants.{LookLeft, StoreWord}
+use Rattle.collector_rows.specs.ControlRows.{Controlling, control_place, control_access, control_next, control_says, is_gone, control_hinted}
+use Rattle.collector_rows.specs.ControlRows as controls
+use Rattle.collector_rows.specs.ControlWaits as control
+use Rattle.collector_rows.specs.Extent.{Counting}
+use Rattle.collector_rows.specs.ControlReady.{UnitGoesOn}
 use Rattle.step_core.specs.Actor.{Machine, mutating, helping, controlling, Actor, entries_of, command_by}
 use Rattle.step_core.specs.Fit.{IsWholeImage}
 use Rattle.step_core.specs.Standing.{standing_at, help_standing, control_standing}

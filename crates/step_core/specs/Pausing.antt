@@ -9,13 +9,13 @@ use Rattle.mutator.specs.declared.spot.Spot.TheVariants.{Waiting}
 use Rattle.mutator.specs.declared.waits.WaitSpot.TheVariants as wait
 use Rattle.mutator.specs.Orders.{takes_at}
 use Rattle.mutator.specs.Rows.{Mutating, touch_of}
-use Rattle.control_rows.specs.declared.spot.ControlSpot.{ControlSpot}
-use Rattle.control_rows.specs.declared.spot.ControlSpot.TheVariants.{LoadWord, StoreWord}
-use Rattle.control_rows.specs.declared.extent.Extent.{Extent}
-use Rattle.control_rows.specs.Extent.{is_of_extent, extent_by, counts, Counting}
-use Rattle.control_rows.specs.Rows.{Controlling}
+use Rattle.collector_rows.specs.declared.control_spot.ControlSpot.{ControlSpot}
+use Rattle.collector_rows.specs.declared.control_spot.ControlSpot.TheVariants.{LoadWord, StoreWord}
+use Rattle.collector_rows.specs.declared.extent.Extent.{Extent}
+use Rattle.collector_rows.specs.Extent.{is_of_extent, extent_by, counts, Counting}
+use Rattle.collector_rows.specs.ControlRows.{Controlling}
 use Rattle.heap_world.specs.Change.{image_words}
-use Rattle.helper.specs.Rows.{Helping, help_touch}
+use Rattle.collector_rows.specs.HelperRows.{Helping, help_touch}
 use Rattle.step_core.specs.Actor.{helping, controlling, Actor}
 use Rattle.step_core.specs.Machines.{helping_by}
 use Rattle.step_core.specs.Settled.{control_number}

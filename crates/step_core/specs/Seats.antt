@@ -42,10 +42,10 @@ use Rattle.mutator.specs.declared.resolves.Loaded.TheVariants.{ForRoot, ToCompar
 use Rattle.mutator.specs.declared.waits.WaitSpot.TheVariants as wait
 use Rattle.mutator.specs.Orders.{is_waiting}
 use Rattle.mutator.specs.Rows.{Mutating, words_made}
-use Rattle.helper.specs.declared.spot.HelpSpot.{HelpSpot}
-use Rattle.helper.specs.declared.spot.HelpSpot.TheVariants as help
-use Rattle.control_rows.specs.declared.spot.ControlSpot.{ControlSpot}
-use Rattle.control_rows.specs.declared.spot.ControlSpot.TheVariants as control
+use Rattle.collector_rows.specs.declared.help_spot.HelpSpot.{HelpSpot}
+use Rattle.collector_rows.specs.declared.help_spot.HelpSpot.TheVariants as help
+use Rattle.collector_rows.specs.declared.control_spot.ControlSpot.{ControlSpot}
+use Rattle.collector_rows.specs.declared.control_spot.ControlSpot.TheVariants as control
 use Rattle.heap_world.specs.World.{World, Block, Scan, hand, room_of, Body, body_at, body_words, IsCollected, IsCovered, UsableIn, TargetIn}
 use Rattle.heap_world.specs.Asking.{HasNoPromise}
 use Rattle.step_core.specs.Actor.{Machine, mutating, helping, controlling}

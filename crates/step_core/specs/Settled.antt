@@ -4,7 +4,7 @@ use Rattle.heap_words.specs.declared.config.Config.{Config}
 use Rattle.heap_words.specs.Words.{Word, view, is_image, image_start, word_at}
 use Rattle.heap_world.specs.Change.{image_view}
 use Rattle.heap_words.specs.Steps.{Stage}
-use Rattle.control_rows.specs.Extent.{counts, Counting}
+use Rattle.collector_rows.specs.Extent.{counts, Counting}
 use Rattle.step_core.specs.Actor.{Actor}
 pub use Rattle.step_core.specs.Machines.{stored_image, image_read}
 

@@ -4,10 +4,10 @@ use Rattle.mutator.specs.declared.spot.Spot.{Spot}
 use Rattle.mutator.specs.declared.spot.Spot.TheVariants.{Rest, Ended, Entering, Waiting, Leave, Gone}
 use Rattle.mutator.specs.declared.waits.WaitSpot.{WaitSpot}
 use Rattle.mutator.specs.declared.waits.WaitSpot.TheVariants as wait
-use Rattle.helper.specs.declared.spot.HelpSpot.{HelpSpot}
-use Rattle.helper.specs.declared.spot.HelpSpot.TheVariants as help
-use Rattle.control_rows.specs.declared.spot.ControlSpot.{ControlSpot}
-use Rattle.control_rows.specs.declared.spot.ControlSpot.TheVariants.{Stopping, LoadWord, StoreWord, Go}
+use Rattle.collector_rows.specs.declared.help_spot.HelpSpot.{HelpSpot}
+use Rattle.collector_rows.specs.declared.help_spot.HelpSpot.TheVariants as help
+use Rattle.collector_rows.specs.declared.control_spot.ControlSpot.{ControlSpot}
+use Rattle.collector_rows.specs.declared.control_spot.ControlSpot.TheVariants.{Stopping, LoadWord, StoreWord, Go}
 
 -- an allocation that waits is outside while it looks for its answer
 abbrev pub wait_standing : WaitSpot → Standing

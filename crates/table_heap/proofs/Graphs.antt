@@ -7,7 +7,7 @@ use Rattle.heap_words.specs.Words.{heap_in, roots_in, pins_in}
 use Rattle.shen_graph.specs.declared.name.Name.{Name}
 use Rattle.shen_graph.specs.Graph.{Graph}
 use Rattle.heap_words.specs.Steps.{Stage, IsReached}
-use Rattle.heap_graph.specs.Shows.{WordsStand, StandForSome}
+use Rattle.heap_world.specs.Shows.{WordsStand, StandForSome}
 use Rattle.heap_machines.specs.Pause.{pause_image}
 use Rattle.step_core.specs.Actor.{Actor}
 use Rattle.step_core.specs.Begins.{Run, Begins, ending, graph_after}

@@ -133,7 +133,7 @@ impl Closed {
     ghost use Rattle.std.specs.Prelude.{◌<◌, ◌≤◌, slice_index};
     ghost use Rattle.heap_machines.specs.Pause.{pause_image};
     ghost use Rattle.step_core.specs.Begins.{Run, ending, graph_after};
-    ghost use Rattle.heap_graph.specs.Shows.{ShowsGraph};
+    ghost use Rattle.heap_world.specs.Shows.{ShowsGraph};
     ghost use Rattle.table_heap.specs.Closed.{config_of, words_of, machines_of as actors_of, stage_of, AllRest, IsUnchanged};
 
     /// The word at an index of the table.

@@ -1,5 +1,5 @@
 //! Dumps and what is to run from them: read, or refused at a line.
-use dump_text::{read_dump, write_dump};
+use heap_dump::{read_dump, write_dump};
 use shen_base::{MemorySink, PlainSource};
 use shen_graph::Command;
 use std::alloc::{AllocError, Global};

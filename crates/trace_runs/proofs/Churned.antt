@@ -11,7 +11,7 @@ use Rattle.shen_graph.specs.Graph.{opening}
 use Rattle.shen_graph.specs.GraphText.{Text, names_of}
 use Rattle.shen_graph.specs.History.{Entry, after, Follows}
 use Rattle.shen_graph.specs.Crowd.{IsLegalHistory}
-use Rattle.heap_graph.specs.Shows as texts
+use Rattle.heap_world.specs.Shows as texts
 use Rattle.step_core.specs.Begins.{first_graph}
 use Rattle.step_core.specs.Schedule.{Scripts}
 use Rattle.shen_core.specs.Progress.{Jobs, IsRunnable}

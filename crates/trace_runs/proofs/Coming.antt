@@ -12,7 +12,7 @@ use Rattle.shen_graph.specs.GraphText.{Text, names_of, root_of, pin_of}
 use Rattle.shen_graph.specs.History.{Entry, after, of_thread}
 use Rattle.shen_graph.specs.History as history
 use Rattle.shen_graph.specs.Work as work
-use Rattle.heap_graph.specs.Shows as texts
+use Rattle.heap_world.specs.Shows as texts
 use Rattle.heap_machines.specs.Pause.{pause_image}
 use Rattle.shared_table.specs.Views.{machine_of, whole}
 use Rattle.shared_table.proofs.Kept.{kept_some}

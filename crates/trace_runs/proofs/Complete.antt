@@ -8,11 +8,11 @@ use Rattle.trace_reading.specs.Grammar.{most_bytes, Came}
 use Rattle.trace_reading.specs.declared.why.Why.{Why}
 use Rattle.trace_reading.proofs.Exact.{never_both}
 use Rattle.trace_text.proofs.PairLaws as pair
-use Rattle.dump_text.proofs.Reread as reread
+use Rattle.heap_dump.proofs.Reread as reread
 use Rattle.heap_words.specs.declared.config.Config.{Config}
 use Rattle.shen_graph.specs.GraphText.{Text}
 use Rattle.graph_placing.specs.ByName.{Fits}
-use Rattle.dump_text.specs.Dumped.{Dumped, dumped}
+use Rattle.heap_dump.specs.Dumped.{Dumped, dumped}
 use Rattle.trace_runs.specs.declared.mode.Mode.{Mode}
 use Rattle.trace_runs.specs.declared.mode.Mode.TheVariants.{Replay, Noted, Dump, Resume, Run, Churn, Queue, Check}
 use Rattle.trace_runs.specs.declared.status.Status.{Status}

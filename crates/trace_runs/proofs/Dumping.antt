@@ -17,15 +17,15 @@ use Rattle.shen_graph.specs.History.{Entry, after, of_thread, script_of, EachIsL
 use Rattle.heap_machines.specs.Pause.{pause_image}
 use Rattle.step_core.specs.Begins.{first_graph, past}
 use Rattle.step_core.specs.Schedule.{Scripts}
-use Rattle.heap_graph.specs.Shows.{ShowsGraph}
+use Rattle.heap_world.specs.Shows.{ShowsGraph}
 use Rattle.shen_core.specs.declared.plain.Plain.{Plain}
 use Rattle.shen_core.specs.Progress.{Jobs}
 use Rattle.trace_reading.specs.Spelling.{FitsWhenWritten}
 use Rattle.trace_reading.specs.Grammar.{most_bytes, Reads}
 use Rattle.trace_text.proofs.MadePairs.{IsOfScript, each_asked}
-use Rattle.dump_text.specs.ObjectsMade.{is_allocation, is_name_reply, has_made, objects_made, objects_made_by_each, IsEntryInRange, IsDumpable}
-use Rattle.dump_text.specs.Dumped.{Dumped, IsDumpOf}
-use Rattle.dump_text.specs.DumpText.{dump_text}
+use Rattle.heap_dump.specs.ObjectsMade.{is_allocation, is_name_reply, has_made, objects_made, objects_made_by_each, IsEntryInRange, IsDumpable}
+use Rattle.heap_dump.specs.Dumped.{Dumped, IsDumpOf}
+use Rattle.heap_dump.specs.DumpText.{dump_text}
 use Rattle.trace_runs.specs.Replayed.{events_of, history_of, IsWhole, IsReplayedToDump}
 use Rattle.trace_runs.specs.Running.{HasFinished}
 use Rattle.trace_runs.proofs.Scripts.{count_scripts, short_script}

@@ -5,9 +5,9 @@ use Rattle.shen_graph.specs.GraphText.{Text}
 use Rattle.heap_words.specs.declared.config.Config.{Config}
 use Rattle.heap_words.specs.declared.schedule.Item.{Item}
 use Rattle.graph_placing.specs.ByName.{Fits}
-use Rattle.dump_text.specs.Dumped.{dumped}
-use Rattle.dump_text.specs.Resumes.{Resumes}
-use Rattle.dump_runs.specs.Resumed.{IsResumed, IsCutFrom}
+use Rattle.heap_dump.specs.Dumped.{dumped}
+use Rattle.heap_dump.specs.Resumes.{Resumes}
+use Rattle.heap_dump.specs.Resumed.{IsResumed, IsCutFrom}
 use Rattle.trace_runs.specs.FromDumps.{IsDumpAndMore, IsAnswerFromDump, IsCutFromDump, IsTooLargeDump}
 
 module _ (bytes : List ℕ) (c : Config) (counts : List ℕ) (graph : Text) (scripts : List (List Command)) (items : List Item) (resumes : Resumes bytes (dumped c counts graph) scripts items) where

@@ -12,7 +12,7 @@ use Rattle.heap_words.specs.declared.schedule.Item.{Item}
 use Rattle.shen_core.specs.Progress.{IsInSeats, IsRunnable}
 use Rattle.trace_reading.specs.Spelling.{line, header, schedule_line}
 use Rattle.trace_reading.specs.Grammar.{most_bytes, Reads}
-use Rattle.dump_runs.proofs.ScriptLines as lines
+use Rattle.heap_dump.proofs.ScriptLines as lines
 
 pub count_scripts : (bytes : List ℕ) (v : ℕ) (c : Config) (scripts : List (List Command)) (items : List Item) → Reads bytes v c scripts items → length scripts ≡ c.mutators
 count_scripts bytes v c scripts items reads = ap length reads.by_thread ∙ lines.count_scripts c.mutators reads.lines

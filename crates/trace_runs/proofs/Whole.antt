@@ -24,9 +24,9 @@ use Rattle.shen_graph.specs.declared.command.Command.{Command}
 use Rattle.shen_graph.specs.declared.command.Command.TheVariants.{Gc}
 use Rattle.shen_graph.specs.declared.order.Order.{Order}
 use Rattle.shen_graph.specs.declared.order.Order.TheVariants.{Nothing}
-use Rattle.control_rows.specs.declared.spot.ControlSpot.{ControlSpot}
-use Rattle.control_rows.specs.declared.spot.ControlSpot.TheVariants.{StoreWord}
-use Rattle.control_rows.specs.Rows.{is_gone}
+use Rattle.collector_rows.specs.declared.control_spot.ControlSpot.{ControlSpot}
+use Rattle.collector_rows.specs.declared.control_spot.ControlSpot.TheVariants.{StoreWord}
+use Rattle.collector_rows.specs.ControlRows.{is_gone}
 use Rattle.heap_machines.specs.Pause.{pause_image}
 use Rattle.heap_machines.proofs.Pauses.{heap_pauses}
 use Rattle.heap_machines.specs.Shown.{no_machine}
@@ -42,8 +42,8 @@ use Rattle.step_core.proofs.Theorem.FirstFacts.{opening_run}
 use Rattle.step_core.proofs.History.Growing.{begun_many, begun_is}
 use Rattle.step_core.proofs.Theorem.EveryList.{every_list}
 use Rattle.step_core.specs.Threads.{IsSettled}
-use Rattle.heap_graph.specs.Shows as texts
-use Rattle.heap_graph.specs.Rows.{root_rows, pin_rows}
+use Rattle.heap_world.specs.Shows as texts
+use Rattle.heap_world.specs.Rows.{root_rows, pin_rows}
 use Rattle.shen_core.specs.declared.plain.Plain.{Plain}
 use Rattle.shen_core.specs.State.{machine_at, Shows}
 use Rattle.step_core.specs.Machines.{order_by, is_resting}

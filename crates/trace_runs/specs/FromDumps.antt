@@ -5,9 +5,9 @@ use Rattle.heap_words.specs.declared.schedule.Item.{Item}
 use Rattle.shen_graph.specs.GraphText.{Text}
 use Rattle.step_core.specs.Schedule.{Scripts}
 use Rattle.graph_placing.specs.ByName.{Fits}
-use Rattle.dump_text.specs.Dumped.{dumped}
-use Rattle.dump_text.specs.Resumes.{Resumes}
-use Rattle.dump_runs.specs.Resumed.{IsResumed, IsCutFrom}
+use Rattle.heap_dump.specs.Dumped.{dumped}
+use Rattle.heap_dump.specs.Resumes.{Resumes}
+use Rattle.heap_dump.specs.Resumed.{IsResumed, IsCutFrom}
 
 -- The bytes are a dump, the line `trace`, and the lines of these scripts and items.
 pub record IsDumpAndMore (bytes : List ℕ) : Type 0 where

@@ -10,7 +10,7 @@ use Rattle.trace_reading.specs.declared.why.Why.{Why}
 use Rattle.trace_reading.specs.Refused.{Refused}
 use Rattle.trace_text.specs.Pairs.{IsPair}
 use Rattle.trace_text.specs.Refusals.{IsPairRefused}
-use Rattle.dump_text.specs.DumpLines.{DumpRefused}
+use Rattle.heap_dump.specs.DumpLines.{DumpRefused}
 use Rattle.trace_runs.specs.declared.mode.Mode.{Mode}
 use Rattle.trace_runs.specs.declared.mode.Mode.TheVariants.{Replay, Noted, Dump, Resume, Run, Churn, Queue, Check}
 use Rattle.trace_runs.specs.Replayed.{IsUnfinished}

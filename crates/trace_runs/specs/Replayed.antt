@@ -16,9 +16,9 @@ use Rattle.shen_core.specs.Progress.{AreIdle}
 use Rattle.trace_reading.specs.Grammar.{Reads}
 use Rattle.trace_text.specs.Answer.{IsAnswerText}
 use Rattle.trace_text.specs.History.{history_text}
-use Rattle.dump_text.specs.Dumped.{Dumped, IsDumpOf}
-use Rattle.dump_text.specs.DumpText.{dump_text}
-use Rattle.dump_text.specs.ObjectsMade.{objects_made_by_each}
+use Rattle.heap_dump.specs.Dumped.{Dumped, IsDumpOf}
+use Rattle.heap_dump.specs.DumpText.{dump_text}
+use Rattle.heap_dump.specs.ObjectsMade.{objects_made_by_each}
 
 -- the events of a trace, in a heap whose pauses go on to the next phase of the cycle, or make room: those of its
 -- schedule and of the rounds after it, from the opening on, cut after so many

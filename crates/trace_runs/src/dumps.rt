@@ -4,9 +4,9 @@ ghost use Rattle.shen_graph.specs.Work.{HasScript};
 ghost use Rattle.shen_base.specs.Sending.{outlet};
 ghost use Rattle.trace_reading.specs.Grammar.{Came, Reads};
 ghost use Rattle.trace_text.specs.Answer.{spelled_answer};
-ghost use Rattle.dump_text.specs.Dumped.{dumped, IsDump};
-ghost use Rattle.dump_text.specs.DumpText.{dump_text};
-ghost use Rattle.dump_text.specs.Resumes.{Resumes};
+ghost use Rattle.heap_dump.specs.Dumped.{dumped, IsDump};
+ghost use Rattle.heap_dump.specs.DumpText.{dump_text};
+ghost use Rattle.heap_dump.specs.Resumes.{Resumes};
 ghost use Rattle.trace_runs.specs.Words.{Asks};
 ghost use Rattle.trace_runs.specs.Replayed.{IsReplayedToDump, IsUnfinished};
 ghost use Rattle.trace_runs.specs.CallEnds.{EndsWith};
@@ -16,8 +16,7 @@ use crate::lines::{give, refuse, say, taken};
 use crate::mode::Mode;
 use crate::replays::{Refusal, graph_of, run_noted};
 use crate::status::Status;
-use dump_runs::{Resumed, answer_from};
-use dump_text::{Dump, Resumed as Read, dump_of, read_dump, write_dump};
+use heap_dump::{Continued, Dump, Resumed as Read, answer_from, dump_of, read_dump, write_dump};
 use shen_base::{Sink, Source};
 use std::alloc::Global;
 use trace_reading::Trace;
@@ -106,9 +105,9 @@ pub fn resume<S: Source, K: Sink>(alloc: Global, steps: u64, source: &mut S, sin
         Err(status) => return status,
     };
     match answer_from(alloc, read, steps) {
-        Ok(Resumed::Answered(answer)) => give(sink, &answer),
-        Ok(Resumed::Unfinished) => say(sink, Line::Unfinished { steps }, Status::Unfinished),
-        Ok(Resumed::TooSmall) => say(sink, Line::HeapTooSmall, Status::BadTrace),
+        Ok(Continued::Answered(answer)) => give(sink, &answer),
+        Ok(Continued::Unfinished) => say(sink, Line::Unfinished { steps }, Status::Unfinished),
+        Ok(Continued::TooSmall) => say(sink, Line::HeapTooSmall, Status::BadTrace),
         Err(_) => say(sink, Line::NoMemory, Status::NoMemory),
     }
 }

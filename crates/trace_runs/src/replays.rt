@@ -7,7 +7,7 @@ ghost use Rattle.heap_words.specs.declared.config.Config.{Config as Sizes};
 ghost use Rattle.heap_words.specs.declared.schedule.Item.{Item};
 ghost use Rattle.shen_graph.specs.declared.command.Command.{Command};
 ghost use Rattle.shen_graph.specs.Work.{HasScript};
-ghost use Rattle.heap_graph.specs.Shows.{ShowsGraph};
+ghost use Rattle.heap_world.specs.Shows.{ShowsGraph};
 ghost use Rattle.heap_machines.specs.Pause.{pause_image};
 ghost use Rattle.shen_graph.specs.History.{after};
 ghost use Rattle.step_core.specs.Begins.{Run, ending, graph_after, first_graph};

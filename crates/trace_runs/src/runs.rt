@@ -3,7 +3,7 @@ ghost use Rattle.std.specs.Prelude.{◌≡◌, ◌≤◌, ◌<◌, ℕ, List, If
 ghost use Rattle.heap_words.specs.Steps.{Event, go};
 ghost use Rattle.shen_graph.specs.declared.order.Order.{Order};
 ghost use Rattle.shen_graph.specs.Work.{HasScript};
-ghost use Rattle.heap_graph.specs.Shows.{ShowsGraph};
+ghost use Rattle.heap_world.specs.Shows.{ShowsGraph};
 ghost use Rattle.heap_machines.specs.Pause.{pause_image};
 ghost use Rattle.shen_core.specs.Progress.{IsRunnable};
 ghost use Rattle.step_core.specs.Begins.{Run, ending, graph_after};

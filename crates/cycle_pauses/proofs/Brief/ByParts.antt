@@ -12,10 +12,10 @@ use Rattle.heap_words.proofs.Named.{are_named}
 use Rattle.heap_words.proofs.Rows.{is_image-word_at, word_inside}
 use Rattle.heap_words.proofs.Stores.{is_word_true, view_word, view_none}
 use Rattle.heap_world.specs.Change.{image_words, image_view}
-use Rattle.control_rows.specs.declared.extent.Extent.{Extent}
-use Rattle.control_rows.specs.declared.extent.Extent.TheVariants.{Whole, OffHeap, Ahead}
-use Rattle.control_rows.specs.Extent.{is_wide, is_of_extent, first_extent, says_room, extent_after, extent_by, counts}
-use Rattle.control_rows.specs.ByParts.{IsImagePart, IsMadeOf, GoesByParts, PausesByParts}
+use Rattle.collector_rows.specs.declared.extent.Extent.{Extent}
+use Rattle.collector_rows.specs.declared.extent.Extent.TheVariants.{Whole, OffHeap, Ahead}
+use Rattle.collector_rows.specs.Extent.{is_wide, is_of_extent, first_extent, says_room, extent_after, extent_by, counts}
+use Rattle.collector_rows.specs.ByParts.{IsImagePart, IsMadeOf, GoesByParts, PausesByParts}
 use Rattle.cycle_pauses.specs.Collect.{is_room_needed, collected, collect_image}
 use Rattle.cycle_pauses.specs.Brief.{is_off_heap, is_ahead, IsPartOf, IsMadeOfPart}
 use Rattle.cycle_pauses.proofs.Full.Images.{before_word}

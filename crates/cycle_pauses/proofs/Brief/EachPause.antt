@@ -7,7 +7,7 @@ use Rattle.std.proofs.lemmas.Bool.{true≢false}
 use Rattle.heap_words.specs.declared.config.Config.{Config}
 use Rattle.heap_words.specs.Ranges.{seat_count}
 use Rattle.heap_words.specs.Words.{Word, Phase, Cset, Free, Evac, Claim, Ask, Top, Tams, Limit, Current, Root, Count, Answer, Grey, Black, Heap, Pin}
-use Rattle.heap_graph.specs.Walk.{has}
+use Rattle.heap_world.specs.Walk.{has}
 use Rattle.image_graph.specs.Settled.{buffers_settled}
 use Rattle.image_graph.specs.Edge.{edge}
 use Rattle.image_graph.proofs.Edges.{edges_same}

@@ -9,9 +9,9 @@ use Rattle.heap_words.proofs.Named.{are_named}
 use Rattle.heap_words.proofs.Rows.{is_image-word_at}
 use Rattle.heap_words.proofs.Stores.{view_word}
 use Rattle.heap_world.specs.Change.{image_words, image_view}
-use Rattle.control_rows.specs.declared.extent.Extent.TheVariants.{OffHeap, Ahead}
-use Rattle.control_rows.specs.Extent.{is_of_extent, heap_index}
-use Rattle.control_rows.proofs.Extents.{off_before, off_behind, off_within}
+use Rattle.collector_rows.specs.declared.extent.Extent.TheVariants.{OffHeap, Ahead}
+use Rattle.collector_rows.specs.Extent.{is_of_extent, heap_index}
+use Rattle.collector_rows.proofs.Extents.{off_before, off_behind, off_within}
 use Rattle.cycle_pauses.specs.Brief.{is_off_heap, is_ahead}
 use Rattle.cycle_pauses.proofs.Full.Images.{inside_word}
 

@@ -12,7 +12,7 @@ use Rattle.shen_graph.specs.Step.{name_in}
 use Rattle.shen_graph.specs.Reach.{IsReachable, IsReach}
 use Rattle.shen_graph.specs.Reach as reach
 use Rattle.shen_graph.proofs.ReachLemmas.{Contains-cons_cases, Contains-nil}
-use Rattle.heap_graph.specs.Walk.{has}
+use Rattle.heap_world.specs.Walk.{has}
 use Rattle.heap_world.specs.World.{thing, promised, Plot, name_at}
 use Rattle.heap_world.specs.Asking.{Asking}
 use Rattle.heap_world.specs.Represents.{RepresentsByCopies}

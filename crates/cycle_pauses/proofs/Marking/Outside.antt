@@ -7,7 +7,7 @@ use Rattle.heap_words.specs.declared.config.Config.{Config}
 use Rattle.heap_words.specs.Ranges.{seat_count}
 use Rattle.heap_words.specs.Words.{Word, Phase, Cset, Claim, Ask, Free, Top, Tams, Limit, Count, Grey, Black, is_word, bit_words}
 use Rattle.shen_graph.specs.Graph.{Graph}
-use Rattle.heap_graph.specs.Walk.{has}
+use Rattle.heap_world.specs.Walk.{has}
 use Rattle.heap_world.specs.World.{Plot}
 use Rattle.image_graph.specs.Plot.{heap_end}
 use Rattle.image_graph.specs.Full.{held_words}

@@ -20,18 +20,18 @@ use Rattle.shen_graph.specs.History.{Entry, after, of_thread}
 use Rattle.mutator.specs.declared.spot.Spot.TheVariants.{Waiting}
 use Rattle.mutator.specs.declared.waits.WaitSpot.TheVariants as wait
 use Rattle.mutator.specs.Rows.{Mutating, touch_at, touch_of}
-use Rattle.helper.specs.Rows as help
-use Rattle.helper.specs.Rows.{Helping, help_touch}
+use Rattle.collector_rows.specs.HelperRows as help
+use Rattle.collector_rows.specs.HelperRows.{Helping, help_touch}
 use Rattle.heap_world.specs.World.{World}
 use Rattle.heap_world.specs.Change.{Change, image_words}
 use Rattle.heap_world.proofs.Pieces.{some_words}
 use Rattle.unit_part.proofs.Inside.{unit_inside}
-use Rattle.control_rows.specs.declared.spot.ControlSpot.{ControlSpot}
-use Rattle.control_rows.specs.declared.spot.ControlSpot.TheVariants as control
-use Rattle.control_rows.specs.Rows as controls
-use Rattle.control_rows.specs.Rows.{Controlling, control_seat, control_touch}
-use Rattle.control_rows.specs.declared.extent.Extent.{Extent}
-use Rattle.control_rows.specs.Extent.{next_stored, Counting}
+use Rattle.collector_rows.specs.declared.control_spot.ControlSpot.{ControlSpot}
+use Rattle.collector_rows.specs.declared.control_spot.ControlSpot.TheVariants as control
+use Rattle.collector_rows.specs.ControlRows as controls
+use Rattle.collector_rows.specs.ControlRows.{Controlling, control_seat, control_touch}
+use Rattle.collector_rows.specs.declared.extent.Extent.{Extent}
+use Rattle.collector_rows.specs.Extent.{next_stored, Counting}
 use Rattle.step_core.specs.Actor.{Machine, mutating, helping, controlling, Actor, command_by}
 use Rattle.step_core.specs.History.{history}
 use Rattle.step_core.specs.Machines.{is_for_working, takes_of, helping_by, controlling_by, plan_of, machine_after, took_of, kind}

@@ -24,14 +24,14 @@ use Rattle.heap_world.specs.World.{World, Block, thing, words_of, Body, body_at,
 use Rattle.heap_world.proofs.Pointing.{copy_cases, body_piece}
 use Rattle.cycle_steps.proofs.Resolving.Bodies.{piece_word_is}
 use Rattle.heap_world.specs.Change.{Change}
-use Rattle.control_rows.specs.ByParts.{PausesByParts}
+use Rattle.collector_rows.specs.ByParts.{PausesByParts}
 use Rattle.cycle_steps.proofs.Evacuation.Parts.{all_is_forwarded}
 use Rattle.mutator.specs.Rows.{Mutating, touch_of}
-use Rattle.control_rows.specs.declared.spot.ControlSpot.{ControlSpot}
-use Rattle.control_rows.specs.declared.spot.ControlSpot.TheVariants.{LookFree, Working, Stopping, LoadWord, StoreWord}
-use Rattle.control_rows.specs.Ready.{is_ready}
-use Rattle.control_rows.specs.Rows.{Controlling, control_seat, control_access, control_touch}
-use Rattle.control_rows.proofs.Hinted.{control_hinted_ready}
+use Rattle.collector_rows.specs.declared.control_spot.ControlSpot.{ControlSpot}
+use Rattle.collector_rows.specs.declared.control_spot.ControlSpot.TheVariants.{LookFree, Working, Stopping, LoadWord, StoreWord}
+use Rattle.collector_rows.specs.ControlReady.{is_ready}
+use Rattle.collector_rows.specs.ControlRows.{Controlling, control_seat, control_access, control_touch}
+use Rattle.collector_rows.proofs.ControlHinted.{control_hinted_ready}
 use Rattle.shen_graph.specs.Order.{hint_in}
 use Rattle.unit_part.proofs.Inside.{unit_inside}
 use Rattle.handshake.specs.Rows.{stop_touch}

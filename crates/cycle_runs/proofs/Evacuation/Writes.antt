@@ -67,13 +67,13 @@ use Rattle.mutator.specs.WaitRows.{wait_touch}
 use Rattle.unit_part.specs.declared.spot.UnitSpot.{UnitSpot}
 use Rattle.unit_part.specs.declared.spot.UnitSpot.TheVariants as unit
 use Rattle.unit_part.specs.Rows as units
-use Rattle.helper.specs.declared.spot.HelpSpot.{HelpSpot}
-use Rattle.helper.specs.declared.spot.HelpSpot.TheVariants as help
-use Rattle.helper.specs.Rows as helps
-use Rattle.helper.specs.Rows.{Helping}
-use Rattle.control_rows.specs.declared.spot.ControlSpot.{ControlSpot}
-use Rattle.control_rows.specs.declared.spot.ControlSpot.TheVariants as control
-use Rattle.control_rows.specs.Rows.{Controlling, control_seat, control_touch}
+use Rattle.collector_rows.specs.declared.help_spot.HelpSpot.{HelpSpot}
+use Rattle.collector_rows.specs.declared.help_spot.HelpSpot.TheVariants as help
+use Rattle.collector_rows.specs.HelperRows as helps
+use Rattle.collector_rows.specs.HelperRows.{Helping}
+use Rattle.collector_rows.specs.declared.control_spot.ControlSpot.{ControlSpot}
+use Rattle.collector_rows.specs.declared.control_spot.ControlSpot.TheVariants as control
+use Rattle.collector_rows.specs.ControlRows.{Controlling, control_seat, control_touch}
 use Rattle.shen_graph.specs.Order.{hint_in}
 use Rattle.step_core.specs.Machines.{helping_by, controlling_by}
 use Rattle.step_core.proofs.Machines.Hinting.{help_hinted_is, control_hinted_is}

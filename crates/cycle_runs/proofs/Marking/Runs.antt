@@ -16,12 +16,12 @@ use Rattle.cycle_steps.proofs.Chained.{marking_comes}
 use Rattle.cycle_pauses.specs.Collect.{collect_image}
 use Rattle.cycle_pauses.proofs.Marking.WhileMarking.{reachable_are_marked}
 use Rattle.cycle_pauses.proofs.Brief.ByParts.{collect_pauses_by_parts}
-use Rattle.control_rows.specs.declared.extent.Extent.{Extent}
-use Rattle.control_rows.specs.declared.extent.Extent.TheVariants.{Whole, OffHeap, Ahead}
-use Rattle.control_rows.specs.Extent.{is_wide, is_of_extent, heap_index, roots_index, next_loaded, says_room, extent_after, extent_by}
-use Rattle.control_rows.specs.Rows.{loaded_all}
-use Rattle.control_rows.specs.declared.spot.ControlSpot.{ControlSpot}
-use Rattle.control_rows.specs.declared.spot.ControlSpot.TheVariants.{LoadWord}
+use Rattle.collector_rows.specs.declared.extent.Extent.{Extent}
+use Rattle.collector_rows.specs.declared.extent.Extent.TheVariants.{Whole, OffHeap, Ahead}
+use Rattle.collector_rows.specs.Extent.{is_wide, is_of_extent, heap_index, roots_index, next_loaded, says_room, extent_after, extent_by}
+use Rattle.collector_rows.specs.ControlRows.{loaded_all}
+use Rattle.collector_rows.specs.declared.control_spot.ControlSpot.{ControlSpot}
+use Rattle.collector_rows.specs.declared.control_spot.ControlSpot.TheVariants.{LoadWord}
 use Rattle.step_core.specs.Actor.{Machine, controlling}
 use Rattle.step_core.specs.Fit.{IsWholeImage}
 use Rattle.step_core.specs.Machines.{IsFitFor, kind}

@@ -13,10 +13,10 @@ use Rattle.shen_graph.specs.Graph.{Graph}
 use Rattle.shen_graph.specs.History.{Entry, after, of_thread}
 use Rattle.heap_world.specs.World.{World}
 use Rattle.heap_world.specs.Change.{Change}
-use Rattle.control_rows.specs.declared.spot.ControlSpot.{ControlSpot}
-use Rattle.control_rows.specs.declared.spot.ControlSpot.TheVariants.{StoreWord}
-use Rattle.control_rows.specs.Rows.{Controlling}
-use Rattle.control_rows.specs.Extent.{Counting}
+use Rattle.collector_rows.specs.declared.control_spot.ControlSpot.{ControlSpot}
+use Rattle.collector_rows.specs.declared.control_spot.ControlSpot.TheVariants.{StoreWord}
+use Rattle.collector_rows.specs.ControlRows.{Controlling}
+use Rattle.collector_rows.specs.Extent.{Counting}
 use Rattle.step_core.specs.Actor.{Machine, controlling, Actor}
 use Rattle.step_core.specs.History.{history}
 use Rattle.step_core.specs.Machines.{takes_of, plan_of, kind}

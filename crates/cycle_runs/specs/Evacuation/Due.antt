@@ -15,12 +15,12 @@ use Rattle.heap_words.specs.Counter.{is_out_of_room}
 use Rattle.heap_words.specs.Phases.{evacuation_phase, updating_phase}
 use Rattle.heap_world.specs.World.{thing, IsCollected}
 use Rattle.heap_world.specs.Change.{Change, IsDue, image_view, image_words}
-use Rattle.control_rows.specs.ByParts.{PausesByParts}
-use Rattle.control_rows.specs.declared.spot.ControlSpot.{ControlSpot}
-use Rattle.control_rows.specs.declared.spot.ControlSpot.TheVariants.{Stopping, LoadWord}
-use Rattle.control_rows.specs.declared.extent.Extent.{Extent}
-use Rattle.control_rows.specs.declared.extent.Extent.TheVariants.{Whole}
-use Rattle.control_rows.specs.Rows.{Controlling}
+use Rattle.collector_rows.specs.ByParts.{PausesByParts}
+use Rattle.collector_rows.specs.declared.control_spot.ControlSpot.{ControlSpot}
+use Rattle.collector_rows.specs.declared.control_spot.ControlSpot.TheVariants.{Stopping, LoadWord}
+use Rattle.collector_rows.specs.declared.extent.Extent.{Extent}
+use Rattle.collector_rows.specs.declared.extent.Extent.TheVariants.{Whole}
+use Rattle.collector_rows.specs.ControlRows.{Controlling}
 use Rattle.step_core.specs.Actor.{controlling, Actor}
 use Rattle.step_core.specs.Begins.{Begins}
 use Rattle.step_core.specs.History.{history}

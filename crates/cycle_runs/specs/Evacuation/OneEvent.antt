@@ -10,8 +10,8 @@ use Rattle.shen_graph.specs.Graph.{Graph}
 use Rattle.shen_graph.specs.History.{after}
 use Rattle.heap_world.specs.World.{World, Block, thing, hand, spare, carved, words_of, Body, IsCollected}
 use Rattle.heap_world.specs.Change.{Change}
-use Rattle.control_rows.specs.ByParts.{PausesByParts}
-use Rattle.control_rows.specs.Extent.{Counting}
+use Rattle.collector_rows.specs.ByParts.{PausesByParts}
+use Rattle.collector_rows.specs.Extent.{Counting}
 use Rattle.step_core.specs.Actor.{Actor}
 use Rattle.step_core.specs.Begins.{Begins}
 use Rattle.step_core.specs.History.{history}

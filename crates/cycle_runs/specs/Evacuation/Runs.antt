@@ -18,7 +18,7 @@ use Rattle.heap_words.specs.Counter.{is_out_of_room, IsQuiet}
 use Rattle.heap_words.specs.Phases.{evacuation_phase}
 use Rattle.heap_world.specs.World.{World, thing, moved, Body, body_at, body_words, IsCollected}
 use Rattle.heap_world.specs.Change.{Change}
-use Rattle.control_rows.specs.ByParts.{PausesByParts}
+use Rattle.collector_rows.specs.ByParts.{PausesByParts}
 use Rattle.cycle_steps.specs.Resolving.Facts.{IsCopied}
 use Rattle.mutator.specs.Rows.{Mutating}
 use Rattle.step_core.specs.Actor.{Machine, mutating, Actor}

@@ -10,7 +10,7 @@ use Rattle.heap_words.specs.Encoding.{is_forwarded, forwardee_in, refs_in}
 use Rattle.regions.specs.Place.{region_with}
 use Rattle.shen_graph.specs.declared.pin.Pinned.{Pinned}
 use Rattle.shen_graph.specs.Graph.{Graph}
-use Rattle.heap_graph.specs.Walk.{has}
+use Rattle.heap_world.specs.Walk.{has}
 use Rattle.heap_world.specs.World.{thing, Plot, HasNoRoom, IsCollected}
 use Rattle.image_graph.specs.Held.{from_root, from_field, IsAmong}
 use Rattle.image_graph.specs.Full.{now_in, roots_below, answers_below, root_words, held_words, served}

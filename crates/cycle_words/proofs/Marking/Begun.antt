@@ -6,7 +6,7 @@ use Rattle.heap_words.specs.Words.{Word, Cset, Top, Current, Root, Answer, Pin, 
 use Rattle.heap_words.specs.Encoding.{refs_in}
 use Rattle.shen_graph.specs.declared.name.Name.{Name}
 use Rattle.shen_graph.specs.Graph.{Graph}
-use Rattle.heap_graph.specs.Walk.{has}
+use Rattle.heap_world.specs.Walk.{has}
 use Rattle.heap_world.specs.World.{Plot, thing, moved, hand, carved, no_ghost, name_at, IsPlotted, AreObjects, AreBuffers, IsMarkable, IsLed}
 use Rattle.heap_world.proofs.Pointing.{named_thing}
 use Rattle.image_graph.specs.Settled.{buffers_settled}

@@ -12,7 +12,7 @@ use Rattle.regions.specs.Place.{region_with}
 use Rattle.regions.specs.Marks.{mark_word, mark_bit}
 use Rattle.shen_graph.specs.declared.name.Name.{Name}
 use Rattle.shen_graph.specs.Graph.{Graph, Reference}
-use Rattle.heap_graph.specs.Walk.{has}
+use Rattle.heap_world.specs.Walk.{has}
 use Rattle.heap_world.specs.World.{Plot, thing, Snapshot, AreMarks, IsMarkable, IsYoung, IsNoted, was_at, IsToScan, IsTracedAt, IsLed}
 use Rattle.heap_world.proofs.Pointing.{named_if_not_0}
 use Rattle.image_graph.specs.Promised.{Promises}

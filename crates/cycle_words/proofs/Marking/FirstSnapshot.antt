@@ -6,7 +6,7 @@ use Rattle.heap_words.specs.declared.config.Config.{Config}
 use Rattle.heap_words.specs.Words.{Word, Top, Buffer, Heap}
 use Rattle.shen_graph.specs.declared.name.Name.{Name}
 use Rattle.regions.specs.Marks.{mark_bit}
-use Rattle.heap_graph.specs.Walk.{has}
+use Rattle.heap_world.specs.Walk.{has}
 use Rattle.heap_world.specs.World.{thing, promised, dead, Plot, Scan, Snapshot, AreMarks, IsMarkable, IsNoted, IsToScan, IsTracedAt, IsLed, KeepsSnapshot}
 use Rattle.image_graph.specs.Edge.{edge}
 use Rattle.image_graph.specs.Divided.{AreDivided}

@@ -5,8 +5,8 @@ use Rattle.std.proofs.lemmas.Bool.{cond-true, cond-false, cases_Bool, cases_eq, 
 use Rattle.heap_words.specs.declared.config.Config.{Config}
 use Rattle.heap_words.specs.Words.{Word, Count, Buffer, Heap}
 use Rattle.heap_words.specs.Encoding.{refs_in}
-use Rattle.heap_graph.specs.Walk.{has}
-use Rattle.heap_graph.proofs.Marks.{has-range}
+use Rattle.heap_world.specs.Walk.{has}
+use Rattle.heap_world.proofs.Marks.{has-range}
 use Rattle.image_graph.specs.Full.{field_words}
 use Rattle.image_graph.proofs.HeldFound.{has_map, map_has, range_has, roots_found, found_held, found_closed}
 use Rattle.image_graph.proofs.Roots.{has_either, has_first, has_second, has_one}

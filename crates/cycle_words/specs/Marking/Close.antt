@@ -5,7 +5,7 @@ use Rattle.std.specs.Int.RustNames.{bit_or}
 use Rattle.heap_words.specs.declared.config.Config.{Config}
 use Rattle.heap_words.specs.Words.{Word, Count, Buffer, Grey, Black, Heap}
 use Rattle.heap_words.specs.Encoding.{refs_in}
-use Rattle.heap_graph.specs.Walk.{has}
+use Rattle.heap_world.specs.Walk.{has}
 use Rattle.image_graph.specs.Held.{found_in}
 use Rattle.image_graph.specs.Full.{field_words}
 use Rattle.cycle_words.specs.Marking.Marks.{is_grey, is_black, mark_bits}

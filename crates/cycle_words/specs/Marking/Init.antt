@@ -6,7 +6,7 @@ use Rattle.heap_words.specs.Words.{Word, Phase, Claim, Ask, Tams, Count, Grey, B
 use Rattle.heap_words.specs.Phases.{marking_phase}
 use Rattle.image_graph.specs.Settled.{buffers_settled}
 use Rattle.image_graph.specs.Edge.{edge}
-use Rattle.heap_graph.specs.Walk.{has}
+use Rattle.heap_world.specs.Walk.{has}
 use Rattle.heap_world.specs.World.{Block, thing, dead, Plot}
 use Rattle.image_graph.specs.Full.{held_words}
 use Rattle.cycle_words.specs.Marking.Marks.{mark_bits}

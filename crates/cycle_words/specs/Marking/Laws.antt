@@ -3,7 +3,7 @@ use Rattle.std.specs.Prelude.{ℕ, ◌≡◌, ◌↔◌, ◌⊎◌, true, Option
 use Rattle.heap_words.specs.declared.config.Config.{Config}
 use Rattle.heap_words.specs.Words.{Word, Cset}
 use Rattle.shen_graph.specs.Graph.{Graph}
-use Rattle.heap_graph.specs.Walk.{has}
+use Rattle.heap_world.specs.Walk.{has}
 use Rattle.heap_world.specs.World.{Plot}
 use Rattle.image_graph.specs.Full.{held_in}
 use Rattle.image_graph.specs.Promised.{Promises}

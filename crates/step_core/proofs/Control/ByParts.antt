@@ -7,11 +7,11 @@ use Rattle.heap_words.specs.declared.config.Config.{Config}
 use Rattle.heap_words.specs.Words.{Phase, image_start, view}
 use Rattle.heap_words.proofs.Stores.{view_word}
 use Rattle.heap_world.specs.Change.{image_words}
-use Rattle.control_rows.specs.declared.extent.Extent.{Extent}
-use Rattle.control_rows.specs.Extent.{is_of_extent, next_loaded, extent_after, extent_by, padded}
-use Rattle.control_rows.specs.ByParts.{IsImagePart}
-use Rattle.control_rows.specs.Rows.{loaded_on, loaded_all}
-use Rattle.control_rows.proofs.Extents.{early, IsNext, next_is, padded_reads, padded_long, same_extent, extent_on, changes_early}
+use Rattle.collector_rows.specs.declared.extent.Extent.{Extent}
+use Rattle.collector_rows.specs.Extent.{is_of_extent, next_loaded, extent_after, extent_by, padded}
+use Rattle.collector_rows.specs.ByParts.{IsImagePart}
+use Rattle.collector_rows.specs.ControlRows.{loaded_on, loaded_all}
+use Rattle.collector_rows.proofs.Extents.{early, IsNext, next_is, padded_reads, padded_long, same_extent, extent_on, changes_early}
 use Rattle.step_core.proofs.Machines.Owed.{AreLoaded}
 use Rattle.step_core.proofs.Control.Images.{image_grows, loaded_early, loaded_padded, image_in, image_in_reads}
 

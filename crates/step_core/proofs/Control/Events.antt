@@ -24,14 +24,14 @@ use Rattle.unit_part.specs.Rows as units
 use Rattle.unit_part.specs.Ready as unit
 use Rattle.unit_part.proofs.Inside.{unit_inside}
 use Rattle.heap_world.specs.Change.{Change, IsDue, image_view, image_words}
-use Rattle.control_rows.specs.ByParts.{PausesByParts}
+use Rattle.collector_rows.specs.ByParts.{PausesByParts}
 use Rattle.heap_words.specs.Touch.{touch, loads}
-use Rattle.control_rows.specs.declared.extent.Extent.{Extent}
-use Rattle.control_rows.specs.Extent.{next_loaded, extent_after, Counting}
-use Rattle.control_rows.specs.declared.spot.ControlSpot.{ControlSpot}
-use Rattle.control_rows.specs.declared.spot.ControlSpot.TheVariants.{LookLeft, StoreEnd, LookAsked, LookFree, Working, Stopping, LoadWord, StoreWord, Go, Gone}
-use Rattle.control_rows.specs.Rows.{Controlling, control_access, loads_more, loaded_on, loaded_all, seen_after, is_gone}
-use Rattle.control_rows.specs.Ready.{is_ready}
+use Rattle.collector_rows.specs.declared.extent.Extent.{Extent}
+use Rattle.collector_rows.specs.Extent.{next_loaded, extent_after, Counting}
+use Rattle.collector_rows.specs.declared.control_spot.ControlSpot.{ControlSpot}
+use Rattle.collector_rows.specs.declared.control_spot.ControlSpot.TheVariants.{LookLeft, StoreEnd, LookAsked, LookFree, Working, Stopping, LoadWord, StoreWord, Go, Gone}
+use Rattle.collector_rows.specs.ControlRows.{Controlling, control_access, loads_more, loaded_on, loaded_all, seen_after, is_gone}
+use Rattle.collector_rows.specs.ControlReady.{is_ready}
 use Rattle.step_core.specs.Actor.{controlling, Actor}
 use Rattle.step_core.specs.Machines.{took_of, kind, told_storing, standing_of}
 use Rattle.step_core.specs.Settled.{stored_image, settled_by, image_read, image_of, control_number}

@@ -4,12 +4,12 @@ use Rattle.std.specs.Prelude.{slice_get, slice_set}
 use Rattle.heap_words.specs.declared.config.Config.{Config}
 use Rattle.heap_words.specs.Steps.{Stage}
 use Rattle.heap_words.proofs.Places.{slice_get-set_other}
-use Rattle.control_rows.specs.Extent.{Counting}
+use Rattle.collector_rows.specs.Extent.{Counting}
 use Rattle.handshake.specs.Standing.{is_within, is_pausing}
 use Rattle.handshake.specs.Shaken.{IsShaken}
 use Rattle.handshake.proofs.Still.{pause_empty}
-use Rattle.control_rows.specs.declared.spot.ControlSpot.{ControlSpot}
-use Rattle.control_rows.specs.declared.spot.ControlSpot.TheVariants.{StoreWord}
+use Rattle.collector_rows.specs.declared.control_spot.ControlSpot.{ControlSpot}
+use Rattle.collector_rows.specs.declared.control_spot.ControlSpot.TheVariants.{StoreWord}
 use Rattle.step_core.specs.Actor.{Machine, controlling, Actor}
 use Rattle.step_core.specs.Settled.{stored_image, image_read, image_of, control_number}
 use Rattle.step_core.specs.Machines.{standing_of}

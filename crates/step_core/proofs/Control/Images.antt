@@ -13,11 +13,11 @@ use Rattle.heap_words.proofs.Stores.{same_word_true, is_word_true, view_word, vi
 use Rattle.heap_world.specs.Change.{image_view, image_words}
 use Rattle.heap_words.specs.Touch.{Touch, touch, loads, formed, placed, touched}
 use Rattle.heap_words.proofs.Touches.{table_index-access_at, made_of-access_at}
-use Rattle.control_rows.specs.declared.extent.Extent.{Extent}
-use Rattle.control_rows.specs.declared.extent.Extent.TheVariants.{Whole}
-use Rattle.control_rows.specs.ByParts.{IsMadeOf}
-use Rattle.control_rows.specs.Extent.{is_of_extent, padded, counts, Counting}
-use Rattle.control_rows.proofs.Extents.{early, padded_reads}
+use Rattle.collector_rows.specs.declared.extent.Extent.{Extent}
+use Rattle.collector_rows.specs.declared.extent.Extent.TheVariants.{Whole}
+use Rattle.collector_rows.specs.ByParts.{IsMadeOf}
+use Rattle.collector_rows.specs.Extent.{is_of_extent, padded, counts, Counting}
+use Rattle.collector_rows.proofs.Extents.{early, padded_reads}
 use Rattle.step_core.specs.Settled.{is_counting, mixed, settled_by}
 use Rattle.step_core.proofs.Machines.Owed.{AreRead, AreLoaded}
 

@@ -8,7 +8,7 @@ use Rattle.shen_graph.specs.Graph.{Graph}
 use Rattle.shen_graph.specs.History.{Entry, of_thread}
 use Rattle.heap_world.specs.World.{Ghost, Plot, Shared}
 use Rattle.heap_world.proofs.Keeping.{rely_same}
-use Rattle.control_rows.specs.Rows.{Controlling}
+use Rattle.collector_rows.specs.ControlRows.{Controlling}
 use Rattle.step_core.specs.Actor.{controlling, Actor}
 use Rattle.step_core.specs.Settled.{stored_image, settled_by, control_number}
 use Rattle.step_core.specs.Threads.{IsSettled}

@@ -31,14 +31,14 @@ use Rattle.alloc_buffers.specs.Facts.{IsSpare, OnlySpares}
 use Rattle.heap_world.specs.World.{Ghost, World, Block, Plot, hand, carved, room_of, Points, IsUsable, UsableIn, Shared}
 use Rattle.heap_world.specs.Asking.{Asking, nothing, asks, refused, given, IsAsked}
 use Rattle.heap_world.specs.Change.{Change, Answers, IsDue, IsPaused, image_view, image_words, words_given}
-use Rattle.control_rows.specs.ByParts.{PausesByParts}
+use Rattle.collector_rows.specs.ByParts.{PausesByParts}
 use Rattle.heap_world.specs.Represents.{NobodyMarks, NobodyCopies, Represents}
 use Rattle.heap_world.specs.Roots.{HasNoMore, HasNoMorePins}
-use Rattle.control_rows.specs.declared.extent.Extent.{Extent}
-use Rattle.control_rows.specs.Extent.{extent_by, counts, Counting}
-use Rattle.control_rows.specs.ByParts.{IsImagePart, IsMadeOf}
-use Rattle.control_rows.proofs.Extents.{early}
-use Rattle.control_rows.specs.declared.spot.ControlSpot.TheVariants.{StoreWord}
+use Rattle.collector_rows.specs.declared.extent.Extent.{Extent}
+use Rattle.collector_rows.specs.Extent.{extent_by, counts, Counting}
+use Rattle.collector_rows.specs.ByParts.{IsImagePart, IsMadeOf}
+use Rattle.collector_rows.proofs.Extents.{early}
+use Rattle.collector_rows.specs.declared.control_spot.ControlSpot.TheVariants.{StoreWord}
 use Rattle.step_core.specs.Actor.{Machine, mutating, controlling, Actor}
 use Rattle.step_core.specs.Settled.{is_counting, mixed, settled_by, control_number}
 use Rattle.step_core.specs.Own.{root_now}

@@ -22,12 +22,12 @@ use Rattle.unit_part.proofs.Inside.{unit_inside}
 use Rattle.heap_world.specs.World.{Ghost, World, Plot, Shared}
 use Rattle.heap_world.specs.Change.{Change, IsDue}
 use Rattle.heap_world.specs.Part.{PartStep}
-use Rattle.control_rows.specs.declared.spot.ControlSpot.{ControlSpot}
-use Rattle.control_rows.specs.declared.spot.ControlSpot.TheVariants.{LookLeft, StoreEnd, LookAsked, LookFree, Working, Stopping, Go}
-use Rattle.control_rows.specs.Rows.{Controlling, control_touch, control_next, stopping, after_unit, begins_pause, unasked, wants_pause}
-use Rattle.control_rows.specs.Extent.{first_extent}
-use Rattle.control_rows.proofs.Ready.{stays_ready}
-use Rattle.control_rows.proofs.Extents.{early, extent_none}
+use Rattle.collector_rows.specs.declared.control_spot.ControlSpot.{ControlSpot}
+use Rattle.collector_rows.specs.declared.control_spot.ControlSpot.TheVariants.{LookLeft, StoreEnd, LookAsked, LookFree, Working, Stopping, Go}
+use Rattle.collector_rows.specs.ControlRows.{Controlling, control_touch, control_next, stopping, after_unit, begins_pause, unasked, wants_pause}
+use Rattle.collector_rows.specs.Extent.{first_extent}
+use Rattle.collector_rows.proofs.ControlStays.{stays_ready}
+use Rattle.collector_rows.proofs.Extents.{early, extent_none}
 use Rattle.step_core.specs.Actor.{Machine, controlling, Actor}
 use Rattle.step_core.specs.Settled.{stored_image, settled_by, control_number}
 use Rattle.step_core.proofs.Machines.Owed.{IsResting, CanWork, ControlFacts, IsAim, IsOfExtent, IsControl, IsMachine, PromisedToMutators, Owes}

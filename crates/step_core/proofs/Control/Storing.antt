@@ -21,14 +21,14 @@ use Rattle.mutator.specs.Rows.{Mutating}
 use Rattle.heap_world.specs.World.{Ghost, World, Plot, Shared}
 use Rattle.heap_world.specs.Change.{Change, image_words}
 use Rattle.heap_world.proofs.Keeping.{rely_same}
-use Rattle.control_rows.specs.declared.extent.Extent.{Extent}
-use Rattle.control_rows.specs.Extent.{counts, next_stored, Counting}
-use Rattle.control_rows.specs.declared.spot.ControlSpot.{ControlSpot}
-use Rattle.control_rows.specs.declared.spot.ControlSpot.TheVariants.{StoreWord, Go}
-use Rattle.control_rows.specs.Rows.{Controlling, control_next}
-use Rattle.control_rows.specs.Ready.{is_ready}
-use Rattle.control_rows.proofs.Ready.{stays_ready}
-use Rattle.control_rows.proofs.Extents.{IsStoredNext, stored_next_is}
+use Rattle.collector_rows.specs.declared.extent.Extent.{Extent}
+use Rattle.collector_rows.specs.Extent.{counts, next_stored, Counting}
+use Rattle.collector_rows.specs.declared.control_spot.ControlSpot.{ControlSpot}
+use Rattle.collector_rows.specs.declared.control_spot.ControlSpot.TheVariants.{StoreWord, Go}
+use Rattle.collector_rows.specs.ControlRows.{Controlling, control_next}
+use Rattle.collector_rows.specs.ControlReady.{is_ready}
+use Rattle.collector_rows.proofs.ControlStays.{stays_ready}
+use Rattle.collector_rows.proofs.Extents.{IsStoredNext, stored_next_is}
 use Rattle.step_core.specs.Actor.{mutating, controlling, Actor, entries_of}
 use Rattle.step_core.specs.Machines.{command_at, told_word}
 use Rattle.step_core.specs.Settled.{is_counting, mixed, stored_image, settled_by, control_number}

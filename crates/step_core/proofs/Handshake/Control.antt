@@ -21,12 +21,12 @@ use Rattle.unit_part.specs.Ready as unit
 use Rattle.unit_part.proofs.Inside.{unit_inside, unit_image}
 use Rattle.handshake.proofs.Obeying.{placed_elsewhere, placed_above, image_elsewhere, image_not_left, stop_obeys, go_obeys, obeys_same}
 use Rattle.heap_world.specs.Change.{image_words}
-use Rattle.control_rows.specs.declared.spot.ControlSpot.{ControlSpot}
-use Rattle.control_rows.specs.declared.spot.ControlSpot.TheVariants.{LookLeft, StoreEnd, LookAsked, LookFree, Working, Stopping, LoadWord, StoreWord, Go, Gone}
-use Rattle.control_rows.specs.Rows.{control_seat, access_with, next_spot, stopping, after_unit, after_load, begins_pause, unasked, wants_pause}
-use Rattle.control_rows.specs.declared.extent.Extent.{Extent}
-use Rattle.control_rows.specs.Extent.{next_loaded, extent_after}
-use Rattle.control_rows.specs.Ready.{is_ready}
+use Rattle.collector_rows.specs.declared.control_spot.ControlSpot.{ControlSpot}
+use Rattle.collector_rows.specs.declared.control_spot.ControlSpot.TheVariants.{LookLeft, StoreEnd, LookAsked, LookFree, Working, Stopping, LoadWord, StoreWord, Go, Gone}
+use Rattle.collector_rows.specs.ControlRows.{control_seat, access_with, next_spot, stopping, after_unit, after_load, begins_pause, unasked, wants_pause}
+use Rattle.collector_rows.specs.declared.extent.Extent.{Extent}
+use Rattle.collector_rows.specs.Extent.{next_loaded, extent_after}
+use Rattle.collector_rows.specs.ControlReady.{is_ready}
 use Rattle.step_core.specs.Standing.{control_standing}
 use Rattle.step_core.proofs.Helpers.Stable.{is_off}
 use Rattle.heap_words.specs.Ranges.{seat_count}

@@ -30,12 +30,12 @@ use Rattle.mutator.specs.declared.waits.WaitSpot.TheVariants as wait
 use Rattle.mutator.specs.Orders.{takes_at}
 use Rattle.mutator.specs.Rows.{Mutating, touch_at, first_touch}
 use Rattle.mutator.specs.Fit.{numbers_fit}
-use Rattle.control_rows.specs.declared.spot.ControlSpot.{ControlSpot}
-use Rattle.control_rows.specs.declared.spot.ControlSpot.TheVariants as control
-use Rattle.control_rows.specs.Rows.{control_seat, is_gone, access_with, next_spot, stopping, after_unit, after_load, begins_pause, unasked, wants_pause}
-use Rattle.control_rows.specs.declared.extent.Extent.{Extent}
-use Rattle.control_rows.specs.Extent.{next_loaded, extent_after}
-use Rattle.control_rows.specs.Ready.{is_ready}
+use Rattle.collector_rows.specs.declared.control_spot.ControlSpot.{ControlSpot}
+use Rattle.collector_rows.specs.declared.control_spot.ControlSpot.TheVariants as control
+use Rattle.collector_rows.specs.ControlRows.{control_seat, is_gone, access_with, next_spot, stopping, after_unit, after_load, begins_pause, unasked, wants_pause}
+use Rattle.collector_rows.specs.declared.extent.Extent.{Extent}
+use Rattle.collector_rows.specs.Extent.{next_loaded, extent_after}
+use Rattle.collector_rows.specs.ControlReady.{is_ready}
 use Rattle.step_core.proofs.Handshake.Mutator.{StaysIn, stays_in, waits_in, IsGiven, given_order, given_ended}
 use Rattle.step_core.proofs.Handshake.Control.{unit_above}
 

@@ -9,10 +9,10 @@ use Rattle.shen_graph.specs.Graph.{Graph}
 use Rattle.shen_graph.specs.declared.order.Order.{Order}
 use Rattle.shen_graph.specs.History.{Entry}
 use Rattle.heap_world.specs.Change.{Change}
-use Rattle.control_rows.specs.ByParts.{PausesByParts}
+use Rattle.collector_rows.specs.ByParts.{PausesByParts}
 use Rattle.handshake.specs.Ending.{EventKeepsEnd, EachKeepsEnd, IsEndWord}
 use Rattle.handshake.proofs.Ending.{known_run}
-use Rattle.control_rows.specs.Rows.{is_gone}
+use Rattle.collector_rows.specs.ControlRows.{is_gone}
 use Rattle.step_core.specs.Actor.{Machine, controlling, Actor}
 use Rattle.step_core.specs.Machines.{IsIdle, kind, has_ended_of}
 use Rattle.step_core.specs.Begins.{Begins}

@@ -16,10 +16,10 @@ use Rattle.handshake.proofs.Obeying.{placed_elsewhere, image_elsewhere, image_no
 use Rattle.unit_part.specs.declared.spot.UnitSpot.{UnitSpot}
 use Rattle.unit_part.specs.declared.spot.UnitSpot.TheVariants.{Ended}
 use Rattle.unit_part.specs.Rows as units
-use Rattle.helper.specs.declared.spot.HelpSpot.{HelpSpot}
-use Rattle.helper.specs.declared.spot.HelpSpot.TheVariants.{LoadEnd, Entering, LoadPhase, LoadSet, Working, Leave, Gone}
-use Rattle.helper.specs.Rows.{is_gone, touch_at, after_enter, after_unit, next_spot}
-use Rattle.helper.specs.Ready.{spot_fits}
+use Rattle.collector_rows.specs.declared.help_spot.HelpSpot.{HelpSpot}
+use Rattle.collector_rows.specs.declared.help_spot.HelpSpot.TheVariants.{LoadEnd, Entering, LoadPhase, LoadSet, Working, Leave, Gone}
+use Rattle.collector_rows.specs.HelperRows.{is_gone, touch_at, after_enter, after_unit, next_spot}
+use Rattle.collector_rows.specs.HelperReady.{spot_fits}
 use Rattle.step_core.specs.Standing.{help_standing}
 use Rattle.step_core.proofs.Handshake.Control.{unit_above}
 use Rattle.step_core.proofs.Helpers.Stable.{is_off}

@@ -13,10 +13,10 @@ use Rattle.shen_graph.specs.declared.order.Order.TheVariants.{Nothing}
 use Rattle.shen_graph.specs.Graph.{Graph}
 use Rattle.shen_graph.specs.History.{Entry, after}
 use Rattle.handshake.specs.Standing.{is_within}
-use Rattle.helper.specs.Rows.{Helping, is_gone, help_touch}
+use Rattle.collector_rows.specs.HelperRows.{Helping, is_gone, help_touch}
 use Rattle.heap_world.specs.World.{World}
 use Rattle.heap_world.specs.Change.{Change}
-use Rattle.control_rows.specs.Extent.{Counting}
+use Rattle.collector_rows.specs.Extent.{Counting}
 use Rattle.step_core.specs.Actor.{helping, Actor}
 use Rattle.step_core.specs.Machines.{took_of, kind}
 use Rattle.step_core.specs.Settled.{settled, settled_by, control_number}

@@ -5,17 +5,17 @@ use Rattle.std.specs.Prelude.{◌==◌, Bool, if◌then◌else◌}
 use Rattle.heap_words.specs.declared.access.Took.{Took}
 use Rattle.heap_words.specs.declared.access.Took.TheVariants.{More, Again, Done}
 use Rattle.handshake.specs.declared.stop_spot.StopSpot.TheVariants as stop
-use Rattle.control_rows.specs.declared.spot.ControlSpot.{ControlSpot}
+use Rattle.collector_rows.specs.declared.control_spot.ControlSpot.{ControlSpot}
 use Rattle.handshake.specs.declared.enter_spot.EnterSpot.TheVariants.{Await}
 use Rattle.heap_words.specs.declared.access.Unit.TheVariants.{Worked, NoneLeft}
 use Rattle.unit_part.specs.declared.spot.UnitSpot.{UnitSpot}
 use Rattle.unit_part.specs.declared.spot.UnitSpot.TheVariants.{Ended}
 use Rattle.unit_part.specs.Rows as units
-use Rattle.helper.specs.declared.spot.HelpSpot.{HelpSpot}
-use Rattle.helper.specs.declared.spot.HelpSpot.TheVariants as help
-use Rattle.helper.specs.Rows as helpers
-use Rattle.control_rows.specs.declared.spot.ControlSpot.TheVariants.{LookFree, Working, Stopping}
-use Rattle.control_rows.specs.Rows.{says_at, wants_pause, working_says}
+use Rattle.collector_rows.specs.declared.help_spot.HelpSpot.{HelpSpot}
+use Rattle.collector_rows.specs.declared.help_spot.HelpSpot.TheVariants as help
+use Rattle.collector_rows.specs.HelperRows as helpers
+use Rattle.collector_rows.specs.declared.control_spot.ControlSpot.TheVariants.{LookFree, Working, Stopping}
+use Rattle.collector_rows.specs.ControlRows.{says_at, wants_pause, working_says}
 
 -- a step that says one of two things, of which neither is Done, is not done
 not_done : (b : Bool) (one other : Took) → (one ≡ Done → ⊥) → (other ≡ Done → ⊥) → (if b then one else other) ≡ Done → ⊥

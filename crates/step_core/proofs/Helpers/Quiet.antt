@@ -11,8 +11,8 @@ use Rattle.shen_graph.specs.Graph.{Graph}
 use Rattle.shen_graph.specs.History.{Entry, of_thread}
 use Rattle.heap_world.specs.World.{Ghost, World, Plot, promised, Shared}
 use Rattle.heap_world.specs.Part.{PartStep}
-use Rattle.control_rows.specs.Extent.{Counting}
-use Rattle.control_rows.specs.Rows.{Controlling}
+use Rattle.collector_rows.specs.Extent.{Counting}
+use Rattle.collector_rows.specs.ControlRows.{Controlling}
 use Rattle.step_core.specs.Actor.{controlling, Actor}
 use Rattle.step_core.specs.Settled.{settled_by}
 use Rattle.step_core.specs.Threads.{IsSettled}

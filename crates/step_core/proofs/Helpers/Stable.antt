@@ -5,14 +5,14 @@ use Rattle.heap_words.specs.declared.config.Config.{Config}
 use Rattle.heap_words.specs.Words.{IsWord, is_image}
 use Rattle.handshake.specs.declared.enter_spot.EnterSpot.TheVariants as enter
 use Rattle.handshake.specs.Standing.{is_within}
-use Rattle.helper.specs.declared.spot.HelpSpot.{HelpSpot}
-use Rattle.helper.specs.declared.spot.HelpSpot.TheVariants.{LoadEnd, Entering, LoadPhase, LoadSet, Working, Leave, Gone}
-use Rattle.helper.specs.Rows.{Helping, touch_at}
-use Rattle.helper.specs.Ready.{spot_fits, UnitGoesOn}
+use Rattle.collector_rows.specs.declared.help_spot.HelpSpot.{HelpSpot}
+use Rattle.collector_rows.specs.declared.help_spot.HelpSpot.TheVariants.{LoadEnd, Entering, LoadPhase, LoadSet, Working, Leave, Gone}
+use Rattle.collector_rows.specs.HelperRows.{Helping, touch_at}
+use Rattle.collector_rows.specs.HelperReady.{spot_fits, UnitGoesOn}
 use Rattle.unit_part.proofs.Inside.{unit_inside}
 use Rattle.std.proofs.lemmas.Bool.{and_parts}
-use Rattle.control_rows.specs.declared.spot.ControlSpot.{ControlSpot}
-use Rattle.control_rows.specs.declared.spot.ControlSpot.TheVariants as control
+use Rattle.collector_rows.specs.declared.control_spot.ControlSpot.{ControlSpot}
+use Rattle.collector_rows.specs.declared.control_spot.ControlSpot.TheVariants as control
 use Rattle.heap_world.specs.World.{World, Shared}
 use Rattle.heap_world.specs.Rely.{Rely}
 use Rattle.step_core.specs.Standing.{help_standing}

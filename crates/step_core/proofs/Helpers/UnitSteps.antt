@@ -12,11 +12,11 @@ use Rattle.heap_words.specs.declared.access.Unit.TheVariants.{Worked, NoneLeft}
 use Rattle.unit_part.specs.declared.spot.UnitSpot.{UnitSpot}
 use Rattle.unit_part.specs.declared.spot.UnitSpot.TheVariants.{Ended}
 use Rattle.unit_part.specs.Rows as units
-use Rattle.helper.specs.declared.spot.HelpSpot.{HelpSpot}
-use Rattle.helper.specs.declared.spot.HelpSpot.TheVariants.{LoadEnd, Entering, LoadPhase, LoadSet, Working, Leave, Gone}
-use Rattle.helper.specs.Rows.{Helping, is_gone, touch_at, help_touch, after_enter, after_unit, next_spot, help_next}
-use Rattle.helper.specs.Ready.{UnitGoesOn}
-use Rattle.helper.proofs.Ready.{stays_ready}
+use Rattle.collector_rows.specs.declared.help_spot.HelpSpot.{HelpSpot}
+use Rattle.collector_rows.specs.declared.help_spot.HelpSpot.TheVariants.{LoadEnd, Entering, LoadPhase, LoadSet, Working, Leave, Gone}
+use Rattle.collector_rows.specs.HelperRows.{Helping, is_gone, touch_at, help_touch, after_enter, after_unit, next_spot, help_next}
+use Rattle.collector_rows.specs.HelperReady.{UnitGoesOn}
+use Rattle.collector_rows.proofs.HelperStays.{stays_ready}
 use Rattle.heap_world.specs.World.{World, Shared}
 use Rattle.heap_world.specs.Part.{PartStep}
 use Rattle.step_core.proofs.Machines.Alike.{load_step, store_step}

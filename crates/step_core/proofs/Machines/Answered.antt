@@ -9,7 +9,7 @@ use Rattle.heap_words.proofs.Stores.{same_word_true}
 use Rattle.heap_words.specs.Touch.{Touch, touched}
 use Rattle.heap_world.specs.World.{World}
 use Rattle.heap_world.specs.Rely.{Rely}
-use Rattle.control_rows.specs.Extent.{Counting}
+use Rattle.collector_rows.specs.Extent.{Counting}
 use Rattle.step_core.specs.Settled.{settled_by}
 use Rattle.step_core.proofs.Machines.Owed.{words_promised}
 use Rattle.step_core.proofs.Control.Images.{words_after, view-placed}

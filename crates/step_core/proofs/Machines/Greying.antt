@@ -54,12 +54,12 @@ use Rattle.mutator.specs.WaitRows.{wait_place}
 use Rattle.mutator.specs.declared.spot.Spot.{Spot}
 use Rattle.mutator.specs.declared.spot.Spot.TheVariants.{Entering, Loading, OnField, Resolving, Recording, OnNumber, Showing, Making, Pinning, Waiting}
 use Rattle.mutator.specs.Rows as mutators
-use Rattle.helper.specs.declared.spot.HelpSpot.{HelpSpot}
-use Rattle.helper.specs.declared.spot.HelpSpot.TheVariants as help
-use Rattle.helper.specs.Rows as helpers
-use Rattle.control_rows.specs.declared.spot.ControlSpot.{ControlSpot}
-use Rattle.control_rows.specs.declared.spot.ControlSpot.TheVariants as control
-use Rattle.control_rows.specs.Rows as controls
+use Rattle.collector_rows.specs.declared.help_spot.HelpSpot.{HelpSpot}
+use Rattle.collector_rows.specs.declared.help_spot.HelpSpot.TheVariants as help
+use Rattle.collector_rows.specs.HelperRows as helpers
+use Rattle.collector_rows.specs.declared.control_spot.ControlSpot.{ControlSpot}
+use Rattle.collector_rows.specs.declared.control_spot.ControlSpot.TheVariants as control
+use Rattle.collector_rows.specs.ControlRows as controls
 use Rattle.step_core.specs.Actor.{Machine, mutating, helping, controlling}
 use Rattle.step_core.specs.Machines.{takes_hint, greys_of, place_in}
 use Rattle.step_core.specs.Seats.{unit_in, help_unit, control_unit}

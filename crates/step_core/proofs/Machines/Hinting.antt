@@ -9,14 +9,14 @@ use Rattle.unit_part.specs.declared.spot.UnitSpot.TheVariants.{Scanning, Evacuat
 use Rattle.unit_part.specs.Rows as units
 use Rattle.cycle_steps.proofs.Parts.{scanning_steps}
 use Rattle.heap_world.specs.World.{World}
-use Rattle.helper.specs.declared.spot.HelpSpot.{HelpSpot}
-use Rattle.helper.specs.declared.spot.HelpSpot.TheVariants as help
-use Rattle.helper.specs.Rows as helpers
-use Rattle.helper.specs.Rows.{Helping, help_hinted}
-use Rattle.helper.proofs.Hinted as helped
-use Rattle.control_rows.specs.Rows as controls
-use Rattle.control_rows.specs.Rows.{Controlling, control_hinted}
-use Rattle.control_rows.proofs.Hinted as controlled
+use Rattle.collector_rows.specs.declared.help_spot.HelpSpot.{HelpSpot}
+use Rattle.collector_rows.specs.declared.help_spot.HelpSpot.TheVariants as help
+use Rattle.collector_rows.specs.HelperRows as helpers
+use Rattle.collector_rows.specs.HelperRows.{Helping, help_hinted}
+use Rattle.collector_rows.proofs.HelperHinted as helped
+use Rattle.collector_rows.specs.ControlRows as controls
+use Rattle.collector_rows.specs.ControlRows.{Controlling, control_hinted}
+use Rattle.collector_rows.proofs.ControlHinted as controlled
 use Rattle.step_core.specs.Machines.{stored_image}
 use Rattle.step_core.specs.Pausing.{IsAim, IsOfExtent}
 use Rattle.step_core.specs.Standing.{help_standing, control_standing}

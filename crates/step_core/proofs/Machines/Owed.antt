@@ -20,14 +20,14 @@ use Rattle.alloc_buffers.specs.Facts.{IsSpare, OnlySpares}
 pub use Rattle.heap_world.specs.Asking.{PromisedToMutators}
 use Rattle.heap_world.specs.Change.{IsDue}
 use Rattle.heap_world.specs.Roots.{HasNoMore, HasNoMorePins}
-use Rattle.control_rows.specs.declared.spot.ControlSpot.{ControlSpot}
-use Rattle.control_rows.specs.declared.spot.ControlSpot.TheVariants.{LookFree, Working, Stopping, LoadWord}
-use Rattle.control_rows.specs.Rows.{Controlling}
-use Rattle.control_rows.specs.Ready.{is_ready}
-use Rattle.helper.specs.declared.spot.HelpSpot.{HelpSpot}
-use Rattle.helper.specs.declared.spot.HelpSpot.TheVariants as help
-use Rattle.helper.specs.Rows.{Helping}
-use Rattle.helper.specs.Ready.{help_ready}
+use Rattle.collector_rows.specs.declared.control_spot.ControlSpot.{ControlSpot}
+use Rattle.collector_rows.specs.declared.control_spot.ControlSpot.TheVariants.{LookFree, Working, Stopping, LoadWord}
+use Rattle.collector_rows.specs.ControlRows.{Controlling}
+use Rattle.collector_rows.specs.ControlReady.{is_ready}
+use Rattle.collector_rows.specs.declared.help_spot.HelpSpot.{HelpSpot}
+use Rattle.collector_rows.specs.declared.help_spot.HelpSpot.TheVariants as help
+use Rattle.collector_rows.specs.HelperRows.{Helping}
+use Rattle.collector_rows.specs.HelperReady.{help_ready}
 use Rattle.heap_words.specs.declared.access.Unit.TheVariants.{Worked, NoneLeft}
 use Rattle.unit_part.specs.declared.scan_spot.ScanSpot.{ScanSpot}
 use Rattle.unit_part.specs.declared.spot.UnitSpot.{UnitSpot}

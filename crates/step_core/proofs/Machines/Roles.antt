@@ -41,16 +41,16 @@ use Rattle.heap_world.specs.Asking.{IsAsked, nothing}
 use Rattle.heap_world.specs.Represents.{NobodyMarks, NobodyCopies}
 use Rattle.heap_world.specs.Rely.{Rely}
 use Rattle.heap_world.specs.Change.{Change}
-use Rattle.helper.specs.Rows as help
-use Rattle.helper.specs.Rows.{Helping}
-use Rattle.helper.proofs.Hinted.{help_hinted_ready}
-use Rattle.control_rows.proofs.Hinted.{control_hinted_ready}
-use Rattle.control_rows.specs.Rows as controls
+use Rattle.collector_rows.specs.HelperRows as help
+use Rattle.collector_rows.specs.HelperRows.{Helping}
+use Rattle.collector_rows.proofs.HelperHinted.{help_hinted_ready}
+use Rattle.collector_rows.proofs.ControlHinted.{control_hinted_ready}
+use Rattle.collector_rows.specs.ControlRows as controls
 use Rattle.heap_words.specs.declared.access.Access.{Access}
 use Rattle.step_core.proofs.Machines.Hinting.{help_hinted_is, help_hinted_stands, help_hinted_seat, help_hinted_gone, control_hinted_stands, control_hinted_gone}
-use Rattle.helper.specs.Ready.{spot_fits, help_ready}
-use Rattle.control_rows.specs.Rows.{Controlling, is_gone, control_says, word_stored, stored_next}
-use Rattle.control_rows.specs.Ready.{is_ready}
+use Rattle.collector_rows.specs.HelperReady.{spot_fits, help_ready}
+use Rattle.collector_rows.specs.ControlRows.{Controlling, is_gone, control_says, word_stored, stored_next}
+use Rattle.collector_rows.specs.ControlReady.{is_ready}
 use Rattle.step_core.specs.Actor.{Machine, mutating, helping, controlling, Actor, fresh_helper, command_by}
 use Rattle.step_core.specs.Machines.{takes_of, is_for_working, helping_by, controlling_by, plan_of, machine_after, answer_of, next_order, order_for, is_mutating, may_begin, has_ended_of, standing_of, HasNumber, IsIdle, IsFitFor}
 use Rattle.step_core.specs.Settled.{control_number}

@@ -48,10 +48,10 @@ use Rattle.mutator.specs.declared.waits.WaitSpot.{WaitSpot}
 use Rattle.mutator.specs.declared.waits.WaitSpot.TheVariants as wait
 use Rattle.mutator.specs.Orders.{is_waiting}
 use Rattle.mutator.specs.Rows.{Mutating, words_made}
-use Rattle.helper.specs.declared.spot.HelpSpot.{HelpSpot}
-use Rattle.helper.specs.declared.spot.HelpSpot.TheVariants as help
-use Rattle.control_rows.specs.declared.spot.ControlSpot.{ControlSpot}
-use Rattle.control_rows.specs.declared.spot.ControlSpot.TheVariants as control
+use Rattle.collector_rows.specs.declared.help_spot.HelpSpot.{HelpSpot}
+use Rattle.collector_rows.specs.declared.help_spot.HelpSpot.TheVariants as help
+use Rattle.collector_rows.specs.declared.control_spot.ControlSpot.{ControlSpot}
+use Rattle.collector_rows.specs.declared.control_spot.ControlSpot.TheVariants as control
 use Rattle.heap_world.specs.World.{World, Block, Body, body_words, hand, room_of, UsableIn}
 use Rattle.step_core.specs.Actor.{Machine, mutating, helping, controlling, Actor}
 use Rattle.step_core.specs.Seats.{copies_in, IsRoomIn, help_unit, control_unit, unit_scan, unit_copies, unit_region, CanWorkOn, UnitRoom, resolve_hand, evac_hand, unit_hand, make_hand, call_hand, Taking, resolve_taking, evac_taking, unit_taking, make_taking, call_taking, take_looks, looks_in, Carried, resolve_carries, evac_carries, unit_carries, call_carries, StandsThere, IsInSeat, before_record, before_resolve, works_on, AsksNothing, MakesObject, IsServed, IsOfRoots, IsOfField, IsOfLoaded, IsOfOverwritten, IsOfCall, is_answered}

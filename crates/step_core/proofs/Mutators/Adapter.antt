@@ -25,8 +25,8 @@ use Rattle.mutator.proofs.Orders.{in_call}
 use Rattle.mutator.specs.Told.{told_of as settled_by_step}
 use Rattle.heap_world.specs.World.{Ghost, World, Plot, Shared}
 use Rattle.heap_world.specs.Change.{Change}
-use Rattle.control_rows.specs.Extent.{Counting}
-use Rattle.control_rows.specs.Rows.{Controlling}
+use Rattle.collector_rows.specs.Extent.{Counting}
+use Rattle.collector_rows.specs.ControlRows.{Controlling}
 use Rattle.step_core.specs.Actor.{mutating, controlling, Actor, entries_of, command_by}
 use Rattle.step_core.specs.Machines.{took_of}
 use Rattle.step_core.specs.Settled.{settled_by}

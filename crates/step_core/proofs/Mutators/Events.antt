@@ -27,8 +27,8 @@ use Rattle.mutator.specs.Told.{told_of as settled_by_step}
 use Rattle.mutator.proofs.Orders.{in_call}
 use Rattle.heap_world.specs.World.{World, Shared}
 use Rattle.heap_world.specs.Change.{Change}
-use Rattle.control_rows.specs.Extent.{Counting}
-use Rattle.control_rows.specs.Rows.{Controlling}
+use Rattle.collector_rows.specs.Extent.{Counting}
+use Rattle.collector_rows.specs.ControlRows.{Controlling}
 use Rattle.step_core.specs.Actor.{mutating, controlling, Actor, entries_of, command_by}
 use Rattle.step_core.specs.Machines.{took_of, kind}
 use Rattle.step_core.specs.Settled.{mixed, settled, settled_by, control_number}

@@ -22,7 +22,7 @@ use Rattle.mutator.specs.Fit.{is_ready}
 use Rattle.heap_world.specs.World.{Ghost, World, Plot, Shared}
 use Rattle.heap_world.proofs.Keeping.{rely_same}
 use Rattle.step_core.specs.Actor.{mutating, Actor, entries_of}
-use Rattle.control_rows.specs.Extent.{Counting}
+use Rattle.collector_rows.specs.Extent.{Counting}
 use Rattle.step_core.specs.Settled.{mixed}
 use Rattle.step_core.proofs.Machines.Stepped.{IsPolling, IsAnswered}
 use Rattle.step_core.specs.Threads.{IsSettled}

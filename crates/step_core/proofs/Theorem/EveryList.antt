@@ -32,10 +32,10 @@ use Rattle.mutator.specs.Fit.{IsReady, PartFit, EndsFit, IsFit}
 use Rattle.alloc_buffers.specs.Facts.{HasLess}
 use Rattle.heap_world.specs.World.{World}
 use Rattle.heap_world.specs.Change.{Change}
-use Rattle.control_rows.specs.ByParts.{PausesByParts}
-use Rattle.control_rows.specs.Ready.{is_ready}
-use Rattle.helper.specs.Rows.{Helping}
-use Rattle.control_rows.specs.Rows.{Controlling}
+use Rattle.collector_rows.specs.ByParts.{PausesByParts}
+use Rattle.collector_rows.specs.ControlReady.{is_ready}
+use Rattle.collector_rows.specs.HelperRows.{Helping}
+use Rattle.collector_rows.specs.ControlRows.{Controlling}
 use Rattle.step_core.specs.Actor.{Machine, mutating, helping, controlling, Actor}
 use Rattle.step_core.specs.Begins.{Begins, Run, ending, history_in, first_graph, reached, past}
 use Rattle.step_core.specs.Begun.{scripts_begun}
@@ -73,7 +73,7 @@ use Rattle.step_core.proofs.Theorem.AtRest.{at_rest}
 use Rattle.step_core.specs.AtRest.{IsAtRest}
 use Rattle.heap_world.specs.Asking.{nothing}
 use Rattle.heap_world.specs.Represents.{Represents}
-use Rattle.control_rows.specs.Extent.{Counting}
+use Rattle.collector_rows.specs.Extent.{Counting}
 use Rattle.step_core.proofs.Machines.Roles.{number_of, mutator_of, machine_there}
 
 -- a mutator that ends has not ended, and its access is of the count

@@ -18,15 +18,15 @@ use Rattle.shen_graph.specs.History.{Entry, after}
 use Rattle.handshake.specs.Standing.{is_within}
 use Rattle.heap_world.specs.World.{World}
 use Rattle.heap_world.specs.Change.{Change}
-use Rattle.control_rows.specs.ByParts.{PausesByParts}
-use Rattle.helper.specs.Rows.{Helping, help_touch}
-use Rattle.helper.specs.Ready as help
-use Rattle.control_rows.specs.declared.spot.ControlSpot.{ControlSpot}
-use Rattle.control_rows.specs.declared.spot.ControlSpot.TheVariants.{Working, LoadWord}
-use Rattle.control_rows.specs.Rows as controls
-use Rattle.control_rows.specs.Rows.{Controlling, control_access, word_stored}
-use Rattle.control_rows.specs.Ready.{UnitGoesOn}
-use Rattle.control_rows.proofs.Ready.{accesses_inside}
+use Rattle.collector_rows.specs.ByParts.{PausesByParts}
+use Rattle.collector_rows.specs.HelperRows.{Helping, help_touch}
+use Rattle.collector_rows.specs.HelperReady as help
+use Rattle.collector_rows.specs.declared.control_spot.ControlSpot.{ControlSpot}
+use Rattle.collector_rows.specs.declared.control_spot.ControlSpot.TheVariants.{Working, LoadWord}
+use Rattle.collector_rows.specs.ControlRows as controls
+use Rattle.collector_rows.specs.ControlRows.{Controlling, control_access, word_stored}
+use Rattle.collector_rows.specs.ControlReady.{UnitGoesOn}
+use Rattle.collector_rows.proofs.ControlStays.{accesses_inside}
 use Rattle.step_core.specs.Actor.{Machine, helping, controlling, Actor}
 use Rattle.step_core.specs.Fit.{IsWholeImage}
 use Rattle.step_core.specs.Machines.{takes_of, plan_of, helping_by, controlling_by, IsFitFor}

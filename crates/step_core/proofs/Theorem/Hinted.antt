@@ -21,8 +21,8 @@ use Rattle.handshake.specs.Left.{AreLeftCounted}
 use Rattle.handshake.proofs.Counting.{weight, count_by-cons}
 use Rattle.handshake.specs.Standing.{HasSeat, pause_word, is_within, is_checked, state_word, control_seat}
 use Rattle.heap_world.specs.World.{World, Shared}
-use Rattle.helper.specs.Rows.{Helping}
-use Rattle.control_rows.specs.Rows.{Controlling}
+use Rattle.collector_rows.specs.HelperRows.{Helping}
+use Rattle.collector_rows.specs.ControlRows.{Controlling}
 use Rattle.heap_world.specs.Change.{Change}
 use Rattle.step_core.specs.Actor.{helping, controlling, Actor}
 use Rattle.step_core.specs.Machines.{image_read, helping_by, controlling_by, plan_of, took_of, kind}

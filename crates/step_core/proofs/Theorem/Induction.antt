@@ -15,13 +15,13 @@ use Rattle.handshake.proofs.Shaking.{shaken_step}
 use Rattle.handshake.proofs.Counting.{counted_step}
 use Rattle.handshake.specs.Left.{AreLeftCounted}
 use Rattle.heap_world.specs.Change.{Change}
-use Rattle.control_rows.specs.ByParts.{PausesByParts}
-use Rattle.helper.specs.Rows as help
-use Rattle.helper.specs.Rows.{Helping}
-use Rattle.control_rows.specs.declared.spot.ControlSpot.{ControlSpot}
-use Rattle.control_rows.specs.declared.spot.ControlSpot.TheVariants.{Working}
-use Rattle.control_rows.specs.Rows as controls
-use Rattle.control_rows.specs.Rows.{Controlling, is_gone}
+use Rattle.collector_rows.specs.ByParts.{PausesByParts}
+use Rattle.collector_rows.specs.HelperRows as help
+use Rattle.collector_rows.specs.HelperRows.{Helping}
+use Rattle.collector_rows.specs.declared.control_spot.ControlSpot.{ControlSpot}
+use Rattle.collector_rows.specs.declared.control_spot.ControlSpot.TheVariants.{Working}
+use Rattle.collector_rows.specs.ControlRows as controls
+use Rattle.collector_rows.specs.ControlRows.{Controlling, is_gone}
 use Rattle.step_core.specs.Actor.{Machine, mutating, helping, controlling, Actor}
 use Rattle.step_core.specs.Machines.{takes_of, helping_by, controlling_by, told_storing, kind}
 use Rattle.step_core.specs.History.{told_of_machine, told, history, told_by}

@@ -30,10 +30,10 @@ use Rattle.mutator.specs.Rows.{Mutating, touch_at}
 use Rattle.mutator.specs.Told.{told_at, told_of}
 use Rattle.heap_world.specs.World.{World, Plot, PinStands, Shared}
 use Rattle.heap_world.specs.Change.{Change}
-use Rattle.control_rows.specs.ByParts.{PausesByParts}
+use Rattle.collector_rows.specs.ByParts.{PausesByParts}
 use Rattle.heap_world.proofs.Keeping.{load_keeps}
-use Rattle.control_rows.specs.declared.spot.ControlSpot.{ControlSpot}
-use Rattle.control_rows.specs.declared.spot.ControlSpot.TheVariants.{StoreWord}
+use Rattle.collector_rows.specs.declared.control_spot.ControlSpot.{ControlSpot}
+use Rattle.collector_rows.specs.declared.control_spot.ControlSpot.TheVariants.{StoreWord}
 use Rattle.step_core.specs.Actor.{Machine, mutating, helping, controlling, Actor, entries_of, command_by}
 use Rattle.step_core.specs.Machines.{command_at, told_word, told_storing, takes_of, kind}
 use Rattle.step_core.specs.History.{told_of_machine, told, told_by}

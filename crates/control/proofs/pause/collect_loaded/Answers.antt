@@ -2,7 +2,7 @@ use Rattle.std.proofs.Common.{◌≡◌, sym, subst}
 use Rattle.heap_world.specs.Change.{image_view}
 use Rattle.image_graph.specs.State.{config_of}
 use Rattle.cycle_pauses.specs.Collect.{collect_image}
-use Rattle.control_rows.specs.declared.extent.Extent.{Extent}
+use Rattle.collector_rows.specs.declared.extent.Extent.{Extent}
 use Rattle.control.specs.Fit.{CanCollectPart}
 use Rattle.control.specs.Image.{image_in, part_in, image_shown}
 use Rattle.control.proofs.pause.collect_loaded.Goals as goal

@@ -2,12 +2,12 @@ use Rattle.std.proofs.Common.{◌≡◌, ◌≢◌, ℕ, List, sym, ap, ◌∙�
 use Rattle.std.specs.Prelude.{false, if◌then◌else◌, slice_index}
 use Rattle.heap_words.specs.declared.config.Config.{Config}
 use Rattle.heap_words.specs.Words.{Word, Phase, Current}
-use Rattle.heap_graph.specs.Walk.{has}
+use Rattle.heap_world.specs.Walk.{has}
 use Rattle.heap_world.specs.Change.{image_view}
 use Rattle.image_graph.specs.declared.image.Image.{Image}
 use Rattle.image_graph.specs.State.{config_of, memory_of}
-use Rattle.control_rows.specs.declared.extent.Extent.{Extent}
-use Rattle.control_rows.specs.declared.extent.Extent.TheVariants.{Whole}
+use Rattle.collector_rows.specs.declared.extent.Extent.{Extent}
+use Rattle.collector_rows.specs.declared.extent.Extent.TheVariants.{Whole}
 use Rattle.cycle_pauses.specs.Collect.{collected, collect_image}
 use Rattle.control.specs.Clear.{IsClear}
 use Rattle.control.specs.Fit.{CanCollectPart}

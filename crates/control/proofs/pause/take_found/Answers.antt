@@ -2,11 +2,11 @@ use Rattle.std.proofs.Common.{◌≡◌, ℕ, List, true, refl, sym, ap, ◌∙�
 use Rattle.std.proofs.lemmas.Bool.{ltb-true}
 use Rattle.heap_world.specs.Change.{image_words}
 use Rattle.image_graph.specs.State.{config_of}
-use Rattle.control_rows.specs.declared.spot.ControlSpot.{ControlSpot}
-use Rattle.control_rows.specs.declared.spot.ControlSpot.TheVariants.{LoadWord}
-use Rattle.control_rows.specs.Extent.{extent_after}
-use Rattle.control_rows.specs.Ready.{is_ready}
-use Rattle.control_rows.specs.Rows.{stored_next, next_spot, next_image}
+use Rattle.collector_rows.specs.declared.control_spot.ControlSpot.{ControlSpot}
+use Rattle.collector_rows.specs.declared.control_spot.ControlSpot.TheVariants.{LoadWord}
+use Rattle.collector_rows.specs.Extent.{extent_after}
+use Rattle.collector_rows.specs.ControlReady.{is_ready}
+use Rattle.collector_rows.specs.ControlRows.{stored_next, next_spot, next_image}
 use Rattle.cycle_pauses.specs.Collect.{collect_image}
 use Rattle.control.specs.Fit.{fits_with}
 use Rattle.control.specs.Image.{image_in, words_seen, SeesOwn}

@@ -5,10 +5,10 @@ use Rattle.heap_words.specs.Words.{Word, Phase, Cset}
 use Rattle.heap_world.specs.Change.{image_words, image_view}
 use Rattle.image_graph.specs.declared.image.Image.{Image}
 use Rattle.image_graph.specs.State.{config_of, memory_of}
-use Rattle.control_rows.specs.declared.extent.Extent.{Extent}
-use Rattle.control_rows.specs.declared.spot.ControlSpot.TheVariants.{LoadWord}
-use Rattle.control_rows.specs.Extent.{is_of_extent, extent_after, next_loaded}
-use Rattle.control_rows.specs.Rows.{after_load, seen_after, next_image, next_seen, next_phase, next_set}
+use Rattle.collector_rows.specs.declared.extent.Extent.{Extent}
+use Rattle.collector_rows.specs.declared.control_spot.ControlSpot.TheVariants.{LoadWord}
+use Rattle.collector_rows.specs.Extent.{is_of_extent, extent_after, next_loaded}
+use Rattle.collector_rows.specs.ControlRows.{after_load, seen_after, next_image, next_seen, next_phase, next_set}
 use Rattle.cycle_pauses.specs.Collect.{collect_image}
 use Rattle.control.specs.Clear.{IsClear}
 use Rattle.control.specs.Fit.{CanCollectPart, fits_with}

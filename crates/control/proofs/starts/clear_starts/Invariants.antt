@@ -1,6 +1,6 @@
 use Rattle.std.proofs.Common.{◌≡◌, ℕ, take}
 use Rattle.std.specs.Prelude.{if◌then◌else◌, slice_index}
-use Rattle.heap_graph.specs.Walk.{has}
+use Rattle.heap_world.specs.Walk.{has}
 use Rattle.image_graph.specs.State.{config_of}
 use Rattle.control.specs.Clear.{IsClear}
 use Rattle.control.specs.Image.{image_in}

@@ -1,7 +1,7 @@
 use Rattle.std.proofs.Common.{◌≡◌, ◌<◌, length, sym, ap, ◌∙◌, subst, arith}
 use Rattle.heap_world.specs.Change.{image_words}
 use Rattle.image_graph.specs.State.{config_of}
-use Rattle.control_rows.specs.Extent.{next_loaded}
+use Rattle.collector_rows.specs.Extent.{next_loaded}
 use Rattle.control.specs.Image.{image_in}
 use Rattle.control.proofs.Storing.{IsLeast, least_first, least_more, least_is_next}
 use Rattle.control.proofs.starts.next_stored.Goals as goal

@@ -6,7 +6,7 @@ use Rattle.heap_words.specs.Words.{Heap, IsWord, word_at, image_start}
 use Rattle.heap_words.specs.Encoding.{next_in, end_in}
 use Rattle.regions.proofs.PlaceLemmas.{regions_tile}
 use Rattle.image_graph.specs.SeatBuffers.{buffer_region, IsInside}
-use Rattle.control_rows.specs.Extent.{heap_index}
+use Rattle.collector_rows.specs.Extent.{heap_index}
 use Rattle.control.specs.Starts.{start_index, IsHeapIndex}
 use Rattle.control.proofs.Starting.{first_of_heap}
 use Rattle.control.proofs.starts.start_of.Goals as goal

@@ -1,7 +1,7 @@
 use Rattle.std.proofs.Common.{◌≡◌, ◌<◌, ℕ, ◌==◌, ◌&&◌, List, Bool, true, refl, sym, ap, ◌∙◌, subst, arith}
 use Rattle.heap_words.specs.declared.config.Config.{Config}
 use Rattle.heap_words.specs.Words.{Word}
-use Rattle.heap_graph.specs.Walk.{IsMarked}
+use Rattle.heap_world.specs.Walk.{IsMarked}
 use Rattle.image_graph.specs.Pinned.{is_pinned, filled_in, CanFill}
 use Rattle.image_graph.specs.Leftovers.{is_left_over}
 use Rattle.image_graph.specs.declared.leftovers.Leftover.TheVariants.{NotFound}

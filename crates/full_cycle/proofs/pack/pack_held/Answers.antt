@@ -1,7 +1,7 @@
 use Rattle.std.proofs.Common.{List, Bool, ℕ, sym, ap, ◌∙◌, subst}
 use Rattle.heap_words.specs.declared.config.Config.{Config}
 use Rattle.heap_words.specs.Words.{view, table_words}
-use Rattle.heap_graph.specs.Walk.{IsMarked}
+use Rattle.heap_world.specs.Walk.{IsMarked}
 use Rattle.image_graph.specs.Pinned.{is_row_pinned}
 use Rattle.image_graph.specs.State.{config_of, words_of, memory_of, marks_of, found_of, places_of}
 use Rattle.full_cycle.proofs.Slices.{can_compact, moved, renews}

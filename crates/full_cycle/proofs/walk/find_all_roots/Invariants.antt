@@ -1,5 +1,5 @@
 use Rattle.std.proofs.Common.{◌≡◌}
-use Rattle.heap_graph.specs.Walk.{with_addresses}
+use Rattle.heap_world.specs.Walk.{with_addresses}
 use Rattle.image_graph.specs.Full.{copies_of, roots_below}
 use Rattle.image_graph.specs.State.{memory_of, found_of, AreFound, IsUnchanged}
 use Rattle.full_cycle.proofs.walk.find_all_roots.Given as goal

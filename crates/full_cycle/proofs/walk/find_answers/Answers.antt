@@ -1,7 +1,7 @@
 use Rattle.std.proofs.Common.{◌≡◌, ◌<◌, ◌≤◌, ℕ, ⊎_elim, ap, ◌∙◌, arith}
 use Rattle.std.proofs.lemmas.Bool.{cases_lt}
 use Rattle.heap_words.specs.Words.{Word, Answer}
-use Rattle.heap_graph.specs.Walk.{with_address}
+use Rattle.heap_world.specs.Walk.{with_address}
 use Rattle.image_graph.specs.State.{memory_of, found_of}
 use Rattle.full_cycle.specs.Collect.{current_address}
 use Rattle.image_graph.proofs.Same.{memory_same, both}

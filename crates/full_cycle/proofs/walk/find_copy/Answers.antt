@@ -1,6 +1,6 @@
 use Rattle.std.proofs.Common.{sym, ap, ◌∙◌, subst}
 use Rattle.heap_words.specs.Words.{Heap, IsWord}
-use Rattle.heap_graph.specs.Walk.{with_address}
+use Rattle.heap_world.specs.Walk.{with_address}
 use Rattle.image_graph.specs.State.{config_of, memory_of, found_of}
 use Rattle.full_cycle.proofs.Kept.{copy_inside, copy_is}
 use Rattle.full_cycle.proofs.walk.find_copy.Goals as goal

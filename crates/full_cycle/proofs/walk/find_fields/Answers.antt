@@ -3,7 +3,7 @@ use Rattle.std.specs.List.{range_with_len}
 use Rattle.heap_words.specs.declared.config.Config.{Config}
 use Rattle.heap_words.specs.Words.{Word, Heap, IsWord, word_at}
 use Rattle.heap_words.specs.Encoding.{refs_in}
-use Rattle.heap_graph.specs.Walk.{with_addresses}
+use Rattle.heap_world.specs.Walk.{with_addresses}
 use Rattle.image_graph.specs.Full.{copies_of}
 use Rattle.image_graph.specs.State.{config_of, memory_of, found_of}
 use Rattle.image_graph.proofs.NamedStores.{placed_inside}

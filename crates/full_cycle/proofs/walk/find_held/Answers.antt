@@ -2,8 +2,8 @@ use Rattle.std.proofs.Common.{◌≡◌, ◌<◌, ℕ, [], slice_get, Some, None
 use Rattle.std.proofs.lemmas.Option.{slice_get_within}
 use Rattle.heap_words.specs.declared.config.Config.{Config}
 use Rattle.heap_words.specs.Words.{Word, heap_size}
-use Rattle.heap_graph.specs.Walk.{with_addresses}
-use Rattle.heap_graph.proofs.Marks as marks
+use Rattle.heap_world.specs.Walk.{with_addresses}
+use Rattle.heap_world.proofs.Marks as marks
 use Rattle.image_graph.specs.Full.{copies_of, roots_below, answers_below, field_words, kept_in}
 use Rattle.image_graph.specs.Pinned.{pins_below}
 use Rattle.image_graph.specs.State.{config_of, memory_of, found_of, marks_of}

@@ -2,7 +2,7 @@ use Rattle.std.proofs.Common.{◌≡◌, ◌<◌, map, sym, ap, ◌∙◌, subst
 use Rattle.std.specs.List.{range_with_len}
 use Rattle.heap_words.specs.declared.config.Config.{Config}
 use Rattle.heap_words.specs.Words.{Pin, word_at}
-use Rattle.heap_graph.specs.Walk.{with_addresses}
+use Rattle.heap_world.specs.Walk.{with_addresses}
 use Rattle.image_graph.specs.Full.{copies_of}
 use Rattle.image_graph.specs.State.{config_of, memory_of, found_of}
 use Rattle.full_cycle.specs.Collect.{LeadsToHeld}

@@ -2,7 +2,7 @@ use Rattle.std.proofs.Common.{ℕ, ◌≡◌, [], sym, ap, ◌∙◌}
 use Rattle.heap_words.specs.declared.config.Config.{Config}
 use Rattle.heap_words.specs.Words.{Word, Free, Phase, Cset, word_at}
 use Rattle.image_graph.specs.State.{memory_of}
-use Rattle.control_rows.specs.declared.spot.ControlSpot.TheVariants.{LookLeft}
+use Rattle.collector_rows.specs.declared.control_spot.ControlSpot.TheVariants.{LookLeft}
 use Rattle.step_core.specs.Opening.{first_free}
 use Rattle.step_core.specs.Actor.{controlling}
 use Rattle.heap_machines.proofs.machine.open_control.Goals as goal

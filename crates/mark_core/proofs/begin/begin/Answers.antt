@@ -1,7 +1,7 @@
 use Rattle.std.proofs.Common.{◌≡◌, ℕ, [], ap, ◌∙◌}
 use Rattle.heap_words.specs.declared.config.Config.{Config}
 use Rattle.heap_words.specs.Words.{Word, Phase, Claim, Ask, bit_words, word_at, write}
-use Rattle.heap_graph.specs.Walk.{has, with_addresses}
+use Rattle.heap_world.specs.Walk.{has, with_addresses}
 use Rattle.image_graph.specs.Full.{held_words}
 use Rattle.image_graph.specs.State.{config_of, words_of, memory_of, found_of}
 use Rattle.image_graph.proofs.NamedStores.{stored}

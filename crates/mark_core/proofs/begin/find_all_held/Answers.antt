@@ -1,7 +1,7 @@
 use Rattle.std.proofs.Common.{◌≡◌, ℕ, [], ap, ◌∙◌}
 use Rattle.heap_words.specs.declared.config.Config.{Config}
 use Rattle.heap_words.specs.Words.{Word}
-use Rattle.heap_graph.specs.Walk.{with_addresses}
+use Rattle.heap_world.specs.Walk.{with_addresses}
 use Rattle.image_graph.specs.Full.{roots_below, answers_below, root_words}
 use Rattle.image_graph.specs.Pinned.{pins_below}
 use Rattle.image_graph.proofs.FoundInTurn.{noted_both}

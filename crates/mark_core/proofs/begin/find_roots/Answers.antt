@@ -2,7 +2,7 @@ use Rattle.std.proofs.Common.{◌≡◌, ◌<◌, map, sym, ap, ◌∙◌, arith
 use Rattle.std.specs.List.{range_with_len}
 use Rattle.heap_words.specs.declared.config.Config.{Config}
 use Rattle.heap_words.specs.Words.{Root, word_at}
-use Rattle.heap_graph.specs.Walk.{with_addresses}
+use Rattle.heap_world.specs.Walk.{with_addresses}
 use Rattle.image_graph.specs.State.{memory_of, found_of}
 use Rattle.image_graph.proofs.Same.{memory_same, both}
 use Rattle.mark_core.proofs.Listed.{noted_step}

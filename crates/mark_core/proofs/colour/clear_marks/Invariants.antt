@@ -1,5 +1,5 @@
 use Rattle.std.proofs.Common.{◌≡◌, []}
-use Rattle.heap_graph.specs.Walk.{has}
+use Rattle.heap_world.specs.Walk.{has}
 use Rattle.image_graph.specs.State.{config_of, memory_of, found_of, AreFound}
 use Rattle.mark_core.specs.Steps.{greyed}
 use Rattle.mark_core.proofs.colour.clear_marks.Given as goal

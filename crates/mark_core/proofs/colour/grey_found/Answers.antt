@@ -4,8 +4,8 @@ use Rattle.std.proofs.lemmas.Option.{slice_get_within}
 use Rattle.heap_words.specs.declared.config.Config.{Config}
 use Rattle.heap_words.specs.Words.{Word, Grey, Heap, IsWord, word_at, heap_size, bit_words}
 use Rattle.regions.proofs.MarksApart.{word_inside}
-use Rattle.heap_graph.specs.Walk.{has}
-use Rattle.heap_graph.proofs.Marks as marks
+use Rattle.heap_world.specs.Walk.{has}
+use Rattle.heap_world.proofs.Marks as marks
 use Rattle.image_graph.proofs.FoundInTurn.{is_none, none_left}
 use Rattle.image_graph.specs.State.{config_of, memory_of, found_of, marks_of}
 use Rattle.mark_core.specs.Steps.{greyed}

@@ -1,6 +1,6 @@
 use Rattle.std.proofs.Common.{◌≡◌, ◌≤◌, ◌-◌, take}
 use Rattle.heap_words.specs.Words.{heap_size, bit_words}
-use Rattle.heap_graph.specs.Walk.{has}
+use Rattle.heap_world.specs.Walk.{has}
 use Rattle.image_graph.specs.State.{config_of, memory_of, found_of, AreFound}
 use Rattle.mark_core.specs.Steps.{greyed}
 use Rattle.mark_core.proofs.colour.grey_found.Given as goal

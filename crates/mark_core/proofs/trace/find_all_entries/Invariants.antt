@@ -1,6 +1,6 @@
 use Rattle.std.proofs.Common.{◌≡◌}
 use Rattle.cycle_words.specs.Marking.Close.{entries_below}
-use Rattle.heap_graph.specs.Walk.{with_addresses}
+use Rattle.heap_world.specs.Walk.{with_addresses}
 use Rattle.image_graph.specs.State.{memory_of, found_of, AreFound, IsUnchanged}
 use Rattle.mark_core.proofs.trace.find_all_entries.Given as goal
 

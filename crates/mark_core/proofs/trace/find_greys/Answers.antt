@@ -1,7 +1,7 @@
 use Rattle.std.proofs.Common.{◌≡◌, ◌+◌, ◌-◌, ◌≤◌, ℕ, refl, sym, ap, ◌∙◌, arith}
 use Rattle.heap_words.specs.declared.config.Config.{Config}
 use Rattle.heap_words.specs.Words.{Word}
-use Rattle.heap_graph.specs.Walk.{with_address, with_addresses}
+use Rattle.heap_world.specs.Walk.{with_address, with_addresses}
 use Rattle.image_graph.specs.State.{config_of, memory_of, found_of}
 use Rattle.cycle_words.specs.Marking.Marks.{is_grey}
 use Rattle.cycle_words.specs.Marking.Close.{greys_below}

@@ -1,7 +1,7 @@
 use Rattle.std.proofs.Common.{◌≡◌, ◌-◌, ◌<◌, ◌≤◌, true}
 use Rattle.cycle_words.specs.Marking.Marks.{is_grey}
 use Rattle.cycle_words.specs.Marking.Close.{greys_below}
-use Rattle.heap_graph.specs.Walk.{with_addresses}
+use Rattle.heap_world.specs.Walk.{with_addresses}
 use Rattle.image_graph.specs.State.{config_of, memory_of, found_of, AreFound, IsUnchanged}
 use Rattle.mark_core.proofs.trace.find_greys.Given as goal
 

@@ -3,7 +3,7 @@ use Rattle.step_core.proofs.Theorem.FirstFacts.{opening_run}
 use Rattle.trace_runs.specs.Replayed.{events_of}
 use Rattle.trace_runs.proofs.Whole.{all_rest}
 use Rattle.trace_runs.proofs.Dumping.{noted_dumpable, noted_shown, replayed_to_dump}
-use Rattle.dump_text.specs.Dumped.{dumped}
+use Rattle.heap_dump.specs.Dumped.{dumped}
 use Rattle.trace_runs.proofs.dumps.dump_after.Goals as goal
 
 pub run_noted-requires : goal.run_noted-requires

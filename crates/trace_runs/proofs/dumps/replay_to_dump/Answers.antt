@@ -1,8 +1,8 @@
 use Rattle.std.proofs.Common.{refl, subst}
 use Rattle.trace_text.specs.Message.{line_text}
 use Rattle.trace_text.specs.declared.message.Line.TheVariants as line
-use Rattle.dump_text.specs.Dumped.{dumped}
-use Rattle.dump_text.specs.DumpText.{dump_text}
+use Rattle.heap_dump.specs.Dumped.{dumped}
+use Rattle.heap_dump.specs.DumpText.{dump_text}
 use Rattle.shen_base.specs.Sending.{outlet}
 use Rattle.trace_runs.specs.Answered.{Input, Output}
 use Rattle.trace_runs.specs.CallEnds.{EndsWith}

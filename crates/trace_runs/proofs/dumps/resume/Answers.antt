@@ -5,7 +5,7 @@ use Rattle.trace_text.specs.declared.message.Line.TheVariants as line
 use Rattle.trace_text.specs.Answer.{spelled_answer}
 use Rattle.shen_base.specs.Sending.{outlet}
 use Rattle.graph_placing.specs.ByName.{Fits}
-use Rattle.dump_runs.specs.Resumed.{IsResumed}
+use Rattle.heap_dump.specs.Resumed.{IsResumed}
 use Rattle.trace_runs.specs.Answered.{Input, Output}
 use Rattle.trace_runs.specs.CallEnds.{EndsWith}
 use Rattle.trace_runs.specs.declared.mode.Mode.TheVariants.{Resume}

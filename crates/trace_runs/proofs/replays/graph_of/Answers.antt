@@ -1,5 +1,5 @@
 use Rattle.std.proofs.Common.{refl, subst, ◌∙◌}
-use Rattle.heap_graph.specs.Shows.{ShowsGraph}
+use Rattle.heap_world.specs.Shows.{ShowsGraph}
 use Rattle.heap_machines.specs.Pause.{pause_image}
 use Rattle.step_core.specs.Begins.{Run, ending, graph_after}
 use Rattle.shen_core.specs.State as memory

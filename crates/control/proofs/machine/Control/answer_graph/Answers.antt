@@ -6,7 +6,7 @@ use Rattle.image_graph.specs.Left.{StandsForSome, ShowsTheGraph}
 use Rattle.image_graph.specs.State.{config_of, words_of}
 use Rattle.image_graph.proofs.SameWords.{stands_same, shows_same}
 use Rattle.control.specs.Seen.{config_in}
-use Rattle.control_rows.specs.Rows.{Controlling}
+use Rattle.collector_rows.specs.ControlRows.{Controlling}
 use Rattle.control.specs.Image.{image_in, image_from, words_seen}
 use Rattle.control.proofs.Going.{loaded_same}
 use Rattle.control.proofs.machine.Control.answer_graph.Goals as goal

@@ -1,5 +1,5 @@
 use Rattle.std.proofs.Common.{◌≡◌, Some, ap, sym, ◌∙◌, subst}
-use Rattle.control_rows.specs.Rows.{hinted_by}
+use Rattle.collector_rows.specs.ControlRows.{hinted_by}
 use Rattle.control.specs.Image.{SeesOwn}
 use Rattle.control.specs.Seen.{config_in}
 use Rattle.control.proofs.Going.{hinted_own}

@@ -1,8 +1,8 @@
 use Rattle.std.proofs.Common.{◌≡◌, ◌+◌, ◌<◌, ap, sym, ◌∙◌, arith}
 use Rattle.std.proofs.lemmas.Bool.{ltb-true}
 use Rattle.heap_world.specs.Change.{image_words}
-use Rattle.control_rows.specs.declared.extent.Extent.TheVariants.{Whole}
-use Rattle.control_rows.specs.declared.spot.ControlSpot.TheVariants.{LoadWord, StoreWord}
+use Rattle.collector_rows.specs.declared.extent.Extent.TheVariants.{Whole}
+use Rattle.collector_rows.specs.declared.control_spot.ControlSpot.TheVariants.{LoadWord, StoreWord}
 use Rattle.cycle_pauses.specs.Collect.{collect_image}
 use Rattle.control.specs.Image.{image_in, is_inside_image}
 use Rattle.control.specs.Seen.{config_in}

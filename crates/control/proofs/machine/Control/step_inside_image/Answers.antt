@@ -6,9 +6,9 @@ use Rattle.heap_words.specs.Access.{table_index}
 use Rattle.heap_words.specs.Words.{image_start}
 use Rattle.heap_world.specs.Change.{image_words}
 use Rattle.image_graph.specs.State.{words_of}
-use Rattle.control_rows.specs.Rows.{control_access, control_next}
-use Rattle.control_rows.specs.declared.extent.Extent.TheVariants.{Whole}
-use Rattle.control_rows.specs.declared.spot.ControlSpot.TheVariants.{LoadWord, StoreWord}
+use Rattle.collector_rows.specs.ControlRows.{control_access, control_next}
+use Rattle.collector_rows.specs.declared.extent.Extent.TheVariants.{Whole}
+use Rattle.collector_rows.specs.declared.control_spot.ControlSpot.TheVariants.{LoadWord, StoreWord}
 use Rattle.cycle_pauses.specs.Collect.{collect_image}
 use Rattle.control.specs.Image.{image_in, words_seen, is_inside_image}
 use Rattle.control.specs.Seen.{config_in, seen_control}

@@ -1,6 +1,6 @@
 use Rattle.std.proofs.Common.{◌≡◌, sym, subst}
-use Rattle.control_rows.specs.declared.spot.ControlSpot.{ControlSpot}
-use Rattle.control_rows.specs.Rows.{stored_next}
+use Rattle.collector_rows.specs.declared.control_spot.ControlSpot.{ControlSpot}
+use Rattle.collector_rows.specs.ControlRows.{stored_next}
 use Rattle.control.specs.Image.{image_in, words_seen}
 use Rattle.control.specs.Seen.{config_in}
 use Rattle.control.proofs.machine.Control.stored_next.Goals as goal

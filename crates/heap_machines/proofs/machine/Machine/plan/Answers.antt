@@ -3,9 +3,9 @@ use Rattle.heap_words.specs.Access.{table_index}
 use Rattle.heap_words.specs.Words.{table_words}
 use Rattle.heap_words.specs.Touch.{placed}
 use Rattle.control.specs.Seen.{config_in, seen_control, hint_of}
-use Rattle.control_rows.specs.Rows.{Controlling, control_access}
-use Rattle.helper.specs.Rows.{Helping, help_touch}
-use Rattle.helper.specs.Seen as helpers
+use Rattle.collector_rows.specs.ControlRows.{Controlling, control_access}
+use Rattle.collector_rows.specs.HelperRows.{Helping, help_touch}
+use Rattle.collector_rows.specs.Seen as helpers
 use Rattle.heap_machines.proofs.Hinting.{helped, controlled, goes_with_hint}
 use Rattle.step_core.specs.Machines.{plan_of}
 use Rattle.heap_machines.specs.declared.machine.Machine.{Machine}

@@ -3,14 +3,14 @@ use Rattle.std.specs.Prelude.{◌↔◌}
 use Rattle.std.proofs.lemmas.Bool.{false≢true}
 use Rattle.shen_graph.specs.Order.{hinting}
 use Rattle.control.specs.Seen.{config_in, seen_control, hint_of}
-use Rattle.control_rows.specs.Rows.{Controlling, control_hinted, control_next, control_says}
-use Rattle.control_rows.specs.Ready.{UnitGoesOn}
-use Rattle.control_rows.specs.Waits as control
-use Rattle.helper.specs.Rows.{Helping, help_hinted, help_next, help_says}
-use Rattle.helper.specs.Ready.{IsFit}
-use Rattle.helper.specs.Waits.{WaitsAt}
+use Rattle.collector_rows.specs.ControlRows.{Controlling, control_hinted, control_next, control_says}
+use Rattle.collector_rows.specs.ControlReady.{UnitGoesOn}
+use Rattle.collector_rows.specs.ControlWaits as control
+use Rattle.collector_rows.specs.HelperRows.{Helping, help_hinted, help_next, help_says}
+use Rattle.collector_rows.specs.HelperReady.{IsFit}
+use Rattle.collector_rows.specs.HelperWaits.{WaitsAt}
 use Rattle.heap_machines.proofs.Hinting.{helped, controlled, whole_with_hint, goes_with_hint}
-use Rattle.helper.specs.Seen as helpers
+use Rattle.collector_rows.specs.Seen as helpers
 use Rattle.heap_words.specs.declared.access.Took.TheVariants as took
 use Rattle.heap_words.specs.declared.place.Place.TheVariants.{LV}
 use Rattle.step_core.specs.Actor.{mutating, helping, controlling}

@@ -1,6 +1,6 @@
 use Rattle.std.proofs.Common.{ℕ, Bool, List, length, sym, ap, subst, arith}
 use Rattle.heap_words.proofs.Bounds.{end_small}
-use Rattle.heap_graph.specs.Walk.{IsMarked}
+use Rattle.heap_world.specs.Walk.{IsMarked}
 use Rattle.image_graph.proofs.image.Image.find.Goals as goal
 
 pub take_down-requires-clause-marked : goal.take_down-requires-clause-marked

@@ -1,5 +1,5 @@
 use Rattle.std.proofs.Common.{rules}
-use Rattle.heap_graph.proofs.Walks.{IsMarked-none}
+use Rattle.heap_world.proofs.Walks.{IsMarked-none}
 use Rattle.image_graph.proofs.image.Image.open.Goals as goal
 
 pub invariant_of-result-clause-all_found : goal.invariant_of-result-clause-all_found

@@ -1,0 +1,81 @@
+-- A helper can make its next access wherever it goes on.
+use Rattle.std.proofs.Common.{◌≡◌, ℕ, ◌+◌, ◌<◌, Bool, true, false, refl, sym, subst, arith}
+use Rattle.std.specs.Prelude.{◌==◌, if◌then◌else◌}
+use Rattle.std.proofs.lemmas.Bool.{and_parts, and_from, ltb-true}
+use Rattle.heap_words.specs.declared.config.Config.{Config}
+use Rattle.heap_words.specs.Access.{table_index}
+use Rattle.heap_words.specs.Words.{IsWord, word_at, table_words}
+use Rattle.heap_words.proofs.Rows.{word_inside}
+use Rattle.heap_words.specs.Touch.{Touch, placed}
+use Rattle.heap_words.proofs.Touches.{table_index-access_at}
+use Rattle.handshake.specs.declared.enter_spot.EnterSpot.{EnterSpot}
+use Rattle.handshake.specs.declared.enter_spot.EnterSpot.TheVariants as enter
+use Rattle.unit_part.specs.declared.spot.UnitSpot.{UnitSpot}
+use Rattle.unit_part.specs.declared.spot.UnitSpot.TheVariants.{Ended}
+use Rattle.unit_part.specs.Rows as units
+use Rattle.unit_part.specs.Ready as unit
+use Rattle.unit_part.proofs.Inside as inside
+use Rattle.unit_part.proofs.Left.{by_phase}
+use Rattle.collector_rows.specs.declared.help_spot.HelpSpot.{HelpSpot}
+use Rattle.collector_rows.specs.declared.help_spot.HelpSpot.TheVariants.{LoadEnd, Entering, LoadPhase, LoadSet, Working, Leave, Gone}
+use Rattle.collector_rows.specs.HelperRows.{touch_at, next_spot, after_enter, after_unit}
+use Rattle.collector_rows.specs.HelperReady.{spot_fits, UnitGoesOn, AccessesAreInside, StaysReady}
+
+-- of two spots
+of_two : (c : Config) (seat : ℕ) (b : Bool) (x y : HelpSpot) → spot_fits c seat x ≡ true → spot_fits c seat y ≡ true → spot_fits c seat (if b then x else y) ≡ true
+of_two c seat true x y one other = one
+of_two c seat false x y one other = other
+
+-- where it goes on entering
+enters_on : (c : Config) (seat : ℕ) (b : Bool) (x y : EnterSpot) → spot_fits c seat (after_enter x) ≡ true → spot_fits c seat (after_enter y) ≡ true → spot_fits c seat (after_enter (if b then x else y)) ≡ true
+enters_on c seat true x y one other = one
+enters_on c seat false x y one other = other
+
+-- where it goes on with its unit
+works_on : (c : Config) (seat : ℕ) (at : UnitSpot) → unit.is_ready c seat at ≡ true → spot_fits c seat (after_unit at) ≡ true
+works_on c seat (Ended unit) ready = refl
+works_on c seat _ ready = and_from _ _ ready refl
+
+-- where it begins with a unit
+begins_fit : (c : Config) (seat phase cset : ℕ) → spot_fits c seat (Working (units.begins phase cset)) ≡ true
+begins_fit c seat phase cset = by_phase (λ at. spot_fits c seat (Working at) ≡ true) phase cset (λ one. refl) (λ no two. refl) (λ no other. refl)
+
+pub spot_stays : (c : Config) (seat : ℕ) (spot : HelpSpot) (got : ℕ) → spot_fits c seat spot ≡ true → UnitGoesOn c seat spot got → spot_fits c seat (next_spot c spot got) ≡ true
+spot_stays c seat LoadEnd got fits goes = of_two c seat (got == 1) Gone (Entering enter.Raise) refl refl
+spot_stays c seat (Entering enter.Raise) got fits goes = refl
+spot_stays c seat (Entering enter.Look) got fits goes = enters_on c seat (got == 0) enter.Inside enter.Lower refl refl
+spot_stays c seat (Entering enter.Lower) got fits goes = refl
+spot_stays c seat (Entering enter.Await) got fits goes = enters_on c seat (got == 0) enter.Raise enter.Await refl refl
+spot_stays c seat (Entering enter.Inside) got fits goes = refl
+spot_stays c seat LoadPhase got fits goes = of_two c seat (got == 0) Leave (LoadSet got) refl refl
+spot_stays c seat (LoadSet phase) got fits goes = begins_fit c seat phase got
+spot_stays c seat (Working at) got fits goes = works_on c seat (units.next_at c at got) (inside.stays_ready c seat at got (and_parts _ _ fits).0 goes)
+spot_stays c seat Leave got fits goes = refl
+spot_stays c seat Gone got fits goes = refl
+
+-- what is known of a spot is known of it under its own name
+pub fits_at : (c : Config) (seat : ℕ) (spot at : HelpSpot) → spot ≡ at → spot_fits c seat spot ≡ true → spot_fits c seat at ≡ true
+fits_at c seat spot at is fits = subst (λ s. spot_fits c seat s ≡ true) is fits
+
+pub goes_at : (c : Config) (seat : ℕ) (spot at : HelpSpot) (got : ℕ) → spot ≡ at → UnitGoesOn c seat spot got → UnitGoesOn c seat at got
+goes_at c seat spot at got is goes = subst (λ s. UnitGoesOn c seat s got) is goes
+
+pub stays_ready : StaysReady
+stays_ready c h got ready goes = let parts = and_parts _ _ ready in and_from _ _ parts.0 (spot_stays c h.seat h.spot got parts.1 goes)
+
+-- an access of a word of the table is inside it
+placed_inside : (c : Config) (t : Touch) → IsWord c t.word → table_index (placed c t) < table_words c
+placed_inside c t is = subst (λ k. k < table_words c) (sym (table_index-access_at (word_at c t.word) t.form)) (word_inside c t.word is)
+
+spot_inside : (c : Config) (seat : ℕ) (spot : HelpSpot) → seat < c.mutators + c.helpers → spot_fits c seat spot ≡ true → table_index (placed c (touch_at c seat spot)) < table_words c
+spot_inside c seat (Entering enter.Raise) below fits = placed_inside c (touch_at c seat (Entering enter.Raise)) below
+spot_inside c seat (Entering enter.Look) below fits = placed_inside c (touch_at c seat (Entering enter.Look)) tt
+spot_inside c seat (Entering enter.Lower) below fits = placed_inside c (touch_at c seat (Entering enter.Lower)) below
+spot_inside c seat (Entering enter.Await) below fits = placed_inside c (touch_at c seat (Entering enter.Await)) tt
+spot_inside c seat (Entering enter.Inside) below fits = placed_inside c (touch_at c seat (Entering enter.Inside)) tt
+spot_inside c seat (Working at) below fits = inside.accesses_inside c seat at (omega (arith, below)) (and_parts _ _ fits).0
+spot_inside c seat Leave below fits = placed_inside c (touch_at c seat Leave) below
+spot_inside c seat spot below fits = placed_inside c (touch_at c seat spot) tt
+
+pub accesses_inside : AccessesAreInside
+accesses_inside c h ready = let parts = and_parts _ _ ready in spot_inside c h.seat h.spot (ltb-true _ _ parts.0) parts.1

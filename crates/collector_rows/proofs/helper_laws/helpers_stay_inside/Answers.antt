@@ -1,0 +1,8 @@
+use Rattle.collector_rows.proofs.HelperStays.{accesses_inside, stays_ready}
+use Rattle.collector_rows.proofs.helper_laws.helpers_stay_inside.Goals as goal
+
+pub returns-clause-inside : goal.returns-clause-inside
+returns-clause-inside c = accesses_inside
+
+pub returns-clause-stays : goal.returns-clause-stays
+returns-clause-stays c = stays_ready

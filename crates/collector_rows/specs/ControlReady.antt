@@ -1,0 +1,40 @@
+-- Whether the control can make its next access.
+use Rattle.std.specs.Prelude.{ℕ, ◌≡◌, ◌<◌, Bool, true, false, ◌&&◌, nat_lt, if◌then◌else◌, Option}
+use Rattle.std.specs.Option.{ForSome}
+use Rattle.heap_words.specs.declared.config.Config.{Config}
+use Rattle.heap_words.specs.Access.{table_index}
+use Rattle.heap_words.specs.Words.{Heap, IsWord, table_words}
+use Rattle.heap_words.specs.Fits.{touch_fits}
+use Rattle.handshake.specs.Rows.{stop_touch, is_stopped}
+use Rattle.unit_part.specs.Rows as units
+use Rattle.unit_part.specs.Ready as unit
+use Rattle.heap_world.specs.Change.{image_words}
+use Rattle.collector_rows.specs.declared.control_spot.ControlSpot.{ControlSpot}
+use Rattle.collector_rows.specs.declared.control_spot.ControlSpot.TheVariants.{Working, Stopping, LoadWord, StoreWord}
+use Rattle.collector_rows.specs.ControlRows.{control_seat, access_with, next_spot, takes_hint}
+
+-- whether the numbers of a spot are in range: the next access of a unit can be made, a seat is one of a mutator or a helper, an
+-- index one of a word of the image
+abbrev pub is_ready : Config → ControlSpot → Bool
+is_ready c (Working at) = unit.is_ready c (control_seat c) at && (if units.is_ended at then false else true)
+is_ready c (Stopping at) = touch_fits c (stop_touch at) && (if is_stopped at then false else true)
+is_ready c (LoadWord index extent) = nat_lt index (image_words c)
+is_ready c (StoreWord index extent) = nat_lt index (image_words c)
+is_ready c _ = true
+
+-- a hint may stand: it is the hint of an address of the heap, and the control takes hints; or there is none
+abbrev pub IsHintFor : Config → ControlSpot → Option ℕ → Type 0
+IsHintFor c spot hint = ForSome hint (λ address. IsWord c (Heap address) × (takes_hint spot ≡ true))
+
+-- so the access is of a word of the table
+abbrev pub AccessesAreInside : Type 0
+AccessesAreInside = (c : Config) (spot : ControlSpot) (value : ℕ) → is_ready c spot ≡ true → table_index (access_with c spot value) < table_words c
+
+-- a unit can go on from a word
+abbrev pub UnitGoesOn : Config → ControlSpot → ℕ → Type 0
+UnitGoesOn c (Working at) got = unit.IsFit c (control_seat c) at got
+UnitGoesOn c _ got = Unit {0}
+
+-- and they are in range at the next spot, whatever word is found; in a unit, where the unit can go on from it
+abbrev pub StaysReady : Type 0
+StaysReady = (c : Config) (phase cset seen next : ℕ) (spot : ControlSpot) (got : ℕ) → is_ready c spot ≡ true → UnitGoesOn c spot got → is_ready c (next_spot c phase cset seen next spot got) ≡ true

@@ -1,0 +1,230 @@
+-- The rows of the control: for each spot its place, the access that it makes and what follows. While objects are marked, in phase
+-- 1, while they are copied, in phase 2, and while references are updated, in phase 3, it works on units as helpers do, and once none
+-- is left it makes the pause that ends the phase.
+use Rattle.std.specs.Prelude.{ℕ, ◌+◌, ◌*◌, ◌==◌, Bool, true, false, ◌&&◌, ◌||◌, nat_lt, List, [], ◌∷◌, ◌++◌, slice_index, if◌then◌else◌, Option, Some, None}
+use Rattle.std.specs.Int.{bit_at}
+use Rattle.heap_words.specs.declared.config.Config.{Config}
+use Rattle.heap_words.specs.declared.access.Access.{Access}
+use Rattle.heap_words.specs.declared.access.Access.TheVariants.{Load, Store}
+use Rattle.heap_words.specs.declared.access.Took.{Took}
+use Rattle.heap_words.specs.declared.access.Took.TheVariants.{More, Again, Done}
+use Rattle.heap_words.specs.declared.place.Place.{Place}
+use Rattle.heap_words.specs.declared.place.Place.TheVariants as place
+use Rattle.heap_words.specs.Words.{Word, Left, End, Ask, Free, Phase, Cset, image_start}
+use Rattle.heap_words.specs.Touch.{Touch, touch, loads, stores, placed}
+use Rattle.regions.specs.Sets.{members_below}
+use Rattle.handshake.specs.declared.stop_spot.StopSpot.{StopSpot}
+use Rattle.handshake.specs.declared.stop_spot.StopSpot.TheVariants as stop
+use Rattle.handshake.specs.Rows.{stop_place, stop_touch, stop_next, go_touch}
+use Rattle.heap_words.specs.declared.access.Unit.TheVariants.{Worked, NoneLeft}
+use Rattle.heap_words.specs.Phases.{idle_phase}
+use Rattle.unit_part.specs.declared.spot.UnitSpot.{UnitSpot}
+use Rattle.unit_part.specs.declared.spot.UnitSpot.TheVariants.{Ended}
+use Rattle.unit_part.specs.Rows as units
+use Rattle.unit_part.specs.Hints.{one_more}
+use Rattle.heap_world.specs.Change.{Change, image_view, image_words}
+use Rattle.collector_rows.specs.declared.extent.Extent.{Extent}
+use Rattle.collector_rows.specs.Extent.{next_loaded, first_extent, extent_after, padded, next_stored}
+use Rattle.collector_rows.specs.declared.control_spot.ControlSpot.{ControlSpot}
+use Rattle.collector_rows.specs.declared.control_spot.ControlSpot.TheVariants.{LookLeft, StoreEnd, LookAsked, LookFree, Working, Stopping, LoadWord, StoreWord, Go, Gone}
+
+-- what the events see of the control
+pub record Controlling : Type 0 where
+  pub spot : ControlSpot
+  -- the free word that it has seen: that of the image at the end of its last pause that ended with phase 0
+  pub seen : ℕ
+  -- the phase and the collection set at the end of its last pause
+  pub phase : ℕ
+  pub cset : ℕ
+  -- the words of the image that it has loaded so far, and 0 for those that it leaves out; those of the new image while it stores them; outside
+  -- pauses none
+  pub image : List ℕ
+  -- how many hints it has taken, up to 2^64 - 1
+  pub hints : ℕ
+
+-- the control's seat is behind those of the mutators and the helpers
+abbrev pub control_seat : Config → ℕ
+control_seat c = c.mutators + c.helpers
+
+-- whether it has ended
+abbrev pub is_gone : ControlSpot → Bool
+is_gone Gone = true
+is_gone _ = false
+
+-- whether it takes hints: it is about to claim a unit of marking
+abbrev pub takes_hint : ControlSpot → Bool
+takes_hint (Working at) = units.takes_hint at
+takes_hint _ = false
+
+-- from where it goes on with a hint, if it has one
+abbrev pub hinted_by : Config → Option ℕ → ControlSpot → ControlSpot
+hinted_by c hint (Working at) = Working (units.hinted_by c hint at)
+hinted_by c hint spot = spot
+
+-- the control as it goes on with a hint, if it has one: the hint is one more that it has taken
+abbrev pub control_hinted : Config → Option ℕ → Controlling → Controlling
+control_hinted c None k = k
+control_hinted c (Some address) k =
+    record { spot = hinted_by c (Some address) k.spot; seen = k.seen; phase = k.phase; cset = k.cset; image = k.image; hints = one_more k.hints }
+
+-- the address that the next access makes grey, if it does so
+abbrev pub greys_at : ControlSpot → Option ℕ
+greys_at (Working at) = units.greys_at at
+greys_at _ = None
+
+-- the place of the next access. There is none at the end, where it is named as that of the last access
+abbrev pub control_place : ControlSpot → Place
+control_place LookLeft = place.I0
+control_place StoreEnd = place.IE
+control_place LookAsked = place.I1
+control_place LookFree = place.I2
+control_place (Working at) = units.place_at at
+control_place (Stopping at) = stop_place at
+control_place (LoadWord index extent) = place.PL
+control_place (StoreWord index extent) = place.PS
+control_place Go = place.P3
+control_place Gone = place.IE
+
+-- the next access of a word that is not of the image
+abbrev pub control_touch : Config → ControlSpot → Touch
+control_touch c LookLeft = touch Left loads
+control_touch c StoreEnd = touch End (stores 1)
+control_touch c LookAsked = touch Ask loads
+control_touch c LookFree = touch Free loads
+control_touch c (Working at) = units.touch_at c (control_seat c) at
+control_touch c (Stopping at) = stop_touch at
+control_touch c Go = go_touch
+control_touch c _ = touch Left loads
+
+-- the next access, by the word of the new image that is stored. The words of the image are accessed by their places
+abbrev pub access_with : Config → ControlSpot → ℕ → Access
+access_with c (LoadWord index extent) value = Load (image_start c + index)
+access_with c (StoreWord index extent) value = Store (image_start c + index) value
+access_with c spot value = placed c (control_touch c spot)
+
+-- the word of the new image that a spot stores
+abbrev pub word_stored : ControlSpot → List ℕ → ℕ
+word_stored (StoreWord index extent) image = slice_index image index
+word_stored _ image = 0
+
+-- the next access
+abbrev pub control_access : Config → Controlling → Access
+control_access c k = access_with c k.spot (word_stored k.spot k.image)
+
+-- where it stands that stops the other machines: once they are stopped it loads the image
+abbrev pub stopping : Config → ℕ → StopSpot → ControlSpot
+stopping c phase stop.Stopped = LoadWord 0 (first_extent c phase)
+stopping c phase at = Stopping at
+
+-- where it stands that works on a unit: once that is done it looks again what is to do, and once none was left it makes a pause
+abbrev pub after_unit : UnitSpot → ControlSpot
+after_unit (Ended Worked) = LookLeft
+after_unit (Ended NoneLeft) = Stopping stop.Raise
+after_unit at = Working at
+
+-- whether a pause is asked for: by bit 1 because a mutator waits for room, and in phase 0 by bit 0 for a cycle
+abbrev pub begins_pause : ℕ → ℕ → Bool
+begins_pause phase asked = (bit_at asked 1 == 1) || ((phase == idle_phase) && (bit_at asked 0 == 1))
+
+-- what it does where no pause is asked for: in phase 0 it looks at the free word, and in each other it claims a unit
+abbrev pub unasked : (phase cset : ℕ) → ControlSpot
+unasked phase cset = if phase == idle_phase then LookFree else Working (units.begins phase cset)
+
+-- whether the free word calls for a pause: fewer than half of the regions are free, and it is not the word seen
+abbrev pub wants_pause : Config → ℕ → ℕ → Bool
+wants_pause c seen free = nat_lt (2 * members_below free 64) c.regions && (if free == seen then false else true)
+
+-- where it stands once a word of the image was loaded, and once one of the new image was stored, by the index of the next one
+abbrev pub after_load : Config → Extent → ℕ → ControlSpot
+after_load c extent index = if nat_lt (next_loaded c extent index) (image_words c) then LoadWord (next_loaded c extent index) extent else StoreWord 0 extent
+
+abbrev pub after_store : Config → Extent → ℕ → ControlSpot
+after_store c extent next = if nat_lt next (image_words c) then StoreWord next extent else Go
+
+-- where it stands next, by the phase, the collection set, the free word that it has seen, the index of the word of the new image that is
+-- stored next, and the word that was found
+abbrev pub next_spot : Config → (phase cset seen next : ℕ) → ControlSpot → ℕ → ControlSpot
+next_spot c phase cset seen next LookLeft got = if got == 0 then StoreEnd else LookAsked
+next_spot c phase cset seen next StoreEnd got = Gone
+next_spot c phase cset seen next LookAsked got = if begins_pause phase got then Stopping stop.Raise else unasked phase cset
+next_spot c phase cset seen next LookFree got = if wants_pause c seen got then Stopping stop.Raise else LookLeft
+next_spot c phase cset seen next (Working at) got = after_unit (units.next_at c at got)
+next_spot c phase cset seen next (Stopping at) got = stopping c phase (stop_next c at got)
+next_spot c phase cset seen next (LoadWord index extent) got = after_load c (extent_after phase index extent got) index
+next_spot c phase cset seen next (StoreWord index extent) got = after_store c extent next
+next_spot c phase cset seen next Go got = LookLeft
+next_spot c phase cset seen next Gone got = Gone
+
+-- the index of the word of the new image that is stored behind that of a spot
+abbrev pub stored_next : Config → ControlSpot → List ℕ → ℕ
+stored_next c (StoreWord index extent) image = next_stored c extent image index
+stored_next c _ image = 0
+
+-- the words of the image once this one was loaded: with 0 for those that are left out before the next one
+abbrev pub loaded_on : (next : ℕ) → List ℕ → ℕ → List ℕ
+loaded_on next image got = padded next (image ++ got ∷ [])
+
+-- and once the last one was, of all of the image
+abbrev pub loaded_all : Config → List ℕ → ℕ → List ℕ
+loaded_all c image got = padded (image_words c) (image ++ got ∷ [])
+
+-- whether there is a word that is loaded behind that of an index
+abbrev pub loads_more : Config → (phase index : ℕ) → Extent → (got : ℕ) → Bool
+loads_more c phase index extent got = nat_lt (next_loaded c (extent_after phase index extent got) index) (image_words c)
+
+-- the image then: with the last word that is loaded it is changed
+abbrev pub next_image : Change → Config → ControlSpot → List ℕ → (phase got : ℕ) → List ℕ
+next_image change c (LoadWord index extent) image phase got =
+    if loads_more c phase index extent got then loaded_on (next_loaded c (extent_after phase index extent got) index) image got else change c (loaded_all c image got)
+next_image change c (StoreWord index extent) image phase got = if nat_lt (next_stored c extent image index) (image_words c) then image else []
+next_image change c _ image phase got = []
+
+-- the free word that it has seen after a pause: that of the new image, if the pause has ended with phase 0
+abbrev pub seen_after : ℕ → (Word → ℕ) → ℕ
+seen_after seen memory = if memory Phase == idle_phase then memory Free else seen
+
+-- the free word that it has seen then
+abbrev pub next_seen : Change → Config → ControlSpot → List ℕ → (seen phase got : ℕ) → ℕ
+next_seen change c (LoadWord index extent) image seen phase got = if loads_more c phase index extent got then seen else seen_after seen (image_view c (change c (loaded_all c image got)))
+next_seen change c _ image seen phase got = seen
+
+-- the phase then: that of the new image, once there is one
+abbrev pub next_phase : Change → Config → ControlSpot → List ℕ → (phase got : ℕ) → ℕ
+next_phase change c (LoadWord index extent) image phase got = if loads_more c phase index extent got then phase else image_view c (change c (loaded_all c image got)) Phase
+next_phase change c _ image phase got = phase
+
+-- the collection set then: that of the new image, once there is one
+abbrev pub next_set : Change → Config → ControlSpot → List ℕ → (cset phase got : ℕ) → ℕ
+next_set change c (LoadWord index extent) image cset phase got = if loads_more c phase index extent got then cset else image_view c (change c (loaded_all c image got)) Cset
+next_set change c _ image cset phase got = cset
+
+-- what it is then
+abbrev pub control_next : Change → Config → Controlling → ℕ → Controlling
+control_next change c k got = record {
+  spot = next_spot c k.phase k.cset k.seen (stored_next c k.spot k.image) k.spot got;
+  seen = next_seen change c k.spot k.image k.seen k.phase got;
+  phase = next_phase change c k.spot k.image k.phase got;
+  cset = next_set change c k.spot k.image k.cset k.phase got;
+  image = next_image change c k.spot k.image k.phase got;
+  hints = k.hints;
+}
+
+-- what a step of stopping says: again while the seat is not out
+abbrev pub stopping_says : StopSpot → ℕ → Took
+stopping_says (stop.Check seat) got = if got == 0 then More else Again
+stopping_says at got = More
+
+-- what a step of a unit says that says this by itself: once the unit is done, or none was left, there is more to do
+abbrev pub working_says : Took → Took
+working_says Done = More
+working_says said = said
+
+-- what a step says that finds this word: that it waits, that another machine was faster, or that there is more to do
+abbrev pub says_at : Config → ℕ → ControlSpot → ℕ → Took
+says_at c seen LookFree got = if wants_pause c seen got then More else Again
+says_at c seen (Working at) got = working_says (units.says_at c at got)
+says_at c seen (Stopping at) got = stopping_says at got
+says_at c seen _ got = More
+
+abbrev pub control_says : Config → Controlling → ℕ → Took
+control_says c k got = says_at c k.seen k.spot got

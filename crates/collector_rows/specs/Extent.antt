@@ -1,0 +1,73 @@
+-- How much of the image a pause loads and stores. In a wide heap a pause for which no room is needed leaves out the words of the heap where it
+-- begins marking, and all from the words of the mutators on where it begins or ends the updating of references.
+use Rattle.std.specs.Prelude.{ℕ, ◌+◌, ◌-◌, ◌==◌, ◌&&◌, ◌||◌, not, nat_lt, nat_le, Bool, true, if◌then◌else◌, List, ◌++◌, length, replicate, slice_index, zero, suc}
+use Rattle.std.specs.Int.{bit_at}
+use Rattle.heap_words.specs.declared.config.Config.{Config}
+use Rattle.heap_words.specs.Counter.{is_out_of_room}
+use Rattle.heap_words.specs.Words.{heap_size, image_start, roots_start, heap_start}
+use Rattle.heap_words.specs.Phases.{idle_phase, marking_phase, evacuation_phase}
+use Rattle.heap_world.specs.Change.{image_words}
+use Rattle.collector_rows.specs.declared.extent.Extent.{Extent}
+use Rattle.collector_rows.specs.declared.extent.Extent.TheVariants.{Whole, OffHeap, Ahead}
+
+-- a heap is wide: a region has more words than one of a trace
+abbrev pub is_wide : Config → Bool
+is_wide c = nat_lt 1024 c.region_words
+
+-- where in the image the words of the mutators begin, and those of the heap
+abbrev pub roots_index : Config → ℕ
+roots_index c = roots_start c - image_start c
+
+abbrev pub heap_index : Config → ℕ
+heap_index c = heap_start c - image_start c
+
+-- whether the word at an index of the image is of the extent
+abbrev pub is_of_extent : Config → Extent → ℕ → Bool
+is_of_extent c Whole k = true
+is_of_extent c OffHeap k = nat_lt k (heap_index c) || nat_le (heap_index c + heap_size c) k
+is_of_extent c Ahead k = nat_lt k (roots_index c)
+
+-- the index of the next word of the extent behind another index; behind the last one that of the image's end
+abbrev pub next_loaded : Config → Extent → ℕ → ℕ
+next_loaded c Whole k = k + 1
+next_loaded c OffHeap k = if nat_le (heap_index c) (k + 1) && nat_lt (k + 1) (heap_index c + heap_size c) then heap_index c + heap_size c else k + 1
+next_loaded c Ahead k = if nat_lt (k + 1) (roots_index c) then k + 1 else image_words c
+
+-- the extent with which a pause begins, by the phase before it
+abbrev pub first_extent : Config → ℕ → Extent
+first_extent c phase = if is_wide c then (if phase == idle_phase then OffHeap else (if phase == marking_phase then Whole else Ahead)) else Whole
+
+-- A word that was loaded says that room is needed: that of the copiers, the fourth of the image, where one of them found none in phase 2; or that
+-- of what is asked for, the sixth, where a mutator waits.
+abbrev pub says_room : (phase index got : ℕ) → Bool
+says_room phase index got = ((index == 3) && ((phase == evacuation_phase) && is_out_of_room got)) || ((index == 5) && (bit_at got 1 == 1))
+
+-- the extent then
+abbrev pub extent_after : (phase index : ℕ) → Extent → (got : ℕ) → Extent
+extent_after phase index extent got = if says_room phase index got then Whole else extent
+
+-- the extent by the words that were loaded; those that were not read 0
+abbrev pub extent_by : Config → ℕ → List ℕ → Extent
+extent_by c phase image = extent_after phase 5 (extent_after phase 3 (first_extent c phase) (slice_index image 3)) (slice_index image 5)
+
+-- the words that were loaded, with 0 for each that was left out before an index
+abbrev pub padded : ℕ → List ℕ → List ℕ
+padded n image = image ++ replicate (n - length image) 0
+
+-- A word of the new image counts: it is of the extent, or it is not 0, as is the header of free words that only fill from then on.
+abbrev pub counts : Config → Extent → List ℕ → ℕ → Bool
+counts c extent image k = is_of_extent c extent k || not (slice_index image k == 0)
+
+-- the first index from one on, among so many, whose word counts; where there is none the one behind them
+unfoldable pub first_counting : Config → Extent → List ℕ → (left : ℕ) → ℕ → ℕ
+first_counting c extent image zero k = k
+first_counting c extent image (suc left) k = if counts c extent image k then k else first_counting c extent image left (k + 1)
+
+-- the index of the word that is stored after another; behind the last one that of the image's end
+abbrev pub next_stored : Config → Extent → List ℕ → ℕ → ℕ
+next_stored c extent image k = first_counting c extent image (image_words c - (k + 1)) (k + 1)
+
+-- a new image while it is stored, with the extent of its pause
+pub record Counting : Type 0 where
+  pub extent : Extent
+  pub image : List ℕ

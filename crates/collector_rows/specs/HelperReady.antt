@@ -1,0 +1,45 @@
+-- Whether a helper can make its next access.
+use Rattle.std.specs.Prelude.{ℕ, ◌≡◌, ◌+◌, ◌<◌, Bool, true, false, ◌&&◌, nat_lt, if◌then◌else◌, Option}
+use Rattle.std.specs.Option.{ForSome}
+use Rattle.heap_words.specs.declared.config.Config.{Config}
+use Rattle.heap_words.specs.Access.{table_index}
+use Rattle.heap_words.specs.Words.{Heap, IsWord, table_words}
+use Rattle.heap_words.specs.Touch.{placed}
+use Rattle.handshake.specs.Rows.{is_entered}
+use Rattle.unit_part.specs.Rows as units
+use Rattle.unit_part.specs.Ready as unit
+use Rattle.collector_rows.specs.declared.help_spot.HelpSpot.{HelpSpot}
+use Rattle.collector_rows.specs.declared.help_spot.HelpSpot.TheVariants.{Entering, Working}
+use Rattle.collector_rows.specs.HelperRows.{Helping, help_touch, help_next, takes_hint}
+
+-- whether the numbers of a spot are in range, for the helper of a seat: an entering or a unit has not ended, and its next access can
+-- be made
+abbrev pub spot_fits : Config → ℕ → HelpSpot → Bool
+spot_fits c seat (Entering at) = if is_entered at then false else true
+spot_fits c seat (Working at) = unit.is_ready c seat at && (if units.is_ended at then false else true)
+spot_fits c seat _ = true
+
+-- whether a helper's next access can be made: its seat is that of a mutator or a helper, and the numbers of its spot are in range
+abbrev pub help_ready : Config → Helping → Bool
+help_ready c h = nat_lt h.seat (c.mutators + c.helpers) && spot_fits c h.seat h.spot
+
+-- a hint may stand: it is the hint of an address of the heap, and the helper takes hints; or there is none
+abbrev pub IsHintFor : Config → HelpSpot → Option ℕ → Type 0
+IsHintFor c spot hint = ForSome hint (λ address. IsWord c (Heap address) × (takes_hint spot ≡ true))
+
+-- a unit can go on from a word
+abbrev pub UnitGoesOn : Config → ℕ → HelpSpot → ℕ → Type 0
+UnitGoesOn c seat (Working at) got = unit.IsFit c seat at got
+UnitGoesOn c seat _ got = Unit {0}
+
+-- the word is fit: in a unit it is one from which the unit can go on, and anywhere else each word is
+abbrev pub IsFit : Config → Helping → ℕ → Type 0
+IsFit c h got = UnitGoesOn c h.seat h.spot got
+
+-- a helper that can make its access makes it to a word of the table
+abbrev pub AccessesAreInside : Type 0
+AccessesAreInside = (c : Config) (h : Helping) → help_ready c h ≡ true → table_index (placed c (help_touch c h)) < table_words c
+
+-- and where it goes on with a word that is fit it can make the next one
+abbrev pub StaysReady : Type 0
+StaysReady = (c : Config) (h : Helping) (got : ℕ) → help_ready c h ≡ true → IsFit c h got → help_ready c (help_next c h got) ≡ true

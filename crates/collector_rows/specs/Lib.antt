@@ -1,0 +1,9 @@
+pub mod HelperRows
+pub mod HelperReady
+pub mod HelperWaits
+pub mod Seen
+pub mod Extent
+pub mod ControlRows
+pub mod ControlWaits
+pub mod ControlReady
+pub mod ByParts

@@ -1,4 +1,0 @@
-pub mod Ready
-pub mod Waits
-pub mod Hinted
-pub mod Extents

@@ -1,8 +1,0 @@
-use Rattle.control_rows.proofs.Ready.{accesses_inside, stays_ready}
-use Rattle.control_rows.proofs.control_stays_inside.Goals as goal
-
-pub returns-clause-inside : goal.returns-clause-inside
-returns-clause-inside c = accesses_inside
-
-pub returns-clause-stays : goal.returns-clause-stays
-returns-clause-stays c = stays_ready

@@ -1,5 +1,0 @@
-use Rattle.dump_text.proofs.CountsLine.{TakenCounts}
-use Rattle.dump_text.proofs.head.take_counts.Given as goal
-
-abbrev pub invariant-counts : goal.invariant-counts
-invariant-counts l = TakenCounts l.initial.rest l.rest l.counter l.counts

@@ -1,6 +1,0 @@
-use Rattle.std.proofs.Common.{◌≡◌}
-use Rattle.dump_text.specs.ObjectsMade.{objects_made_by_each}
-use Rattle.dump_text.proofs.making.counts_of.Given as goal
-
-abbrev pub invariant-loop-mutator : goal.invariant-loop-mutator
-invariant-loop-mutator l = l.counts ≡ objects_made_by_each l.history.list l.mutator

@@ -1,7 +1,0 @@
-use Rattle.std.proofs.Common.{◌≡◌, take}
-use Rattle.std.specs.Prelude.{count_by}
-use Rattle.dump_text.specs.ObjectsMade.{has_made}
-use Rattle.dump_text.proofs.making.objects_made.Given as goal
-
-abbrev pub invariant-loop-at : goal.invariant-loop-at
-invariant-loop-at l = l.made ≡ count_by (has_made l.thread) (take l.at l.history.list)

@@ -1,5 +1,0 @@
-use Rattle.dump_text.proofs.Neither.{not_neither}
-use Rattle.dump_text.proofs.reading_laws.bytes_are_a_dump_or_refused.Goals as goal
-
-pub returns : goal.returns
-returns c = λ bytes short none fine. not_neither bytes short none fine

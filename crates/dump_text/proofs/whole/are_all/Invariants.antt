@@ -1,5 +1,0 @@
-use Rattle.std.proofs.Common.{ℕ, ◌≡◌, ◌<◌, true, false, get_or}
-use Rattle.dump_text.proofs.whole.are_all.Given as goal
-
-abbrev pub invariant-loop-mark : goal.invariant-loop-mark
-invariant-loop-mark l = (row : ℕ) → row < l.mark-index → get_or l.marks row false ≡ true

@@ -1,5 +1,0 @@
-use Rattle.dump_text.proofs.OwnGraph.{own_dump}
-use Rattle.dump_text.proofs.writing_laws.dumps_show_their_graph.Goals as goal
-
-pub returns : goal.returns
-returns c = own_dump

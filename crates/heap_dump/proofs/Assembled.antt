@@ -1,0 +1,163 @@
+-- A dump and its trace, read to the end.
+use Rattle.std.proofs.Common.{ℕ, ◌≡◌, ◌≢◌, ◌+◌, ◌≤◌, ◌⊎◌, inl, inr, List, [], ◌∷◌, ◌++◌, length, map, replicate, None, refl, sym, ap, subst, ◌∙◌, append_assoc, append-nil, length-append, Result, Err, arith}
+use Rattle.std.specs.Prelude.{All}
+use Rattle.std.specs.List.{flat_map}
+use Rattle.std.proofs.lemmas.List.{drop_all, length-replicate}
+use Rattle.heap_words.specs.declared.config.Config.{Config}
+use Rattle.heap_words.specs.declared.schedule.Item.{Item}
+use Rattle.shen_graph.specs.declared.command.Command.{Command}
+use Rattle.shen_graph.specs.Graph.{Reference}
+use Rattle.shen_graph.specs.GraphText.{Row, Text, names_of, empty}
+use Rattle.shen_graph.specs.Reach.{InOrder, IsReach}
+use Rattle.trace_reading.specs.Spelling.{newline, line, schedule_line}
+use Rattle.trace_reading.specs.Grammar.{most_bytes}
+use Rattle.trace_reading.specs.declared.why.Why.{Why}
+use Rattle.trace_reading.specs.Causes.{parts}
+use Rattle.trace_reading.specs.Refused.{Commands}
+use Rattle.trace_reading.proofs.Leads.{bytes_of_line}
+use Rattle.trace_reading.specs.Faults.{IsTextFault}
+use Rattle.trace_reading.specs.Stops.{HasReadBody, StopsBody}
+use Rattle.trace_reading.specs.declared.fault.TraceFault.{TraceFault}
+use Rattle.trace_reading.specs.declared.fault.TraceFault.TheVariants.{BadLine, NoMemory}
+use Rattle.heap_dump.specs.Dumped.{Dumped, IsDump, dumped, most_made}
+use Rattle.heap_dump.specs.Resumes.{run_version, Resumes, mark_line}
+use Rattle.heap_dump.specs.DumpLines.{DumpStage, Version, Counts, Listed, Behind, DumpLead, DumpRefused, Spells}
+use Rattle.heap_dump.specs.HeldReferences.{held, held_row}
+use Rattle.heap_dump.specs.RowsReached.{graph_from}
+use Rattle.heap_dump.specs.Steps.{Leads, StopsAt, IsStop}
+use Rattle.heap_dump.specs.Listing.{listed, HasTakenRows, HasTakenRoots, IsHeldDump}
+use Rattle.heap_dump.proofs.RowWords.{len_map}
+use Rattle.heap_dump.proofs.Rowed.{names_now}
+use Rattle.heap_dump.proofs.Steps.{leads_one, leads_both, stops_behind}
+use Rattle.heap_dump.proofs.Stopped.{refused, body_stops}
+use Rattle.heap_dump.proofs.Spelled.{ended, leads_bytes, head_spelled, head_narrow, counts_spelled, listed_spelled, all_spelled}
+use Rattle.heap_dump.proofs.HeldDump.{held_is_dump, dump_small}
+
+-- ---- faults
+
+pub text_fault : (stage : DumpStage) (first : ℕ) (bytes : List ℕ) (p e : TraceFault) → p ≡ e → (e ≡ NoMemory) ⊎ IsStop stage first bytes e → IsTextFault p
+text_fault stage first bytes p e same (inl none) = subst IsTextFault (sym (same ∙ none)) tt
+text_fault stage first bytes p e same (inr stop) = subst IsTextFault (sym (same ∙ stop.2)) tt
+
+pub stop_line : {T : Type 0} (r : Result T TraceFault) (stage : DumpStage) (first : ℕ) (bytes : List ℕ) (p e : TraceFault) → r ≡ Err p → p ≡ e → (e ≡ NoMemory) ⊎ IsStop stage first bytes e
+    → (n : ℕ) (why : Why) → r ≡ Err (BadLine n why) → StopsAt stage first bytes n why
+stop_line r stage first bytes p e fault same (inl none) n why is = absurd cc
+stop_line r stage first bytes p e fault same (inr stop) n why is =
+    let fst : stop.0 ≡ n = let x = stop.2 in cc in
+    let snd : stop.1 ≡ why = let x = stop.2 in cc in
+    subst (λ (w : Why). StopsAt stage first bytes n w) snd (subst (λ (m : ℕ). StopsAt stage first bytes m stop.1) fst stop.3)
+
+-- ---- what was taken
+
+pub counts_size : (bytes rest : List ℕ) (c : Config) (d : Dumped) → Leads (Counts c) bytes rest 1 (Listed d) → (length d.counts ≡ c.mutators) × All (λ n. n ≤ most_made) d.counts
+counts_size bytes rest c d led = by_lines led.texts led.count led.lead
+  where
+    by_lines : (texts : List (List ℕ)) → length texts ≡ 1 → DumpLead (Counts c) texts (Listed d) → (length d.counts ≡ c.mutators) × All (λ n. n ≤ most_made) d.counts
+    by_lines [] size lead = absurd (omega (arith, size))
+    by_lines (t ∷ u ∷ ts) size lead = absurd (omega (arith, size))
+    by_lines (t ∷ []) size lead =
+        let f = lead.1 in
+        let same : record { config = c; counts = f.0; rows = []; roots = [] } ≡ d = let x = f.4 in let y = lead.2 in cc in
+        let counts : f.0 ≡ d.counts = ap (λ (e : Dumped). e.counts) same in
+        (subst (λ (ns : List ℕ). length ns ≡ c.mutators) counts f.1, subst (All (λ n. n ≤ most_made)) counts f.2)
+
+pub shorter : (a b : DumpStage) (bytes rest : List ℕ) (n : ℕ) → Leads a bytes rest n b → length rest ≤ length bytes
+shorter a b bytes rest n led = omega (arith, ap length (leads_bytes a b bytes rest n led), length-append (flat_map ended led.texts) rest)
+
+pub line_shorter : (bytes text rest : List ℕ) → parts 10 bytes ≡ text ∷ parts 10 rest → length rest + 1 ≤ length bytes
+line_shorter bytes text rest cut = omega (arith, ap length (bytes_of_line bytes text rest cut), length-append text (10 ∷ rest))
+
+pub to_counts : (config : Config) (counts b0 b1 b2 : List ℕ) → Leads Version b0 b1 3 (Counts config) → Leads (Counts config) b1 b2 1 (Listed (listed config counts [] [])) → Leads Version b0 b2 4 (Listed (listed config counts [] []))
+to_counts config counts b0 b1 b2 head counted = leads_both Version (Counts config) (Listed (listed config counts [] [])) b0 b1 b2 3 1 head counted
+
+pub to_rows : (config : Config) (counts b0 b1 b2 b3 : List ℕ) (lines : ℕ) (g0 g1 : Text) → Leads Version b0 b1 3 (Counts config) → Leads (Counts config) b1 b2 1 (Listed (listed config counts [] []))
+    → (rowed : HasTakenRows counts b2 b3 lines g0 g1) → Leads Version b0 b3 (4 + lines) (Listed (listed config counts rowed.rows []))
+to_rows config counts b0 b1 b2 b3 lines g0 g1 head counted rowed =
+    leads_both Version (Listed (listed config counts [] [])) (Listed (listed config counts rowed.rows [])) b0 b2 b3 4 lines (to_counts config counts b0 b1 b2 head counted) (rowed.led config)
+
+pub threads_now : (config : Config) (counts b2 b3 : List ℕ) (lines : ℕ) (g0 g1 : Text) (words m : ℕ) → HasTakenRows counts b2 b3 lines g0 g1 → g0 ≡ empty words m → m ≡ config.mutators → config.mutators ≡ length g1.roots
+threads_now config counts b2 b3 lines g0 g1 words m rowed opened is =
+    sym (ap length rowed.roots ∙ ap (λ (t : Text). length t.roots) opened ∙ length-replicate m (replicate 16 None) ∙ is)
+
+pub counts_fault : (e : TraceFault) (threads : ℕ) (bytes : List ℕ) (c : Config) → (e ≡ NoMemory) ⊎ ((d : Config) → d.mutators ≡ threads → IsStop (Counts d) 4 bytes e) → c.mutators ≡ threads → (e ≡ NoMemory) ⊎ IsStop (Counts c) 4 bytes e
+counts_fault e threads bytes c (inl none) same = inl none
+counts_fault e threads bytes c (inr stop) same = inr (stop c same)
+
+pub mark_fault : (e : TraceFault) (first : ℕ) (bytes : List ℕ) (t : Text) (d : Dumped) → (e ≡ NoMemory) ⊎ ((x : Dumped) → IsHeldDump x t → x.roots ≢ [] → IsStop (Listed x) first bytes e) → IsHeldDump d t → d.roots ≢ []
+    → (e ≡ NoMemory) ⊎ IsStop (Listed d) first bytes e
+mark_fault e first bytes t d (inl none) held some = inl none
+mark_fault e first bytes t d (inr stop) held some = inr (stop d held some)
+
+module _ (config : Config) (counts b0 b1 b2 b3 b4 : List ℕ) (lines : ℕ) (g0 g1 g2 : Text) (all : List (List Reference))
+    (head : Leads Version b0 b1 3 (Counts config)) (counted : Leads (Counts config) b1 b2 1 (Listed (listed config counts [] [])))
+    (rowed : HasTakenRows counts b2 b3 lines g0 g1) (rooted : HasTakenRoots b3 b4 (length g1.roots) g1 g2 all) (threads : config.mutators ≡ length g1.roots) (few : length g1.roots ≤ 8) (some : 1 ≤ length g1.roots) where
+  abbrev pub whole : Dumped
+  whole = listed config counts rowed.rows all
+
+  rows_now : g2.rows ≡ map held_row rowed.rows
+  rows_now = ap (λ (t : Text). t.rows) rooted.text ∙ rowed.held
+
+  roots_now : g2.roots ≡ map (map held) all
+  roots_now = ap (λ (t : Text). t.roots) rooted.text ∙ ap (λ (rs : List (List Reference)). map (map held) all ++ rs) (drop_all (length g1.roots) g1.roots (omega arith)) ∙ append-nil (map (map held) all)
+
+  sizes : (length counts ≡ config.mutators) × All (λ n. n ≤ most_made) counts
+  sizes = counts_size b1 b2 config (listed config counts [] []) counted
+
+  pub held_now : IsHeldDump whole g2
+  held_now = record {
+    form = (record { narrow = head_narrow b0 b1 config head; threads = sizes.0; counts = sizes.1; rows = rowed.all; order = rowed.order; each = rooted.count ∙ sym threads; roots = rooted.each });
+    rows = rows_now;
+    roots = roots_now;
+  }
+
+  pub order_now : InOrder (names_of g2)
+  order_now = subst InOrder (sym (ap (λ (t : Text). names_of t) rooted.text ∙ names_now counts b2 b3 lines g0 g1 rowed)) rowed.order
+
+  pub few_now : length g2.roots ≤ 8
+  few_now = omega (arith, ap length roots_now, len_map (map held) all, rooted.count, few)
+
+  pub some_roots : whole.roots ≢ []
+  some_roots = λ none. omega (arith, ap length none, rooted.count, some)
+
+  pub listing : Leads (Listed (listed config counts [] [])) b2 b4 (lines + length g1.roots) (Listed whole)
+  listing =
+      leads_both (Listed (listed config counts [] [])) (Listed (listed config counts rowed.rows [])) (Listed whole) b2 b3 b4 lines (length g1.roots) (rowed.led config)
+      (rooted.led (listed config counts rowed.rows []) refl threads)
+
+  pub to_roots : Leads Version b0 b4 (4 + (lines + length g1.roots)) (Listed whole)
+  to_roots = leads_both Version (Listed (listed config counts [] [])) (Listed whole) b0 b2 b4 4 (lines + length g1.roots) (to_counts config counts b0 b1 b2 head counted) listing
+
+  module _ (b5 text : List ℕ) (cut : parts 10 b4 ≡ text ∷ parts 10 b5) (mark : Spells text mark_line) (reach : IsReach (graph_from g2) (names_of g2)) where
+    is_dump : IsDump whole × (g2.rows ≡ rowed.rows) × (g2.roots ≡ all)
+    is_dump = held_is_dump whole g2 held_now few_now reach
+
+    pub to_mark : Leads Version b0 b5 (4 + (lines + length g1.roots) + 1) (Behind (Commands run_version config))
+    to_mark =
+        leads_both Version (Listed whole) (Behind (Commands run_version config)) b0 b4 b5 (4 + (lines + length g1.roots)) 1 to_roots
+        (leads_one (Listed whole) (Behind (Commands run_version config)) b4 text b5 cut (inr (inr (is_dump.0, mark, refl))))
+
+    pub bad_trace : (first n : ℕ) (why : Why) → first ≡ 5 + lines + length g1.roots + 1 → length b0 ≤ most_bytes → StopsBody run_version config first b5 n why → DumpRefused b0 n why
+    bad_trace first n why number short stops =
+        refused b0 n why short
+        (stops_behind Version (Behind (Commands run_version config)) 1 first b0 b5 (4 + (lines + length g1.roots) + 1) n why to_mark (omega (arith, number)) (body_stops config first b5 n why stops))
+
+    pub resumes : (scripts : List (List Command)) (items : List Item) → length b0 ≤ most_bytes → HasReadBody run_version config b5 scripts items → Resumes b0 (dumped config counts g2) scripts items
+    resumes scripts items short body =
+        let smalls = dump_small whole is_dump.0 (omega (arith, sizes.0, threads, few)) in
+        let same : whole ≡ dumped config counts g2 =
+        ap (λ (rs : List Row). record { config = config; counts = counts; rows = rs; roots = all }) (sym is_dump.1)
+        ∙ ap (λ (rs : List (List Reference)). record { config = config; counts = counts; rows = g2.rows; roots = rs }) (sym is_dump.2) in
+        let marked : b4 ≡ mark_line ++ b5 = bytes_of_line b4 text b5 cut ∙ sym (append_assoc text (newline ∷ []) b5) ∙ ap (λ (bs : List ℕ). bs ++ b5) mark in
+        let list = listed_spelled b2 b4 (lines + length g1.roots) (listed config counts [] []) whole listing refl refl (rooted.count ∙ sym threads) rooted.each smalls.0 smalls.1 in
+        subst (λ (d : Dumped). Resumes b0 d scripts items) same
+        (record {
+          dump = is_dump.0;
+          lines = body.lines;
+          in_range = body.in_range;
+          turns = body.turns;
+          turns_in_range = body.turns_in_range;
+          spelled = all_spelled b0 b1 b2 b4 b5 mark_line (flat_map line body.lines ++ flat_map schedule_line body.turns) whole (head_spelled b0 b1 config head) (counts_spelled b1 b2 config (listed config counts [] []) counted) list marked body.spelled;
+          by_thread = body.by_thread;
+          in_order = body.in_order;
+          short = short;
+        })

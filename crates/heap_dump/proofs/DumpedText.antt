@@ -1,0 +1,106 @@
+-- The text of a dump can be placed, and its graph begins from there.
+use Rattle.std.proofs.Common.{◌≡◌, ℕ, ◌-◌, ◌^◌, ◌<◌, ◌≤◌, zero, suc, List, [], length, get_or, Option, Some, None, ⊎_elim, refl, sym, ap, ◌∙◌, subst, arith}
+use Rattle.std.specs.Prelude.{slice_get, unwrap_or, Result, Ok, Err, IfOk}
+use Rattle.std.proofs.lemmas.List.{get_or_past}
+use Rattle.std.proofs.lemmas.List.Elements.{All-get_or, Contains-get_or}
+use Rattle.std.proofs.lemmas.Bool.{cases_lt}
+use Rattle.heap_words.specs.declared.config.Config.{Config}
+use Rattle.heap_words.specs.Words.{Word, Pause, State}
+use Rattle.shen_graph.specs.declared.name.Name.{Name}
+use Rattle.shen_graph.specs.Graph.{Graph, Object, named, hub}
+use Rattle.shen_graph.specs.GraphText.{Text, row_of, root_of, bare, names_of}
+use Rattle.shen_graph.specs.Reach.{IsReachable, from_root, from_field}
+use Rattle.shen_graph.specs.PlainGraph.{graph_of}
+use Rattle.heap_world.specs.Asking.{nothing}
+use Rattle.heap_world.specs.Represents.{Represents}
+use Rattle.heap_world.specs.World.{IsGiven}
+use Rattle.heap_machines.specs.FromImage.{CanBeginFrom}
+use Rattle.heap_dump.specs.Dumped.{dumped, graph_in, most_made, IsMadeBy, IsNamed, IsRow, IsDump}
+use Rattle.image_graph.specs.declared.image.Image.{Image}
+use Rattle.graph_placing.specs.declared.placing.Placed.{Placed}
+use Rattle.graph_placing.specs.declared.placing.Placed.TheVariants.{Heap, TooSmall}
+use Rattle.graph_placing.specs.Outcome.{IfHeap}
+use Rattle.graph_placing.specs.PlacedHeap.{IsPlaced}
+use Rattle.graph_placing.specs.PlaceableText.{IsPlaceable}
+use Rattle.graph_placing.specs.TextGraph.{row_object, text_graph, IsGraphOf}
+use Rattle.graph_placing.proofs.Searching.{names_count, name_of_row}
+use Rattle.graph_placing.proofs.TextGraphs.{has_object, is_graph}
+
+module _ (c : Config) (counts : List ℕ) (t : Text) (is : IsDump (dumped c counts t)) where
+  abbrev g : Graph
+  g = graph_in (dumped c counts t)
+
+  abbrev n : ℕ
+  n = length t.rows
+
+  row_is : (k : ℕ) → k < n → IsRow counts (row_of t k)
+  row_is k below = All-get_or (IsRow counts) t.rows k (bare hub) below is.form.rows
+
+  -- each row can be reached
+  row_reached : (k : ℕ) → k < n → IsReachable g (row_of t k).name
+  row_reached k below =
+      let there : get_or (names_of t) k hub ≡ (row_of t k).name = name_of_row t k hub below in
+      subst (IsReachable g) there (is.reach.only (get_or (names_of t) k hub) (Contains-get_or (names_of t) k hub (omega (arith, below, names_count t))))
+
+  -- and its object is the graph's
+  row_named : (k : ℕ) → k < n → named g (Some (row_of t k).name) ≡ row_object (row_of t k)
+  unfolding graph_of
+  row_named k below = ap (λ (o : Option Object). unwrap_or o (record { refs = []; nums = [] })) (has_object t.rows is.form.order k (bare hub) below)
+
+  root_is : (thread index : ℕ) → 1 ≤ thread → g.root thread index ≡ root_of t thread index
+  unfolding graph_of
+  root_is zero index some = absurd (omega (arith, some))
+  root_is (suc thread) index some = let back : thread ≡ suc thread - 1 = omega arith in ap (λ (k : ℕ). get_or (get_or t.roots k []) index None) back
+
+  pub placeable : IsPlaceable c t
+  placeable = record {
+    threads = is.form.each;
+    sixteen = is.form.roots;
+    in_order = is.form.order;
+    short = λ k below. let fields = (row_is k below).fields in record { refs = fields.few_refs; nums = fields.few_nums };
+    references = λ k i name below names.
+        is.reach.all name (from_field (row_of t k).name name i (row_reached k below) (ap (λ (o : Object). slice_get o.refs i) (row_named k below) ∙ names));
+    roots = λ thread index name some within small names. is.reach.all name (from_root thread index name (root_is thread index some ∙ names));
+  }
+
+  -- no thread has made too many
+  few : (m : ℕ) → get_or counts m 0 < 2 ^ 32
+  few m = ⊎_elim
+      (λ (below : m < length counts). let most = All-get_or (λ (x : ℕ). x ≤ most_made) counts m 0 below is.form.counts in omega (arith, most))
+      (λ (past : length counts ≤ m). let none = get_or_past counts m 0 past in omega (arith, none))
+      (cases_lt m (length counts))
+
+  count_is : (thread : ℕ) → 1 ≤ thread → (text_graph t counts).count thread ≡ get_or counts (thread - 1) 0
+  unfolding graph_of
+  count_is zero some = absurd (omega (arith, some))
+  count_is (suc thread) some = let back : thread ≡ suc thread - 1 = omega arith in ap (λ (k : ℕ). get_or counts k 0) back
+
+  is_given : (name : Name) → IsNamed counts name → IsGiven c (text_graph t counts).count name
+  is_given name named_by = ⊎_elim
+      (λ (is_hub : name ≡ hub). subst (IsGiven c (text_graph t counts).count) (sym is_hub) (record { thread = omega arith; made = omega arith; by_thread = λ one. absurd (omega (arith, one)); small = omega arith }))
+      (λ (made : IsMadeBy counts name).
+      let count = count_is name.thread made.from_first in
+      record {
+        thread = omega (arith, made.to_last, is.form.threads);
+        made = omega (arith, made.to_count, count);
+        by_thread = λ one. omega (arith, made.to_count, count);
+        small = omega (arith, made.to_count, few (name.thread - 1));
+      })
+      named_by
+
+  graph_is : IsGraphOf c t counts g
+  graph_is = is_graph c t counts placeable (λ k below. is_given (row_of t k).name (row_is k below).name)
+
+  pub can_begin : (memory : Word → ℕ) → IsPlaced c t memory → ((more : List ℕ) (h : Graph) → IsGraphOf c t more h → Represents c memory h (λ m. nothing)) → CanBeginFrom c memory counts g
+  can_begin memory placed stands = record {
+    stands = stands counts g graph_is;
+    outside = record { pause = placed.others Pause refl; states = λ seat below. placed.others (State seat) refl; left = placed.left };
+    counts_are = graph_is.counts_are;
+  }
+
+-- what follows of an image from two facts of it
+pub of_both : {E : Type 0} (P Q R : Image → Type 0) → ((image : Image) → P image → Q image → R image) → (r : Result Placed E)
+    → IfOk r (λ placed. IfHeap placed P) → IfOk r (λ placed. IfHeap placed Q) → IfOk r (λ placed. IfHeap placed R)
+of_both P Q R so (Ok (Heap image)) one two = so image one two
+of_both P Q R so (Ok TooSmall) one two = tt
+of_both P Q R so (Err e) one two = tt

@@ -1,0 +1,196 @@
+-- A line of a dump is one line, and leads on in one way.
+use Rattle.std.proofs.Common.{ℕ, ◌≡◌, ◌+◌, ◌^◌, ◌<◌, ◌≤◌, ◌⊎◌, inl, inr, List, [], ◌∷◌, ◌++◌, length, map, get_or, codes, refl, sym, ap, subst, ◌∙◌, arith}
+use Rattle.std.specs.Prelude.{All, slice_index}
+use Rattle.std.specs.Fmt.{decimal}
+use Rattle.std.proofs.lemmas.List.{get_or_past}
+use Rattle.std.proofs.lemmas.List.Elements.{All-head, All-tail, All-get_or}
+use Rattle.heap_words.specs.declared.config.Config.{Config}
+use Rattle.heap_words.specs.Narrow.{IsNarrow}
+use Rattle.shen_graph.specs.declared.name.Name.{Name}
+use Rattle.shen_graph.specs.Graph.{Reference}
+use Rattle.shen_graph.specs.GraphText.{Row}
+use Rattle.trace_reading.specs.Spelling.{titled}
+use Rattle.trace_reading.proofs.Once.{same_config}
+use Rattle.trace_reading.specs.Causes.{parts}
+use Rattle.trace_reading.proofs.Free.{IsWord}
+use Rattle.trace_reading.proofs.Heads.{titled_is, heap_again, threads_again}
+use Rattle.trace_text.specs.Answer.{name_word}
+use Rattle.heap_dump.specs.Dumped.{Dumped, most_made}
+use Rattle.heap_dump.specs.DumpLines.{DumpStage, Version, Heap, Threads, Counts, Listed, Behind, DumpFollows, IsHeapOf, Spells, AreReferences, with_row, with_roots, ObjectFollows, RootsFollow, heap_line}
+use Rattle.heap_dump.proofs.References.{reference_once, named_small}
+use Rattle.heap_dump.proofs.Strokes.{same_behind}
+use Rattle.heap_dump.proofs.RowWords.{one_name}
+use Rattle.heap_dump.proofs.TakenRoots.{decimal_once}
+use Rattle.heap_dump.proofs.Lined.{line_words, numbers_are_words, object_words, roots_words, mark_words, object_is_no_roots, object_is_no_mark, roots_is_no_mark}
+use Rattle.heap_dump.proofs.Ordered.{lt_or_ge}
+use Rattle.heap_dump.proofs.Steps.{IsDumping}
+
+heads : {A : Type 0} (x y : A) (xs ys : List A) → x ∷ xs ≡ y ∷ ys → (x ≡ y) × (xs ≡ ys)
+heads x y xs ys e = (cc, cc)
+
+-- ---- words
+
+decimals_once : (ns ms : List ℕ) → All (λ n. n < 2 ^ 64) ns → All (λ n. n < 2 ^ 64) ms → map decimal ns ≡ map decimal ms → ns ≡ ms
+decimals_once [] [] a b e = refl
+decimals_once [] (m ∷ ms) a b e = absurd (omega (arith, ap length e))
+decimals_once (n ∷ ns) [] a b e = absurd (omega (arith, ap length e))
+decimals_once (n ∷ ns) (m ∷ ms) a b e =
+    let both = heads (decimal n) (decimal m) (map decimal ns) (map decimal ms) e in
+    let first = decimal_once n m (All-head (λ k. k < 2 ^ 64) n ns a) (All-head (λ k. k < 2 ^ 64) m ms b) both.0 in
+    let others = decimals_once ns ms (All-tail (λ k. k < 2 ^ 64) n ns a) (All-tail (λ k. k < 2 ^ 64) m ms b) both.1 in
+    ap (λ (k : ℕ). k ∷ ns) first ∙ ap (λ (ks : List ℕ). m ∷ ks) others
+
+references_once : (ws : List (List ℕ)) (rs qs : List Reference) → AreReferences ws rs → AreReferences ws qs → rs ≡ qs
+references_once [] [] [] a b = refl
+references_once [] [] (q ∷ qs) a b = absurd b
+references_once [] (r ∷ rs) qs a b = absurd a
+references_once (w ∷ ws) [] qs a b = absurd a
+references_once (w ∷ ws) (r ∷ rs) [] a b = absurd b
+references_once (w ∷ ws) (r ∷ rs) (q ∷ qs) a b =
+    ap (λ (x : Reference). x ∷ rs) (reference_once w r q a.0 b.0) ∙ ap (λ (xs : List Reference). q ∷ xs) (references_once ws rs qs a.1 b.1)
+
+same_references : (ws vs : List (List ℕ)) (rs qs : List Reference) → AreReferences ws rs → AreReferences vs qs → ws ≡ vs → rs ≡ qs
+same_references ws vs rs qs a b e = references_once ws rs qs a (subst (λ (us : List (List ℕ)). AreReferences us qs) (sym e) b)
+
+same_row : (r q : Row) → r.name ≡ q.name → r.refs ≡ q.refs → r.nums ≡ q.nums → r ≡ q
+same_row r q name refs nums =
+    ap (λ (n : Name). record { name = n; refs = r.refs; nums = r.nums }) name
+    ∙ ap (λ (xs : List Reference). record { name = q.name; refs = xs; nums = r.nums }) refs
+    ∙ ap (λ (xs : List ℕ). record { name = q.name; refs = q.refs; nums = xs }) nums
+
+-- ---- counts
+
+counts_title : IsWord (codes "counts")
+counts_title = record { no_space = refl; no_end = refl }
+
+pub small_counts : (counts : List ℕ) → All (λ n. n ≤ most_made) counts → All (λ n. n < 2 ^ 64) counts
+small_counts counts all k d low = let here = all k d low in omega (arith, here)
+
+pub counts_words : (text : List ℕ) (counts : List ℕ) → All (λ n. n ≤ most_made) counts → Spells text (titled (codes "counts") counts) → parts 32 text ≡ codes "counts" ∷ map decimal counts
+counts_words text counts all e =
+    line_words text (codes "counts") (map decimal counts) (counts_title, numbers_are_words counts (small_counts counts all)) (e ∙ sym (titled_is (codes "counts") counts))
+
+pub each_small : (counts : List ℕ) → All (λ n. n ≤ most_made) counts → (k : ℕ) → slice_index counts k < 2 ^ 32
+each_small counts all k = by_low (lt_or_ge k (length counts))
+  where
+    by_low : (k < length counts) ⊎ (length counts ≤ k) → slice_index counts k < 2 ^ 32
+    by_low (inl low) = let here = All-get_or (λ n. n ≤ most_made) counts k 0 low all in omega (arith, here)
+    by_low (inr high) = let none : slice_index counts k ≡ 0 = get_or_past counts k 0 high in omega (arith, none)
+
+-- ---- the heap
+
+abbrev heap_numbers : Config → List (List ℕ)
+heap_numbers c = map decimal (c.regions ∷ c.region_words ∷ c.reserve ∷ [])
+
+word_at : (ws vs : List (List ℕ)) (i : ℕ) → ws ≡ vs → get_or ws i [] ≡ get_or vs i []
+word_at ws vs i e = ap (λ (l : List (List ℕ)). get_or l i []) e
+
+same_heap : (c d : Config) (text : List ℕ) → IsNarrow c → IsNarrow d → Spells text (heap_line c) → Spells text (heap_line d) → IsHeapOf c d
+same_heap c d text one other e f =
+    let same = sym (heap_again 2 d text other f).2 ∙ (heap_again 2 c text one e).2 in
+    let ws = codes "heap" ∷ heap_numbers d in
+    let vs = codes "heap" ∷ heap_numbers c in
+    record {
+      regions = decimal_once d.regions c.regions (omega (arith, d.in_range.most_regions)) (omega (arith, c.in_range.most_regions)) (word_at ws vs 1 same);
+      region_words = decimal_once d.region_words c.region_words (omega (arith, d.in_range.most_words)) (omega (arith, c.in_range.most_words)) (word_at ws vs 2 same);
+      reserve = decimal_once d.reserve c.reserve (omega (arith, d.in_range.some_left, d.in_range.most_regions)) (omega (arith, c.in_range.some_left, c.in_range.most_regions)) (word_at ws vs 3 same);
+    }
+
+same_threads : (h c d : Config) (text : List ℕ) → IsHeapOf h c → IsHeapOf h d → Spells text (titled (codes "threads") (c.mutators ∷ c.helpers ∷ [])) → Spells text (titled (codes "threads") (d.mutators ∷ d.helpers ∷ [])) → c ≡ d
+same_threads h c d text one other e f =
+    let same = sym (threads_again 2 0 0 0 c text e).2 ∙ (threads_again 2 0 0 0 d text f).2 in
+    let ws = codes "threads" ∷ map decimal (c.mutators ∷ c.helpers ∷ []) in
+    let vs = codes "threads" ∷ map decimal (d.mutators ∷ d.helpers ∷ []) in
+    let m = decimal_once c.mutators d.mutators (omega (arith, c.in_range.most_mutators)) (omega (arith, d.in_range.most_mutators)) (word_at ws vs 1 same) in
+    let k = decimal_once c.helpers d.helpers (omega (arith, c.in_range.most_helpers)) (omega (arith, d.in_range.most_helpers)) (word_at ws vs 2 same) in
+    same_config c d (one.regions ∙ sym other.regions) (one.region_words ∙ sym other.region_words) m k (one.reserve ∙ sym other.reserve)
+
+-- ---- objects and roots
+
+-- what was read of the counts is in its ranges
+abbrev pub IsWithin : DumpStage → Type 0
+IsWithin Version = Unit {0}
+IsWithin Heap = Unit {0}
+IsWithin (Threads h) = Unit {0}
+IsWithin (Counts c) = Unit {0}
+IsWithin (Listed d) = (length d.counts ≤ 8) × (length d.roots ≤ 8) × ((k : ℕ) → slice_index d.counts k < 2 ^ 32)
+IsWithin (Behind stage) = Unit {0}
+
+object_once : (d : Dumped) (text : List ℕ) (a b : DumpStage) → IsWithin (Listed d) → ObjectFollows d text a → ObjectFollows d text b → a ≡ b
+object_once d text a b within f g =
+    let r = f.0 in
+    let q = g.0 in
+    let one = named_small d.counts r.name within.0 within.2 f.3.name in
+    let two = named_small d.counts q.name within.0 within.2 g.3.name in
+    let ws = object_words text r f.1 (omega (arith, one.0)) (omega (arith, one.1)) f.5 f.3.fields.fit f.6 in
+    let vs = object_words text q g.1 (omega (arith, two.0)) (omega (arith, two.1)) g.5 g.3.fields.fit g.6 in
+    let behind = heads (codes "object") (codes "object") (name_word r.name ∷ (f.1 ++ codes "/" ∷ map decimal r.nums)) (name_word q.name ∷ (g.1 ++ codes "/" ∷ map decimal q.nums)) (sym ws ∙ vs) in
+    let both = heads (name_word r.name) (name_word q.name) (f.1 ++ codes "/" ∷ map decimal r.nums) (g.1 ++ codes "/" ∷ map decimal q.nums) behind.1 in
+    let fields = same_behind f.1 g.1 r.refs q.refs (map decimal r.nums) (map decimal q.nums) f.5 g.5 both.1 in
+    let name = one_name d.counts (name_word r.name) r.name q.name within.0 within.2 f.3.name g.3.name refl both.0 in
+    let row = same_row r q name (same_references f.1 g.1 r.refs q.refs f.5 g.5 fields.0) (decimals_once r.nums q.nums f.3.fields.fit g.3.fields.fit fields.1) in
+    f.7 ∙ ap (λ (x : Row). Listed (with_row d x)) row ∙ sym g.7
+
+roots_once : (d : Dumped) (text : List ℕ) (a b : DumpStage) → IsWithin (Listed d) → RootsFollow d text a → RootsFollow d text b → a ≡ b
+roots_once d text a b within f g =
+    let t = length d.roots + 1 in
+    let low : t < 2 ^ 64 = omega (arith, within.1) in
+    let same = sym (roots_words text t f.0 f.1 low f.4 f.5) ∙ roots_words text t g.0 g.1 low g.4 g.5 in
+    let behind = heads (codes "roots") (codes "roots") (decimal t ∷ f.1) (decimal t ∷ g.1) same in
+    let both = heads (decimal t) (decimal t) f.1 g.1 behind.1 in
+    f.6 ∙ ap (λ (x : List Reference). Listed (with_roots d x)) (same_references f.1 g.1 f.0 g.0 f.4 g.4 both.1) ∙ sym g.6
+
+object_text : (d : Dumped) (text : List ℕ) (a : DumpStage) → IsWithin (Listed d) → ObjectFollows d text a → (ws : List (List ℕ)) × (parts 32 text ≡ codes "object" ∷ ws)
+object_text d text a within f =
+    let one = named_small d.counts f.0.name within.0 within.2 f.3.name in
+    (_, object_words text f.0 f.1 (omega (arith, one.0)) (omega (arith, one.1)) f.5 f.3.fields.fit f.6)
+
+roots_text : (d : Dumped) (text : List ℕ) (a : DumpStage) → IsWithin (Listed d) → RootsFollow d text a → (ws : List (List ℕ)) × (parts 32 text ≡ codes "roots" ∷ ws)
+roots_text d text a within f = (_, roots_words text (length d.roots + 1) f.0 f.1 (omega (arith, within.1)) f.4 f.5)
+
+pub listed_once : (d : Dumped) (text : List ℕ) (a b : DumpStage) → IsWithin (Listed d) → DumpFollows (Listed d) text a → DumpFollows (Listed d) text b → a ≡ b
+listed_once d text a b within (inl f) (inl g) = object_once d text a b within f g
+listed_once d text a b within (inl f) (inr (inl g)) =
+    let one = object_text d text a within f in let two = roots_text d text b within g in absurd (object_is_no_roots one.0 two.0 (sym one.1 ∙ two.1))
+listed_once d text a b within (inl f) (inr (inr g)) =
+    let one = object_text d text a within f in absurd (object_is_no_mark one.0 [] (sym one.1 ∙ mark_words text g.1))
+listed_once d text a b within (inr (inl f)) (inl g) =
+    let one = object_text d text b within g in let two = roots_text d text a within f in absurd (object_is_no_roots one.0 two.0 (sym one.1 ∙ two.1))
+listed_once d text a b within (inr (inl f)) (inr (inl g)) = roots_once d text a b within f g
+listed_once d text a b within (inr (inl f)) (inr (inr g)) =
+    let two = roots_text d text a within f in absurd (roots_is_no_mark two.0 [] (sym two.1 ∙ mark_words text g.1))
+listed_once d text a b within (inr (inr f)) (inl g) =
+    let one = object_text d text b within g in absurd (object_is_no_mark one.0 [] (sym one.1 ∙ mark_words text f.1))
+listed_once d text a b within (inr (inr f)) (inr (inl g)) =
+    let two = roots_text d text b within g in absurd (roots_is_no_mark two.0 [] (sym two.1 ∙ mark_words text f.1))
+listed_once d text a b within (inr (inr f)) (inr (inr g)) = f.2 ∙ sym g.2
+
+-- ---- stages that lead on alike
+
+-- they are one, or heaps of the same sizes
+abbrev pub Same : DumpStage → DumpStage → Type 0
+Same s t = (s ≡ t) ⊎ ((h : Config) × (k : Config) × (s ≡ Threads h) × (t ≡ Threads k) × IsHeapOf h k)
+
+pub same_back : (s t : DumpStage) → Same s t → Same t s
+same_back s t (inl e) = inl (sym e)
+same_back s t (inr x) = inr (x.1, x.0, x.3, x.2, record { regions = sym x.4.regions; region_words = sym x.4.region_words; reserve = sym x.4.reserve })
+
+pub carry : (s t : DumpStage) (text : List ℕ) (next : DumpStage) → Same s t → DumpFollows t text next → DumpFollows s text next
+carry s t text next (inl e) f = subst (λ (x : DumpStage). DumpFollows x text next) (sym e) f
+carry s t text next (inr x) f = subst (λ (y : DumpStage). DumpFollows y text next) (sym x.2) (by_heap x.0 x.1 x.4 (subst (λ (y : DumpStage). DumpFollows y text next) x.3 f))
+  where
+    by_heap : (h k : Config) → IsHeapOf h k → DumpFollows (Threads k) text next → DumpFollows (Threads h) text next
+    by_heap h k of g = (g.0, record { regions = g.1.regions ∙ of.regions; region_words = g.1.region_words ∙ of.region_words; reserve = g.1.reserve ∙ of.reserve }, g.2, g.3)
+
+-- a line leads on in one way
+pub follows_once : (s : DumpStage) (text : List ℕ) (a b : DumpStage) → IsDumping s → IsWithin s → DumpFollows s text a → DumpFollows s text b → Same a b
+follows_once Version text a b is within f g = inl (f.1 ∙ sym g.1)
+follows_once Heap text a b is within f g = inr (f.0, g.0, f.3, g.3, same_heap f.0 g.0 text f.1 g.1 f.2 g.2)
+follows_once (Threads h) text a b is within f g = inl (f.3 ∙ ap Counts (same_threads h f.0 g.0 text f.1 g.1 f.2 g.2) ∙ sym g.3)
+follows_once (Counts c) text a b is within f g =
+    let same = sym (counts_words text f.0 f.2 f.3) ∙ counts_words text g.0 g.2 g.3 in
+    let both = heads (codes "counts") (codes "counts") (map decimal f.0) (map decimal g.0) same in
+    let counts = decimals_once f.0 g.0 (small_counts f.0 f.2) (small_counts g.0 g.2) both.1 in
+    inl (f.4 ∙ ap (λ (ns : List ℕ). Listed (record { config = c; counts = ns; rows = []; roots = [] })) counts ∙ sym g.4)
+follows_once (Listed d) text a b is within f g = inl (listed_once d text a b within f g)
+follows_once (Behind stage) text a b is within f g = absurd is

@@ -1,0 +1,216 @@
+-- Bytes within the limit are a dump with what is to run from it, or are refused: they cannot be neither.
+use Rattle.std.proofs.Common.{ℕ, zero, suc, ◌≡◌, ◌⊎◌, inl, inr, ◌+◌, ◌≤◌, List, [], ◌∷◌, ◌++◌, length, codes, Option, Some, None, refl, sym, ap, subst, ◌∙◌, append_assoc, append-nil, length-append, arith}
+use Rattle.std.specs.List.{flat_map, AllByRecursion}
+use Rattle.std.proofs.lemmas.List.Concat.{flat_map-cons}
+use Rattle.shen_graph.specs.declared.command.Command.{Command}
+use Rattle.heap_words.specs.declared.config.Config.{Config}
+use Rattle.heap_words.specs.declared.schedule.Item.{Item}
+use Rattle.trace_reading.specs.Spelling.{TraceLine, IsLine, line, newline, titled, schedule_line, IsScheduleLine}
+use Rattle.trace_reading.specs.Grammar.{most_bytes, scripts_of, items_of}
+use Rattle.trace_reading.specs.declared.why.Why.{Why}
+use Rattle.trace_reading.specs.declared.why.Why.TheVariants.{DumpWanted}
+use Rattle.trace_reading.specs.Causes.{parts}
+use Rattle.trace_reading.specs.Refused.{LineStage, Commands, Turns, words_cause, end_cause, LineFollows, Lead}
+use Rattle.trace_reading.specs.Refused.LineStage.{Version as TraceVersion, Heap as TraceHeap, Threads as TraceThreads}
+use Rattle.trace_reading.proofs.Lines.{whole_line, cut_line}
+use Rattle.trace_reading.proofs.Leads.{Fits, follows, first_line, bytes_of_line, bytes_of_last}
+use Rattle.heap_dump.specs.Dumped.{Dumped, IsDump}
+use Rattle.heap_dump.specs.Resumes.{run_version, Resumes, mark_line}
+use Rattle.heap_dump.specs.DumpLines.{DumpStage, Version, Heap, Threads, Counts, Listed, Behind, DumpFollows, StopsFor, DumpRefused, Spells, with_row, with_roots, ends_by}
+use Rattle.heap_dump.specs.Steps.{Leads}
+use Rattle.heap_dump.proofs.Steps.{IsDumping, leads_none, leads_one, leads_both, ends_here, refused_here}
+use Rattle.heap_dump.proofs.Stopped.{refused}
+use Rattle.heap_dump.proofs.DumpEnds.{behind_lead}
+use Rattle.heap_dump.proofs.HeldDump.{dump_small}
+use Rattle.heap_dump.proofs.Spelled.{ended, leads_bytes, head_spelled, counts_spelled, listed_spelled, all_spelled}
+
+-- ---- lines behind the line `trace`
+
+ended-cons : (text : List ℕ) (texts : List (List ℕ)) (whole others : List ℕ) → text ++ newline ∷ [] ≡ whole → flat_map ended texts ≡ others → flat_map ended (text ∷ texts) ≡ whole ++ others
+ended-cons text texts whole others e f = flat_map-cons ended text texts ∙ ap (λ (t : List ℕ). t ++ flat_map ended texts) e ∙ ap (λ (t : List ℕ). whole ++ t) f
+
+-- lines of commands and of a schedule that these texts are
+record AreBody (c : Config) (texts : List (List ℕ)) : Type 0 where
+  lines : List TraceLine
+  turns : List (List Item)
+  in_range : AllByRecursion (IsLine run_version c.mutators) lines
+  turns_in_range : AllByRecursion (IsScheduleLine c) turns
+  spelled : flat_map ended texts ≡ flat_map line lines ++ flat_map schedule_line turns
+
+of_turns : (c : Config) (texts : List (List ℕ)) (last : LineStage) → Lead (Turns c) texts last → (turns : List (List Item)) × AllByRecursion (IsScheduleLine c) turns × (flat_map ended texts ≡ flat_map schedule_line turns)
+of_turns c [] last lead = ([], tt, refl)
+of_turns c (text ∷ texts) last lead =
+    let it = lead.1.0 in
+    let others = of_turns c texts last (subst (λ (s : LineStage). Lead s texts last) lead.1.1 lead.2) in
+    (it.0 ∷ others.0, (it.1, others.1), ended-cons text texts (schedule_line it.0) (flat_map schedule_line others.0) it.2 others.2 ∙ sym (flat_map-cons schedule_line it.0 others.0))
+
+of_commands : (c : Config) (texts : List (List ℕ)) (last : LineStage) → Lead (Commands run_version c) texts last → AreBody c texts
+of_commands c [] last lead = record { lines = []; turns = []; in_range = tt; turns_in_range = tt; spelled = refl }
+of_commands c (text ∷ texts) last lead = by_kind lead.0 lead.1 lead.2 (of_commands c texts last)
+  where
+    by_kind : (next : LineStage) → LineFollows (Commands run_version c) text next → Lead next texts last → (Lead (Commands run_version c) texts last → AreBody c texts) → AreBody c (text ∷ texts)
+    by_kind next (inl f) lead go =
+        let it = f.0 in
+        let others = go (subst (λ (s : LineStage). Lead s texts last) f.1 lead) in
+        record {
+          lines = it.0 ∷ others.lines;
+          turns = others.turns;
+          in_range = (it.1, others.in_range);
+          turns_in_range = others.turns_in_range;
+          spelled = ended-cons text texts (line it.0) (flat_map line others.lines ++ flat_map schedule_line others.turns) it.2 others.spelled
+              ∙ sym (append_assoc (line it.0) (flat_map line others.lines) (flat_map schedule_line others.turns))
+              ∙ ap (λ (t : List ℕ). t ++ flat_map schedule_line others.turns) (sym (flat_map-cons line it.0 others.lines));
+        }
+    by_kind next (inr f) lead go =
+        let it = f.0 in
+        let others = of_turns c texts last (subst (λ (s : LineStage). Lead s texts last) f.1 lead) in
+        record {
+          lines = [];
+          turns = it.0 ∷ others.0;
+          in_range = tt;
+          turns_in_range = (it.1, others.1);
+          spelled = ended-cons text texts (schedule_line it.0) (flat_map schedule_line others.0) it.2 others.2 ∙ sym (flat_map-cons schedule_line it.0 others.0);
+        }
+
+-- ---- stops before the line `trace`
+
+-- fewer bytes are left behind a line
+fewer : (bytes text rest : List ℕ) (k : ℕ) → bytes ≡ text ++ 10 ∷ rest → length bytes ≤ suc k → length rest ≤ k
+fewer bytes text rest k e le = let size = ap length e in let sizes = length-append text (10 ∷ rest) in omega (arith, size, sizes, le)
+
+some_byte : (bytes text rest : List ℕ) → bytes ≡ text ++ 10 ∷ rest → length bytes ≤ 0 → ⊥
+some_byte bytes text rest e le = let size = ap length e in let sizes = length-append text (10 ∷ rest) in omega (arith, size, sizes, le)
+
+-- the bytes end where a line of a trace may begin
+nothing_left : (stage : LineStage) (text : List ℕ) → end_cause stage text ≡ None → text ≡ []
+nothing_left TraceVersion text e = absurd cc
+nothing_left (TraceHeap v) text e = absurd cc
+nothing_left (TraceThreads v r w k) text e = absurd cc
+nothing_left (Commands v c) [] e = refl
+nothing_left (Commands v c) (b ∷ text) e = absurd cc
+nothing_left (Turns c) [] e = refl
+nothing_left (Turns c) (b ∷ text) e = absurd cc
+
+-- ---- bytes that are neither
+
+module _ (b0 : List ℕ) (short : length b0 ≤ most_bytes) (none : (d : Dumped) (scripts : List (List Command)) (items : List Item) → Resumes b0 d scripts items → ⊥) (fine : (n : ℕ) (why : Why) → DumpRefused b0 n why → ⊥) where
+  fine_at : (stage : DumpStage) (b : List ℕ) (lines : ℕ) → Leads Version b0 b lines stage → (why : Why) → StopsFor stage (parts 10 b) why → ⊥
+  fine_at stage b lines led why stops = fine (1 + lines) why (refused b0 (1 + lines) why short (record { rest = b; lines = lines; at = stage; led = led; number = refl; cause = stops }))
+
+  -- the next line follows, and there is one behind it
+  step : (stage : DumpStage) → IsDumping stage → (b : List ℕ) (lines : ℕ) → Leads Version b0 b lines stage
+      → ((text rest : List ℕ) (next : DumpStage) → parts 10 b ≡ text ∷ parts 10 rest → DumpFollows stage text next → ⊥) → ⊥
+  step stage is b lines led go = by_first (first_line b).0 (first_line b).1 (first_line b).2
+    where
+      by_first : (text rest : List ℕ) → (parts 10 b ≡ text ∷ []) ⊎ (parts 10 b ≡ text ∷ parts 10 rest) → ⊥
+      by_first text rest (inl e) = fine_at stage b lines led (ends_by text) (ends_here stage b text is e)
+      by_first text rest (inr e) = fine_at stage b lines led DumpWanted (refused_here stage b text rest is e (λ next f. go text rest next e f))
+
+  -- ---- behind the line `trace`
+
+  module _ (c : Config) (b1 b2 b4 b5 mark : List ℕ) (d0 d : Dumped) (listed : ℕ) (is : IsDump d) (config : d.config ≡ c) (counts : d.counts ≡ d0.counts) (no_rows : d0.rows ≡ []) (no_roots : d0.roots ≡ [])
+      (head : Leads Version b0 b1 3 (Counts c)) (counted : Leads (Counts c) b1 b2 1 (Listed d0)) (rowed : Leads (Listed d0) b2 b4 listed (Listed d)) (cut : parts 10 b4 ≡ mark ∷ parts 10 b5) (marked : Spells mark mark_line) where
+    to_mark : Leads Version b0 b5 (3 + 1 + listed + 1) (Behind (Commands run_version c))
+    to_mark =
+        leads_both Version (Listed d) (Behind (Commands run_version c)) b0 b4 b5 (3 + 1 + listed) 1
+        (leads_both Version (Listed d0) (Listed d) b0 b2 b4 (3 + 1) listed (leads_both Version (Counts c) (Listed d0) b0 b1 b2 3 1 head counted) rowed)
+        (leads_one (Listed d) (Behind (Commands run_version c)) b4 mark b5 cut (inr (inr (is, marked, ap (λ (k : Config). Behind (Commands run_version k)) (sym config)))))
+
+    few_counts : length d.counts ≤ 8
+    few_counts = omega (arith, is.form.threads, d.config.in_range.most_mutators)
+
+    -- nothing is left
+    complete : (l : LineStage) (n : ℕ) → Leads (Behind (Commands run_version c)) b5 [] n (Behind l) → ⊥
+    complete l n led =
+        let lead = behind_lead led.texts (Commands run_version c) (Behind l) led.lead in
+        let body = of_commands c led.texts lead.0 lead.2 in
+        let smalls = dump_small d is few_counts in
+        none d (scripts_of d.config.mutators body.lines) (items_of body.turns) (record {
+          dump = is;
+          lines = body.lines;
+          in_range = subst (λ (k : Config). AllByRecursion (IsLine run_version k.mutators) body.lines) (sym config) body.in_range;
+          turns = body.turns;
+          turns_in_range = subst (λ (k : Config). AllByRecursion (IsScheduleLine k) body.turns) (sym config) body.turns_in_range;
+          spelled = all_spelled b0 b1 b2 b4 b5 mark_line (flat_map line body.lines ++ flat_map schedule_line body.turns) d
+              (head_spelled b0 b1 d.config (subst (λ (k : Config). Leads Version b0 b1 3 (Counts k)) (sym config) head))
+              (counts_spelled b1 b2 c d0 counted ∙ ap (λ (ns : List ℕ). titled (codes "counts") ns ++ b2) (sym counts))
+              (listed_spelled b2 b4 listed d0 d rowed no_rows no_roots is.form.each is.form.roots smalls.0 smalls.1)
+              (bytes_of_line b4 mark b5 cut ∙ sym (append_assoc mark (newline ∷ []) b5) ∙ ap (λ (bs : List ℕ). bs ++ b5) marked)
+              (leads_bytes (Behind (Commands run_version c)) (Behind l) b5 [] n led ∙ append-nil (flat_map ended led.texts) ∙ body.spelled);
+          by_thread = refl;
+          in_order = refl;
+          short = short;
+        })
+
+    from_there : (l : LineStage) (b : List ℕ) (n : ℕ) → Leads (Behind (Commands run_version c)) b5 b n (Behind l) → Leads Version b0 b (3 + 1 + listed + 1 + n) (Behind l)
+    from_there l b n led = leads_both Version (Behind (Commands run_version c)) (Behind l) b0 b5 b (3 + 1 + listed + 1) n to_mark led
+
+    at_last : (l : LineStage) (b text : List ℕ) (n : ℕ) → Leads (Behind (Commands run_version c)) b5 b n (Behind l) → parts 10 b ≡ text ∷ [] → (cause : Option Why) → end_cause l text ≡ cause → ⊥
+    at_last l b text n led e (Some why) at = fine_at (Behind l) b (3 + 1 + listed + 1 + n) (from_there l b n led) why (cut_line l b text e ∙ at)
+    at_last l b text n led e None at =
+        let empty : b ≡ [] = bytes_of_last b text e ∙ nothing_left l text at in
+        complete l n (subst (λ (bs : List ℕ). Leads (Behind (Commands run_version c)) b5 bs n (Behind l)) empty led)
+
+    body_walk : (k : ℕ) (l : LineStage) (b : List ℕ) (n : ℕ) → Fits l → length b ≤ k → Leads (Behind (Commands run_version c)) b5 b n (Behind l) → ⊥
+    body_walk zero l b n fits le led = by_first (first_line b).0 (first_line b).1 (first_line b).2
+      where
+        by_first : (text rest : List ℕ) → (parts 10 b ≡ text ∷ []) ⊎ (parts 10 b ≡ text ∷ parts 10 rest) → ⊥
+        by_first text rest (inl e) = at_last l b text n led e (end_cause l text) refl
+        by_first text rest (inr e) = some_byte b text rest (bytes_of_line b text rest e) le
+    body_walk (suc k) l b n fits le led = by_first (λ s bs m f low leads. body_walk k s bs m f low leads) (first_line b).0 (first_line b).1 (first_line b).2
+      where
+        by_cause : ((s : LineStage) (bs : List ℕ) (m : ℕ) → Fits s → length bs ≤ k → Leads (Behind (Commands run_version c)) b5 bs m (Behind s) → ⊥) → (text rest : List ℕ) → parts 10 b ≡ text ∷ parts 10 rest
+            → (cause : Option Why) → words_cause l (parts 32 text) ≡ cause → ⊥
+        by_cause go text rest e (Some why) at = fine_at (Behind l) b (3 + 1 + listed + 1 + n) (from_there l b n led) why (whole_line l b text rest e ∙ at)
+        by_cause go text rest e None at =
+            let next = follows l text fits at in
+            go next.0 rest (n + 1) next.2 (fewer b text rest k (bytes_of_line b text rest e) le)
+            (leads_both (Behind (Commands run_version c)) (Behind l) (Behind next.0) b5 b rest n 1 led (leads_one (Behind l) (Behind next.0) b text rest e (next.0, next.1, refl)))
+
+        by_first : ((s : LineStage) (bs : List ℕ) (m : ℕ) → Fits s → length bs ≤ k → Leads (Behind (Commands run_version c)) b5 bs m (Behind s) → ⊥) → (text rest : List ℕ) → (parts 10 b ≡ text ∷ []) ⊎ (parts 10 b ≡ text ∷ parts 10 rest) → ⊥
+        by_first go text rest (inl e) = at_last l b text n led e (end_cause l text) refl
+        by_first go text rest (inr e) = by_cause go text rest e (words_cause l (parts 32 text)) refl
+
+    from_mark : ⊥
+    from_mark = body_walk (length b5) (Commands run_version c) b5 0 tt (omega arith) (leads_none (Behind (Commands run_version c)) b5)
+
+  -- ---- objects and roots
+
+  module _ (c : Config) (b1 b2 : List ℕ) (d0 : Dumped) (same : d0.config ≡ c) (no_rows : d0.rows ≡ []) (no_roots : d0.roots ≡ []) (head : Leads Version b0 b1 3 (Counts c)) (counted : Leads (Counts c) b1 b2 1 (Listed d0)) where
+    to_here : (d : Dumped) (b : List ℕ) (n : ℕ) → Leads (Listed d0) b2 b n (Listed d) → Leads Version b0 b (3 + 1 + n) (Listed d)
+    to_here d b n led = leads_both Version (Listed d0) (Listed d) b0 b2 b (3 + 1) n (leads_both Version (Counts c) (Listed d0) b0 b1 b2 3 1 head counted) led
+
+    one_line : (d e : Dumped) (b text rest : List ℕ) (n : ℕ) → Leads (Listed d0) b2 b n (Listed d) → parts 10 b ≡ text ∷ parts 10 rest → DumpFollows (Listed d) text (Listed e) → Leads (Listed d0) b2 rest (n + 1) (Listed e)
+    one_line d e b text rest n led cut f = leads_both (Listed d0) (Listed d) (Listed e) b2 b rest n 1 led (leads_one (Listed d) (Listed e) b text rest cut f)
+
+    from_listed : (k : ℕ) (d : Dumped) (b : List ℕ) (n : ℕ) → length b ≤ k → d.config ≡ c → d.counts ≡ d0.counts → Leads (Listed d0) b2 b n (Listed d) → ⊥
+    from_listed zero d b n le config counts led = step (Listed d) tt b (3 + 1 + n) (to_here d b n led) (λ text rest next cut f. some_byte b text rest (bytes_of_line b text rest cut) le)
+    from_listed (suc k) d b n le config counts led = step (Listed d) tt b (3 + 1 + n) (to_here d b n led) (λ text rest next cut f. by_kind (λ e bs m low one other leads. from_listed k e bs m low one other leads) text rest next cut f)
+      where
+        by_kind : ((e : Dumped) (bs : List ℕ) (m : ℕ) → length bs ≤ k → e.config ≡ c → e.counts ≡ d0.counts → Leads (Listed d0) b2 bs m (Listed e) → ⊥) → (text rest : List ℕ) (next : DumpStage) → parts 10 b ≡ text ∷ parts 10 rest
+            → DumpFollows (Listed d) text next → ⊥
+        by_kind go text rest next cut (inl f) =
+            go (with_row d f.0) rest (n + 1) (fewer b text rest k (bytes_of_line b text rest cut) le) config counts
+            (one_line d (with_row d f.0) b text rest n led cut (inl (f.0, f.1, f.2, f.3, f.4, f.5, f.6, refl)))
+        by_kind go text rest next cut (inr (inl f)) =
+            go (with_roots d f.0) rest (n + 1) (fewer b text rest k (bytes_of_line b text rest cut) le) config counts
+            (one_line d (with_roots d f.0) b text rest n led cut (inr (inl (f.0, f.1, f.2, f.3, f.4, f.5, refl))))
+        by_kind go text rest next cut (inr (inr f)) = from_mark c b1 b2 b rest text d0 d n f.0 config counts no_rows no_roots head counted led cut f.1
+
+  -- ---- the head
+
+  from_counts : (c : Config) (b : List ℕ) → Leads Version b0 b 3 (Counts c) → ⊥
+  from_counts c b led = step (Counts c) tt b 3 led (λ text rest next cut f.
+      let d0 : Dumped = record { config = c; counts = f.0; rows = []; roots = [] } in
+      from_listed c b rest d0 refl refl refl led (subst (λ (s : DumpStage). Leads (Counts c) b rest 1 s) f.4 (leads_one (Counts c) next b text rest cut f)) (length rest) d0 rest 0 (omega arith) refl refl (leads_none (Listed d0) rest))
+
+  from_threads : (h : Config) (b : List ℕ) → Leads Version b0 b 2 (Threads h) → ⊥
+  from_threads h b led = step (Threads h) tt b 2 led (λ text rest next cut f.
+      from_counts f.0 rest (subst (λ (s : DumpStage). Leads Version b0 rest 3 s) f.3 (leads_both Version (Threads h) next b0 b rest 2 1 led (leads_one (Threads h) next b text rest cut f))))
+
+  from_heap : (b : List ℕ) → Leads Version b0 b 1 Heap → ⊥
+  from_heap b led = step Heap tt b 1 led (λ text rest next cut f.
+      from_threads f.0 rest (subst (λ (s : DumpStage). Leads Version b0 rest 2 s) f.3 (leads_both Version Heap next b0 b rest 1 1 led (leads_one Heap next b text rest cut f))))
+
+  pub not_neither : ⊥
+  not_neither = step Version tt b0 0 (leads_none Version b0) (λ text rest next cut f. from_heap rest (subst (λ (s : DumpStage). Leads Version b0 rest 1 s) f.1 (leads_one Version next b0 text rest cut f)))

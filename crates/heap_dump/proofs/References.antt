@@ -1,0 +1,142 @@
+-- Words for references, by what stands between their dots.
+use Rattle.std.proofs.Common.{ℕ, ◌≡◌, ◌-◌, ◌^◌, ◌<◌, ◌≤◌, ◌⊎◌, inl, inr, lit<, Bool, true, false, List, [], ◌∷◌, ◌++◌, length, codes, refl, sym, ap, subst, ◌∙◌, None, Some, arith}
+use Rattle.std.specs.Str.Parse.{digits_value}
+use Rattle.std.specs.Prelude.{slice_index}
+use Rattle.std.specs.Fmt.{decimal}
+use Rattle.std.specs.List.{join_with_byte}
+use Rattle.std.proofs.lemmas.Bool.{false≢true, lt-ltb}
+use Rattle.std.proofs.lemmas.Fmt.{digits_value-decimal}
+use Rattle.std.proofs.lemmas.List.Splits.{join_with_byte-slice_split}
+use Rattle.std.proofs.lemmas.List.{append_assoc}
+use Rattle.shen_graph.specs.declared.name.Name.{Name}
+use Rattle.shen_graph.specs.Graph.{Reference}
+use Rattle.trace_reading.specs.Causes.{parts, parts_behind, is_plain_number, is_same}
+use Rattle.trace_reading.proofs.Heads.{is_same_again}
+use Rattle.trace_reading.proofs.Numerals.{number_spelled, decimal_is_number}
+use Rattle.trace_reading.proofs.GrammarNumbers.{own}
+use Rattle.trace_text.specs.Answer.{name_word}
+use Rattle.heap_dump.specs.Dumped.{IsNamed}
+use Rattle.heap_dump.specs.HeldReferences.{nameless, fits, held_name, held}
+use Rattle.trace_reading.proofs.Words.{number_digits}
+use Rattle.trace_reading.proofs.Free.{free_digits, parts_at, parts_none}
+use Rattle.heap_dump.specs.DumpLines.{IsDumpReference}
+
+heads : {A : Type 0} (x y : A) (xs ys : List A) → x ∷ xs ≡ y ∷ ys → (x ≡ y) × (xs ≡ ys)
+heads x y xs ys e = (cc, cc)
+
+same_names : (n m : Name) → n.thread ≡ m.thread → n.count ≡ m.count → n ≡ m
+same_names n m thread count =
+    ap (λ t. record { thread = t; count = n.count }) thread ∙ ap (λ k. record { thread = m.thread; count = k }) count
+
+-- a name is two words with a dot between
+pub dotted : (w : List ℕ) (n : Name) (h : IsDumpReference w (Some n)) → parts 46 w ≡ h.0 ∷ h.1 ∷ []
+dotted w n h =
+    let first = free_digits 46 h.0 (omega arith) (number_digits h.0 h.2) in
+    let second = free_digits 46 h.1 (omega arith) (number_digits h.1 h.3) in
+    ap (parts 46) (h.4 ∙ append_assoc h.0 (codes ".") h.1) ∙ parts_at 46 h.0 h.1 first ∙ ap (λ (ws : List (List ℕ)). h.0 ∷ ws) (parts_none 46 h.1 second)
+
+dash_is_no_name : (w : List ℕ) (n : Name) → w ≡ codes "-" → IsDumpReference w (Some n) → ⊥
+dash_is_no_name w n dash h =
+    let e : codes "-" ∷ [] ≡ h.0 ∷ h.1 ∷ [] = sym (ap (parts 46) dash) ∙ dotted w n h in
+    let sizes = ap length e in
+    absurd (omega (arith, sizes))
+
+-- a word is one reference at most
+pub reference_once : (w : List ℕ) (r q : Reference) → IsDumpReference w r → IsDumpReference w q → r ≡ q
+reference_once w None None h k = refl
+reference_once w None (Some n) h k = absurd (dash_is_no_name w n h k)
+reference_once w (Some n) None h k = absurd (dash_is_no_name w n k h)
+reference_once w (Some n) (Some m) h k =
+    let e = sym (dotted w n h) ∙ dotted w m k in
+    let one = heads h.0 k.0 (h.1 ∷ []) (k.1 ∷ []) e in
+    let two = heads h.1 k.1 [] [] one.1 in
+    let threads = h.5 ∙ ap (digits_value 10) one.0 ∙ sym k.5 in
+    let counts = h.6 ∙ ap (digits_value 10) two.0 ∙ sym k.6 in
+    ap Some (same_names n m threads counts)
+
+-- ---- a word, cut at its first dot
+
+pub not_same : (w v : List ℕ) → false ≡ is_same w v → w ≡ v → ⊥
+not_same w v other is = false≢true (other ∙ ap (λ (u : List ℕ). is_same u v) is ∙ is_same_again v)
+
+pub not_dash : (w : List ℕ) → false ≡ is_same w (codes "-") → w ≡ codes "-" → ⊥
+not_dash w other is = false≢true (other ∙ ap (λ (v : List ℕ). is_same v (codes "-")) is ∙ is_same_again (codes "-"))
+
+pub no_dot : (w thread rest : List ℕ) → parts 46 w ≡ thread ∷ parts_behind 46 rest → length rest ≡ 0 → false ≡ is_same w (codes "-") → (r : Reference) → IsDumpReference w r → ⊥
+no_dot w thread rest cut none other None h = absurd (not_dash w other h)
+no_dot w thread (x ∷ rest) cut none other (Some n) h = absurd (omega (arith, none))
+no_dot w thread [] cut none other (Some n) h =
+    let sizes = ap length (sym cut ∙ dotted w n h) in
+    absurd (omega (arith, sizes))
+
+pub not_numbers : (w thread rest count : List ℕ) (x : ℕ) → parts 46 w ≡ thread ∷ parts_behind 46 rest → rest ≡ x ∷ count → false ≡ is_same w (codes "-") → (is_plain_number thread ≡ false) ⊎ (is_plain_number count ≡ false)
+    → (r : Reference) → IsDumpReference w r → ⊥
+not_numbers w thread rest count x cut is other why None h = absurd (not_dash w other h)
+not_numbers w thread rest count x cut is other why (Some n) h =
+    let e : thread ∷ parts 46 count ≡ h.0 ∷ h.1 ∷ [] = ap (λ (r : List ℕ). thread ∷ parts_behind 46 r) (sym is) ∙ sym cut ∙ dotted w n h in
+    let both = heads thread h.0 (parts 46 count) (h.1 ∷ []) e in
+    let second : count ≡ h.1 = sym (join_with_byte-slice_split 46 count) ∙ ap (join_with_byte 46) both.1 in
+    by_why why (ap is_plain_number both.0 ∙ h.2) (ap is_plain_number second ∙ h.3)
+  where
+    by_why : (is_plain_number thread ≡ false) ⊎ (is_plain_number count ≡ false) → is_plain_number thread ≡ true → is_plain_number count ≡ true → ⊥
+    by_why (inl one) a b = false≢true (sym one ∙ a)
+    by_why (inr other) a b = false≢true (sym other ∙ b)
+
+pub is_name : (w thread rest count : List ℕ) (x : ℕ) → parts 46 w ≡ thread ∷ parts_behind 46 rest → rest ≡ x ∷ count → is_plain_number thread ≡ true → is_plain_number count ≡ true
+    → IsDumpReference w (Some (record { thread = digits_value 10 thread; count = digits_value 10 count }))
+is_name w thread rest count x cut is first second =
+    let free = free_digits 46 count (omega arith) (number_digits count second) in
+    let all : parts 46 w ≡ thread ∷ count ∷ [] = cut ∙ ap (λ (r : List ℕ). thread ∷ parts_behind 46 r) is ∙ ap (λ (ws : List (List ℕ)). thread ∷ ws) (parts_none 46 count free) in
+    (thread, count, first, second, (sym (join_with_byte-slice_split 46 w) ∙ ap (join_with_byte 46) all ∙ sym (append_assoc thread (codes ".") count)), refl, refl)
+
+-- ---- names of objects
+
+pub word_of_name : (n : Name) → n.thread < 2 ^ 64 → n.count < 2 ^ 64 → IsDumpReference (name_word n) (Some n)
+word_of_name n thread count =
+    (decimal n.thread, decimal n.count, decimal_is_number n.thread thread, decimal_is_number n.count count, refl, sym (digits_value-decimal own n.thread thread), sym (digits_value-decimal own n.count count))
+
+pub name_of_word : (w : List ℕ) (n : Name) → n.thread < 2 ^ 64 → n.count < 2 ^ 64 → IsDumpReference w (Some n) → w ≡ name_word n
+name_of_word w n thread count h =
+    let first = number_spelled h.0 h.2 (subst (λ (k : ℕ). k < 2 ^ 64) h.5 thread) ∙ ap decimal (sym h.5) in
+    let second = number_spelled h.1 h.3 (subst (λ (k : ℕ). k < 2 ^ 64) h.6 count) ∙ ap decimal (sym h.6) in
+    h.4 ∙ ap (λ (v : List ℕ). v ++ codes "." ++ h.1) first ∙ ap (λ (v : List ℕ). decimal n.thread ++ codes "." ++ v) second
+
+-- a name of an object fits
+pub named_small : (counts : List ℕ) (n : Name) → length counts ≤ 8 → ((k : ℕ) → slice_index counts k < 2 ^ 32) → IsNamed counts n → (n.thread < 2 ^ 32) × (n.count < 2 ^ 32)
+named_small counts n few each (inl is) = (subst (λ (m : Name). m.thread < 2 ^ 32) (sym is) (lit< tt), subst (λ (m : Name). m.count < 2 ^ 32) (sym is) (lit< tt))
+named_small counts n few each (inr made) = (omega (arith, made.to_last, few), omega (arith, made.to_count, each (n.thread - 1)))
+
+pub held_small : (n : Name) → n.thread < 2 ^ 32 → n.count < 2 ^ 32 → held_name n ≡ n
+held_small n thread count = rw (lt-ltb n.thread (2 ^ 32) thread, lt-ltb n.count (2 ^ 32) count) refl
+
+nobody_unnamed : (counts : List ℕ) (n : Name) → length counts ≤ 8 → n ≡ nameless → IsNamed counts n → ⊥
+nobody_unnamed counts n few is (inl at_hub) = let e : ◌≡◌ {A = ℕ} 4294967295 0 = sym (ap (λ (m : Name). m.thread) is) ∙ ap (λ (m : Name). m.thread) at_hub in absurd (omega (arith, e))
+nobody_unnamed counts n few is (inr made) = omega (arith, made.to_last, few, ap (λ (m : Name). m.thread) is)
+
+-- what is held as the name of an object is that name
+pub held_named : (counts : List ℕ) (n : Name) → length counts ≤ 8 → IsNamed counts (held_name n) → held_name n ≡ n
+held_named counts n few is = by_test (fits n) refl
+  where
+    by_test : (t : Bool) → fits n ≡ t → held_name n ≡ n
+    by_test true e = rw e refl
+    by_test false e = let here : held_name n ≡ nameless = rw e refl in absurd (nobody_unnamed counts (held_name n) few here is)
+
+pub no_named : (counts w : List ℕ) → length counts ≤ 8 → ((k : ℕ) → slice_index counts k < 2 ^ 32) → ((r : Reference) → IsDumpReference w r → ⊥) → (n : Name) → IsNamed counts n → w ≡ name_word n → ⊥
+no_named counts w few each none n named is =
+    let small = named_small counts n few each named in
+    none (Some n) (subst (λ (v : List ℕ). IsDumpReference v (Some n)) (sym is) (word_of_name n (omega (arith, small.0)) (omega (arith, small.1))))
+
+pub taken_name : (counts w : List ℕ) (r : Reference) (name : Name) → length counts ≤ 8 → ((k : ℕ) → slice_index counts k < 2 ^ 32) → IsDumpReference w r → Some name ≡ held r → IsNamed counts name → w ≡ name_word name
+taken_name counts w None name few each is held' named = absurd cc
+taken_name counts w (Some n) name few each is held' named =
+    let e : name ≡ held_name n = cc in
+    let same : name ≡ n = e ∙ held_named counts n few (subst (IsNamed counts) e named) in
+    let small = named_small counts name few each named in
+    name_of_word w name (omega (arith, small.0)) (omega (arith, small.1)) (subst (λ (m : Name). IsDumpReference w (Some m)) (sym same) is)
+
+pub other_name : (counts w : List ℕ) (r : Reference) (x : Reference) → length counts ≤ 8 → ((k : ℕ) → slice_index counts k < 2 ^ 32) → IsDumpReference w r → x ≡ held r → ((name : Name) → x ≡ Some name → IsNamed counts name → ⊥)
+    → (n : Name) → IsNamed counts n → w ≡ name_word n → ⊥
+other_name counts w r x few each is held' none n named e =
+    let small = named_small counts n few each named in
+    let same : r ≡ Some n = reference_once w r (Some n) is (subst (λ (v : List ℕ). IsDumpReference v (Some n)) (sym e) (word_of_name n (omega (arith, small.0)) (omega (arith, small.1)))) in
+    none n (held' ∙ ap held same ∙ ap Some (held_small n small.0 small.1)) named

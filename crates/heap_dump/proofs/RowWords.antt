@@ -1,0 +1,144 @@
+-- The words of a row, and the row that is added for them.
+use Rattle.std.proofs.Common.{ℕ, zero, suc, ◌≡◌, ◌+◌, ◌-◌, ◌^◌, ◌<◌, ◌≤◌, true, false, List, [], ◌∷◌, ◌++◌, length, map, codes, get_or, eqb, refl, sym, ap, subst, ◌∙◌, Some, arith, length-append}
+use Rattle.std.specs.Prelude.{slice_index}
+use Rattle.std.specs.Fmt.{decimal}
+use Rattle.std.proofs.lemmas.Bool.{eqb-true, false≢true}
+use Rattle.std.proofs.lemmas.List.{get_or-append_right}
+use Rattle.shen_graph.specs.declared.name.Name.{Name}
+use Rattle.shen_graph.specs.Graph.{Reference, hub}
+use Rattle.shen_graph.specs.GraphText.{Row, Text, bare, row_of, add_number, with_row, with_number, with_numbers, with_references, with_whole_row}
+use Rattle.shen_graph.specs.Reach.{IsBefore}
+use Rattle.shen_graph.proofs.RowLemmas.{length-change_last, whole}
+use Rattle.trace_reading.specs.Causes.{parts_behind}
+use Rattle.trace_reading.proofs.Cuts.{cut_parts}
+use Rattle.trace_text.specs.Answer.{name_word}
+use Rattle.heap_dump.specs.Dumped.{IsNamed}
+use Rattle.heap_dump.specs.DumpLines.{IsDumpReference}
+use Rattle.heap_dump.specs.HeldReferences.{held, held_row}
+use Rattle.heap_dump.specs.ObjectWords.{AreRefsWords, AreNumsWords, AreRowWords, HasHubFields, IsBehindLast}
+use Rattle.heap_dump.proofs.References.{reference_once, word_of_name, named_small}
+use Rattle.heap_dump.proofs.Strokes.{same_behind, length_refs}
+
+heads : {A : Type 0} (x y : A) (xs ys : List A) → x ∷ xs ≡ y ∷ ys → (x ≡ y) × (xs ≡ ys)
+heads x y xs ys e = (cc, cc)
+
+pub len_map : {A B : Type 0} (f : A → B) (xs : List A) → length (map f xs) ≡ length xs
+len_map f [] = refl
+len_map f (x ∷ xs) = ap suc (len_map f xs)
+
+-- ---- bytes that end
+
+pub no_parts : (s : ℕ) (bytes : List ℕ) → true ≡ eqb (length bytes) 0 → parts_behind s bytes ≡ []
+no_parts s [] e = refl
+no_parts s (b ∷ bytes) e = absurd (let none = eqb-true (length (b ∷ bytes)) 0 (sym e) in omega (arith, none))
+
+pub some_parts : (s : ℕ) (bytes : List ℕ) → false ≡ eqb (length bytes) 0 → 1 ≤ length (parts_behind s bytes)
+some_parts s [] e = absurd (false≢true e)
+some_parts s (b ∷ bytes) e = let cut = ap length (cut_parts s bytes) in omega (arith, cut)
+
+-- ---- the last name
+
+pub last_before : (rows : List Row) (n : Name) (k : ℕ) → k + 1 ≡ length rows → IsBefore (get_or rows k (bare hub)).name n → IsBehindLast (map (λ (r : Row). r.name) rows) n
+last_before [] n k size h = tt
+last_before (r ∷ []) n zero size h = h
+last_before (r ∷ []) n (suc k) size h = absurd (omega (arith, size))
+last_before (r ∷ q ∷ rows) n zero size h = absurd (omega (arith, size))
+last_before (r ∷ q ∷ rows) n (suc k) size h = last_before (q ∷ rows) n k (omega (arith, size)) h
+
+pub before_last : (rows : List Row) (n : Name) (k : ℕ) → k + 1 ≡ length rows → IsBehindLast (map (λ (r : Row). r.name) rows) n → IsBefore (get_or rows k (bare hub)).name n
+before_last [] n k size h = absurd (omega (arith, size))
+before_last (r ∷ []) n zero size h = h
+before_last (r ∷ []) n (suc k) size h = absurd (omega (arith, size))
+before_last (r ∷ q ∷ rows) n zero size h = absurd (omega (arith, size))
+before_last (r ∷ q ∷ rows) n (suc k) size h = before_last (q ∷ rows) n k (omega (arith, size)) h
+
+-- ---- one row at most
+
+pub one_name : (counts w : List ℕ) (a b : Name) → length counts ≤ 8 → ((k : ℕ) → slice_index counts k < 2 ^ 32) → IsNamed counts a → IsNamed counts b → w ≡ name_word a → w ≡ name_word b → a ≡ b
+one_name counts w a b few each one other is also =
+    let first = named_small counts a few each one in
+    let second = named_small counts b few each other in
+    let e = reference_once w (Some a) (Some b)
+    (subst (λ (v : List ℕ). IsDumpReference v (Some a)) (sym is) (word_of_name a (omega (arith, first.0)) (omega (arith, first.1))))
+    (subst (λ (v : List ℕ). IsDumpReference v (Some b)) (sym also) (word_of_name b (omega (arith, second.0)) (omega (arith, second.1)))) in
+    cc
+
+-- the name of a row with these words, and what is behind it
+pub row_name : (counts w : List ℕ) (rest : List (List ℕ)) (name : Name) (r : Row) → length counts ≤ 8 → ((k : ℕ) → slice_index counts k < 2 ^ 32) → IsNamed counts name → w ≡ name_word name → AreRowWords counts (w ∷ rest) r → name ≡ r.name
+row_name counts w rest name r few each named is row =
+    one_name counts w name r.name few each named row.row.name is (heads w (name_word r.name) rest (row.spelled ++ codes "/" ∷ map decimal r.nums) row.words_are).0
+
+pub row_rest : (counts w : List ℕ) (rest : List (List ℕ)) (r : Row) → (row : AreRowWords counts (w ∷ rest) r) → AreRefsWords rest r.refs (map decimal r.nums)
+row_rest counts w rest r row = record {
+  spelled = row.spelled;
+  are = row.are;
+  few = row.row.fields.few_refs;
+  words_are = (heads w (name_word r.name) rest (row.spelled ++ codes "/" ∷ map decimal r.nums) row.words_are).1;
+}
+
+-- the words of a row do not end behind its name
+pub row_short : (counts w : List ℕ) (r : Row) → AreRowWords counts (w ∷ []) r → ⊥
+row_short counts w r row =
+    let all = row_rest counts w [] r row in
+    let sizes = ap length all.words_are in
+    omega (arith, sizes, length-append all.spelled (codes "/" ∷ map decimal r.nums))
+
+-- words up to a stroke say how many references there are, and what is behind it
+pub refs_once : (words more rest : List (List ℕ)) (refs qs : List Reference) → AreRefsWords words refs more → AreRefsWords words qs rest → (length refs ≡ length qs) × (more ≡ rest)
+refs_once words more rest refs qs one other =
+    let same = same_behind one.spelled other.spelled refs qs more rest one.are other.are (sym one.words_are ∙ other.words_are) in
+    (sym (length_refs one.spelled refs one.are) ∙ ap length same.0 ∙ length_refs other.spelled qs other.are, same.1)
+
+pub refs_room : (words more : List (List ℕ)) (refs : List Reference) → AreRefsWords words refs more → length words ≡ length refs + 1 + length more
+refs_room words more refs all =
+    let sizes = ap length all.words_are in
+    omega (arith, sizes, length-append all.spelled (codes "/" ∷ more), length_refs all.spelled refs all.are)
+
+-- ---- the row that is added
+
+pub nums_rows : (t : Text) (xs : List ℕ) → length (with_numbers t xs).rows ≡ length t.rows
+nums_rows t [] = refl
+nums_rows t (x ∷ xs) = nums_rows (with_number t x) xs ∙ length-change_last (add_number x) t.rows
+
+pub added : (t : Text) (name : Name) (refs : List Reference) (nums : List ℕ) → with_numbers (with_references (with_row t name) (map held refs)) nums ≡ with_whole_row t (held_row (record { name = name; refs = refs; nums = nums }))
+added t name refs nums = whole t name (map held refs) nums
+
+pub added_row : (t : Text) (r : Row) → row_of (with_whole_row t r) (length t.rows) ≡ r
+added_row t r =
+    let none : length t.rows - length t.rows ≡ 0 = omega arith in
+    get_or-append_right t.rows (r ∷ []) (length t.rows) (length t.rows) (bare hub) refl (omega arith) ∙ ap (λ k. get_or (r ∷ []) k (bare hub)) none
+
+pub held_fields : (r : Row) → HasHubFields (held_row r) → HasHubFields r
+held_fields r h is = let w = h is in (sym (len_map held r.refs) ∙ w.0, w.1)
+
+pub fields_held : (r : Row) → HasHubFields r → HasHubFields (held_row r)
+fields_held r h is = let w = h is in (len_map held r.refs ∙ w.0, w.1)
+
+-- the words are those of the row
+pub row_taken : (counts w : List ℕ) (rest more : List (List ℕ)) (name : Name) (refs : List Reference) (nums : List ℕ) → IsNamed counts name → w ≡ name_word name → AreRefsWords rest refs more → AreNumsWords more nums
+    → HasHubFields (record { name = name; refs = refs; nums = nums }) → AreRowWords counts (w ∷ rest) (record { name = name; refs = refs; nums = nums })
+row_taken counts w rest more name refs nums named is all numbers fields = record {
+  row = (record {
+    name = named;
+    fields = record { few_refs = all.few; few_nums = numbers.few; hub_refs = λ e. (fields e).0; hub_nums = λ e. (fields e).1; fit = numbers.fit };
+  });
+  spelled = all.spelled;
+  are = all.are;
+  words_are = (ap (λ (v : List ℕ). v ∷ rest) is ∙ ap (λ (ws : List (List ℕ)). name_word name ∷ ws) (all.words_are ∙ ap (λ (ws : List (List ℕ)). all.spelled ++ codes "/" ∷ ws) numbers.words_are));
+}
+
+-- if there is a row with these words, it has the fields that these have
+pub row_fields : (counts w : List ℕ) (rest more : List (List ℕ)) (name : Name) (refs : List Reference) (nums : List ℕ) (r : Row) → name ≡ r.name → AreRefsWords rest refs more → AreNumsWords more nums
+    → AreRowWords counts (w ∷ rest) r → HasHubFields (record { name = name; refs = refs; nums = nums })
+row_fields counts w rest more name refs nums r same all numbers row is =
+    let once = refs_once rest more (map decimal r.nums) refs r.refs all (row_rest counts w rest r row) in
+    let sizes : length nums ≡ length r.nums = sym (len_map decimal nums) ∙ ap length (sym numbers.words_are ∙ once.1) ∙ len_map decimal r.nums in
+    (once.0 ∙ row.row.fields.hub_refs (sym same ∙ is), sizes ∙ row.row.fields.hub_nums (sym same ∙ is))
+
+-- and numbers behind the stroke
+pub row_numbers : (counts w : List ℕ) (rest more : List (List ℕ)) (refs : List Reference) (r : Row) → AreRefsWords rest refs more → AreRowWords counts (w ∷ rest) r → AreNumsWords more r.nums
+row_numbers counts w rest more refs r all row = record {
+  few = row.row.fields.few_nums;
+  fit = row.row.fields.fit;
+  words_are = (refs_once rest more (map decimal r.nums) refs r.refs all (row_rest counts w rest r row)).1;
+}

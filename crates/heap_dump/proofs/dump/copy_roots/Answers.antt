@@ -1,0 +1,44 @@
+use Rattle.std.proofs.Common.{ℕ, ◌≡◌, ◌+◌, ◌-◌, ◌<◌, List, [], length, get_or, set, arith, ap, ◌∙◌}
+use Rattle.std.proofs.lemmas.List.Elements.{All-get_or}
+use Rattle.shen_graph.specs.Graph.{Reference}
+use Rattle.shen_graph.specs.GraphText.{Text}
+use Rattle.heap_dump.proofs.Copied.{mixed_more, mixed_next, length-mixed, mixed_all}
+use Rattle.heap_dump.proofs.dump.copy_roots.Goals as goal
+
+pub copy_roots_of-requires-clause-threads : goal.copy_roots_of-requires-clause-threads
+copy_roots_of-requires-clause-threads c =
+    ap (λ t. length t.roots) c.loop-mutator.invariant
+    ∙ length-mixed c.args.graph.now.roots c.args.text.now.roots c.loop-mutator.mutator c.requires.threads (omega arith)
+
+pub copy_roots_of-requires-clause-sixteen : goal.copy_roots_of-requires-clause-sixteen
+copy_roots_of-requires-clause-sixteen c =
+    let xs = c.args.graph.now.roots in
+    let ys = c.args.text.now.roots in
+    let i = c.loop-mutator.mutator in
+    let low : i < length xs = omega arith in
+    let back : i + 1 - 1 ≡ i = omega arith in (
+      ap (λ k. length (get_or xs k [])) back ∙ All-get_or (λ (row : List Reference). length row ≡ 16) xs i [] low c.mutators-mutator-end.ensures.sixteen,
+      (ap (λ k. length (get_or c.loop-mutator.text.roots k [])) back
+          ∙ ap (λ t. length (get_or t.roots i [])) c.loop-mutator.invariant
+          ∙ ap length (mixed_next xs ys i [] c.requires.threads low)
+          ∙ All-get_or (λ (row : List Reference). length row ≡ 16) ys i [] (omega arith) c.requires.sixteen),
+    )
+
+pub loop-mutator-preserved : goal.loop-mutator-preserved
+loop-mutator-preserved c =
+    let text = c.args.text.now in
+    let xs = c.args.graph.now.roots in
+    let ys = text.roots in
+    let i = c.loop-mutator.mutator in
+    let low : i < length xs = omega arith in
+    let back : i + 1 - 1 ≡ i = omega arith in
+    c.copy_roots_of.ensures
+    ∙ ap (λ (k : ℕ). record c.loop-mutator.text { roots = set c.loop-mutator.text.roots k (get_or xs k []) }) back
+    ∙ ap (λ (t : Text). record t { roots = set t.roots i (get_or xs i []) }) c.loop-mutator.invariant
+    ∙ ap (λ (roots : List (List Reference)). record text { roots = roots }) (mixed_more xs ys i [] c.requires.threads low)
+
+pub returns : goal.returns
+returns c =
+    c.loop-mutator.invariant
+    ∙ ap (λ (roots : List (List Reference)). record c.args.text.now { roots = roots })
+    (mixed_all c.args.graph.now.roots c.args.text.now.roots c.loop-mutator.mutator c.requires.threads (omega (arith, c.mutators-mutator-end.ensures.threads)))

@@ -1,0 +1,52 @@
+use Rattle.std.proofs.Common.{◌≡◌, List, subst, arith, ap, ◌∙◌}
+use Rattle.heap_words.specs.declared.config.Config.{Config}
+use Rattle.heap_words.specs.Words.{view, table_words}
+use Rattle.heap_words.specs.Steps.{Stage, Event}
+use Rattle.shen_graph.specs.Graph.{Graph}
+use Rattle.shen_graph.specs.declared.order.Order.{Order}
+use Rattle.image_graph.specs.declared.image.Image.{Image}
+use Rattle.image_graph.specs.State as images
+use Rattle.heap_machines.specs.Pause.{pause_image}
+use Rattle.step_core.specs.Actor.{Actor}
+use Rattle.step_core.specs.Begins.{Begins}
+use Rattle.step_core.specs.Schedule.{schedule_events}
+use Rattle.heap_machines.specs.FromImage.{stage_from}
+use Rattle.graph_placing.specs.PlacedHeap.{IsPlaced}
+use Rattle.heap_dump.specs.Dumped.{dumped, graph_in}
+use Rattle.heap_dump.specs.Resuming.{HasEndedFrom}
+use Rattle.heap_dump.proofs.WholeFrom.{run_of, whole_from, all_rest_from, answer_from}
+use Rattle.heap_dump.proofs.goes_on.resume.Goals as goal
+
+pub graph_of-requires-clause-rest : goal.graph_of-requires-clause-rest
+graph_of-requires-clause-rest c =
+    let d = c.args.dump.now in
+    let start : Stage Actor = stage_from d.config (images.words_of c.in-Heap.image) d.counts in
+    let done : HasEndedFrom d.config start c.args.scripts.items c.args.schedule.now c.args.steps c.in-Some.replies c.in-Some.plain = rw c.in-Some.is at c.in_ok-replies.ensures.ended in
+    all_rest_from d.config start (graph_in (dumped d.config d.counts d.graph)) c.in_ok-replies.ensures.begins c.args.scripts.items c.requires.count c.args.schedule.now c.args.steps c.in-Some.replies c.in-Some.plain done
+
+pub returns-clause-answered : goal.returns-clause-answered
+returns-clause-answered c =
+    let d = c.args.dump.now in
+    let image : Image = c.in-Heap.image in
+    let g : Graph = graph_in (dumped d.config d.counts d.graph) in
+    let start : Stage Actor = stage_from d.config (images.words_of c.in-Heap.image) d.counts in
+    let events : List (Event Order) = schedule_events pause_image d.config c.args.scripts.items c.args.schedule.now c.args.steps start in
+    let done : HasEndedFrom d.config start c.args.scripts.items c.args.schedule.now c.args.steps c.in-Some.replies c.in-Some.plain = rw c.in-Some.is at c.in_ok-replies.ensures.ended in
+    let same : images.config_of image ≡ d.config = rw c.in-Heap.is at c.in_ok-image.ensures.config in
+    let placed : IsPlaced d.config d.graph (images.memory_of image) = rw c.in-Heap.is at c.in_ok-image.ensures.placed in
+    let begins : Begins d.config start g = c.in_ok-replies.ensures.begins in
+    record {
+      words = images.words_of image;
+      size = image.all_words ∙ ap table_words same;
+      placed = subst (λ (k : Config). IsPlaced d.config d.graph (view k (images.words_of image))) same placed;
+      whole = whole_from d.config start g begins c.args.scripts.items c.requires.count events done.called done.idle;
+      text = answer_from d.config start g begins c.args.scripts.items c.requires.count c.args.schedule.now c.args.steps c.in-Some.replies c.in-Some.plain done c.in_ok-graph.graph c.in_ok-graph.ensures.threads
+          (c.in_ok-graph.ensures.shows (run_of d.config start g begins events) done.shows);
+    }
+
+pub returns-clause-scripts : goal.returns-clause-scripts
+returns-clause-scripts c = λ mutator below.
+    let d = c.args.dump.now in
+    let start : Stage Actor = stage_from d.config (images.words_of c.in-Heap.image) d.counts in
+    let done : HasEndedFrom d.config start c.args.scripts.items c.args.schedule.now c.args.steps c.in-Some.replies c.in-Some.plain = rw c.in-Some.is at c.in_ok-replies.ensures.ended in
+    done.jobs_are mutator (omega (arith, below, c.in_ok-graph.ensures.threads))

@@ -1,0 +1,66 @@
+use Rattle.std.proofs.Common.{◌≡◌, ℕ, List, All, sym, ◌∙◌, subst}
+use Rattle.heap_words.specs.declared.config.Config.{Config}
+use Rattle.shen_graph.specs.Graph.{Graph}
+use Rattle.image_graph.specs.declared.image.Image.{Image}
+use Rattle.image_graph.specs.State as images
+use Rattle.step_core.specs.Begins.{Begins}
+use Rattle.shen_core.specs.declared.plain.Plain.{Plain}
+use Rattle.shen_core.specs.State.{Shows}
+use Rattle.heap_machines.specs.FromImage.{CanBeginFrom, stage_from}
+use Rattle.shen_core.specs.Progress.{CanRun, IsInSeats}
+use Rattle.heap_dump.specs.Dumped.{dumped, graph_in}
+use Rattle.heap_dump.proofs.StageFrom.{can_run_from, ended, cut}
+use Rattle.heap_dump.proofs.goes_on.run.Goals as goal
+
+-- the heap that was opened shows the stage by other names for its sizes and counts
+shows_from : (p : Plain) (image : Image) (c : Config) (held counts : List ℕ) → images.config_of image ≡ c → held ≡ counts → Shows p (stage_from (images.config_of image) (images.words_of image) held) → Shows p (stage_from c (images.words_of image) counts)
+shows_from p image c held counts same are shows =
+    subst (λ (k : Config). Shows p (stage_from k (images.words_of image) counts)) same (subst (λ (xs : List ℕ). Shows p (stage_from (images.config_of image) (images.words_of image) xs)) are shows)
+
+begins_by : (image : Image) (c : Config) (held counts : List ℕ) (g : Graph) → images.config_of image ≡ c → held ≡ counts → CanBeginFrom c (images.memory_of image) counts g
+    → ((h : Graph) → CanBeginFrom (images.config_of image) (images.memory_of image) held h → Begins (images.config_of image) (stage_from (images.config_of image) (images.words_of image) held) h)
+    → Begins c (stage_from c (images.words_of image) counts) g
+begins_by image c held counts g same are can law =
+    let can_too : CanBeginFrom (images.config_of image) (images.memory_of image) held g =
+    subst (λ (k : Config). CanBeginFrom k (images.memory_of image) held g) (sym same) (subst (λ (xs : List ℕ). CanBeginFrom c (images.memory_of image) xs g) (sym are) can) in
+    subst (λ (k : Config). Begins k (stage_from k (images.words_of image) counts) g) same
+    (subst (λ (xs : List ℕ). Begins (images.config_of image) (stage_from (images.config_of image) (images.words_of image) xs) g) are (law g can_too))
+
+pub run-requires-clause-run : goal.run-requires-clause-run
+run-requires-clause-run c =
+    let d = c.args.dump.now in
+    let image = c.args.image in
+    let plain = c.in_ok-plain.plain in
+    let shows = shows_from plain image d.config c.list.result.now d.counts c.requires.heap c.list.ensures c.in_ok-plain.ensures.stage in
+    subst (CanRun plain) (sym c.in-Ok.ensures)
+    (can_run_from d.config (images.words_of image) d.counts plain c.args.scripts.items (c.in_ok-plain.ensures.config ∙ c.requires.heap) shows c.in_ok-plain.ensures.orders c.requires.count c.requires.dump.form.counts c.requires.runnable)
+
+pub run-requires-clause-items : goal.run-requires-clause-items
+run-requires-clause-items c = subst (λ (k : Config). All (IsInSeats k) c.args.schedule.now) (sym (c.in_ok-plain.ensures.config ∙ c.requires.heap)) c.requires.items
+
+pub returns-in-Finished-clause-begins : goal.returns-in-Finished-clause-begins
+returns-in-Finished-clause-begins c =
+    let d = c.args.dump.now in
+    begins_by c.args.image d.config c.list.result.now d.counts (graph_in (dumped d.config d.counts d.graph)) c.requires.heap c.list.ensures c.requires.begins c.in_ok-plain.ensures.begins
+
+pub returns-in-Unfinished-clause-begins : goal.returns-in-Unfinished-clause-begins
+returns-in-Unfinished-clause-begins c =
+    let d = c.args.dump.now in
+    begins_by c.args.image d.config c.list.result.now d.counts (graph_in (dumped d.config d.counts d.graph)) c.requires.heap c.list.ensures c.requires.begins c.in_ok-plain.ensures.begins
+
+pub returns-in-Finished-clause-ended : goal.returns-in-Finished-clause-ended
+returns-in-Finished-clause-ended c =
+    let d = c.args.dump.now in
+    let image = c.args.image in
+    let plain = c.in_ok-plain.plain in
+    ended d.config (images.words_of image) d.counts plain c.run.new.self c.args.scripts.items c.args.schedule.now c.args.steps c.in-Ok.work c.run.new.work (c.in_ok-plain.ensures.config ∙ c.requires.heap)
+    (shows_from plain image d.config c.list.result.now d.counts c.requires.heap c.list.ensures c.in_ok-plain.ensures.stage) c.requires.count c.in-Ok.ensures c.in-Finished.ensures.events c.in-Finished.ensures.config
+    c.in-Finished.ensures.run
+
+pub returns-in-Unfinished-clause-cut : goal.returns-in-Unfinished-clause-cut
+returns-in-Unfinished-clause-cut c = λ is.
+    let d = c.args.dump.now in
+    let image = c.args.image in
+    let plain = c.in_ok-plain.plain in
+    cut d.config (images.words_of image) d.counts plain c.run.new.self c.args.scripts.items c.args.schedule.now c.args.steps c.in-Ok.work c.run.new.work (c.in_ok-plain.ensures.config ∙ c.requires.heap)
+    (shows_from plain image d.config c.list.result.now d.counts c.requires.heap c.list.ensures c.in_ok-plain.ensures.stage) c.requires.count c.in-Ok.ensures c.in-Unfinished.ensures.events

@@ -1,0 +1,34 @@
+use Rattle.std.proofs.Common.{ℕ, ◌≡◌, List, [], ◌∷◌, ◌++◌, ap, sym, refl, codes, ◌∙◌}
+use Rattle.std.proofs.lemmas.Result.{err_from_is_err_and}
+use Rattle.trace_reading.specs.declared.fault.TraceFault.TheVariants.{BadLine}
+use Rattle.trace_reading.specs.Spelling.{newline}
+use Rattle.trace_reading.specs.declared.why.Why.TheVariants.{DumpWanted}
+use Rattle.heap_dump.specs.DumpLines.{Version, Heap, ends_by}
+use Rattle.heap_dump.proofs.References.{not_same}
+use Rattle.heap_dump.proofs.TakenRoots.{same_bytes}
+use Rattle.heap_dump.proofs.HeadLines.{version_line}
+use Rattle.heap_dump.proofs.Steps.{leads_one, stops_here, ends_here, refused_here}
+use Rattle.trace_reading.proofs.Heads.{same_before_end}
+use Rattle.heap_dump.proofs.head.take_version.Goals as goal
+
+pub returns-in_err-text-clause-err : goal.returns-in_err-text-clause-err
+returns-in_err-text-clause-err c =
+    let p = err_from_is_err_and c.from_residual.result c.from_residual.ensures.1 in
+    let h = c.in_err-text.ensures.err in
+    let e : p.0 ≡ BadLine 1 (ends_by h.0) = let q = p.2 in let w = h.2 in cc in
+    rw p.1 (1, ends_by h.0, e, stops_here Version 1 c.args.bytes.now (ends_by h.0) (ends_here Version c.args.bytes.now h.0 tt h.1))
+
+pub returns-then-eq-clause-ok : goal.returns-then-eq-clause-ok
+returns-then-eq-clause-ok c =
+    let is = same_bytes c.in_ok-text.text.now (codes "dump 1") (rw (← c.as_slice.ensures) c.if-eq.ensures) in
+    leads_one Version Heap c.args.bytes.now c.in_ok-text.text.now c.in_ok-text.rest.now c.in_ok-text.ensures.ok (ap (λ (t : List ℕ). t ++ newline ∷ []) is ∙ sym version_line, refl)
+
+pub returns-else-eq-clause-err : goal.returns-else-eq-clause-err
+returns-else-eq-clause-err c = (
+  1,
+  DumpWanted,
+  c.dump_wanted.ensures,
+  stops_here Version 1 c.args.bytes.now DumpWanted
+      (refused_here Version c.args.bytes.now c.in_ok-text.text.now c.in_ok-text.rest.now tt c.in_ok-text.ensures.ok
+      (λ next follows. not_same c.in_ok-text.text.now (codes "dump 1") (rw (← c.as_slice.ensures) c.if-eq.ensures) (same_before_end c.in_ok-text.text.now (codes "dump 1") newline (follows.0 ∙ version_line)))),
+)

@@ -1,0 +1,43 @@
+use Rattle.std.proofs.Common.{◌≡◌, ℕ, List, sym, ap, ◌∙◌}
+use Rattle.std.specs.Prelude.{Result, Ok, Err, IfOk}
+use Rattle.shen_graph.specs.Graph.{opening}
+use Rattle.shen_graph.specs.History.{after}
+use Rattle.heap_dump.specs.declared.dump.Dump.{Dump}
+use Rattle.heap_dump.specs.Dumped.{Dumped, dumped, graph_in, IsDump, IsDumpOf}
+use Rattle.heap_dump.specs.ObjectsMade.{objects_made_by_each}
+use Rattle.heap_dump.proofs.FormedDumps.{counts_made, text_has_dump, text_dump}
+use Rattle.heap_dump.proofs.making.dump_of.Goals as goal
+
+abbrev seen_dump : Dump → Dumped
+seen_dump d = dumped d.config d.counts d.graph
+
+-- what follows of any dump follows of this one
+weaker : {E : Type 0} (P Q : Dumped → Type 0) → ((d : Dumped) → P d → Q d) → (r : Result Dump E) → IfOk r (λ d. P (seen_dump d)) → IfOk r (λ d. Q (seen_dump d))
+weaker P Q follows (Ok d) holds = follows (seen_dump d) holds
+weaker P Q follows (Err f) holds = tt
+
+pub of-requires : goal.of-requires
+of-requires c =
+    let h = c.args.history.now.list in
+    let config = c.args.config in
+    text_has_dump config h c.in_ok-counts.counts c.args.graph.now c.requires.narrow c.requires.history c.requires.graph (c.in_ok-counts.ensures ∙ ap (objects_made_by_each h) c.mutators.ensures)
+
+pub returns-clause-is_dump : goal.returns-clause-is_dump
+returns-clause-is_dump c = c.of.ensures.is_dump
+
+pub returns-clause-dump : goal.returns-clause-dump
+returns-clause-dump c =
+    let h = c.args.history.now.list in
+    let config = c.args.config in
+    weaker (IsDumpOf config (graph_in (dumped config c.in_ok-counts.counts c.args.graph.now))) (IsDumpOf config (after (opening config.mutators) h))
+    (text_dump config h c.in_ok-counts.counts c.args.graph.now c.requires.narrow c.requires.history c.requires.graph (c.in_ok-counts.ensures ∙ ap (objects_made_by_each h) c.mutators.ensures))
+    c.of.result c.of.ensures.dump
+
+pub returns-clause-counts : goal.returns-clause-counts
+returns-clause-counts c =
+    let h = c.args.history.now.list in
+    let config = c.args.config in
+    weaker (IsDumpOf config (graph_in (dumped config c.in_ok-counts.counts c.args.graph.now))) (λ d. d.counts ≡ objects_made_by_each h config.mutators)
+    (λ d is. counts_made config h d c.requires.history
+    (text_dump config h c.in_ok-counts.counts c.args.graph.now c.requires.narrow c.requires.history c.requires.graph (c.in_ok-counts.ensures ∙ ap (objects_made_by_each h) c.mutators.ensures) d is))
+    c.of.result c.of.ensures.dump

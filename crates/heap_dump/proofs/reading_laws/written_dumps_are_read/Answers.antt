@@ -1,0 +1,34 @@
+use Rattle.std.specs.Prelude.{ℕ, ◌≡◌, ◌≤◌, ◌++◌, List, length}
+use Rattle.std.proofs.Common.{refl}
+use Rattle.std.specs.List.{flat_map, AllByRecursion}
+use Rattle.heap_words.specs.declared.schedule.Item.{Item}
+use Rattle.trace_reading.specs.Spelling.{TraceLine, line, IsLine, schedule_line, IsScheduleLine}
+use Rattle.trace_reading.specs.Grammar.{most_bytes, scripts_of, items_of}
+use Rattle.heap_dump.specs.Dumped.{Dumped, IsDump}
+use Rattle.heap_dump.specs.DumpText.{dump_text}
+use Rattle.heap_dump.specs.Resumes.{Resumes, run_version, mark_line}
+use Rattle.heap_dump.proofs.Reread as reread
+use Rattle.heap_dump.proofs.reading_laws.written_dumps_are_read.Goals as goal
+
+-- the bytes are that dump, with what the lines say
+reading : (bytes : List ℕ) (d : Dumped) (lines : List TraceLine) (turns : List (List Item)) → IsDump d → AllByRecursion (IsLine run_version d.config.mutators) lines → AllByRecursion (IsScheduleLine d.config) turns
+    → bytes ≡ dump_text d ++ (mark_line ++ (flat_map line lines ++ flat_map schedule_line turns)) → length bytes ≤ most_bytes → Resumes bytes d (scripts_of d.config.mutators lines) (items_of turns)
+reading bytes d lines turns is lines_in turns_in spelled short = record {
+  dump = is;
+  lines = lines;
+  in_range = lines_in;
+  turns = turns;
+  turns_in_range = turns_in;
+  spelled = spelled;
+  by_thread = refl;
+  in_order = refl;
+  short = short;
+}
+
+pub returns-clause-once : goal.returns-clause-once
+returns-clause-once c = λ bytes d e lines turns scripts items is lines_in turns_in spelled short read.
+    reread.read_once bytes d e (scripts_of d.config.mutators lines) scripts (items_of turns) items (reading bytes d lines turns is lines_in turns_in spelled short) read
+
+pub returns-clause-never_refused : goal.returns-clause-never_refused
+returns-clause-never_refused c = λ bytes d lines turns n why is lines_in turns_in spelled short refused.
+    reread.never_both bytes d (scripts_of d.config.mutators lines) (items_of turns) n why (reading bytes d lines turns is lines_in turns_in spelled short) refused.0

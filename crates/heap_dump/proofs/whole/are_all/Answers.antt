@@ -1,0 +1,5 @@
+use Rattle.std.proofs.Common.{arith, refl}
+use Rattle.heap_dump.proofs.whole.are_all.Goals as goal
+
+pub returns : goal.returns
+returns c = (λ is row low. c.loop-mark.invariant row (omega (arith, low, c.loop-mark-test.false)), λ all. refl)

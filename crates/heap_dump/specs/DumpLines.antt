@@ -1,0 +1,131 @@
+-- Which bytes are refused where a dump and what is to run from it are read, at which line, and why.
+use Rattle.std.specs.Prelude.{ℕ, ◌≡◌, ◌+◌, ◌<◌, ◌≤◌, ◌⊎◌, true, List, [], ◌∷◌, ◌++◌, All, codes, length, map, Some, None}
+use Rattle.std.specs.Fmt.{decimal}
+use Rattle.std.specs.Str.Parse.{digits_value}
+use Rattle.heap_words.specs.declared.config.Config.{Config}
+use Rattle.heap_words.specs.Narrow.{IsNarrow}
+use Rattle.shen_graph.specs.Graph.{Reference}
+use Rattle.shen_graph.specs.GraphText.{Row}
+use Rattle.shen_graph.specs.Reach.{InOrder}
+use Rattle.trace_reading.specs.Spelling.{newline, titled}
+use Rattle.trace_reading.specs.Grammar.{most_bytes}
+use Rattle.trace_reading.specs.declared.why.Why.{Why}
+use Rattle.trace_reading.specs.declared.why.Why.TheVariants.{EndOfLine, DumpWanted}
+use Rattle.trace_reading.specs.Causes.{parts, is_plain_number}
+use Rattle.trace_reading.specs.Refused.{LineStage, LineFollows, cause_of}
+use Rattle.trace_reading.specs.Refused.LineStage.{Commands}
+use Rattle.trace_text.specs.Answer.{line_of, name_word}
+use Rattle.heap_dump.specs.Dumped.{Dumped, names_in, most_made, IsRow, IsDump}
+use Rattle.heap_dump.specs.Resumes.{run_version, mark_line}
+
+-- what was read, and so what is to stand on the next line
+pub data DumpStage : Type 0 where
+  -- nothing; the version
+  Version : DumpStage
+  Heap : DumpStage
+  -- a heap of these sizes
+  Threads : Config → DumpStage
+  -- the configuration
+  Counts : Config → DumpStage
+  -- these objects, and the roots of the first threads
+  Listed : Dumped → DumpStage
+  -- the dump and the line `trace`
+  Behind : LineStage → DumpStage
+
+-- this text, with the end of its line, spells that
+abbrev pub Spells : List ℕ → List ℕ → Type 0
+Spells text spelling = text ++ newline ∷ [] ≡ spelling
+
+abbrev pub with_row : Dumped → Row → Dumped
+with_row d r = record d { rows = d.rows ++ r ∷ [] }
+
+abbrev pub with_roots : Dumped → List Reference → Dumped
+with_roots d roots = record d { roots = d.roots ++ roots ∷ [] }
+
+abbrev pub heap_line : Config → List ℕ
+heap_line c = titled (codes "heap") (c.regions ∷ c.region_words ∷ c.reserve ∷ [])
+
+abbrev pub threads_line : Config → List ℕ
+threads_line c = titled (codes "threads") (c.mutators ∷ c.helpers ∷ [])
+
+-- two configurations of one heap
+pub record IsHeapOf (h c : Config) : Type 0 where
+  pub regions : c.regions ≡ h.regions
+  pub region_words : c.region_words ≡ h.region_words
+  pub reserve : c.reserve ≡ h.reserve
+
+-- digits with no needless zero in front, of any number
+abbrev pub IsNumeral : List ℕ → Type 0
+IsNumeral w = is_plain_number w ≡ true
+
+-- The word for a reference: a dash for null; two numbers with a dot between for a name. The numbers may be of any size.
+abbrev pub IsDumpReference : List ℕ → Reference → Type 0
+IsDumpReference w None = w ≡ codes "-"
+IsDumpReference w (Some n) =
+    (thread : List ℕ) × (count : List ℕ) × IsNumeral thread × IsNumeral count × (w ≡ thread ++ codes "." ++ count)
+    × (n.thread ≡ digits_value 10 thread) × (n.count ≡ digits_value 10 count)
+
+abbrev pub AreReferences : List (List ℕ) → List Reference → Type 0
+AreReferences [] [] = Unit {0}
+AreReferences [] (r ∷ rs) = ⊥
+AreReferences (w ∷ ws) [] = ⊥
+AreReferences (w ∷ ws) (r ∷ rs) = IsDumpReference w r × AreReferences ws rs
+
+-- An object's line: its fields and its name are in range, and its name is behind all before. It may name anything.
+abbrev pub ObjectFollows : Dumped → List ℕ → DumpStage → Type 0
+ObjectFollows d text next =
+    (r : Row) × (words : List (List ℕ)) × (d.roots ≡ []) × IsRow d.counts r × InOrder (names_in (with_row d r)) × AreReferences words r.refs
+    × Spells text (line_of (codes "object" ∷ name_word r.name ∷ (words ++ codes "/" ∷ map decimal r.nums))) × (next ≡ Listed (with_row d r))
+
+-- the line of the roots of the next thread, which may name anything
+abbrev pub RootsFollow : Dumped → List ℕ → DumpStage → Type 0
+RootsFollow d text next =
+    (roots : List Reference) × (words : List (List ℕ)) × (length d.roots < d.config.mutators) × (length roots ≡ 16) × AreReferences words roots
+    × Spells text (line_of (codes "roots" ∷ decimal (length d.roots + 1) ∷ words)) × (next ≡ Listed (with_roots d roots))
+
+-- the line `trace`, behind a whole dump
+abbrev pub MarkFollows : Dumped → List ℕ → DumpStage → Type 0
+MarkFollows d text next = IsDump d × Spells text mark_line × (next ≡ Behind (Commands run_version d.config))
+
+-- this text, with the end of its line, may stand there, and what is to stand on the next line
+abbrev pub DumpFollows : DumpStage → List ℕ → DumpStage → Type 0
+DumpFollows Version text next = Spells text (titled (codes "dump") (1 ∷ [])) × (next ≡ Heap)
+DumpFollows Heap text next = (c : Config) × IsNarrow c × Spells text (heap_line c) × (next ≡ Threads c)
+DumpFollows (Threads h) text next = (c : Config) × IsHeapOf h c × Spells text (threads_line c) × (next ≡ Counts c)
+DumpFollows (Counts c) text next =
+    (counts : List ℕ) × (length counts ≡ c.mutators) × All (λ n. n ≤ most_made) counts × Spells text (titled (codes "counts") counts)
+    × (next ≡ Listed (record { config = c; counts = counts; rows = []; roots = [] }))
+DumpFollows (Listed d) text next = ObjectFollows d text next ⊎ (RootsFollow d text next ⊎ MarkFollows d text next)
+DumpFollows (Behind stage) text next = (after : LineStage) × LineFollows stage text after × (next ≡ Behind after)
+
+-- these lines follow one on the other
+abbrev pub DumpLead : DumpStage → List (List ℕ) → DumpStage → Type 0
+DumpLead stage [] end = stage ≡ end
+DumpLead stage (text ∷ texts) end = (next : DumpStage) × DumpFollows stage text next × DumpLead next texts end
+
+-- the bytes end before the line `trace`: within a line, or behind one
+abbrev pub ends_by : List ℕ → Why
+ends_by [] = DumpWanted
+ends_by (b ∷ text) = EndOfLine
+
+-- The first of these lines, the last of which has no end, may not stand there, and why. Behind the line `trace` it is the first
+-- cause that holds for a line of a trace.
+abbrev pub StopsFor : DumpStage → List (List ℕ) → Why → Type 0
+StopsFor (Behind stage) texts why = cause_of stage texts ≡ Some why
+StopsFor stage [] why = ⊥
+StopsFor stage (text ∷ []) why = why ≡ ends_by text
+StopsFor stage (text ∷ next ∷ more) why = (why ≡ DumpWanted) × ((after : DumpStage) → DumpFollows stage text after → ⊥)
+
+-- Line n, counted from 1, is the first that is at fault, and why.
+pub record DumpStopsAt (bytes : List ℕ) (n : ℕ) (why : Why) : Type 0 where
+  pub before : List (List ℕ)
+  pub from_it : List (List ℕ)
+  pub lines : parts newline bytes ≡ before ++ from_it
+  pub number : n ≡ length before + 1
+  pub stage : DumpStage
+  pub lead : DumpLead Version before stage
+  pub cause : StopsFor stage from_it why
+
+-- the bytes are not too many, and are refused at line n
+abbrev pub DumpRefused : List ℕ → ℕ → Why → Type 0
+DumpRefused bytes n why = DumpStopsAt bytes n why × (length bytes ≤ most_bytes)

@@ -1,0 +1,12 @@
+pub mod Dumped
+pub mod DumpText
+pub mod RowsReached
+pub mod Resumes
+pub mod DumpLines
+pub mod HeldReferences
+pub mod ObjectWords
+pub mod Steps
+pub mod Listing
+pub mod ObjectsMade
+pub mod Resumed
+pub mod Resuming

@@ -1,0 +1,19 @@
+//! Laws of dumps.
+ghost use Rattle.std.specs.Prelude.{ℕ, ◌≡◌, ◌≤◌, List};
+ghost use Rattle.heap_words.specs.declared.config.Config.{Config};
+ghost use Rattle.shen_graph.specs.declared.name.Name.{Name};
+ghost use Rattle.shen_graph.specs.Graph.{Graph};
+ghost use Rattle.shen_graph.specs.Reach.{IsReach};
+ghost use Rattle.heap_dump.specs.Dumped.{Dumped, IsDump, IsDumpOf, dump_of, graph_in, unpinned};
+
+/// A law: a graph of which finitely much can be reached from roots has, with a configuration, exactly one dump. What is pinned alone is
+/// not in it.
+pub fn graphs_have_one_dump()
+    ensures some { (c : Config) (g : Graph) (names : List Name) → IsReach (unpinned g) names → IsDumpOf c g (dump_of c g names) }
+    ensures once { (c : Config) (g : Graph) (d e : Dumped) → IsDumpOf c g d → IsDumpOf c g e → d ≡ e }
+{}
+
+/// A law: each dump is the dump of its own graph.
+pub fn dumps_show_their_graph()
+    ensures { (d : Dumped) → IsDump d → IsDumpOf d.config (graph_in d) d }
+{}

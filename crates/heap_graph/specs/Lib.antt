@@ -1,4 +1,0 @@
-pub mod Stands
-pub mod Walk
-pub mod Rows
-pub mod Shows

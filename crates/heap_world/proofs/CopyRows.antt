@@ -1,0 +1,27 @@
+-- Where the current copy of an object is, by a header.
+use Rattle.std.proofs.Common.{ℕ, ◌≡◌, ◌≢◌, ◌-◌, ◌%◌, ◌==◌, List, ap, ◌∙◌, arith}
+use Rattle.std.specs.Prelude.{slice_index, if◌then◌else◌}
+use Rattle.std.proofs.lemmas.Bool.{cond-true, cond-false, eq-eqb, ne_eqb}
+use Rattle.heap_words.specs.Encoding.{plain_header, header_word, is_forwarded, forwardee_in}
+use Rattle.heap_world.specs.Stands.{current_of}
+use Rattle.heap_world.specs.Walk.{current_at}
+
+-- what has the header of an object that has not moved is the current copy
+pub plain_current : (heap : ℕ → ℕ) (a : ℕ) → heap a ≡ plain_header → current_of heap a ≡ a
+plain_current heap a plain = cond-false (is_forwarded (heap a)) (forwardee_in (heap a)) a (ap is_forwarded plain)
+
+-- a header that leads to an address says that it is there
+pub moved_current : (heap : ℕ → ℕ) (a to : ℕ) → heap a ≡ header_word to → current_of heap a ≡ to
+moved_current heap a to is =
+    let moved_on : heap a % 4 ≡ 3 = omega (arith, is) in
+    cond-true (is_forwarded (heap a)) (forwardee_in (heap a)) a (eq-eqb (heap a % 4) 3 moved_on) ∙ omega (arith, is)
+
+-- of a word that is not null it is the same by the list of words
+pub current_same : (first : ℕ) (heap : List ℕ) (word : ℕ) → word ≢ 0 → current_at first heap word ≡ current_of (λ a. slice_index heap (a - first)) word
+current_same first heap word some =
+    cond-false (word == 0) 0 (if is_forwarded (slice_index heap (word - first)) then forwardee_in (slice_index heap (word - first)) else word) (ne_eqb word 0 some)
+
+-- and null stays null
+pub current_null : (first : ℕ) (heap : List ℕ) (word : ℕ) → word ≡ 0 → current_at first heap word ≡ 0
+current_null first heap word none =
+    cond-true (word == 0) 0 (if is_forwarded (slice_index heap (word - first)) then forwardee_in (slice_index heap (word - first)) else word) (eq-eqb word 0 none)

@@ -1,0 +1,162 @@
+-- What a walk that has ended gives: its rows fit, differ in their names, and in order show the graph.
+use Rattle.std.proofs.Common.{ℕ, ◌≡◌, ◌+◌, ◌-◌, ◌<◌, ◌≤◌, true, false, Option, Some, List, ◌++◌, length, get_or, map, nat_eq, sum_by, All, Contains, arith, refl, ap, sym, ◌∙◌, subst}
+use Rattle.std.specs.List.{IsDistinct}
+use Rattle.std.specs.List.Sorted.{IsPermutation}
+use Rattle.std.proofs.lemmas.List.{get_or-map, length-map, ext_get_or}
+use Rattle.std.proofs.lemmas.List.Folds.{list_any_at}
+use Rattle.std.proofs.lemmas.List.Elements.{All-map}
+use Rattle.std.proofs.lemmas.List.Sorted.{All-permutation, Contains-permutation}
+use Rattle.std.proofs.lemmas.Map.Keys.{IsDistinct-from_apart, apart_from_distinct}
+use Rattle.std.proofs.lemmas.Map.Views.{All-from_any, Contains-from_any, exact_unsigned_eq}
+use Rattle.std.proofs.lemmas.Bool.{eq-eqb, eqb-false, false_from_ne_true}
+use Rattle.std.proofs.lemmas.Cmp.{nat_eq_equiv}
+use Rattle.shen_graph.proofs.PlainLemmas.{same_name-true}
+use Rattle.shen_graph.specs.declared.name.Name.{Name}
+use Rattle.shen_graph.specs.Graph.{Graph, Reference, same_name}
+use Rattle.shen_graph.specs.GraphText.{Text, Row, row_in, names_of}
+use Rattle.shen_graph.specs.Reach.{IsReachable, InOrder}
+use Rattle.shen_graph.specs.Step.{name_in}
+use Rattle.heap_world.specs.Walk.{has, refs_at, size_at, IsNamed, IsWalkable, IsWalk}
+use Rattle.heap_world.specs.Rows.{name_in_heap, reference_in, row_in_heap, root_word, root_rows, pin_word, pin_rows}
+use Rattle.heap_world.specs.Shows.{ShowsGraph, WordsStand}
+use Rattle.heap_world.proofs.Sizes.{sizes_fit, same_functions}
+use Rattle.heap_world.proofs.Standing.{facts, led_name, name_led, reference_same, pin_same, row_same}
+use Rattle.heap_world.proofs.Marks.{has-left, has-right}
+
+-- what holds of each word that a list has
+all_from-has : (P : ℕ → Type 0) (xs : List ℕ) → ((a : ℕ) → has xs a ≡ true → P a) → All P xs
+all_from-has P xs h = All-from_any nat_eq_equiv P xs h
+
+-- each element that is read is in its list
+has-element : (xs : List ℕ) (i : ℕ) → i < length xs → has xs (get_or xs i 0) ≡ true
+has-element xs i h = list_any_at (nat_eq (get_or xs i 0)) xs i 0 h (eq-eqb (get_or xs i 0) (get_or xs i 0) refl)
+
+module _ (first : ℕ) (heap roots pins : List ℕ) (sound : IsWalkable first heap (roots ++ pins)) where
+  pub roots_named : All (IsNamed first heap) roots
+  roots_named = all_from-has (IsNamed first heap) roots (λ a h. sound.roots_named a (has-left roots pins a h))
+
+  pub pins_named : All (IsNamed first heap) pins
+  pins_named = all_from-has (IsNamed first heap) pins (λ a h. sound.roots_named a (has-right roots pins a h))
+
+  module _ (order : List ℕ) (walk : IsWalk first heap (roots ++ pins) order) where
+    pub all_above : All (λ a. first ≤ a) order
+    all_above = all_from-has (λ a. first ≤ a) order (λ a h. sound.above a (walk.led a h))
+
+    pub all_below : All (λ a. a + size_at heap (a - first) ≤ first + length heap) order
+    all_below =
+        all_from-has (λ a. a + size_at heap (a - first) ≤ first + length heap) order (λ a h. sound.below a (walk.led a h))
+
+    pub all_named : All (λ a. All (IsNamed first heap) (refs_at heap (a - first))) order
+    all_named =
+        all_from-has (λ a. All (IsNamed first heap) (refs_at heap (a - first))) order
+        (λ m h. all_from-has (IsNamed first heap) (refs_at heap (m - first))
+        (λ a field. sound.fields_named m a (walk.led m h) field))
+
+    -- the objects take at most all words
+    pub all_fit : sum_by (λ a. size_at heap (a - first)) order ≤ length heap
+    all_fit =
+        sizes_fit (λ a. size_at heap (a - first)) order first (length heap) walk.once
+        (λ a b ha hb. sound.apart a b (walk.led a ha) (walk.led b hb))
+        (λ a h. sound.above a (walk.led a h)) (λ a h. sound.below a (walk.led a h))
+
+-- what a function makes of an element is in the list that it makes of the whole
+Contains-map : {A B : Type 0} (f : A → B) (xs : List A) (x : A) → Contains xs x → Contains (map f xs) (f x)
+Contains-map f xs x c =
+    (c.0, rw length-map c.1, get_or-map f xs c.0 x (f x) c.1 ∙ ap f c.2)
+
+module _ (first : ℕ) (heap roots pins order : List ℕ) (at : ℕ → Option Name) (g : Graph) (one : 1 ≤ first)
+    (s : WordsStand first heap roots pins at g) (walk : IsWalk first heap (roots ++ pins) order) where
+  pub names_differ : IsDistinct same_name (map (λ r. r.name) (map (row_in_heap first heap) order))
+  names_differ =
+      IsDistinct-from_apart same_name (map (λ r. r.name) (map (row_in_heap first heap) order))
+      (λ i j d before h.
+      let many : length (map (λ (r : Row). r.name) (map (row_in_heap first heap) order)) ≡ length order =
+      length-map (map (row_in_heap first heap) order) (λ (r : Row). r.name) ∙ length-map order (row_in_heap first heap) in
+      let low : j < length order = omega (arith, many, h) in
+      apart i j d before low)
+    where
+      read : (i : ℕ) (d : Name) → i < length order
+          → get_or (map (λ (r : Row). r.name) (map (row_in_heap first heap) order)) i d ≡ name_in_heap heap (get_or order i 0 - first)
+      read i d low =
+          get_or-map (λ (r : Row). r.name) (map (row_in_heap first heap) order) i (row_in_heap first heap 0) d (rw length-map low)
+          ∙ ap (λ (r : Row). r.name) (get_or-map (row_in_heap first heap) order i 0 (row_in_heap first heap 0) low)
+
+      apart : (i j : ℕ) (d : Name) → i < j → j < length order
+          → same_name (get_or (map (λ (r : Row). r.name) (map (row_in_heap first heap) order)) i d)
+          (get_or (map (λ (r : Row). r.name) (map (row_in_heap first heap) order)) j d) ≡ false
+      apart i j d before low =
+          false_from_ne_true _ (λ is.
+          let earlier : i < length order = omega arith in
+          let a = get_or order i 0 in
+          let b = get_or order j 0 in
+          let u = led_name first heap roots pins at g one s a (walk.led a (has-element order i earlier)) in
+          let v = led_name first heap roots pins at g one s b (walk.led b (has-element order j low)) in
+          let e : u.0 ≡ v.0 =
+          sym (facts first heap roots pins at g one s a u.0 u.1).name ∙ sym (read i d earlier)
+          ∙ same_name-true _ _ is ∙ read j d low ∙ (facts first heap roots pins at g one s b v.0 v.1).name in
+          let same : a ≡ b = sym u.1.1 ∙ s.once a b v.0 (u.1.0 ∙ ap (λ n. Some n) e) v.1.0 ∙ v.1.1 in
+          eqb-false a b (apart_from_distinct nat_eq order i j 0 walk.once before low) same)
+
+  -- a row is that of an object of the walk
+  abbrev IsFound : Row → Type 0
+  IsFound r = (a : ℕ) × (n : Name) × (has order a ≡ true) × (at a ≡ Some n) × IsReachable g n × (r ≡ row_in g n)
+
+  found : All IsFound (map (row_in_heap first heap) order)
+  found =
+      All-map IsFound (row_in_heap first heap) order
+      (All-from_any nat_eq_equiv (λ a. IsFound (row_in_heap first heap a)) order
+      (λ a h. let u = led_name first heap roots pins at g one s a (walk.led a h) in
+      (a, u.0, h, u.1.0, u.2, row_same first heap roots pins at g one s a u.0 u.1)))
+
+  module _ (text : Text) (moved : IsPermutation (map (row_in_heap first heap) order) text.rows) where
+    found_rows : All IsFound text.rows
+    found_rows = All-permutation IsFound (map (row_in_heap first heap) order) text.rows moved found
+
+    every : (n : Name) → IsReachable g n → Contains (names_of text) n
+    every n reach =
+        let u = name_led first heap roots pins at g one s n reach in
+        let row = row_in_heap first heap u.0 in
+        let c = Contains-from_any exact_unsigned_eq u.0 order (walk.all u.0 u.2) in
+        let there : Contains text.rows row =
+        Contains-permutation (map (row_in_heap first heap) order) text.rows row moved (Contains-map (row_in_heap first heap) order u.0 c) in
+        subst (λ (m : Name). Contains (names_of text) m) (facts first heap roots pins at g one s u.0 n u.1).name
+        (Contains-map (λ (r : Row). r.name) text.rows row there)
+
+    only : (n : Name) → Contains (names_of text) n → IsReachable g n
+    only n c =
+        let d = row_in_heap first heap 0 in
+        let low : c.0 < length text.rows = omega (arith, length-map text.rows (λ (r : Row). r.name), c.1) in
+        let f = found_rows c.0 d low in
+        let e : f.1 ≡ n =
+        sym (ap (λ (r : Row). r.name) f.5) ∙ sym (get_or-map (λ (r : Row). r.name) text.rows c.0 d n low) ∙ c.2 in
+        subst (λ (m : Name). IsReachable g m) e f.4
+
+    rows_same : text.rows ≡ map (row_in g) (names_of text)
+    rows_same =
+        let d = row_in_heap first heap 0 in
+        let names = names_of text in
+        let many : length names ≡ length text.rows = length-map text.rows (λ (r : Row). r.name) in
+        ext_get_or d text.rows (map (row_in g) names) (sym (length-map names (row_in g) ∙ many))
+        (λ i h.
+        let f = found_rows i d h in
+        let low : i < length names = omega (arith, many, h) in
+        f.5 ∙ ap (row_in g) (sym (ap (λ (r : Row). r.name) f.5) ∙ sym (get_or-map (λ (r : Row). r.name) text.rows i d d.name h))
+        ∙ sym (get_or-map (row_in g) names i d.name d low))
+
+    pub shows : (threads : ℕ) → InOrder (names_of text)
+        → text.roots ≡ root_rows (λ t i. reference_in first heap (root_word roots t i)) threads
+        → text.pins ≡ pin_rows (λ t i. reference_in first heap (pin_word pins t i)) threads → ShowsGraph text threads g
+    shows threads ordered rooted pinned = record {
+      reach = record { in_order = ordered; all = every; only = only };
+      rows = rows_same;
+      roots = (rooted
+          ∙ ap (λ (f : ℕ → ℕ → Reference). root_rows f threads)
+          (same_functions (λ t i. reference_in first heap (root_word roots t i)) g.root
+          (λ t. same_functions (λ i. reference_in first heap (root_word roots t i)) (g.root t)
+          (λ i. reference_same first heap roots pins at g one s (root_word roots t i) (g.root t i) (s.roots t i)))));
+      pins = (pinned
+          ∙ ap (λ (f : ℕ → ℕ → Reference). pin_rows f threads)
+          (same_functions (λ t i. reference_in first heap (pin_word pins t i)) (λ t i. name_in (g.pin t i))
+          (λ t. same_functions (λ i. reference_in first heap (pin_word pins t i)) (λ i. name_in (g.pin t i))
+          (λ i. pin_same first heap roots pins at g one s (pin_word pins t i) (g.pin t i) (s.pins t i)))));
+    }

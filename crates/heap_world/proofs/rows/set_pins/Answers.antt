@@ -1,0 +1,46 @@
+use Rattle.std.proofs.Common.{ℕ, ◌≡◌, ◌+◌, ◌-◌, ◌*◌, ◌/◌, ◌%◌, [], ◌<◌, length, get_or, set, arith, refl, ap, ◌∙◌}
+use Rattle.std.proofs.lemmas.List.{length-set}
+use Rattle.heap_world.specs.Rows.{reference_in}
+use Rattle.heap_world.proofs.CellRows.{AreFull-with_cell, AreSet-with_cell, all_set}
+use Rattle.heap_world.proofs.Texts.{pins_alone}
+use Rattle.heap_world.proofs.rows.set_pins.Goals as goal
+
+pub loop-position-init : goal.loop-position-init
+loop-position-init c = record {
+  rest = refl;
+  threads = refl;
+  count = refl;
+  full = λ t h. c.requires.lengths t [] h;
+  done = λ t i k h. absurd (omega arith);
+}
+
+pub loop-position-preserved : goal.loop-position-preserved
+loop-position-preserved c =
+    let p = c.loop-position.position in
+    let rows = c.loop-position.text.pins in
+    let shown = λ (k : ℕ). reference_in c.args.first c.args.heap.now (get_or c.args.pins.now k 0) in
+    let low : p / 4 < length rows = omega arith in
+    let place : p ≡ 4 * (p / 4) + p % 4 = omega arith in
+    let within : p % 4 < 4 = omega arith in
+    let back : p / 4 + 1 - 1 ≡ p / 4 = omega arith in
+    let to = c.reference_to.result in
+    let with_slot = λ (i : ℕ). set rows i (set (get_or rows i []) (p % 4) to) in
+    let made = ap (λ t. t.pins) c.pin.ensures ∙ ap with_slot back in
+    record {
+      rest = pins_alone c.args.text.now c.loop-position.text c.pin.new.self (with_slot (p / 4 + 1 - 1)) c.loop-position.invariant.rest c.pin.ensures;
+      threads = ap (λ t. length t.roots) c.pin.ensures ∙ c.loop-position.invariant.threads;
+      count = (ap length made ∙ length-set rows (p / 4) (set (get_or rows (p / 4) []) (p % 4) to)
+          ∙ c.loop-position.invariant.count);
+      full = rw made (AreFull-with_cell 4 rows (p / 4) (p % 4) to low c.loop-position.invariant.full);
+      done = (rw made (AreSet-with_cell 4 shown rows p (p / 4) (p % 4) to place within low c.loop-position.invariant.full c.reference_to.ensures
+          c.loop-position.invariant.done));
+    }
+
+pub returns-clause-rest : goal.returns-clause-rest
+returns-clause-rest c = c.loop-position.invariant.rest
+
+pub returns-clause-pins : goal.returns-clause-pins
+returns-clause-pins c =
+    all_set 4 (reference_in c.args.first c.args.heap.now) c.args.pins.now c.loop-position.text.pins (length c.args.text.now.roots)
+    (c.loop-position.invariant.count ∙ c.requires.rows) c.requires.threads c.loop-position.invariant.full
+    (λ t i k h. c.loop-position.invariant.done t i k (omega arith))

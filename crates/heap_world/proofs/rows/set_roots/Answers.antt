@@ -1,0 +1,44 @@
+use Rattle.std.proofs.Common.{ℕ, ◌≡◌, ◌+◌, ◌-◌, ◌*◌, ◌/◌, ◌%◌, [], ◌<◌, length, get_or, set, arith, refl, ap, ◌∙◌}
+use Rattle.std.proofs.lemmas.List.{length-set}
+use Rattle.heap_world.specs.Rows.{reference_in}
+use Rattle.heap_world.proofs.CellRows.{AreFull-with_cell, AreSet-with_cell, all_set}
+use Rattle.heap_world.proofs.rows.set_roots.Goals as goal
+
+pub loop-position-init : goal.loop-position-init
+loop-position-init c = record {
+  rows = refl;
+  room = refl;
+  pins = refl;
+  count = refl;
+  full = λ t h. c.requires.lengths t [] h;
+  done = λ t i k h. absurd (omega arith);
+}
+
+pub loop-position-preserved : goal.loop-position-preserved
+loop-position-preserved c =
+    let p = c.loop-position.position in
+    let rows = c.loop-position.text.roots in
+    let shown = λ (k : ℕ). reference_in c.args.first c.args.heap.now (get_or c.args.roots.now k 0) in
+    let low : p / 16 < length rows = omega arith in
+    let place : p ≡ 16 * (p / 16) + p % 16 = omega arith in
+    let within : p % 16 < 16 = omega arith in
+    let back : p / 16 + 1 - 1 ≡ p / 16 = omega arith in
+    let to = c.reference_to.result in
+    let made = ap (λ t. t.roots) c.root.ensures
+    ∙ ap (λ i. set rows i (set (get_or rows i []) (p % 16) to)) back in
+    record {
+      rows = ap (λ t. t.rows) c.root.ensures ∙ c.loop-position.invariant.rows;
+      room = ap (λ t. t.room) c.root.ensures ∙ c.loop-position.invariant.room;
+      pins = ap (λ t. t.pins) c.root.ensures ∙ c.loop-position.invariant.pins;
+      count = (ap length made ∙ length-set rows (p / 16) (set (get_or rows (p / 16) []) (p % 16) to)
+          ∙ c.loop-position.invariant.count);
+      full = rw made (AreFull-with_cell 16 rows (p / 16) (p % 16) to low c.loop-position.invariant.full);
+      done = (rw made (AreSet-with_cell 16 shown rows p (p / 16) (p % 16) to place within low c.loop-position.invariant.full c.reference_to.ensures
+          c.loop-position.invariant.done));
+    }
+
+pub returns-clause-roots : goal.returns-clause-roots
+returns-clause-roots c =
+    all_set 16 (reference_in c.args.first c.args.heap.now) c.args.roots.now c.loop-position.text.roots (length c.args.text.now.roots)
+    c.loop-position.invariant.count c.requires.threads c.loop-position.invariant.full
+    (λ t i k h. c.loop-position.invariant.done t i k (omega arith))

@@ -1,8 +1,0 @@
-use Rattle.helper.proofs.Ready.{accesses_inside, stays_ready}
-use Rattle.helper.proofs.helpers_stay_inside.Goals as goal
-
-pub returns-clause-inside : goal.returns-clause-inside
-returns-clause-inside c = accesses_inside
-
-pub returns-clause-stays : goal.returns-clause-stays
-returns-clause-stays c = stays_ready
