@@ -166,7 +166,7 @@ impl TakeSpot {
                 ..
             } => {
                 // keeps IsPlotted, IsFilled and AreRooms
-                // keeps KeepsSnapshot.floors, KeepsSnapshot.young, IsUpdating.limits and IsUpdating.young
+                // keeps KeepsSnapshot.floors, KeepsMarking.young, IsUpdating.limits and IsUpdating.young
                 Access::Exchange {
                     at: config.top_at(region),
                     expect: top,

@@ -24,7 +24,7 @@ module _ (c : Config) (w : World) (shared : Shared c w) (on : w.memory Phase ≡
   not_young a refs nums name is young =
       let there = piece_inside c (λ r. w.memory (Top r)) w.block shared.parsable.plotted a (thing name refs nums) (shared.marked.kept a refs nums name is) in
       let heap : IsWord c (Heap a) = (there.0, omega (arith, there.1)) in
-      let tams = shared.marked.tams_are on (region_with c a) (regions_tile.in_range c a heap) in
+      let tams = (shared.marked.marking on).tams_are (region_with c a) (regions_tile.in_range c a heap) in
       shared.marked.old a refs nums name is (omega (arith, young, tams))
 
   -- what marking would come to is safe
@@ -75,17 +75,17 @@ module _ (c : Config) (w : World) (shared : Shared c w) (on : w.memory Phase ≡
 
   -- and each object
   markable_safe : (a : ℕ) → IsMarkable w.block a → IsSafe c w a
-  markable_safe a (IsMarkable.to_come seat words is) = noted_safe a (shared.marked.traced.starts a (shared.marked.promises on a seat words is))
+  markable_safe a (IsMarkable.to_come seat words is) = noted_safe a (shared.marked.traced.starts a ((shared.marked.marking on).promises a seat words is))
   markable_safe a (IsMarkable.object name refs nums is) = ⊎_elim
       (λ (old : s.block a ≡ Some (thing name refs nums)). led_safe a (shared.marked.led a refs nums name old))
       (λ rest. ⊎_elim
       (λ (start : s.starts a ≡ true). noted_safe a (shared.marked.traced.starts a start))
       (λ (young : IsYoung c s.top a).
       let there = piece_inside c (λ r. w.memory (Top r)) w.block shared.parsable.plotted a (thing name refs nums) is in
-      let tams = shared.marked.tams_are on (region_with c a) (regions_tile.in_range c a (there.0, omega (arith, there.1))) in
+      let tams = (shared.marked.marking on).tams_are (region_with c a) (regions_tile.in_range c a (there.0, omega (arith, there.1))) in
       inr (inl (omega (arith, young, tams))))
       rest)
-      (shared.marked.older on a refs nums name is)
+      ((shared.marked.marking on).older a refs nums name is)
 
 pub marking_comes : MarkingComes
 marking_comes c w shared on = markable_safe c w shared on

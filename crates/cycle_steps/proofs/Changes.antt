@@ -90,15 +90,17 @@ module _ (c : Config) (u : World) (seat : ℕ) (marking : Word → ℕ) (recordi
       led = shared.marked.led;
       old = shared.marked.old;
       kept = shared.marked.kept;
-      older = shared.marked.older;
-      promises = shared.marked.promises;
-      deads = shared.marked.deads;
-      young = shared.marked.young;
       floors = shared.marked.floors;
-      tams_are = shared.marked.tams_are;
-      greys = λ on. step.grey_marks;
-      blacks = λ on. step.black_marks;
-      entries = λ on. step.entries;
+      marking = λ on. record {
+        older = (shared.marked.marking on).older;
+        promises = (shared.marked.marking on).promises;
+        deads = (shared.marked.marking on).deads;
+        young = (shared.marked.marking on).young;
+        tams_are = (shared.marked.marking on).tams_are;
+        greys = step.grey_marks;
+        blacks = step.black_marks;
+        entries = step.entries;
+      };
     }
 
     -- it is not so that objects are evacuated
@@ -111,14 +113,7 @@ module _ (c : Config) (u : World) (seat : ℕ) (marking : Word → ℕ) (recordi
           moved = was.moved;
           counted = was.counted;
           aside = was.aside;
-          kept = record {
-            objects = λ on. absurd (other on);
-            young = λ on. absurd (other on);
-            floors = λ on. absurd (other on);
-            unmarked = λ on. absurd (other on);
-            deads = λ on. absurd (other on);
-            only = λ on. absurd (other on);
-          };
+          kept = λ on. absurd (other on);
           units = λ on. absurd (other (omega (arith, on)));
         }
 

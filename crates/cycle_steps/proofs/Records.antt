@@ -129,18 +129,18 @@ module _ (c : Config) (u : World) (mutator v : ℕ) where
   -- the bits that are set are of objects
   greys_then : (at : RememberSpot) → Shared c u → CanRecord c u mutator v at → AreMarks c (λ n. after at (Grey n)) u.block
   greys_then (MarkEntry entry found) shared can =
-      let entries = shared.marked.entries can.phase in
+      let entries = (shared.marked.marking can.phase).entries in
       let object : IsMarkable u.block found =
       subst (IsMarkable u.block) can.words.facts.3 (entries.of_objects mutator entry can.seated (let full = can.words.facts.0 in let below = can.words.facts.1 in omega (arith, full, below))) in
-      marks_with c (λ n. u.memory (Grey n)) u.block found (markable_word c u found shared object) object (shared.marked.greys can.phase)
-  greys_then _ shared can = shared.marked.greys can.phase
+      marks_with c (λ n. u.memory (Grey n)) u.block found (markable_word c u found shared object) object (shared.marked.marking can.phase).greys
+  greys_then _ shared can = (shared.marked.marking can.phase).greys
 
   -- and so are the entries
   own_entries : (at : RememberSpot) → Shared c u → CanRecord c u mutator v at → (k : ℕ) → k < after at (Count mutator) → IsMarkable u.block (after at (Buffer mutator k))
-  own_entries LoadCount shared can k below = loaded_entries (shared.marked.entries can.phase) can.seated (after LoadCount) (load_keeps u.memory (Count mutator)) k below
+  own_entries LoadCount shared can k below = loaded_entries (shared.marked.marking can.phase).entries can.seated (after LoadCount) (load_keeps u.memory (Count mutator)) k below
   own_entries (LoadEntry entry) shared can k below =
-      loaded_entries (shared.marked.entries can.phase) can.seated (after (LoadEntry entry)) (load_keeps u.memory (Buffer mutator entry)) k below
-  own_entries (MarkEntry entry found) shared can k below = (shared.marked.entries can.phase).of_objects mutator k can.seated below
+      loaded_entries (shared.marked.marking can.phase).entries can.seated (after (LoadEntry entry)) (load_keeps u.memory (Buffer mutator entry)) k below
+  own_entries (MarkEntry entry found) shared can k below = (shared.marked.marking can.phase).entries.of_objects mutator k can.seated below
   own_entries ClearCount shared can k below =
       let none : after ClearCount (Count mutator) ≡ 0 = cond-true (mutator == mutator) _ _ (eq-eqb mutator mutator refl) in
       absurd (omega (arith, below, none))
@@ -149,28 +149,28 @@ module _ (c : Config) (u : World) (mutator v : ℕ) where
       let other : entry ≢ k = omega (arith, below, is_count) in
       let stays : after (StoreEntry entry) (Buffer mutator k) ≡ u.memory (Buffer mutator k) =
       cond-false ((mutator == mutator) && (entry == k)) _ _ (grind (arith, nat_tests)) in
-      subst (IsMarkable u.block) (sym stays) ((shared.marked.entries can.phase).of_objects mutator k can.seated below)
+      subst (IsMarkable u.block) (sym stays) ((shared.marked.marking can.phase).entries.of_objects mutator k can.seated below)
   own_entries (StoreCount entry) shared can k below =
       let is_count = can.words.facts.0 in
       let more : after (StoreCount entry) (Count mutator) ≡ entry + 1 = cond-true (mutator == mutator) _ _ (eq-eqb mutator mutator refl) in
       ⊎_elim
       (λ (last : k ≡ entry). subst (IsMarkable u.block) (sym (ap (λ i. u.memory (Buffer mutator i)) last ∙ can.words.facts.2)) can.markable)
-      (λ (earlier : k ≢ entry). (shared.marked.entries can.phase).of_objects mutator k can.seated (omega (arith, below, more, is_count, earlier)))
+      (λ (earlier : k ≢ entry). (shared.marked.marking can.phase).entries.of_objects mutator k can.seated (omega (arith, below, more, is_count, earlier)))
       (cases_eq k entry)
-  own_entries Recorded shared can k below = loaded_entries (shared.marked.entries can.phase) can.seated (after Recorded) (load_keeps u.memory (Count mutator)) k below
+  own_entries Recorded shared can k below = loaded_entries (shared.marked.marking can.phase).entries can.seated (after Recorded) (load_keeps u.memory (Count mutator)) k below
 
   module _ (at : RememberSpot) (going : is_recorded at ≡ false) (shared : Shared c u) (can : CanRecord c u mutator v at) where
     entries_then : AreEntries c (λ t. after at (Count t)) (λ t k. after at (Buffer t k)) u.block
     entries_then = record {
       few = λ t inside. ⊎_elim
           (λ (same : mutator ≡ t). subst (λ j. after at (Count j) ≤ 8) same (remembers at going shared can).next.buffer.few)
-          (λ (other : mutator ≢ t). subst (λ n. n ≤ 8) (sym (counts_else at t (λ e. other (sym e)))) ((shared.marked.entries can.phase).few t inside))
+          (λ (other : mutator ≢ t). subst (λ n. n ≤ 8) (sym (counts_else at t (λ e. other (sym e)))) ((shared.marked.marking can.phase).entries.few t inside))
           (cases_eq mutator t);
       of_objects = λ t k inside below. ⊎_elim
           (λ (same : mutator ≡ t). subst (λ j. IsMarkable u.block (after at (Buffer j k))) same
           (own_entries at shared can k (subst (λ j. k < after at (Count j)) (sym same) below)))
           (λ (other : mutator ≢ t). subst (IsMarkable u.block) (sym (buffers_else at t k (λ e. other (sym e))))
-          ((shared.marked.entries can.phase).of_objects t k inside (subst (λ n. k < n) (counts_else at t (λ e. other (sym e))) below)))
+          ((shared.marked.marking can.phase).entries.of_objects t k inside (subst (λ n. k < n) (counts_else at t (λ e. other (sym e))) below)))
           (cases_eq mutator t);
     }
 
@@ -183,7 +183,7 @@ module _ (c : Config) (u : World) (mutator v : ℕ) where
       noted = noted_then at going shared can;
       scanned = λ a refs nums k name is below scan. inl (scans_stay at u.ghost.scanning a k scan);
       grey_marks = greys_then at shared can;
-      black_marks = blacks_stay at (shared.marked.blacks can.phase);
+      black_marks = blacks_stay at (shared.marked.marking can.phase).blacks;
       entries = entries_then;
       counts = counts_else at;
       buffers = buffers_else at;
@@ -230,9 +230,9 @@ module _ (c : Config) (u : World) (mutator v : ℕ) (seated : mutator < c.mutato
     greys = λ a mark. mark;
     noted = noted_taken;
     scanned = λ a refs nums k name is below scan. inl scan;
-    grey_marks = shared.marked.greys marking;
-    black_marks = shared.marked.blacks marking;
-    entries = shared.marked.entries marking;
+    grey_marks = (shared.marked.marking marking).greys;
+    black_marks = (shared.marked.marking marking).blacks;
+    entries = (shared.marked.marking marking).entries;
     counts = λ j differs. refl;
     buffers = λ j k differs. refl;
     recorded = λ j differs. updated_else u.ghost.recording mutator (Some v) j (λ e. differs (sym e));
@@ -253,8 +253,8 @@ module _ (c : Config) (u : World) (mutator v : ℕ) (seated : mutator < c.mutato
     hands = roomless;
     words = record {
       buffer = record {
-        few = (shared.marked.entries marking).few mutator seated;
-        addresses = λ k below. markable_word c u (u.memory (Buffer mutator k)) shared ((shared.marked.entries marking).of_objects mutator k seated below);
+        few = (shared.marked.marking marking).entries.few mutator seated;
+        addresses = λ k below. markable_word c u (u.memory (Buffer mutator k)) shared ((shared.marked.marking marking).entries.of_objects mutator k seated below);
       };
       ready = refl;
       facts = tt;

@@ -106,13 +106,13 @@ module _ (c : Config) (u : World) (seat : ℕ) where
   -- the bits that are set are of objects
   greys_then : (at : ScanSpot) → Shared c u → CanScan c u seat at → AreMarks c (λ n. words_then at (Grey n)) u.block
   greys_then (SetGrey address field refs found) shared can =
-      marks_with c (λ n. u.memory (Grey n)) u.block found (markable_word c u found shared can.facts.1) can.facts.1 (shared.marked.greys can.phase)
-  greys_then _ shared can = shared.marked.greys can.phase
+      marks_with c (λ n. u.memory (Grey n)) u.block found (markable_word c u found shared can.facts.1) can.facts.1 (shared.marked.marking can.phase).greys
+  greys_then _ shared can = (shared.marked.marking can.phase).greys
 
   blacks_then : (at : ScanSpot) → Shared c u → CanScan c u seat at → AreMarks c (λ n. words_then at (Black n)) u.block
   blacks_then (SetBlack address) shared can =
-      marks_with c (λ n. u.memory (Black n)) u.block address (markable_word c u address shared can.facts) can.facts (shared.marked.blacks can.phase)
-  blacks_then _ shared can = shared.marked.blacks can.phase
+      marks_with c (λ n. u.memory (Black n)) u.block address (markable_word c u address shared can.facts) can.facts (shared.marked.marking can.phase).blacks
+  blacks_then _ shared can = (shared.marked.marking can.phase).blacks
 
   -- a field of the snapshot that a scan had still to come to is such a one, or done
   abbrev IsScannedOn : ScanSpot → ScanSpot → Type 0
@@ -133,7 +133,7 @@ module _ (c : Config) (u : World) (seat : ℕ) where
         scanned = scanned;
         grey_marks = greys_then at shared can;
         black_marks = blacks_then at shared can;
-        entries = entries_stay at (shared.marked.entries can.phase);
+        entries = entries_stay at (shared.marked.marking can.phase).entries;
         counts = λ j differs. counts_stay at j;
         buffers = λ j k differs. buffers_stay at j k;
         recorded = λ j differs. refl;
@@ -178,7 +178,7 @@ module _ (c : Config) (u : World) (seat : ℕ) where
   -- the load of grey bits
   at_load_grey : (word : ℕ) → Shared c u → CanScan c u seat (LoadGrey word) → ScanStep c u seat (LoadGrey word)
   at_load_grey word shared can =
-      let greys = shared.marked.greys can.phase in
+      let greys = (shared.marked.marking can.phase).greys in
       leads_to (LoadGrey word) (LoadBlack word (u.memory (Grey word))) refl can.ready
       (record { small = greys.small word; of_objects = λ k below set. greys.of_objects word k below set })
       (looks (LoadGrey word) (LoadBlack word (u.memory (Grey word))) (λ n. refl) can.scanning) shared can
@@ -193,7 +193,7 @@ module _ (c : Config) (u : World) (seat : ℕ) where
       (looks (LoadBlack word grey) (Ended Worked) (λ n. refl) can.scanning) shared can)
       (λ (some : unscanned_in grey got ≢ 0).
       let address : ℕ = lowest_address c word (unscanned_in grey got) in
-      let found = unscanned_found.next c word grey got can.facts.small ((shared.marked.blacks can.phase).small word) some in
+      let found = unscanned_found.next c word grey got can.facts.small ((shared.marked.marking can.phase).blacks.small word) some in
       let there : address_at c word (mark_bit c address) ≡ address = (let in_word = found.in_word in omega (arith, in_word)) in
       let object : IsMarkable u.block address = subst (IsMarkable u.block) there (can.facts.of_objects (mark_bit c address) (omega arith) found.unscanned.is_grey) in
       leads_to (LoadBlack word grey) (SetBlack address) (cond-false (unscanned_in grey got == 0) _ _ (ne_eqb _ _ some)) (word_there c address (markable_word c u address shared object)) object

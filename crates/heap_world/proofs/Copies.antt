@@ -128,13 +128,6 @@ none_evacuated c phase claim free top tams heap black block owner copying workin
     no_promises = λ a seat words is inside. none_in_0 c a inside;
     no_rooms = λ a seat x is room inside. none_in_0 c a inside;
   };
-  kept = record {
-    objects = λ on. absurd (other on);
-    young = λ on. absurd (other on);
-    floors = λ on. absurd (other on);
-    unmarked = λ on. absurd (other on);
-    deads = λ on. absurd (other on);
-    only = λ on. absurd (other on);
-  };
+  kept = λ on. absurd (other on);
   units = λ on. absurd (other (omega (arith, on)));
 }

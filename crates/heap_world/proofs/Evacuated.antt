@@ -89,16 +89,16 @@ module _ (c : Config) (phase cset evac claim free : ℕ) (top tams heap black : 
       no_promises = λ a seat words is. e.aside.no_promises a seat words (old a (promised seat words) (λ same. (let differ = same in cc)) is);
       no_rooms = λ a seat x is room. e.aside.no_rooms a seat x (old_room a seat x is room) room;
     };
-    kept = record {
-      objects = λ on a is. ⊎_elim
+    kept = λ on. record {
+      objects = λ a is. ⊎_elim
           (λ (same : a ≡ address). subst (λ x. HasMark c black x ⊎ IsYoung c tams x) (sym same) (known on))
-          (λ (other : a ≢ address). e.kept.objects on a (was_markable a other is))
+          (λ (other : a ≢ address). (e.kept on).objects a (was_markable a other is))
           (cases_eq a address);
-      young = λ on a seat x is room. e.kept.young on a seat x (old_room a seat x is room) room;
-      floors = e.kept.floors;
-      unmarked = λ on a words is. e.kept.unmarked on a words (old a (dead words) (λ same. (let differ = same in cc)) is);
-      deads = λ on a words is. e.kept.deads on a words (old a (dead words) (λ same. (let differ = same in cc)) is);
-      only = λ on a above mark inside. copy_stays block new_block (bodies_stay block new_block things moveds) spents a (e.kept.only on a above mark inside);
+      young = λ a seat x is room. (e.kept on).young a seat x (old_room a seat x is room) room;
+      floors = (e.kept on).floors;
+      unmarked = λ a words is. (e.kept on).unmarked a words (old a (dead words) (λ same. (let differ = same in cc)) is);
+      deads = λ a words is. (e.kept on).deads a words (old a (dead words) (λ same. (let differ = same in cc)) is);
+      only = λ a above mark inside. copy_stays block new_block (bodies_stay block new_block things moveds) spents a ((e.kept on).only a above mark inside);
     };
     units = λ on r before is. ⊎_elim
         (λ swept. inl (⊎_elim

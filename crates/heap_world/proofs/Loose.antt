@@ -76,15 +76,17 @@ module _ (c : Config) (u w : Plot) (same : SameButLoose u w) where
     led = marked.led;
     old = marked.old;
     kept = λ a refs nums name is. same.stays a (thing name refs nums) refl (marked.kept a refs nums name is);
-    older = λ on a refs nums name is. marked.older on a refs nums name (same.came a (thing name refs nums) refl is);
-    promises = λ on a seat words is. marked.promises on a seat words (same.came a (promised seat words) refl is);
-    deads = λ on a words is. marked.deads on a words (same.came a (dead words) refl is);
-    young = young;
     floors = floors;
-    tams_are = marked.tams_are;
-    greys = λ on. marks_stay c grey u w markable_loose (marked.greys on);
-    blacks = λ on. marks_stay c black u w markable_loose (marked.blacks on);
-    entries = λ on. entries_stay c count buffer u w markable_loose (marked.entries on);
+    marking = λ on. record {
+      older = λ a refs nums name is. (marked.marking on).older a refs nums name (same.came a (thing name refs nums) refl is);
+      promises = λ a seat words is. (marked.marking on).promises a seat words (same.came a (promised seat words) refl is);
+      deads = λ a words is. (marked.marking on).deads a words (same.came a (dead words) refl is);
+      young = young on;
+      tams_are = (marked.marking on).tams_are;
+      greys = marks_stay c grey u w markable_loose (marked.marking on).greys;
+      blacks = marks_stay c black u w markable_loose (marked.marking on).blacks;
+      entries = entries_stay c count buffer u w markable_loose (marked.marking on).entries;
+    };
   }
 
   -- evacuation goes on, where no top of the set changes
@@ -110,16 +112,16 @@ module _ (c : Config) (u w : Plot) (same : SameButLoose u w) where
       no_promises = λ a seat words is. e.aside.no_promises a seat words (same.came a (promised seat words) refl is);
       no_rooms = outside;
     };
-    kept = record {
-      objects = λ on a is. e.kept.objects on a (was_markable a is);
-      young = young;
-      floors = floors;
-      unmarked = λ on a words is. e.kept.unmarked on a words (same.came a (dead words) refl is);
-      deads = λ on a words is. e.kept.deads on a words (same.came a (dead words) refl is);
-      only = λ on a above mark inside.
+    kept = λ on. record {
+      objects = λ a is. (e.kept on).objects a (was_markable a is);
+      young = young on;
+      floors = floors on;
+      unmarked = λ a words is. (e.kept on).unmarked a words (same.came a (dead words) refl is);
+      deads = λ a words is. (e.kept on).deads a words (same.came a (dead words) refl is);
+      only = λ a above mark inside.
           copy_stays u w
           (bodies_stay u w (λ x refs nums name. same.stays x (thing name refs nums) refl) (λ x refs nums to name. same.stays x (moved name refs nums to) refl))
-          (λ x words to. same.stays x (spent words to) refl) a (e.kept.only on a above mark inside);
+          (λ x words to. same.stays x (spent words to) refl) a ((e.kept on).only a above mark inside);
     };
     units = λ on r before is. ⊎_elim
         (λ swept. inl (⊎_elim (λ out. inl out) (λ none. inr (λ a refs nums name from to there. none a refs nums name from to (same.came a (thing name refs nums) refl there))) swept))

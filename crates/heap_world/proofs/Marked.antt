@@ -61,15 +61,8 @@ module _ (c : Config) (phase : ℕ) (grey black count : ℕ → ℕ) (buffer : �
     led = marked.led;
     old = marked.old;
     kept = marked.kept;
-    older = marked.older;
-    promises = marked.promises;
-    deads = marked.deads;
-    young = marked.young;
     floors = marked.floors;
-    tams_are = marked.tams_are;
-    greys = marked.greys;
-    blacks = marked.blacks;
-    entries = marked.entries;
+    marking = marked.marking;
   }
 
   -- a word changes that is no word of an object
@@ -90,18 +83,20 @@ module _ (c : Config) (phase : ℕ) (grey black count : ℕ → ℕ) (buffer : �
     led = marked.led;
     old = marked.old;
     kept = λ a more_refs more_nums n is. things a more_refs more_nums n (marked.kept a more_refs more_nums n is);
-    older = λ on a more_refs more_nums n is. ⊎_elim
-        (λ (same : a ≡ address). inr (subst (λ x. (s.starts x ≡ true) ⊎ IsYoung c s.top x) (sym same) (known on)))
-        (λ (other : a ≢ address). marked.older on a more_refs more_nums n (only a (thing n more_refs more_nums) is other))
-        (cases_eq a address);
-    promises = λ on a seat words is. marked.promises on a seat words (only a (promised seat words) is (elsewhere a (promised seat words) is (λ differ. cc)));
-    deads = λ on a words is. marked.deads on a words (only a (dead words) is (elsewhere a (dead words) is (λ differ. cc)));
-    young = λ on a seat x is room. marked.young on a seat x (only a x is (elsewhere a x is (λ same. none-some seat (ap room_of same ∙ room)))) room;
     floors = marked.floors;
-    tams_are = marked.tams_are;
-    greys = λ on. marks_stay c grey block new_block still (marked.greys on);
-    blacks = λ on. marks_stay c black block new_block still (marked.blacks on);
-    entries = λ on. entries_stay c count buffer block new_block still (marked.entries on);
+    marking = λ on. record {
+      older = λ a more_refs more_nums n is. ⊎_elim
+          (λ (same : a ≡ address). inr (subst (λ x. (s.starts x ≡ true) ⊎ IsYoung c s.top x) (sym same) (known on)))
+          (λ (other : a ≢ address). (marked.marking on).older a more_refs more_nums n (only a (thing n more_refs more_nums) is other))
+          (cases_eq a address);
+      promises = λ a seat words is. (marked.marking on).promises a seat words (only a (promised seat words) is (elsewhere a (promised seat words) is (λ differ. cc)));
+      deads = λ a words is. (marked.marking on).deads a words (only a (dead words) is (elsewhere a (dead words) is (λ differ. cc)));
+      young = λ a seat x is room. (marked.marking on).young a seat x (only a x is (elsewhere a x is (λ same. none-some seat (ap room_of same ∙ room)))) room;
+      tams_are = (marked.marking on).tams_are;
+      greys = marks_stay c grey block new_block still (marked.marking on).greys;
+      blacks = marks_stay c black block new_block still (marked.marking on).blacks;
+      entries = entries_stay c count buffer block new_block still (marked.marking on).entries;
+    };
   }
     where
       elsewhere : (a : ℕ) (b : Block) → new_block a ≡ Some b → (thing name refs nums ≡ b → ⊥) → a ≢ address

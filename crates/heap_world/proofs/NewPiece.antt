@@ -142,7 +142,7 @@ module _ (c : Config) (top : ℕ → ℕ) (block : Plot) (region at words seat :
       → KeepsSnapshot c phase grey black count buffer top tams heap block s recording scanning → KeepsSnapshot c phase grey black count buffer new_top tams heap new_block s recording scanning
   marking_more phase grey black count buffer tams heap s recording scanning marked =
       marked_loose c block new_block same_but_loose phase grey black count buffer top new_top tams heap s recording scanning marked
-      (λ on. young_more s.top marked.floors (marked.young on)) (floors_more s.top marked.floors)
+      (λ on. young_more s.top marked.floors (marked.marking on).young) (floors_more s.top marked.floors)
 
   -- evacuation goes on, where the region is not set aside
   pub evacuating_more : (phase cset evac claim free : ℕ) (tams heap black : ℕ → ℕ) (owner : ℕ → Option ℕ) (copying : ℕ → Bool) (working : ℕ → Option ℕ) → (IsIn cset region → ⊥)
@@ -151,12 +151,12 @@ module _ (c : Config) (top : ℕ → ℕ) (block : Plot) (region at words seat :
       let inside : IsOf c region address = record { from = omega arith; before = (let room = grows.room in let some = grows.some in omega (arith, room, some)) } in
       let of_region : region_with c address ≡ region = regions_tile.of_no_other c region address inside in
       evacuated_loose c block new_block same_but_loose phase cset evac claim free top new_top tams heap black owner copying working e
-      (λ on. young_more tams (e.kept.floors on) (e.kept.young on))
+      (λ on. young_more tams (e.kept on).floors (e.kept on).young)
       (λ a other x is room collected. ⊎_elim
       (λ (new : (a ≡ address) × (carved seat words ≡ x)). outside (subst (λ r. IsIn cset r) of_region (subst (IsCollected c cset) new.0 collected)))
       (λ (old : (a ≢ address) × (block a ≡ Some x)). e.aside.no_rooms a other x old.1 room collected)
       (piece_cases block address (carved seat words) a x is))
-      (λ on. floors_more tams (e.kept.floors on))
+      (λ on. floors_more tams (e.kept on).floors)
       (λ r is. updated_else top region (at + words) r (λ now. outside (subst (λ r. IsIn cset r) (sym now) is)))
 
   -- updating goes on

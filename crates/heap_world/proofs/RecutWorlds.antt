@@ -115,16 +115,16 @@ module _ (c : Config) (u : World) (new : Plot) (seat a words : ℕ) (shared : Sh
               after u.ghost.snapshot u.ghost.recording u.ghost.scanning
               (marked_loose c u.block after same (u.memory Phase) (λ n. u.memory (Grey n)) (λ n. u.memory (Black n)) (λ t. u.memory (Count t)) (λ t k. u.memory (Buffer t k)) tops tops (λ r. u.memory (Tams r))
               (λ b. u.memory (Heap b)) u.ghost.snapshot u.ghost.recording u.ghost.scanning shared.marked
-              (λ on. rooms_young c tops u.block new seat a words can u.ghost.snapshot.top (shared.marked.young on)) shared.marked.floors)
+              (λ on. rooms_young c tops u.block new seat a words can u.ghost.snapshot.top (shared.marked.marking on).young) shared.marked.floors)
               heap
               (λ x refs nums k name is below. field_stays x refs nums k name (same.came x (thing name refs nums) refl is) below);
           evacuated = evacuated_words c (u.memory Phase) (u.memory Cset) (u.memory Evac) (u.memory Claim) (u.memory Free) tops (λ r. u.memory (Tams r)) (λ b. u.memory (Heap b)) (λ n. u.memory (Black n)) after
               u.ghost.owner u.ghost.copying u.ghost.working
               (evacuated_loose c u.block after same (u.memory Phase) (u.memory Cset) (u.memory Evac) (u.memory Claim) (u.memory Free) tops tops (λ r. u.memory (Tams r)) (λ b. u.memory (Heap b)) (λ n. u.memory (Black n))
               u.ghost.owner u.ghost.copying u.ghost.working shared.evacuated
-              (λ on. rooms_young c tops u.block new seat a words can (λ r. u.memory (Tams r)) (shared.evacuated.kept.young on))
+              (λ on. rooms_young c tops u.block new seat a words can (λ r. u.memory (Tams r)) (shared.evacuated.kept on).young)
               (rooms_outside c tops u.block new seat a words can (u.memory Cset) shared.evacuated.aside.no_rooms)
-              shared.evacuated.kept.floors (λ r is. refl))
+              (λ on. (shared.evacuated.kept on).floors) (λ r is. refl))
               heap
               (λ x refs nums to name is.
               let was = same.came x (moved name refs nums to) refl is in (

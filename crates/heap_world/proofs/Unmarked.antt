@@ -16,15 +16,8 @@ none_marked_in c phase grey black count buffer top tams heap block recording sca
   led = λ a refs nums name there. absurd (none-some _ there);
   old = λ a refs nums name there. absurd (none-some _ there);
   kept = λ a refs nums name there. absurd (none-some _ there);
-  older = λ on. absurd (is on);
-  promises = λ on. absurd (is on);
-  deads = λ on. absurd (is on);
-  young = λ on. absurd (is on);
   floors = λ r inside. omega arith;
-  tams_are = λ on. absurd (is on);
-  greys = λ on. absurd (is on);
-  blacks = λ on. absurd (is on);
-  entries = λ on. absurd (is on);
+  marking = λ on. absurd (is on);
 }
 
 -- so it is in phase 0

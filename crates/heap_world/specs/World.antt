@@ -415,24 +415,28 @@ pub record AreEntries (c : Config) (count : ℕ → ℕ) (buffer : ℕ → ℕ �
   pub few : (t : ℕ) → t < c.mutators → count t ≤ 8
   pub of_objects : (t k : ℕ) → t < c.mutators → k < count t → IsMarkable block (buffer t k)
 
--- While the phase is 1, objects are marked from a snapshot: no reference of it is lost, its objects are where they were, and each
--- object is one of the snapshot, or was named by a root or an answer then, or was allocated since. Marks and buffers have objects alone. In
--- other phases there is no snapshot.
+-- While objects are marked, each object is one of the snapshot, or was named by a root or an answer then, or was allocated since, as all
+-- room was; a promised object was named so, and no dead one was allocated since. Marks and buffers have objects alone.
+pub record KeepsMarking (c : Config) (grey black count : ℕ → ℕ) (buffer : ℕ → ℕ → ℕ) (tams : ℕ → ℕ) (block : Plot) (s : Snapshot) : Type 0 where
+  pub older : (a refs nums : ℕ) (name : Name) → block a ≡ Some (thing name refs nums) → (s.block a ≡ Some (thing name refs nums)) ⊎ ((s.starts a ≡ true) ⊎ IsYoung c s.top a)
+  pub promises : (a seat words : ℕ) → block a ≡ Some (promised seat words) → s.starts a ≡ true
+  pub deads : (a words : ℕ) → block a ≡ Some (dead words) → IsYoung c s.top a → ⊥
+  pub young : AreYoungRooms c s.top block
+  pub tams_are : (r : ℕ) → r < c.regions → tams r ≡ s.top r
+  pub greys : AreMarks c grey block
+  pub blacks : AreMarks c black block
+  pub entries : AreEntries c count buffer block
+
+-- Objects are marked from a snapshot: no reference of it is lost, its objects are where they were, and no top falls below that of mark
+-- start. While the phase is 1, the rest of marking holds. In other phases there is no snapshot.
 pub record KeepsSnapshot (c : Config) (phase : ℕ) (grey black count : ℕ → ℕ) (buffer : ℕ → ℕ → ℕ) (top tams heap : ℕ → ℕ) (block : Plot) (s : Snapshot) (recording : ℕ → Option ℕ) (scanning : ℕ → Option Scan) : Type 0 where
   pub empty : phase ≢ marking_phase → s ≡ no_snapshot
   pub traced : AreTraced c s heap black scanning (IsNoted c grey count buffer recording)
   pub led : (a refs nums : ℕ) (name : Name) → s.block a ≡ Some (thing name refs nums) → IsLed s a
   pub old : (a refs nums : ℕ) (name : Name) → s.block a ≡ Some (thing name refs nums) → IsYoung c s.top a → ⊥
   pub kept : (a refs nums : ℕ) (name : Name) → s.block a ≡ Some (thing name refs nums) → block a ≡ Some (thing name refs nums)
-  pub older : phase ≡ marking_phase → (a refs nums : ℕ) (name : Name) → block a ≡ Some (thing name refs nums) → (s.block a ≡ Some (thing name refs nums)) ⊎ ((s.starts a ≡ true) ⊎ IsYoung c s.top a)
-  pub promises : phase ≡ marking_phase → (a seat words : ℕ) → block a ≡ Some (promised seat words) → s.starts a ≡ true
-  pub deads : phase ≡ marking_phase → (a words : ℕ) → block a ≡ Some (dead words) → IsYoung c s.top a → ⊥
-  pub young : phase ≡ marking_phase → AreYoungRooms c s.top block
   pub floors : (r : ℕ) → r < c.regions → s.top r ≤ top r
-  pub tams_are : phase ≡ marking_phase → (r : ℕ) → r < c.regions → tams r ≡ s.top r
-  pub greys : phase ≡ marking_phase → AreMarks c grey block
-  pub blacks : phase ≡ marking_phase → AreMarks c black block
-  pub entries : phase ≡ marking_phase → AreEntries c count buffer block
+  pub marking : phase ≡ marking_phase → KeepsMarking c grey black count buffer tams block s
 
 -- An old copy lies in the collection set. Its header leads to the current copy, which lies outside, its shape and its name are as they
 -- were, and its references stand for references still.
@@ -493,13 +497,13 @@ pub data HasCopy (block : Plot) (a : ℕ) : Type 0 where
 
 -- While objects are evacuated and references to them updated, each object is marked or was allocated since mark start, as all room was,
 -- and a dead object is neither; and what is marked in the collection set is an object.
-pub record AreKept (c : Config) (phase cset : ℕ) (black top tams : ℕ → ℕ) (block : Plot) : Type 0 where
-  pub objects : evacuation_phase ≤ phase → (a : ℕ) → IsMarkable block a → HasMark c black a ⊎ IsYoung c tams a
-  pub young : evacuation_phase ≤ phase → AreYoungRooms c tams block
-  pub floors : evacuation_phase ≤ phase → (r : ℕ) → r < c.regions → tams r ≤ top r
-  pub unmarked : evacuation_phase ≤ phase → (a words : ℕ) → block a ≡ Some (dead words) → HasMark c black a → ⊥
-  pub deads : evacuation_phase ≤ phase → (a words : ℕ) → block a ≡ Some (dead words) → IsYoung c tams a → ⊥
-  pub only : evacuation_phase ≤ phase → (a : ℕ) → c.region_words ≤ a → HasMark c black a → IsCollected c cset a → HasCopy block a
+pub record AreKept (c : Config) (cset : ℕ) (black top tams : ℕ → ℕ) (block : Plot) : Type 0 where
+  pub objects : (a : ℕ) → IsMarkable block a → HasMark c black a ⊎ IsYoung c tams a
+  pub young : AreYoungRooms c tams block
+  pub floors : (r : ℕ) → r < c.regions → tams r ≤ top r
+  pub unmarked : (a words : ℕ) → block a ≡ Some (dead words) → HasMark c black a → ⊥
+  pub deads : (a words : ℕ) → block a ≡ Some (dead words) → IsYoung c tams a → ⊥
+  pub only : (a : ℕ) → c.region_words ≤ a → HasMark c black a → IsCollected c cset a → HasCopy block a
 
 -- A region of the collection set is swept up to an address: no object has its current copy below it; or there was no room.
 abbrev pub IsSweptTo : Config → (evac : ℕ) → Plot → (region end : ℕ) → Type 0
@@ -524,7 +528,7 @@ pub record IsEvacuating (c : Config) (phase cset evac claim free : ℕ) (top tam
   pub moved : HaveMoved c cset heap block
   pub counted : IsCounted c evac copying
   pub aside : AreSetAside c cset free top tams block owner
-  pub kept : AreKept c phase cset black top tams block
+  pub kept : evacuation_phase ≤ phase → AreKept c cset black top tams block
   pub units : AreCaredFor c phase cset evac claim block working
 
 -- A word is current: it names no old copy, for it is null or the address of an object's current copy.

@@ -133,13 +133,13 @@ module _ (Asks : (Word → ℕ) → Plot → Type 0) (of_roots : IsOfRoots Asks)
     };
     marked = marked_loose c r.block after same (m Phase) (λ n. m (Grey n)) (λ n. m (Black n)) (λ t. m (Count t)) (λ t k. m (Buffer t k)) tops tops_then (λ q. m (Tams q)) (λ x. m (Heap x))
         r.ghost.snapshot r.ghost.recording r.ghost.scanning r.shared.marked
-        (λ on x s b is room. r.shared.marked.young on x s b (was x b is).1 room)
+        (λ on x s b is room. (r.shared.marked.marking on).young x s b (was x b is).1 room)
         (marked_floors);
     evacuated = evacuated_loose c r.block after same (m Phase) (m Cset) (m Evac) (m Claim) (m Free) tops tops_then (λ q. m (Tams q)) (λ x. m (Heap x)) (λ n. m (Black n)) r.ghost.owner r.ghost.copying r.ghost.working
         r.shared.evacuated
-        (λ on x s b is room. r.shared.evacuated.kept.young on x s b (was x b is).1 room)
+        (λ on x s b is room. (r.shared.evacuated.kept on).young x s b (was x b is).1 room)
         (λ x s b is room. r.shared.evacuated.aside.no_rooms x s b (was x b is).1 room)
-        (λ on. floors (λ q. m (Tams q)) (r.shared.evacuated.kept.young on a seat (spare seat words) here refl) (r.shared.evacuated.kept.floors on))
+        (λ on. floors (λ q. m (Tams q)) ((r.shared.evacuated.kept on).young a seat (spare seat words) here refl) (r.shared.evacuated.kept on).floors)
         set_tops;
     updated = λ on. updated_loose c r.block after same (m Cset) (m Claim) tops tops_then (λ q. m (Limit q)) (λ x. m (Heap x)) r.ghost.scanning (r.shared.updated on)
         (λ x s b is room. (r.shared.updated on).young x s b (was x b is).1 room)
@@ -151,7 +151,7 @@ module _ (Asks : (Word → ℕ) → Plot → Type 0) (of_roots : IsOfRoots Asks)
       -- without a snapshot its tops are 0
       marked_floors : (q : ℕ) → q < c.regions → r.ghost.snapshot.top q ≤ tops_then q
       marked_floors = ⊎_elim
-          (λ (on : m Phase ≡ 1). floors r.ghost.snapshot.top (r.shared.marked.young on a seat (spare seat words) here refl) r.shared.marked.floors)
+          (λ (on : m Phase ≡ 1). floors r.ghost.snapshot.top ((r.shared.marked.marking on).young a seat (spare seat words) here refl) r.shared.marked.floors)
           (λ (other : m Phase ≢ 1). λ q inside. (let none : r.ghost.snapshot.top q ≡ 0 = ap (λ s. s.top q) (r.shared.marked.empty other) in omega (arith, none)))
           (cases_eq (m Phase) 1)
 

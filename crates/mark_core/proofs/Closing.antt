@@ -41,7 +41,7 @@ module _ (c : Config) (m : Word → ℕ) (block : Plot) (owner : ℕ → Option 
         let refs : refs_in (m (Heap (a + 1))) ≡ is.refs = ap refs_in is.shape ∙ refs_read is.refs is.nums is.few_refs is.few_nums in
         let end = (object_above c m block owner p g holds marking.uncollected a is.refs is.nums is.name is.here).1 in
         omega (arith, refs, end);
-    counts = (marking.marked.entries refl).few;
+    counts = (marking.marked.marking refl).entries.few;
   }
 
 trace_prop : (c : Config) (m : Word → ℕ) → IsProp (CanTrace c m)

@@ -64,7 +64,7 @@ impl MakeSpot {
                 value: fresh_word(seat, made, refs, nums, done),
             },
             // keeps HasItsOwn.roots, IsSeated.usable, AreObjects, AreRooms and IsGiven
-            // keeps KeepsSnapshot.older and IsUpdating.outside
+            // keeps KeepsMarking.older and IsUpdating.outside
             MakeSpot::StoreRoot { address } => Access::Store {
                 at: config.root_at(seat, dst_of(command) as usize),
                 value: address,

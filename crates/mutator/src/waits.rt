@@ -76,7 +76,7 @@ impl WaitSpot {
                 at: config.answer_at(seat),
             },
             // keeps HasItsOwn.roots, IsSeated.usable, AreObjects and IsGiven
-            // keeps KeepsSnapshot.older and HaveMoved.spents
+            // keeps KeepsMarking.older and HaveMoved.spents
             WaitSpot::StoreRoot { address } => Access::Store {
                 at: config.root_at(seat, dst_of(command) as usize),
                 value: address,

@@ -51,7 +51,7 @@ pub fn grey_access(config: Config, address: u64) -> Access
     ensures row { result ≡ placed config (grey_touch config address) }
     ensures inside { table_index result < table_words config }
 {
-    // keeps KeepsSnapshot.greys, AreTraced, KeepsMarks and RelyMarks
+    // keeps KeepsMarking.greys, AreTraced, KeepsMarks and RelyMarks
     Access::Or {
         at: config.grey_at(mark_word(config, address)),
         value: mark_mask(config, address),
@@ -64,7 +64,7 @@ pub fn black_access(config: Config, address: u64) -> Access
     ensures row { result ≡ placed config (black_touch config address) }
     ensures inside { table_index result < table_words config }
 {
-    // keeps KeepsSnapshot.blacks and AreTraced
+    // keeps KeepsMarking.blacks and AreTraced
     Access::Or {
         at: config.black_at(mark_word(config, address)),
         value: mark_mask(config, address),

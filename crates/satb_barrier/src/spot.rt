@@ -102,7 +102,7 @@ impl RememberSpot {
                 at: config.buffer_at(mutator, entry),
                 value: address,
             },
-            // keeps KeepsSnapshot.entries, AreTraced and IsCovered
+            // keeps KeepsMarking.entries, AreTraced and IsCovered
             RememberSpot::StoreCount { entry } => Access::Store {
                 at: config.count_at(mutator),
                 value: entry as u64 + 1,

@@ -229,13 +229,13 @@ module _ (c : Config) (memory : Word → ℕ) (block : Plot) (ghost : Ghost) (g 
             no_promises = no_promises;
             no_rooms = s.between.no_rooms;
           };
-          kept = record {
-            objects = λ on. s.between.marked;
-            young = λ on. s.between.young;
-            floors = λ on. s.between.floors;
-            unmarked = λ on. s.between.unmarked;
-            deads = λ on. s.between.deads;
-            only = λ on a above mark inside. has_copy a inside (s.between.only a above mark inside);
+          kept = λ on. record {
+            objects = s.between.marked;
+            young = s.between.young;
+            floors = s.between.floors;
+            unmarked = s.between.unmarked;
+            deads = s.between.deads;
+            only = λ a above mark inside. has_copy a inside (s.between.only a above mark inside);
           };
           units = λ on r below. absurd (omega (arith, below));
         };

@@ -56,12 +56,12 @@ module _ (c : Config) (m : Word → ℕ) (g : Graph) (asking : ℕ → Asking) (
       used = evacuated.aside.in_use;
       nobodys = evacuated.aside.nobodys;
       no_new = evacuated.aside.no_new;
-      marked = evacuated.kept.objects two;
-      young = evacuated.kept.young two;
-      floors = evacuated.kept.floors two;
-      unmarked = evacuated.kept.unmarked two;
-      deads = evacuated.kept.deads two;
-      only = λ a above mark inside. inr (evacuated.kept.only two a above mark inside);
+      marked = (evacuated.kept two).objects;
+      young = (evacuated.kept two).young;
+      floors = (evacuated.kept two).floors;
+      unmarked = (evacuated.kept two).unmarked;
+      deads = (evacuated.kept two).deads;
+      only = λ a above mark inside. inr ((evacuated.kept two).only a above mark inside);
     };
     roots = r.roots;
     asked = r.asked;
@@ -124,13 +124,13 @@ module _ (c : Config) (m : Word → ℕ) (g : Graph) (asking : ℕ → Asking) (
         no_promises = s.no_promises;
         no_rooms = s.between.no_rooms;
       };
-      kept = record {
-        objects = λ high. s.between.marked;
-        young = λ high. s.between.young;
-        floors = λ high. s.between.floors;
-        unmarked = λ high. s.between.unmarked;
-        deads = λ high. s.between.deads;
-        only = λ high a above mark inside. has_copy a inside (s.between.only a above mark inside);
+      kept = λ high. record {
+        objects = s.between.marked;
+        young = s.between.young;
+        floors = s.between.floors;
+        unmarked = s.between.unmarked;
+        deads = s.between.deads;
+        only = λ a above mark inside. has_copy a inside (s.between.only a above mark inside);
       };
       units = λ high q below member. inl (s.units on_still q below member);
     }

@@ -203,7 +203,7 @@ module _ (c : Config) (m : Word → ℕ) (g : Graph) (asking : ℕ → Asking) (
       (λ (low : m Phase < 2).
       let none : bit_at (m Cset) (region_with c a) ≡ 0 = ap (λ k. bit_at k (region_with c a)) (r.shared.phased.cset_is low) ∙ bit_at-zero (region_with c a) in
       absurd (omega (arith, none, set)))
-      (λ (high : 2 ≤ m Phase). of_copy (r.shared.evacuated.kept.only high a above mark set))
+      (λ (high : 2 ≤ m Phase). of_copy ((r.shared.evacuated.kept high).only a above mark set))
       (cases_lt (m Phase) 2)
     where
       parts : (nat_le c.region_words a ≡ true) × ((bit_at (m Cset) (region_with c a) == 1) ≡ true)
@@ -244,7 +244,7 @@ module _ (c : Config) (m : Word → ℕ) (g : Graph) (asking : ℕ → Asking) (
       inl (and_from (nat_le c.region_words a) (bit_at (m (Black (mark_word c a))) (mark_bit c a) == 1) (le-leb c.region_words a (lies markable))
       (eq-eqb (bit_at (m (Black (mark_word c a))) (mark_bit c a)) 1 mark)))
       (λ (young : IsYoung c (λ q. m (Tams q)) a). inr (omega (arith, young)))
-      (r.shared.evacuated.kept.objects (high_phase some) a markable)
+      ((r.shared.evacuated.kept (high_phase some)).objects a markable)
     where
       lies : IsMarkable r.block a → c.region_words ≤ a
       lies (IsMarkable.object name refs nums is) = (piece_inside c (λ q. m (Top q)) r.block r.shared.parsable.plotted a (thing name refs nums) is).0
@@ -263,8 +263,8 @@ module _ (c : Config) (m : Word → ℕ) (g : Graph) (asking : ℕ → Asking) (
     marked = are_marked;
     reachable = λ some a reached. kept_of some a (held_current c m g asking r a reached);
     no_new = r.shared.evacuated.aside.no_new;
-    floors = λ some. r.shared.evacuated.kept.floors (high_phase some);
-    young = λ some a seat x is room. r.shared.evacuated.kept.young (high_phase some) a seat x (live_room c m g asking r a seat x is room) room;
+    floors = λ some. (r.shared.evacuated.kept (high_phase some)).floors;
+    young = λ some a seat x is room. (r.shared.evacuated.kept (high_phase some)).young a seat x (live_room c m g asking r a seat x is room) room;
     unseated = λ seat q ends member. r.shared.owned.outside seat ends.0 (subst (IsIn (m Cset)) (sym (regions_tile.of_no_other c q (end_in (m (Current seat)) - 1) ends.1)) member);
     outside = λ off a reached member. absurd (outside_of off a (held_current c m g asking r a reached) member);
   }

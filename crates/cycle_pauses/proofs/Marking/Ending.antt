@@ -159,7 +159,7 @@ module _ (c : Config) (m : Word → ℕ) (g : Graph) (asking : ℕ → Asking) (
       (λ (other : out q ≡ false).
       let top = top_stays q other in
       let tams = tams_stays q other in
-      let same = r.shared.marked.tams_are on q inside in
+      let same = (r.shared.marked.marking on).tams_are q inside in
       let floor = r.shared.marked.floors q inside in
       omega (arith, top, tams, same, floor))
       (cases_Bool (out q))
@@ -170,8 +170,8 @@ module _ (c : Config) (m : Word → ℕ) (g : Graph) (asking : ℕ → Asking) (
       let was = left a x is in
       let at = piece_below c m g asking r calm a x was.1 in
       let tams = tams_stays (region_with c a) was.0 in
-      let same = r.shared.marked.tams_are on (region_with c a) at.0 in
-      let above = r.shared.marked.young on a seat x was.1 room in
+      let same = (r.shared.marked.marking on).tams_are (region_with c a) at.0 in
+      let above = (r.shared.marked.marking on).young a seat x was.1 room in
       omega (arith, above, tams, same)
 
   -- dead objects lie below the tops at mark start
@@ -180,8 +180,8 @@ module _ (c : Config) (m : Word → ℕ) (g : Graph) (asking : ℕ → Asking) (
       let was = left a (dead words) is in
       let at = piece_below c m g asking r calm a (dead words) was.1 in
       let tams = tams_stays (region_with c a) was.0 in
-      let same = r.shared.marked.tams_are on (region_with c a) at.0 in
-      r.shared.marked.deads on a words was.1 (omega (arith, young, tams, same))
+      let same = (r.shared.marked.marking on).tams_are (region_with c a) at.0 in
+      (r.shared.marked.marking on).deads a words was.1 (omega (arith, young, tams, same))
 
   -- what is asked and promised stays
   asked_again : (t : ℕ) → IsAsked m r.block g.count t (asking t) → IsAsked n plot g.count t (asking t)

@@ -104,12 +104,13 @@ module _ (c : Config) (m : Word → ℕ) (g : Graph) (asking : ℕ → Asking) (
     older_of : (a refs nums : ℕ) (name : Name) → IsMarkable r.block a → live c m g asking copies a ≡ Some (thing name refs nums)
         → (s.block a ≡ Some (thing name refs nums)) ⊎ ((s.starts a ≡ true) ⊎ IsYoung c s.top a)
     older_of a refs nums name (IsMarkable.object n more less here) is =
-        r.shared.marked.older on a refs nums name (here ∙ sym (live_at c m g asking copies a (thing n more less) here) ∙ is)
-    older_of a refs nums name (IsMarkable.to_come seat words here) is = inr (inl (r.shared.marked.promises on a seat words here))
+        (r.shared.marked.marking on).older a refs nums name (here ∙ sym (live_at c m g asking copies a (thing n more less) here) ∙ is)
+    older_of a refs nums name (IsMarkable.to_come seat words here) is = inr (inl ((r.shared.marked.marking on).promises a seat words here))
 
     pub is_marking : IsMarking c m (live c m g asking copies)
     is_marking =
         let was = r.shared.marked in
+        let now = was.marking on in
         record {
           ghost = r.ghost;
           object = (with_promised g (promises_of c g asking)).object;
@@ -119,15 +120,17 @@ module _ (c : Config) (m : Word → ℕ) (g : Graph) (asking : ℕ → Asking) (
             led = was.led;
             old = was.old;
             kept = λ a refs nums name is. live_at c m g asking copies a (thing name refs nums) (was.kept a refs nums name is);
-            older = λ _ a refs nums name is. older_of a refs nums name (live_markable a refs nums name is) is;
-            promises = λ _ a seat words is. absurd (live_unpromised c m g asking copies a seat words is);
-            deads = λ _ a words is. was.deads on a words (live_dead c m g asking copies a words is);
-            young = λ _ a seat x is room. was.young on a seat x (live_room c m g asking copies a seat x is room) room;
             floors = was.floors;
-            tams_are = λ _. was.tams_are on;
-            greys = λ _. marks_still (λ q. m (Grey q)) (was.greys on);
-            blacks = λ _. marks_still (λ q. m (Black q)) (was.blacks on);
-            entries = λ _. record { few = (was.entries on).few; of_objects = λ t k inside below. still_markable (m (Buffer t k)) ((was.entries on).of_objects t k inside below) };
+            marking = λ _. record {
+              older = λ a refs nums name is. older_of a refs nums name (live_markable a refs nums name is) is;
+              promises = λ a seat words is. absurd (live_unpromised c m g asking copies a seat words is);
+              deads = λ a words is. now.deads a words (live_dead c m g asking copies a words is);
+              young = λ a seat x is room. now.young a seat x (live_room c m g asking copies a seat x is room) room;
+              tams_are = now.tams_are;
+              greys = marks_still (λ q. m (Grey q)) now.greys;
+              blacks = marks_still (λ q. m (Black q)) now.blacks;
+              entries = record { few = now.entries.few; of_objects = λ t k inside below. still_markable (m (Buffer t k)) (now.entries.of_objects t k inside below) };
+            };
           };
           unmarking = r.unmarking;
           objects = record {

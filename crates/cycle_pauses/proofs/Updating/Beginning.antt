@@ -71,22 +71,13 @@ module _ (c : Config) (m : Word → ℕ) (g : Graph) (asking : ℕ → Asking) (
   on_still = omega (arith, on)
 
   still_evacuated : IsEvacuating c 3 (m Cset) 0 0 (m Free) (λ q. m (Top q)) (λ q. m (Tams q)) (λ a. m (Heap a)) (λ q. m (Black q)) r.block r.ghost.owner r.ghost.copying r.ghost.working
-  still_evacuated =
-      let kept = r.shared.evacuated.kept in
-      record {
-        moved = r.shared.evacuated.moved;
-        counted = counted_none c r.ghost.copying r.uncopying.copies_none;
-        aside = r.shared.evacuated.aside;
-        kept = record {
-          objects = λ later. kept.objects on_still;
-          young = λ later. kept.young on_still;
-          floors = λ later. kept.floors on_still;
-          unmarked = λ later. kept.unmarked on_still;
-          deads = λ later. kept.deads on_still;
-          only = λ later. kept.only on_still;
-        };
-        units = λ two. absurd (omega (arith, two));
-      }
+  still_evacuated = record {
+    moved = r.shared.evacuated.moved;
+    counted = counted_none c r.ghost.copying r.uncopying.copies_none;
+    aside = r.shared.evacuated.aside;
+    kept = λ later. r.shared.evacuated.kept on_still;
+    units = λ two. absurd (omega (arith, two));
+  }
 
   -- what could be used can be
   usable_still : (word : ℕ) → IsUsable c (m Cset) (m Evac) r.block word → IsUsable c (m Cset) 0 r.block word

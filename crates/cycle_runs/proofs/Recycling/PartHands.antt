@@ -108,7 +108,7 @@ module _ (c : Config) (w : World) (shared : Shared c w) (r : ℕ) (inside : r < 
   remember_hand mutator address (remember.MarkEntry entry found) can a is =
       let full = can.words.facts.0 in
       let below = can.words.facts.1 in
-      let object : IsMarkable w.block found = subst (λ v. IsMarkable w.block v) can.words.facts.3 ((shared.marked.entries can.phase).of_objects mutator entry can.seated (omega (arith, full, below))) in
+      let object : IsMarkable w.block found = subst (λ v. IsMarkable w.block v) can.words.facts.3 ((shared.marked.marking can.phase).entries.of_objects mutator entry can.seated (omega (arith, full, below))) in
       either_apart a address found (markable_elsewhere c w shared r inside free address can.markable) (markable_elsewhere c w shared r inside free found object) is
   remember_hand mutator address remember.LoadCount can a is = same_apart a address (markable_elsewhere c w shared r inside free address can.markable) is
   remember_hand mutator address (remember.LoadEntry entry) can a is = same_apart a address (markable_elsewhere c w shared r inside free address can.markable) is

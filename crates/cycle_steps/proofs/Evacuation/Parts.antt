@@ -166,7 +166,7 @@ leads_is_forwarded header to is = ap is_forwarded is ∙ eq-eqb ((4 * to + 3) % 
 
 -- in a region that is swept each marked object is forwarded
 pub swept_is_forwarded : SweptIsForwarded
-swept_is_forwarded c u a shared on swept room low inside marked = by_copy (shared.evacuated.kept.only (omega (arith, on)) a low marked inside)
+swept_is_forwarded c u a shared on swept room low inside marked = by_copy ((shared.evacuated.kept (omega (arith, on))).only a low marked inside)
   where
     not_swept : (refs nums : ℕ) (name : Name) → u.block a ≡ Some (thing name refs nums) → IsSwept c u (region_with c a) → ⊥
     not_swept refs nums name is (inl out) = false≢true (sym room ∙ out)

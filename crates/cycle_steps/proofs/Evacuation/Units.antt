@@ -262,7 +262,7 @@ module _ (c : Config) (u : World) (seat cset : ℕ) where
       let old = shared.evacuated.aside.no_new (region_with c address) walked.inside in
       let end_is = walked.end_is in
       omega (arith, young, old, end_is, walked.before))
-      (shared.evacuated.kept.objects (omega (arith, on)) address (IsMarkable.object name refs nums is))
+      ((shared.evacuated.kept (omega (arith, on))).objects address (IsMarkable.object name refs nums is))
 
 module _ (resolving : ResolvingSteps) (c : Config) (u : World) (seat cset : ℕ) where
   -- the load of a piece's mark
@@ -278,7 +278,7 @@ module _ (resolving : ResolvingSteps) (c : Config) (u : World) (seat cset : ℕ)
       (λ (black : (bit_at got (mark_bit c address) == 1) ≡ true).
       goes_on c u seat cset at (Resolving address end next LoadHeader) u base can (cond-true (bit_at got (mark_bit c address) == 1) _ _ black) refl refl (
         refl,
-        resolving.begins c u seat address can.seated can.phase measured.at.inside (shared.evacuated.kept.only (omega (arith, can.phase)) address low (eqb-true _ _ black) measured.at.inside)
+        resolving.begins c u seat address can.seated can.phase measured.at.inside ((shared.evacuated.kept (omega (arith, can.phase))).only address low (eqb-true _ _ black) measured.at.inside)
             nothing.copying nothing.records_none nothing.scans_none nothing.rooms,
         measured,
       ))

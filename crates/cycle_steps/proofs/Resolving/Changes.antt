@@ -55,15 +55,8 @@ unmarked c phase grey black count buffer top tams heap block s recording scannin
   led = λ a refs nums name there. absurd (none-some _ there);
   old = λ a refs nums name there. absurd (none-some _ there);
   kept = λ a refs nums name there. absurd (none-some _ there);
-  older = λ on. absurd (other on);
-  promises = λ on. absurd (other on);
-  deads = λ on. absurd (other on);
-  young = λ on. absurd (other on);
   floors = λ r inside. omega arith;
-  tams_are = λ on. absurd (other on);
-  greys = λ on. absurd (other on);
-  blacks = λ on. absurd (other on);
-  entries = λ on. absurd (other on);
+  marking = λ on. absurd (other on);
 })
 
 module _ (c : Config) (u : World) (seat : ℕ) (heap top : ℕ → ℕ) (evac : ℕ) (block : Plot) (copying : ℕ → Bool) where
@@ -79,7 +72,7 @@ module _ (c : Config) (u : World) (seat : ℕ) (heap top : ℕ → ℕ) (evac : 
     pub owned : AreOwned c top (u.memory Share) (u.memory Free) (u.memory Cset) (λ s. u.memory (Current s)) block u.ghost.owner
     pub moved_are : HaveMoved c (u.memory Cset) heap block
     pub counted : IsCounted c evac copying
-    pub kept : AreKept c (u.memory Phase) (u.memory Cset) (λ n. u.memory (Black n)) top (λ r. u.memory (Tams r)) block
+    pub kept : 2 ≤ u.memory Phase → AreKept c (u.memory Cset) (λ n. u.memory (Black n)) top (λ r. u.memory (Tams r)) block
     pub bodies : (a : ℕ) (b : Body) → body_at (u.block a) ≡ Some b → body_at (block a) ≡ Some b
     pub targets : (a refs nums : ℕ) (name : Name) → Target c (u.memory Cset) (u.memory Evac) u.block a refs nums name → Target c (u.memory Cset) evac block a refs nums name
     pub moveds : (a refs nums to : ℕ) (name : Name) → u.block a ≡ Some (moved name refs nums to) → block a ≡ Some (moved name refs nums to)

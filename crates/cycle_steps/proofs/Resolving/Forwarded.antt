@@ -362,16 +362,16 @@ module _ (c : Config) (u : World) (seat a copy refs nums : ℕ) (name : Name) (s
           };
     };
     counted = shared.evacuated.counted;
-    kept = record {
-      objects = λ still b is. ⊎_elim
-          (λ (new : b ≡ copy). inr (subst (λ x. IsYoung c (λ r. u.memory (Tams r)) x) (sym new) (shared.evacuated.kept.young still copy seat (hand seat words) room refl)))
-          (λ was. shared.evacuated.kept.objects still b was)
+    kept = λ still. record {
+      objects = λ b is. ⊎_elim
+          (λ (new : b ≡ copy). inr (subst (λ x. IsYoung c (λ r. u.memory (Tams r)) x) (sym new) ((shared.evacuated.kept still).young copy seat (hand seat words) room refl)))
+          (λ was. (shared.evacuated.kept still).objects b was)
           (markable_was b is);
-      young = λ still b j x is own. shared.evacuated.kept.young still b j x (room_came b j x is own) own;
-      floors = shared.evacuated.kept.floors;
-      unmarked = λ still b more is. shared.evacuated.kept.unmarked still b more (came b (dead more) (λ same. (let differ = same in cc)) (λ same. (let differ = same in cc)) is).2;
-      deads = λ still b more is. shared.evacuated.kept.deads still b more (came b (dead more) (λ same. (let differ = same in cc)) (λ same. (let differ = same in cc)) is).2;
-      only = λ still b from mark collected. copy_stays b (shared.evacuated.kept.only still b from mark collected);
+      young = λ b j x is own. (shared.evacuated.kept still).young b j x (room_came b j x is own) own;
+      floors = (shared.evacuated.kept still).floors;
+      unmarked = λ b more is. (shared.evacuated.kept still).unmarked b more (came b (dead more) (λ same. (let differ = same in cc)) (λ same. (let differ = same in cc)) is).2;
+      deads = λ b more is. (shared.evacuated.kept still).deads b more (came b (dead more) (λ same. (let differ = same in cc)) (λ same. (let differ = same in cc)) is).2;
+      only = λ b from mark collected. copy_stays b ((shared.evacuated.kept still).only b from mark collected);
     };
     bodies = bodies;
     targets = λ b more_refs more_nums n is.

@@ -36,7 +36,7 @@ module _ (c : Config) (w : World) (shared : Shared c w) (on : w.memory Phase ≡
   -- nor is the top at mark start
   pub tams_short : (region : ℕ) → region < c.regions → w.memory (Tams region) ≤ c.region_words
   tams_short region within =
-      let low = shared.evacuated.kept.floors (omega (arith, on)) region within in
+      let low = (shared.evacuated.kept (omega (arith, on))).floors region within in
       let most = shared.parsable.plotted.tops region within in
       omega (arith, low, most)
 

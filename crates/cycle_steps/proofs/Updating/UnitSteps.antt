@@ -271,7 +271,7 @@ module _ (c : Config) (u : World) (seat cset : ℕ) where
   alive_above walk address shared on walked (inl alive) above = alive
   alive_above walk address shared on walked (inr fills) above =
       let tams_is = walked.tams_is in
-      absurd (shared.evacuated.kept.deads (omega (arith, on)) address fills.0 fills.1
+      absurd ((shared.evacuated.kept (omega (arith, on))).deads address fills.0 fills.1
       (subst (λ r. base_of c r + u.memory (Tams r) ≤ address) (sym (walked_region c u shared on walk address walked)) (omega (arith, above, tams_is))))
 
   -- the load of a shape
@@ -306,7 +306,7 @@ module _ (c : Config) (u : World) (seat cset : ℕ) where
   alive_marked : (at : Visit) → Shared c u → u.memory Phase ≡ 3 → HasComeTo c u at.walk at.address → HasShape u at.address at.shape → refs_in at.shape ≢ 0 → HasMark c (λ n. u.memory (Black n)) at.address
       → HasField c u at 0
   alive_marked at shared on walked (inl object) some mark = record { walked = walked; alive = object.0; shape_is = object.1; below = omega (arith, some) }
-  alive_marked at shared on walked (inr fills) some mark = absurd (shared.evacuated.kept.unmarked (omega (arith, on)) at.address fills.0 fills.1 mark)
+  alive_marked at shared on walked (inr fills) some mark = absurd ((shared.evacuated.kept (omega (arith, on))).unmarked at.address fills.0 fills.1 mark)
 
   -- the load of a mark
   at_load_black : (at : Visit) → Shared c u → CanUpdate c u seat cset (LoadBlack at) → UpdateStep c u seat cset (LoadBlack at)
@@ -330,7 +330,7 @@ module _ (c : Config) (u : World) (seat cset : ℕ) where
       let above : base_of c at.walk.region + u.memory (Tams at.walk.region) ≤ at.address =
       subst (λ r. base_of c r + u.memory (Tams r) ≤ at.address) (walked_region c u shared can.phase at.walk at.address walked) young in
       absurd (omega (arith, old, tams_is, above)))
-      (shared.evacuated.kept.objects (let on = can.phase in omega (arith, on)) at.address (IsMarkable.object name refs nums is)))
+      ((shared.evacuated.kept (let on = can.phase in omega (arith, on))).objects at.address (IsMarkable.object name refs nums is)))
       (cond-false (bit_at got (mark_bit c at.address) == 1) _ _ white ∙ ap (λ n. next_object c at.walk (at.address + n)) piece.2))
       (cases_Bool (bit_at got (mark_bit c at.address) == 1))
 

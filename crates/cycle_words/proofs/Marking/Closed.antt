@@ -85,11 +85,11 @@ module _ (c : Config) (m : Word → ℕ) (block : Plot) (owner : ℕ → Option 
       (are.of_objects (mark_word c a) (mark_bit c a) (omega arith) (eqb-true (bit_at (marks (mark_word c a)) (mark_bit c a)) 1 both.1))
 
   pub black_markable : (a : ℕ) → is_black c m a ≡ true → IsMarkable block a
-  black_markable a is = marked_at (λ k. m (Black k)) a (marking.marked.blacks refl) is
+  black_markable a is = marked_at (λ k. m (Black k)) a (marking.marked.marking refl).blacks is
 
   pub traced_markable : (a : ℕ) → IsTraced c m a → IsMarkable block a
-  traced_markable _ (from_grey a is) = marked_at (λ k. m (Grey k)) a (marking.marked.greys refl) is
-  traced_markable _ (from_buffer t i below few some) = (marking.marked.entries refl).of_objects t i below few
+  traced_markable _ (from_grey a is) = marked_at (λ k. m (Grey k)) a (marking.marked.marking refl).greys is
+  traced_markable _ (from_buffer t i below few some) = (marking.marked.marking refl).entries.of_objects t i below few
   traced_markable _ (from_field a i traced plain few some) = field_markable a i (markable_object a (traced_markable a traced)) few some
 
   object_inside : (a : ℕ) → IsObjectAt m block a → (c.region_words ≤ a) × (a < c.region_words + c.regions * c.region_words)
@@ -195,7 +195,7 @@ module _ (c : Config) (m : Word → ℕ) (block : Plot) (owner : ℕ → Option 
   young_new : (a refs nums : ℕ) (name : Name) → block a ≡ Some (thing name refs nums) → IsYoung c s.top a → IsNew c n a
   young_new a refs nums name is young =
       let at = object_below c m block owner p g holds marking.uncollected a refs nums name is in
-      let floor = marking.marked.tams_are refl (region_with c a) at.0 in
+      let floor = (marking.marked.marking refl).tams_are (region_with c a) at.0 in
       omega (arith, young, floor, at.1)
 
   -- and each object is kept afterwards
@@ -208,7 +208,7 @@ module _ (c : Config) (m : Word → ℕ) (block : Plot) (owner : ℕ → Option 
       (λ (start : s.starts a ≡ true). inl (noted_black a now (marking.marked.traced.starts a start)))
       (λ (young : IsYoung c s.top a). inr (young_new a refs nums name is young))
       other)
-      (marking.marked.older refl a refs nums name is)
+      ((marking.marked.marking refl).older a refs nums name is)
 
   pub object_kept : (a : ℕ) → IsObjectAt m block a → IsKept c n a
   object_kept a is = thing_kept a is.refs is.nums is.name is.here

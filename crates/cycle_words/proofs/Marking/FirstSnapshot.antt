@@ -63,13 +63,15 @@ module _ (c : Config) (m : Word → ℕ) (plot : Plot) where
       led = led;
       old = λ a refs nums name is. divided.others a (thing name refs nums) is refl;
       kept = λ a refs nums name is. is;
-      older = λ on a refs nums name is. inl is;
-      promises = λ on a seat words is. promises a seat words is;
-      deads = λ on a words is. divided.others a (dead words) is refl;
-      young = λ on. divided.rooms;
       floors = λ q inside. divided.tops q;
-      tams_are = λ on q inside. refl;
-      greys = λ on. greys_are;
-      blacks = λ on. record { small = λ q. omega arith; of_objects = λ q k below set. absurd (let none = bit_at-zero k in omega (arith, none, set)) };
-      entries = λ on. record { few = λ t inside. omega arith; of_objects = λ t k inside below. absurd (omega (arith, below)) };
+      marking = λ on. record {
+        older = λ a refs nums name is. inl is;
+        promises = λ a seat words is. promises a seat words is;
+        deads = λ a words is. divided.others a (dead words) is refl;
+        young = divided.rooms;
+        tams_are = λ q inside. refl;
+        greys = greys_are;
+        blacks = record { small = λ q. omega arith; of_objects = λ q k below set. absurd (let none = bit_at-zero k in omega (arith, none, set)) };
+        entries = record { few = λ t inside. omega arith; of_objects = λ t k inside below. absurd (omega (arith, below)) };
+      };
     }

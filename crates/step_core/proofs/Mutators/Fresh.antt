@@ -233,9 +233,9 @@ module _ (c : Config) (u : World) (seat made : ℕ) (kept : Kept) (command : Com
       unnamed = refl;
       long = refl;
       own = record { no_room = λ j differs room. differs (sym (same_Some seat j room)); no_promise = λ j words differs same. cc; no_dead = λ words same. cc; no_filler = λ words same. cc; no_spare = λ j words same. cc; no_carved = λ j words same. cc };
-      known = λ on. inr (shared.marked.young on address seat (hand seat (3 + refs + nums)) mine.facts.1.room refl);
+      known = λ on. inr ((shared.marked.marking on).young address seat (hand seat (3 + refs + nums)) mine.facts.1.room refl);
       outside = room_outside c u shared address seat (3 + refs + nums) mine.facts.1.room;
-      kept = λ on. inr (shared.evacuated.kept.young on address seat (hand seat (3 + refs + nums)) mine.facts.1.room refl);
+      kept = λ on. inr ((shared.evacuated.kept on).young address seat (hand seat (3 + refs + nums)) mine.facts.1.room refl);
       stored = mine.facts.1.stored;
       shared = shared;
     }

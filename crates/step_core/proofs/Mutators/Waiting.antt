@@ -212,9 +212,9 @@ module _ (c : Config) (u : World) (seat made : ℕ) (kept : Kept) (command : Com
       unnamed = refl;
       long = refl;
       own = record { no_room = λ j differs room. none-some j room; no_promise = λ j words differs same. (let seats : j ≡ seat = cc in differs seats); no_dead = λ words same. cc; no_filler = λ words same. cc; no_spare = λ j words same. cc; no_carved = λ j words same. cc };
-      known = λ on. inl (shared.marked.promises on address seat (3 + refs + nums) promise.here);
+      known = λ on. inl ((shared.marked.marking on).promises address seat (3 + refs + nums) promise.here);
       outside = λ inside. shared.evacuated.aside.no_promises address seat (3 + refs + nums) promise.here inside;
-      kept = λ on. shared.evacuated.kept.objects on address (IsMarkable.to_come seat (3 + refs + nums) promise.here);
+      kept = λ on. (shared.evacuated.kept on).objects address (IsMarkable.to_come seat (3 + refs + nums) promise.here);
       stored = λ i below. promise.words i below ∙ ap (λ n. fresh_word seat n refs nums i) mine.seated.counted;
       shared = shared;
     }
