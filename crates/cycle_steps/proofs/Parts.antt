@@ -10,10 +10,11 @@ use Rattle.cycle_steps.proofs.Scans.{each_scans, can_scan_stays, hint_scans}
 pub recording_steps : RecordingSteps
 recording_steps = record {
   begins = λ c u mutator v seated marking object idle scanless roomless shared. takes_in_hand c u mutator v seated marking object idle scanless roomless shared;
-  each = λ c u mutator v at going shared can. each_records c u mutator v at going shared can;
-  stays = λ c u w mutator v at rely can. can_record_stays c u w mutator rely v at can;
+  steps = λ c mutator v. record {
+    stands = λ u at given can. record { stays = λ w rely. can_record_stays c u w mutator rely v at can; inside = record_inside c u mutator v at can };
+    goes = λ u at going shared can. record { step = each_records c u mutator v at going shared can; fits = found_is_fit c u.memory mutator v at can.words };
+  };
   fits = λ c u mutator v at can. found_is_fit c u.memory mutator v at can.words;
-  inside = λ c u mutator v at can. record_inside c u mutator v at can;
   noted = λ c u mutator v at can. record_noted c u mutator v at can;
 }
 
@@ -22,8 +23,8 @@ pub scanning_steps : ScanningSteps
 scanning_steps = record {
   begins = λ c u seat seated marking unrecorded idle roomless. record { seated = seated; phase = marking; scanning = idle; records_none = unrecorded; ready = refl; hands = roomless; facts = tt };
   hinted = λ c u seat address can. hint_scans c u seat address can;
-  each = λ c u seat at going shared can. each_scans c u seat at going shared can;
-  stays = λ c u w seat at rely can. can_scan_stays c u w seat rely at can;
-  fits = λ c u seat at going shared can. (each_scans c u seat at going shared can).own.0.ready;
-  inside = λ c u seat at can. scan_inside c at can.ready;
+  steps = λ c seat. record {
+    stands = λ u at given can. record { stays = λ w rely. can_scan_stays c u w seat rely at can; inside = scan_inside c at can.ready };
+    goes = λ u at going shared can. let step = each_scans c u seat at going shared can in record { step = step; fits = step.own.0.ready };
+  };
 }

@@ -12,6 +12,7 @@ use Rattle.regions.specs.Marks.{mark_word, mark_bit, address_at, HasMark}
 use Rattle.regions.proofs.MarksApart.{word_back, bit_back, mark_stays, word_inside}
 use Rattle.heap_world.specs.World.{World, Scan, hand, with_recording, IsMarkable, IsNoted, IsToScan, AreMarks, AreEntries, NotedIn, Shared}
 use Rattle.heap_world.specs.Rely.{Keeps, Rely}
+use Rattle.heap_world.specs.Part.{PartStep, SameWork}
 use Rattle.heap_world.proofs.Keeping.{load_keeps}
 use Rattle.heap_world.proofs.Updates.{updated, updated_there, updated_else}
 use Rattle.satb_barrier.specs.declared.spot.RememberSpot.{RememberSpot}
@@ -21,9 +22,14 @@ use Rattle.satb_barrier.specs.Recorded.{IsRecorded, LeaveBuffer}
 use Rattle.satb_barrier.specs.Facts.{CanRemember}
 use Rattle.satb_barrier.proofs.Remembering.{RememberStep, can_remember_stays, each_remembers}
 use Rattle.cycle_steps.specs.Recording.{recording_of, CanRecord}
-use Rattle.cycle_steps.specs.Laws.{RecordStep, with_in_hand, TakesInHand}
+use Rattle.cycle_steps.specs.Laws.{with_in_hand, TakesInHand}
 use Rattle.cycle_steps.proofs.Changes.{is_marking, marking_touched, same_marking, world_after, IsMarkingStep, shared_after, keeps_after, others_after, step_after}
 use Rattle.cycle_steps.proofs.MarkedMore.{markable_word, marks_with}
+
+-- what a step of a mutator that records an address owes
+abbrev RecordStep : Config → World → ℕ → ℕ → RememberSpot → Type 0
+RecordStep c u mutator v at =
+    PartStep c u mutator (touch_at c mutator v at) (λ w. CanRecord c w mutator v (next_at at (u.memory (touch_at c mutator v at).word)) × SameWork u w mutator × (w.block ≡ u.block))
 
 -- what is recorded is noted
 recorded_noted : (c : Config) (memory : Word → ℕ) (recording : ℕ → Option ℕ) (mutator v : ℕ) → mutator < c.mutators → IsRecorded c memory mutator v

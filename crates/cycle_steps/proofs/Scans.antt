@@ -17,6 +17,7 @@ use Rattle.shen_graph.specs.declared.name.Name.{Name}
 use Rattle.shen_graph.specs.Graph.{Reference}
 use Rattle.heap_world.specs.World.{World, moved, Scan, thing, Points, was_at, IsMarkable, IsNoted, IsToScan, NeedsNoMarking, IsTracedAt, AreMarks, AreEntries, NotedIn, Shared}
 use Rattle.heap_world.specs.Rely.{Rely}
+use Rattle.heap_world.specs.Part.{PartStep, SameWork}
 use Rattle.heap_world.proofs.Pointing.{named_thing}
 use Rattle.heap_world.proofs.Unmoved.{unmoved}
 use Rattle.heap_world.proofs.Updates.{updated, updated_there, updated_else}
@@ -25,10 +26,13 @@ use Rattle.unit_part.specs.declared.scan_spot.ScanSpot.TheVariants.{LoadClaim, C
 use Rattle.unit_part.specs.ScanRows.{touch_at, next_at, next_reference, has_unit, has_fields, unscanned_in, is_ended, is_ready, hinted}
 use Rattle.unit_part.proofs.Found.{unscanned_found}
 use Rattle.cycle_steps.specs.Scanning.{scan_at, scanning_of, IsAtField, IsDoneOrFound, ScanFacts, CanScan}
-use Rattle.cycle_steps.specs.Laws.{ScanStep}
 use Rattle.cycle_steps.proofs.Changes.{with_marking, marking_touched, marking_loaded, world_after, step_after}
 use Rattle.cycle_steps.proofs.MarkedMore.{markable_shape, markable_word, marks_with}
 use Rattle.cycle_steps.proofs.Scanned.{scan_of_others, scan_passes, scan_blackened}
+
+-- what a step of a machine that scans owes
+abbrev ScanStep : Config → World → ℕ → ScanSpot → Type 0
+ScanStep c u seat at = PartStep c u seat (touch_at c at) (λ w. CanScan c w seat (next_at c at (u.memory (touch_at c at).word)) × SameWork u w seat × (w.block ≡ u.block))
 
 -- a word of the heap is one by test
 word_there : (c : Config) (a : ℕ) → IsWord c (Heap a) → is_word c (Heap a) ≡ true

@@ -1,12 +1,12 @@
 -- What the steps of recording and of scanning owe.
-use Rattle.std.specs.Prelude.{ℕ, ◌≡◌, ◌≢◌, ◌<◌, ◌==◌, false, if◌then◌else◌, Some, None}
+use Rattle.std.specs.Prelude.{ℕ, ◌≡◌, ◌≢◌, ◌<◌, ◌==◌, if◌then◌else◌, Some, None, ⊤}
 use Rattle.heap_words.specs.declared.config.Config.{Config}
 use Rattle.heap_words.specs.Ranges.{seat_count}
-use Rattle.heap_words.specs.Words.{Phase, IsWord}
+use Rattle.heap_words.specs.Words.{Phase}
 use Rattle.heap_words.specs.Phases.{marking_phase}
 use Rattle.heap_world.specs.World.{World, hand, with_recording, IsMarkable, NotedIn, Shared}
 use Rattle.heap_world.specs.Rely.{Keeps, Rely}
-use Rattle.heap_world.specs.Part.{PartStep, SameWork}
+use Rattle.heap_world.specs.Part.{SameWork, Part, PartSteps}
 use Rattle.satb_barrier.specs.declared.spot.RememberSpot.{RememberSpot}
 use Rattle.satb_barrier.specs.declared.spot.RememberSpot.TheVariants.{LoadCount}
 use Rattle.satb_barrier.specs.Rows as remember
@@ -17,10 +17,17 @@ use Rattle.unit_part.specs.ScanSeen as seen
 use Rattle.cycle_steps.specs.Recording.{CanRecord}
 use Rattle.cycle_steps.specs.Scanning.{CanScan}
 
--- what a step of a mutator that records an address owes: as all of marking it leaves who copies and works as it is, and each piece
-abbrev pub RecordStep : Config → World → ℕ → ℕ → RememberSpot → Type 0
-RecordStep c u mutator v at =
-    PartStep c u mutator (remember.touch_at c mutator v at) (λ w. CanRecord c w mutator v (remember.next_at at (u.memory (remember.touch_at c mutator v at).word)) × SameWork u w mutator × (w.block ≡ u.block))
+-- A mutator that records an address. As all of marking, a step leaves who copies and works as it is, and each piece.
+abbrev pub recording_part : Config → (mutator v : ℕ) → Part
+recording_part c mutator v = record {
+  Spot = RememberSpot;
+  is_ended = remember.is_recorded;
+  touch = remember.touch_at c mutator v;
+  next = remember.next_at;
+  IsFit = remember.IsFit c;
+  Can = λ w at. CanRecord c w mutator v at;
+  Then = λ u w at. CanRecord c w mutator v at × SameWork u w mutator × (w.block ≡ u.block);
+}
 
 -- the world in which a mutator has an address in hand
 abbrev pub with_in_hand : World → ℕ → ℕ → World
@@ -34,26 +41,29 @@ pub record TakesInHand (c : Config) (u : World) (mutator v : ℕ) : Type 0 where
   pub others : (k : ℕ) → k ≢ mutator → Rely c k u (with_in_hand u mutator v)
   pub noted : NotedIn c (with_in_hand u mutator v) v
 
--- A mutator that overwrites a reference records it.
+-- A mutator that overwrites a reference records it. What it finds is fit wherever it stands.
 pub record RecordingSteps : Type 0 where
   pub begins : (c : Config) (u : World) (mutator v : ℕ) → mutator < c.mutators → u.memory Phase ≡ marking_phase → IsMarkable u.block v
       → u.ghost.recording mutator ≡ None → u.ghost.scanning mutator ≡ None → ((a words : ℕ) → u.block a ≡ Some (hand mutator words) → ⊥) → Shared c u → TakesInHand c u mutator v
-  pub each : (c : Config) (u : World) (mutator v : ℕ) (at : RememberSpot) → remember.is_recorded at ≡ false → Shared c u → CanRecord c u mutator v at → RecordStep c u mutator v at
-  pub stays : (c : Config) (u w : World) (mutator v : ℕ) (at : RememberSpot) → Rely c mutator u w → CanRecord c u mutator v at → CanRecord c w mutator v at
+  pub steps : (c : Config) (mutator v : ℕ) → PartSteps c mutator (recording_part c mutator v) (λ u. ⊤)
   pub fits : (c : Config) (u : World) (mutator v : ℕ) (at : RememberSpot) → CanRecord c u mutator v at → remember.IsFit c at (u.memory (remember.touch_at c mutator v at).word)
-  pub inside : (c : Config) (u : World) (mutator v : ℕ) (at : RememberSpot) → CanRecord c u mutator v at → IsWord c (remember.touch_at c mutator v at).word
   pub noted : (c : Config) (u : World) (mutator v : ℕ) (at : RememberSpot) → CanRecord c u mutator v at → NotedIn c u v
 
--- what a step of a machine that scans owes
-abbrev pub ScanStep : Config → World → ℕ → ScanSpot → Type 0
-ScanStep c u seat at = PartStep c u seat (scan.touch_at c at) (λ w. CanScan c w seat (scan.next_at c at (u.memory (scan.touch_at c at).word)) × SameWork u w seat × (w.block ≡ u.block))
+-- a machine that scans
+abbrev pub scanning_part : Config → (seat : ℕ) → Part
+scanning_part c seat = record {
+  Spot = ScanSpot;
+  is_ended = scan.is_ended;
+  touch = scan.touch_at c;
+  next = scan.next_at c;
+  IsFit = seen.IsFit c;
+  Can = λ w at. CanScan c w seat at;
+  Then = λ u w at. CanScan c w seat at × SameWork u w seat × (w.block ≡ u.block);
+}
 
 -- A machine that scans makes grey what the fields of black objects name.
 pub record ScanningSteps : Type 0 where
   pub begins : (c : Config) (u : World) (seat : ℕ) → seat < seat_count c.mutators c.helpers → u.memory Phase ≡ marking_phase → u.ghost.recording seat ≡ None → u.ghost.scanning seat ≡ None → ((a words : ℕ) → u.block a ≡ Some (hand seat words) → ⊥) → CanScan c u seat LoadClaim
   -- who has claimed no unit may take any hint
   pub hinted : (c : Config) (u : World) (seat address : ℕ) → CanScan c u seat LoadClaim → CanScan c u seat (scan.hinted c address)
-  pub each : (c : Config) (u : World) (seat : ℕ) (at : ScanSpot) → scan.is_ended at ≡ false → Shared c u → CanScan c u seat at → ScanStep c u seat at
-  pub stays : (c : Config) (u w : World) (seat : ℕ) (at : ScanSpot) → Rely c seat u w → CanScan c u seat at → CanScan c w seat at
-  pub fits : (c : Config) (u : World) (seat : ℕ) (at : ScanSpot) → scan.is_ended at ≡ false → Shared c u → CanScan c u seat at → seen.IsFit c at (u.memory (scan.touch_at c at).word)
-  pub inside : (c : Config) (u : World) (seat : ℕ) (at : ScanSpot) → CanScan c u seat at → IsWord c (scan.touch_at c at).word
+  pub steps : (c : Config) (seat : ℕ) → PartSteps c seat (scanning_part c seat) (λ u. ⊤)

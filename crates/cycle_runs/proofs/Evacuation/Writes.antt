@@ -143,7 +143,7 @@ module _ (c : Config) (w : World) (shared : Shared c w) where
   -- a step of a resolving leaves the word of the copiers quiet
   quiet_then : (seat a : ℕ) (at : ResolveSpot) → resolves.is_resolved at ≡ false → CanResolve c w seat a at → IsQuiet (w.memory Evac) → IsQuiet (touched w.memory (resolves.touch_at c seat a at) Evac)
   quiet_then seat a at going can quiet =
-      let step = resolving_steps.each c w seat a (w.ghost.working seat) at going shared (record { resolves = can; working = refl }) in
+      let step = ((resolving_steps.steps c seat a).goes w at going shared can).step in
       subst (λ (memory : Word → ℕ). IsQuiet (memory Evac)) step.memory (step.keeps.copies.quiet quiet)
 
   -- of who copies

@@ -22,7 +22,7 @@ use Rattle.load_barrier.specs.UnitFit.{has_shape, is_walkable, is_ready, PartFit
 use Rattle.cycle_steps.specs.Resolving.Laws.{ResolvingSteps}
 use Rattle.cycle_steps.proofs.Resolving.Parts.{resolving_steps}
 use Rattle.cycle_steps.specs.Evacuation.Facts.{IsSwept, IsWalkedTo, IsMeasured, HasNothing, WorkFacts, CanEvacuate}
-use Rattle.cycle_steps.specs.Evacuation.Laws.{spot_then, EvacStep, SweptStep, EvacuatingSteps, SweptIsForwarded, AllIsForwarded}
+use Rattle.cycle_steps.specs.Evacuation.Laws.{spot_then, SweptStep, EvacuatingSteps, SweptIsForwarded, AllIsForwarded}
 use Rattle.cycle_steps.proofs.Evacuation.Walks.{before_end, next_base, placed, three_words, swept_stays, walked_stays, object_stays, measured_stays}
 use Rattle.cycle_steps.proofs.Evacuation.Units.{each_step}
 
@@ -44,7 +44,7 @@ module _ (resolving : ResolvingSteps) (c : Config) (u w : World) (seat : ℕ) (s
   facts_stay (LoadShape address end) facts = (nothing_stays facts.0, object_stays c u w rely.copies.keeps address end facts.1)
   facts_stay (LoadMark address end next) facts = (nothing_stays facts.0, measured_stays c u w rely.copies.keeps address end next facts.1)
   facts_stay (Resolving address end next at) facts =
-      (facts.0, resolving.stays c u w seat address at shared rely facts.1, measured_stays c u w rely.copies.keeps address end next facts.2)
+      (facts.0, ((resolving.steps c seat address).stands u at shared facts.1).stays w rely, measured_stays c u w rely.copies.keeps address end next facts.2)
   facts_stay (Ended unit) facts = nothing_stays facts
 
   pub can_evacuate_stays : (cset : ℕ) (at : EvacSpot) → CanEvacuate c u seat cset at → CanEvacuate c w seat cset at
@@ -113,7 +113,7 @@ unit_inside resolving c u seat cset (LoadTop region) shared can = shared.evacuat
 unit_inside resolving c u seat cset (LoadFirst address end) shared can = header_there c u seat shared address can.facts.1.piece can.facts.1.there
 unit_inside resolving c u seat cset (LoadShape address end) shared can = second_there c u seat shared address end can.facts.1.at can.facts.1.solid
 unit_inside resolving c u seat cset (LoadMark address end next) shared can = word_inside c address (header_there c u seat shared address can.facts.1.at.piece can.facts.1.at.there)
-unit_inside resolving c u seat cset (Resolving address end next at) shared can = resolving.inside c u seat address at shared can.facts.1
+unit_inside resolving c u seat cset (Resolving address end next at) shared can = ((resolving.steps c seat address).stands u at shared can.facts.1).inside
 unit_inside resolving c u seat cset (Ended unit) shared can = tt
 
 -- of the words of copies only headers are accessed by more than loads
@@ -127,15 +127,10 @@ unit_spares resolving c u seat cset _ d k b shared can is below word = inl refl
 -- the word that it finds is fit for the part
 part_fits : (resolving : ResolvingSteps) (c : Config) (u : World) (seat cset : ℕ) (at : EvacSpot) → Shared c u → CanEvacuate c u seat cset at → PartFit c seat at (u.memory (touch_at c seat at).word)
 part_fits resolving c u seat cset (LoadTop region) shared can = le-leb _ _ (shared.parsable.plotted.tops region (shared.evacuated.aside.in_heap region can.facts.1))
-part_fits resolving c u seat cset (Resolving address end next at) shared can = resolving.fits c u seat address at can.facts.0 shared can.facts.1
+part_fits resolving c u seat cset (Resolving address end next at) shared can = ((resolving.steps c seat address).goes u at can.facts.0 shared can.facts.1).fits
 part_fits resolving c u seat cset _ shared can = tt
 
 module _ (resolving : ResolvingSteps) where
-  pub evacuates : (c : Config) (u : World) (seat cset : ℕ) (at : EvacSpot) → is_ended at ≡ false → Shared c u → CanEvacuate c u seat cset at → EvacStep c u seat cset at
-  evacuates c u seat cset at going shared can =
-      let step = each_step resolving c u seat cset at going shared can in
-      record { world = step.world; memory = step.memory; graph = step.graph; shared = step.shared; own = step.own.can; keeps = step.keeps; others = step.others }
-
   sweeps : (c : Config) (u : World) (seat cset : ℕ) (at : EvacSpot) → is_ended at ≡ false → Shared c u → CanEvacuate c u seat cset at → SweptStep c u seat cset at
   sweeps c u seat cset at going shared can =
       let step = each_step resolving c u seat cset at going shared can in
@@ -145,15 +140,18 @@ module _ (resolving : ResolvingSteps) where
   pub evacuating_by : EvacuatingSteps
   evacuating_by = record {
     begins = λ c u seat seated on idle nothing. record { seated = seated; phase = on; set_is = refl; working = idle; facts = nothing };
-    each = evacuates;
+    steps = λ c seat cset. record {
+      stands = λ u at shared can. record { stays = λ w rely. can_evacuate_stays resolving c u w seat shared rely cset at can; inside = unit_inside resolving c u seat cset at shared can };
+      goes = λ u at going shared can.
+          let step = each_step resolving c u seat cset at going shared can in
+          record {
+            step = record { world = step.world; memory = step.memory; graph = step.graph; shared = step.shared; own = step.own.can; keeps = step.keeps; others = step.others };
+            fits = (ready_there c step.world seat step.shared (spot_then c u seat cset at) step.own.can.facts, part_fits resolving c u seat cset at shared can);
+          };
+    };
     sweeps = sweeps;
     stays_swept = λ c u w region keeps is swept. swept_stays c u w keeps region (base_of c (region + 1)) is (let next = next_base c region in omega (arith, next)) swept;
-    stays = λ c u w seat cset at shared rely can. can_evacuate_stays resolving c u w seat shared rely cset at can;
-    fits = λ c u seat cset at going shared can.
-        let step = each_step resolving c u seat cset at going shared can in
-        (ready_there c step.world seat step.shared (spot_then c u seat cset at) step.own.can.facts, part_fits resolving c u seat cset at shared can);
     spares = unit_spares resolving;
-    inside = λ c u seat cset at shared can. unit_inside resolving c u seat cset at shared can;
   }
 
 -- as resolving is proved

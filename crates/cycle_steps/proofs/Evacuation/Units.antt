@@ -319,9 +319,9 @@ module _ (resolving : ResolvingSteps) (c : Config) (u : World) (seat cset : ℕ)
 
   at_resolving : (address end next : ℕ) (at : ResolveSpot) → Shared c u → CanEvacuate c u seat cset (Resolving address end next at) → UnitStep c u seat cset (Resolving address end next at)
   at_resolving address end next at shared can =
-      let step = resolving.each c u seat address (Some (region_with c address)) at can.facts.0 shared (record { resolves = can.facts.1; working = can.working }) in
+      let step = ((resolving.steps c seat address).goes u at can.facts.0 shared can.facts.1).step in
       resolves_on address end next at (resolves.next_at c address evacuation_phase at (u.memory (resolves.touch_at c seat address at).word)) step.world
-      (record { memory = step.memory; graph = step.graph; shared = step.shared; keeps = step.keeps; others = step.others; working = step.own.working }) can refl step.own.resolves
+      (record { memory = step.memory; graph = step.graph; shared = step.shared; keeps = step.keeps; others = step.others; working = step.own.1 ∙ can.working }) can refl step.own.0
 
   -- each step
   pub each_step : (at : EvacSpot) → is_ended at ≡ false → Shared c u → CanEvacuate c u seat cset at → UnitStep c u seat cset at

@@ -22,8 +22,7 @@ use Rattle.load_barrier.specs.Fit.{is_ready}
 use Rattle.load_barrier.specs.Alone.{is_copier}
 use Rattle.heap_words.specs.Phases.{evacuation_phase}
 use Rattle.load_barrier.proofs.Knows.{header_forwarded, header_names}
-use Rattle.cycle_steps.specs.Resolving.Facts.{IsAnswer, HasMovedTo, ResolveFacts, IsResolvingRoom}
-use Rattle.cycle_steps.specs.Resolving.Laws.{CanResolveFor, ResolveStep}
+use Rattle.cycle_steps.specs.Resolving.Facts.{CanResolve, IsAnswer, HasMovedTo, ResolveFacts, IsResolvingRoom}
 use Rattle.cycle_steps.proofs.Resolving.Bodies.{piece_begins}
 use Rattle.cycle_steps.proofs.Resolving.Counts.{counted_world, copying_now, counts_step}
 
@@ -58,6 +57,15 @@ still_answer c w a b inside quiet is = record {
   passed = λ out. absurd (out inside);
   stopped = λ set. quiet.out_of_room;
 }
+
+-- a machine resolves an address, for the unit of work that it has claimed, or for none
+pub record CanResolveFor (c : Config) (w : World) (seat a : ℕ) (unit : Option ℕ) (at : ResolveSpot) : Type 0 where
+  pub resolves : CanResolve c w seat a at
+  pub working : w.ghost.working seat ≡ unit
+
+-- what a step of a machine that resolves an address owes
+abbrev pub ResolveStep : Config → World → (seat a : ℕ) → Option ℕ → ResolveSpot → Type 0
+ResolveStep c u seat a unit at = PartStep c u seat (touch_at c seat a at) (λ w. CanResolveFor c w seat a unit (next_at c a evacuation_phase at (u.memory (touch_at c seat a at).word)))
 
 module _ (c : Config) (u : World) (seat a : ℕ) (unit : Option ℕ) (shared : Shared c u) where
   -- a step that leads to another spot

@@ -32,8 +32,8 @@ use Rattle.load_barrier.specs.Rows.{touch_at, after_take, take_next}
 use Rattle.load_barrier.specs.Fit.{is_ready, is_object, has_words, is_busy}
 use Rattle.load_barrier.specs.Alone.{is_copier}
 use Rattle.load_barrier.proofs.Knows.{header_names}
+use Rattle.cycle_steps.proofs.Resolving.Common.{CanResolveFor, ResolveStep}
 use Rattle.cycle_steps.specs.Resolving.Facts.{IsCopied, ResolveFacts, IsResolvingRoom}
-use Rattle.cycle_steps.specs.Resolving.Laws.{CanResolveFor, ResolveStep}
 use Rattle.cycle_steps.proofs.Resolving.Bodies.{piece_lies, body_lies, piece_begins}
 use Rattle.cycle_steps.proofs.Resolving.Common as steps
 use Rattle.cycle_steps.proofs.Resolving.Worded as worded

@@ -17,10 +17,9 @@ use Rattle.load_barrier.specs.declared.spot.ResolveSpot.TheVariants.{LoadHeader,
 use Rattle.load_barrier.specs.Rows.{after_header, after_enter}
 use Rattle.heap_words.specs.Phases.{evacuation_phase}
 use Rattle.cycle_steps.specs.Resolving.Facts.{IsAnswer}
-use Rattle.cycle_steps.specs.Resolving.Laws.{CanResolveFor, ResolveStep}
 use Rattle.cycle_steps.proofs.Resolving.Bodies.{body_long, body_small, body_lies, piece_word_is, piece_begins, copy_piece, markable_piece}
 use Rattle.cycle_steps.proofs.Resolving.Common as steps
-use Rattle.cycle_steps.proofs.Resolving.Common.{moved_answer, spent_answer}
+use Rattle.cycle_steps.proofs.Resolving.Common.{CanResolveFor, ResolveStep, moved_answer, spent_answer}
 
 module _ (c : Config) (u : World) (seat a : ℕ) (unit : Option ℕ) (shared : Shared c u) where
   -- the first load of the header

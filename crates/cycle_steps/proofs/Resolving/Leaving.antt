@@ -19,11 +19,10 @@ use Rattle.load_barrier.specs.declared.spot.ResolveSpot.{ResolveSpot}
 use Rattle.load_barrier.specs.declared.spot.ResolveSpot.TheVariants.{LoadHeader, Entering, LoadShape, Taking, Copying, Leaving, Stopping, LoadAgain, Resolved}
 use Rattle.load_barrier.specs.Rows.{is_resolved, current_copy, after_stop}
 use Rattle.load_barrier.proofs.Knows.{header_forwarded, header_names}
-use Rattle.cycle_steps.specs.Resolving.Laws.{CanResolveFor, ResolveStep}
 use Rattle.cycle_steps.proofs.Resolving.Bodies.{piece_begins, copy_piece}
 use Rattle.cycle_steps.proofs.Resolving.Counts.{counter_kept}
 use Rattle.cycle_steps.proofs.Resolving.Common as steps
-use Rattle.cycle_steps.proofs.Resolving.Common.{moved_answer, still_answer}
+use Rattle.cycle_steps.proofs.Resolving.Common.{CanResolveFor, ResolveStep, moved_answer, still_answer}
 use Rattle.cycle_steps.proofs.Resolving.Entering.{at_load_header, at_look, at_raise, at_load_shape}
 use Rattle.cycle_steps.proofs.Resolving.Copying.{at_taking, at_copying}
 

@@ -111,11 +111,23 @@ resolving_steps = record {
     ready = refl;
     facts = tt;
   };
-  each = λ c u seat a unit at going shared can. each_resolve c u seat a unit shared at going can;
-  stays = λ c u w seat a at shared rely can. can_resolve_stays c u w seat a shared rely at can;
-  fits = λ c u seat a at going shared can.
-      ((each_resolve c u seat a (u.ghost.working seat) shared at going (record { resolves = can; working = refl })).own.resolves.ready, leaves_fit c u seat a shared at can);
-  inside = λ c u seat a at shared can. inside_at c u seat a shared at can;
+  steps = λ c seat a. record {
+    stands = λ u at shared can. record { stays = λ w rely. can_resolve_stays c u w seat a shared rely at can; inside = inside_at c u seat a shared at can };
+    goes = λ u at going shared can.
+        let step = each_resolve c u seat a (u.ghost.working seat) shared at going (record { resolves = can; working = refl }) in
+        record {
+          step = record {
+            world = step.world;
+            memory = step.memory;
+            graph = step.graph;
+            shared = step.shared;
+            own = (step.own.resolves, step.own.working);
+            keeps = step.keeps;
+            others = step.others;
+          };
+          fits = (step.own.resolves.ready, leaves_fit c u seat a shared at can);
+        };
+  };
   spares = λ c u seat a at d k b shared can is below word. spares_at c u seat a d k b shared is below at can word;
   answers = λ c u seat a answer can. can.facts;
 }

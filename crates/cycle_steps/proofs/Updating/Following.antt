@@ -25,7 +25,11 @@ use Rattle.cycle_steps.proofs.Resolving.Stays.{answer_stays}
 use Rattle.cycle_steps.proofs.Resolving.Common.{moved_answer}
 use Rattle.cycle_steps.specs.Updating.Following.{FollowFacts, CanFollow}
 use Rattle.heap_words.specs.Phases.{updating_phase}
-use Rattle.cycle_steps.specs.Updating.Laws.{FollowStep, FollowingSteps}
+use Rattle.cycle_steps.specs.Updating.Laws.{FollowingSteps}
+
+-- what a step of a machine that resolves an address owes then
+abbrev FollowStep : Config → World → (seat a : ℕ) → ResolveSpot → Type 0
+FollowStep c u seat a at = PartStep c u seat (touch_at c seat a at) (λ w. CanFollow c w seat a (next_at c a updating_phase at (u.memory (touch_at c seat a at).word)))
 
 module _ (c : Config) (u : World) (seat a : ℕ) (shared : Shared c u) where
   -- a copy in the set is an old one
@@ -167,12 +171,18 @@ follows_loads c u seat a LoadAgain can = absurd can.facts
 pub following_steps : FollowingSteps
 following_steps = record {
   begins = λ c u seat a b seated on inside is idle nothing. record { seated = seated; phase = on; inside = inside; body = b; there = is; working = idle; nothing = nothing; facts = tt };
-  each = λ c u seat a at going shared can. each_follow c u seat a shared at going can;
-  stays = λ c u w seat a at shared rely can. can_follow_stays c u w seat a shared rely at can;
-  fits = λ c u seat a at going shared can.
-      let step = each_follow c u seat a shared at going can in
-      (follow_ready c step.world seat a step.shared (next_at c a updating_phase at (u.memory (touch_at c seat a at).word)) step.own, leaves_fit c u seat a shared at (u.memory (touch_at c seat a at).word) can);
-  inside = λ c u seat a at shared can. follow_inside c u seat a shared at can;
+  steps = λ c seat a. record {
+    stands = λ u at shared can. record {
+      stays = λ w rely. can_follow_stays c u w seat a shared rely at can;
+      inside = follow_inside c u seat a shared at can;
+    };
+    goes = λ u at going shared can.
+        let step = each_follow c u seat a shared at going can in
+        record {
+          step = step;
+          fits = (follow_ready c step.world seat a step.shared (next_at c a updating_phase at (u.memory (touch_at c seat a at).word)) step.own, leaves_fit c u seat a shared at (u.memory (touch_at c seat a at).word) can);
+        };
+  };
   ready = λ c u seat a at shared can. follow_ready c u seat a shared at can;
   copies_none = λ c u seat a at can. follows_uncounted c u seat a at can;
   only_loads = λ c u seat a at can. follows_loads c u seat a at can;

@@ -17,10 +17,10 @@ use Rattle.unit_part.specs.declared.update_spot.UpdateSpot.{UpdateSpot}
 use Rattle.unit_part.specs.declared.update_spot.UpdateSpot.TheVariants.{LoadClaim, ClaimUnit, LoadLimit, LoadTams, LoadFirst, LoadShape, LoadBlack, LoadField, LoadHeader, ExchangeField, Ended}
 use Rattle.unit_part.specs.UpdateRows.{touch_at, walk_fits, visit_fits, has_field, is_ready}
 use Rattle.cycle_steps.specs.Updating.Facts.{HasComeTo, HasPiece, HasShape, HasField, UpdateFacts}
-use Rattle.cycle_steps.specs.Updating.Laws.{spot_then, UpdatingSteps}
+use Rattle.cycle_steps.specs.Updating.Laws.{UpdatingSteps}
 use Rattle.cycle_steps.proofs.Updating.Facts.{can_update_stays}
 use Rattle.cycle_steps.proofs.Updating.Pieces.{limit_short, tams_short, piece_shape, shape_words}
-use Rattle.cycle_steps.proofs.Updating.UnitSteps.{each_updates}
+use Rattle.cycle_steps.proofs.Updating.UnitSteps.{spot_then, each_updates}
 
 -- a word of the heap is one by test
 word_there : (c : Config) (a : ℕ) → IsWord c (Heap a) → is_word c (Heap a) ≡ true
@@ -139,12 +139,15 @@ updating_steps = record {
     rooms = nothing.rooms;
     facts = tt;
   };
-  each = λ c u seat cset at going shared can. each_updates c u seat cset at going shared can;
-  stays = λ c u w seat cset at shared rely can. can_update_stays c u w seat cset at shared (keeps_of c seat u w rely) rely can;
+  steps = λ c seat cset. record {
+    stands = λ u at shared can. record {
+      stays = λ w rely. can_update_stays c u w seat cset at shared (keeps_of c seat u w rely) rely can;
+      inside = update_inside c u shared can.phase at can.facts;
+    };
+    goes = λ u at going shared can.
+        let step = each_updates c u seat cset at going shared can in
+        record { step = step; fits = ready_there c step.world step.shared step.own.phase (spot_then c u cset at) step.own.facts };
+  };
   ready = λ c u seat cset at shared can. ready_there c u shared can.phase at can.facts;
-  fits = λ c u seat cset at going shared can.
-      let step = each_updates c u seat cset at going shared can in
-      ready_there c step.world step.shared step.own.phase (spot_then c u cset at) step.own.facts;
-  inside = λ c u seat cset at shared can. update_inside c u shared can.phase at can.facts;
   spares = λ c u seat cset at d k b shared can is inside below word. update_spares c u shared can.phase at d k b can.facts is inside below word;
 }

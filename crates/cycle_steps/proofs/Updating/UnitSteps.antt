@@ -14,21 +14,29 @@ use Rattle.regions.specs.Marks.{mark_word, mark_bit, HasMark}
 use Rattle.shen_graph.specs.declared.name.Name.{Name}
 use Rattle.heap_world.specs.World.{World, Scan, Block, thing, filler, words_of, IsMarkable, IsYoung, IsCurrent, IsUpdating, Shared}
 use Rattle.heap_world.specs.Rely.{Rely}
+use Rattle.heap_world.specs.Part.{PartStep}
 use Rattle.heap_world.proofs.Keeping.{load_keeps, rely_same, keeps_of}
 use Rattle.heap_world.proofs.Updates.{updated, updated_there}
 use Rattle.unit_part.specs.declared.update_spot.Walk.{Walk}
 use Rattle.unit_part.specs.declared.update_spot.Visit.{Visit}
 use Rattle.unit_part.specs.declared.update_spot.UpdateSpot.{UpdateSpot}
 use Rattle.unit_part.specs.declared.update_spot.UpdateSpot.TheVariants.{LoadClaim, ClaimUnit, LoadLimit, LoadTams, LoadFirst, LoadShape, LoadBlack, LoadField, LoadHeader, ExchangeField, Ended}
-use Rattle.unit_part.specs.UpdateRows.{touch_at, is_ended, limit_of, tams_of, names_set, next_object, after_words, next_field}
+use Rattle.unit_part.specs.UpdateRows.{touch_at, next_at, is_ended, limit_of, tams_of, names_set, next_object, after_words, next_field}
 use Rattle.cycle_steps.proofs.Evacuation.Walks.{region_is, placed}
 use Rattle.cycle_steps.specs.Updating.Facts.{pass_of, HasComeTo, IsPiece, HasShape, HasField, HasFound, UpdateFacts, CanUpdate}
-use Rattle.cycle_steps.specs.Updating.Laws.{spot_then, UpdateStep}
 use Rattle.cycle_steps.proofs.Updating.Passes.{Comes, comes_at, IsPassed, passed_same, updating_passed, updating_claimed}
 use Rattle.cycle_steps.proofs.Updating.Changes.{world_then, keeps_then, fields_then, step_then}
 use Rattle.cycle_steps.proofs.Updating.Facts.{field_stays, facts_stay, can_update_stays}
 use Rattle.cycle_steps.proofs.Updating.Pieces.{walked_region, walks_to, walks_on, piece_header, filler_tells, piece_shape, shape_words, shape_refs, field_word, current_names_none, old_names_set}
 use Rattle.cycle_steps.proofs.Updating.Stored.{renewed_world, shared_renewed, rely_renewed}
+
+-- where a machine stands after a step
+abbrev pub spot_then : Config → World → ℕ → UpdateSpot → UpdateSpot
+spot_then c u cset at = next_at c cset at (u.memory (touch_at c at).word)
+
+-- what a step of a machine that updates owes
+abbrev pub UpdateStep : Config → World → ℕ → ℕ → UpdateSpot → Type 0
+UpdateStep c u seat cset at = PartStep c u seat (touch_at c at) (λ w. CanUpdate c w seat cset (spot_then c u cset at))
 
 -- a place of a unit
 abbrev stand : ℕ → ℕ → Scan

@@ -3,7 +3,7 @@ use Rattle.std.specs.Prelude.{ℕ, ◌≡◌, ◌⊎◌, ◌+◌, ◌<◌, ◌�
 use Rattle.heap_words.specs.declared.config.Config.{Config}
 use Rattle.heap_words.specs.Encoding.{is_forwarded}
 use Rattle.heap_words.specs.Ranges.{seat_count}
-use Rattle.heap_words.specs.Words.{Phase, Cset, Evac, Claim, Black, Heap, IsWord}
+use Rattle.heap_words.specs.Words.{Phase, Cset, Evac, Claim, Black, Heap}
 use Rattle.heap_words.specs.Touch.{loads}
 use Rattle.regions.specs.Place.{region_with}
 use Rattle.regions.specs.Sets.{IsIn}
@@ -11,8 +11,8 @@ use Rattle.regions.specs.Marks.{HasMark}
 use Rattle.heap_words.specs.Counter.{is_out_of_room}
 use Rattle.heap_words.specs.Phases.{evacuation_phase}
 use Rattle.heap_world.specs.World.{World, Body, body_at, body_words, Shared, IsCollected}
-use Rattle.heap_world.specs.Rely.{KeepsCopies, Rely}
-use Rattle.heap_world.specs.Part.{PartStep}
+use Rattle.heap_world.specs.Rely.{KeepsCopies}
+use Rattle.heap_world.specs.Part.{PartStep, Part, PartSteps}
 use Rattle.load_barrier.specs.declared.evac_spot.EvacSpot.{EvacSpot}
 use Rattle.load_barrier.specs.declared.evac_spot.EvacSpot.TheVariants.{LoadClaim}
 use Rattle.load_barrier.specs.UnitRows.{touch_at, next_at, is_ended}
@@ -23,9 +23,17 @@ use Rattle.cycle_steps.specs.Evacuation.Facts.{working_of, IsSwept, HasNothing, 
 abbrev pub spot_then : Config → World → ℕ → ℕ → EvacSpot → EvacSpot
 spot_then c u seat cset at = next_at c cset at (u.memory (touch_at c seat at).word)
 
--- what a step of a machine that evacuates owes
-abbrev pub EvacStep : Config → World → ℕ → ℕ → EvacSpot → Type 0
-EvacStep c u seat cset at = PartStep c u seat (touch_at c seat at) (λ w. CanEvacuate c w seat cset (spot_then c u seat cset at))
+-- a machine that evacuates
+abbrev pub evacuating_part : Config → (seat cset : ℕ) → Part
+evacuating_part c seat cset = record {
+  Spot = EvacSpot;
+  is_ended = is_ended;
+  touch = touch_at c seat;
+  next = next_at c cset;
+  IsFit = IsFit c seat cset;
+  Can = λ w at. CanEvacuate c w seat cset at;
+  Then = λ u w at. CanEvacuate c w seat cset at;
+}
 
 -- once it ends a unit, the region on which it worked is swept
 abbrev pub SweptStep : Config → World → ℕ → ℕ → EvacSpot → Type 0
@@ -37,12 +45,9 @@ SweptStep c u seat cset at = PartStep c u seat (touch_at c seat at)
 pub record EvacuatingSteps : Type 0 where
   pub begins : (c : Config) (u : World) (seat : ℕ) → seat < seat_count c.mutators c.helpers → u.memory Phase ≡ evacuation_phase → u.ghost.working seat ≡ None → HasNothing u seat
       → CanEvacuate c u seat (u.memory Cset) LoadClaim
-  pub each : (c : Config) (u : World) (seat cset : ℕ) (at : EvacSpot) → is_ended at ≡ false → Shared c u → CanEvacuate c u seat cset at → EvacStep c u seat cset at
+  pub steps : (c : Config) (seat cset : ℕ) → PartSteps c seat (evacuating_part c seat cset) (Shared c)
   pub sweeps : (c : Config) (u : World) (seat cset : ℕ) (at : EvacSpot) → is_ended at ≡ false → Shared c u → CanEvacuate c u seat cset at → SweptStep c u seat cset at
   pub stays_swept : (c : Config) (u w : World) (region : ℕ) → KeepsCopies c u w → IsIn (u.memory Cset) region → IsSwept c u region → IsSwept c w region
-  pub stays : (c : Config) (u w : World) (seat cset : ℕ) (at : EvacSpot) → Shared c u → Rely c seat u w → CanEvacuate c u seat cset at → CanEvacuate c w seat cset at
-  pub fits : (c : Config) (u : World) (seat cset : ℕ) (at : EvacSpot) → is_ended at ≡ false → Shared c u → CanEvacuate c u seat cset at → IsFit c seat cset at (u.memory (touch_at c seat at).word)
-  pub inside : (c : Config) (u : World) (seat cset : ℕ) (at : EvacSpot) → Shared c u → CanEvacuate c u seat cset at → IsWord c (touch_at c seat at).word
   pub spares : (c : Config) (u : World) (seat cset : ℕ) (at : EvacSpot) (d k : ℕ) (b : Body) → Shared c u → CanEvacuate c u seat cset at → body_at (u.block d) ≡ Some b → k < body_words b
       → (touch_at c seat at).word ≡ Heap (d + k) → ((touch_at c seat at).form ≡ loads) ⊎ (k ≡ 0)
 

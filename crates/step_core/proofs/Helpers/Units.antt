@@ -70,9 +70,9 @@ rests_on c u w seat rely rests = record {
 -- what a machine counts on in its unit stays while others step
 pub work_stays : (c : Config) (u w : World) (seat : ℕ) (at : UnitSpot) → Shared c u → Rely c seat u w → CanWork c u seat at → CanWork c w seat at
 work_stays c u w seat (Scanning at) shared rely can =
-    (scanning_steps.stays c u w seat at rely can.0, rely.copies.copying ∙ can.1, rely.copies.working ∙ can.2, spares_on c u w seat rely can.3)
-work_stays c u w seat (Evacuating cset at) shared rely can = evacuating_steps.stays c u w seat cset at shared rely can
-work_stays c u w seat (Updating cset at) shared rely can = updating_steps.stays c u w seat cset at shared rely can
+    (((scanning_steps.steps c seat).stands u at tt can.0).stays w rely, rely.copies.copying ∙ can.1, rely.copies.working ∙ can.2, spares_on c u w seat rely can.3)
+work_stays c u w seat (Evacuating cset at) shared rely can = ((evacuating_steps.steps c seat cset).stands u at shared can).stays w rely
+work_stays c u w seat (Updating cset at) shared rely can = ((updating_steps.steps c seat cset).stands u at shared can).stays w rely
 work_stays c u w seat (Ended Worked) shared rely can = rests_on c u w seat rely can
 work_stays c u w seat (Ended NoneLeft) shared rely can = (rests_on c u w seat rely can.0, due_stays c u w seat rely can.1)
 
@@ -91,9 +91,9 @@ module _ (c : Config) (u : World) (seat : ℕ) (shared : Shared c u) where
 
   -- a word that it finds is fit
   pub work_fits : (at : UnitSpot) → is_ready c seat at ≡ true → CanWork c u seat at → IsFit c seat at (u.memory (touch_at c seat at).word)
-  work_fits (Scanning at) ready can = scanning_steps.fits c u seat at (not_ended (scans.is_ended at) (and_parts _ _ ready).1) shared can.0
-  work_fits (Evacuating cset at) ready can = evacuating_steps.fits c u seat cset at (not_ended (evacs.is_ended at) (and_parts _ _ ready).1) shared can
-  work_fits (Updating cset at) ready can = updating_steps.fits c u seat cset at (not_ended (updates.is_ended at) (and_parts _ _ ready).1) shared can
+  work_fits (Scanning at) ready can = ((scanning_steps.steps c seat).goes u at (not_ended (scans.is_ended at) (and_parts _ _ ready).1) shared can.0).fits
+  work_fits (Evacuating cset at) ready can = ((evacuating_steps.steps c seat cset).goes u at (not_ended (evacs.is_ended at) (and_parts _ _ ready).1) shared can).fits
+  work_fits (Updating cset at) ready can = ((updating_steps.steps c seat cset).goes u at (not_ended (updates.is_ended at) (and_parts _ _ ready).1) shared can).fits
   work_fits (Ended unit) ready can = tt
 
   -- once all regions are claimed, they are after a step
@@ -148,16 +148,16 @@ module _ (c : Config) (u : World) (seat : ℕ) (shared : Shared c u) where
 
   pub work_step : (at : UnitSpot) → is_ready c seat at ≡ true → is_ended at ≡ false → CanWork c u seat at → WorkStep at
   work_step (Scanning at) ready going can =
-      let step = scanning_steps.each c u seat at (not_ended (scans.is_ended at) (and_parts _ _ ready).1) shared can.0 in
+      let step = ((scanning_steps.steps c seat).goes u at (not_ended (scans.is_ended at) (and_parts _ _ ready).1) shared can.0).step in
       step_with c u seat (scans.touch_at c at) _ _ step (scans_then step.world _ (step.own.0, step.own.1.copying ∙ can.1, step.own.1.working ∙ can.2, λ a x is. can.3 a x (ap (λ plot. plot a) (sym step.own.2) ∙ is)))
   work_step (Evacuating cset at) ready going can =
       let on = not_ended (evacs.is_ended at) (and_parts _ _ ready).1 in
-      let step = evacuating_steps.each c u seat cset at on shared can in
+      let step = ((evacuating_steps.steps c seat cset).goes u at on shared can).step in
       step_with c u seat (evacs.touch_at c seat at) _ _ step
       (evacuates_then step.world cset _ (λ none. claims_then (evacs.touch_at c seat at) _ step (evac_claimed at ((evac_left c cset at _ on).0 none))) step.own)
   work_step (Updating cset at) ready going can =
       let on = not_ended (updates.is_ended at) (and_parts _ _ ready).1 in
-      let step = updating_steps.each c u seat cset at on shared can in
+      let step = ((updating_steps.steps c seat cset).goes u at on shared can).step in
       step_with c u seat (updates.touch_at c at) _ _ step
       (updates_then step.world cset _ (λ none. claims_then (updates.touch_at c at) _ step (update_claimed at ((update_left c cset at _ on).0 none))) step.own)
   work_step (Ended unit) ready going can = absurd (cc (going))

@@ -358,5 +358,5 @@ mine_stays c u w m command fixed shared rely mine = let keeps : Keeps c m.seat u
   facts = facts_stay c u w m.seat keeps m.made m.kept command fixed (take_stays c u w m.seat rely)
       (filling_stays c u w m.seat rely m.made)
       (λ address at can. still_resolving c u w m.seat address at shared rely can)
-      (λ address at can. recording_steps.stays c u w m.seat address at rely can) rely.asked m.spot mine.facts;
+      (λ address at can. ((recording_steps.steps c m.seat address).stands u at tt can).stays w rely) rely.asked m.spot mine.facts;
 }

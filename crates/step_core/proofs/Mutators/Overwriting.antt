@@ -58,7 +58,7 @@ pub record_ready : (c : Config) (w : World) (seat made : ℕ) (kept : Kept) (at 
     → is_ready c seat made kept (Recording at address next) ≡ true
 record_ready c w seat made kept at address next going shared can =
     and_from _ _
-    (and_from _ _ (is_word_from c (satb.touch_at c seat address at).word (recording_steps.inside c w seat address at can)) (remember_numbers c w seat address at shared can))
+    (and_from _ _ (is_word_from c (satb.touch_at c seat address at).word ((recording_steps.steps c seat address).stands w at tt can).inside) (remember_numbers c w seat address at shared can))
     (and_from _ _ (still_records at going) (and_from _ _ can.words.ready (is_word_from c (Heap address) (markable_word c w address shared can.markable))))
 
 -- what is recorded in a phase is not null, and the phase is 1

@@ -107,7 +107,7 @@ module _ (c : Config) (u : World) (seat made : ℕ) (kept : Kept) (command : Com
   -- each step
   pub at_record : (at : RememberSpot) (address : ℕ) (next : Overwritten) → Row c u (at_spot (Recording at address next)) command fixed
   at_record at address next shared mine =
-      let step = recording_steps.each c u seat address at (going_now at address next mine) shared mine.facts.0 in
+      let step = ((recording_steps.steps c seat address).goes u at (going_now at address next mine) shared mine.facts.0).step in
       record {
         world = step.world;
         memory = step.memory;

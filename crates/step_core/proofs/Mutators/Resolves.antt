@@ -79,18 +79,18 @@ resolving_step c u seat a phase at going shared same alone = by_way alone.can
 
     by_way : IsResolving c u seat a at → PartStep c u seat (resolves.touch_at c seat a at) (λ w. ResolvesAlone c w seat a (resolves.next_at c a phase at (u.memory (resolves.touch_at c seat a at).word)))
     by_way (inl can) =
-        let step = resolving_steps.each c u seat a None at going shared (record { resolves = can; working = alone.working }) in
+        let step = ((resolving_steps.steps c seat a).goes u at going shared can).step in
         record {
           world = step.world;
           memory = step.memory;
           graph = step.graph;
           shared = step.shared;
-          own = record { can = subst (λ p. IsResolving c step.world seat a (resolves.next_at c a p at got)) (sym (same ∙ can.phase)) (inl step.own.resolves); working = step.own.working };
+          own = record { can = subst (λ p. IsResolving c step.world seat a (resolves.next_at c a p at got)) (sym (same ∙ can.phase)) (inl step.own.0); working = step.own.1 ∙ alone.working };
           keeps = step.keeps;
           others = step.others;
         }
     by_way (inr can) =
-        let step = following_steps.each c u seat a at going shared can in
+        let step = ((following_steps.steps c seat a).goes u at going shared can).step in
         record {
           world = step.world;
           memory = step.memory;
@@ -103,21 +103,21 @@ resolving_step c u seat a phase at going shared same alone = by_way alone.can
 
 -- it goes on resolving while others step
 pub resolving_stays : (c : Config) (u w : World) (seat a : ℕ) (at : ResolveSpot) → Shared c u → Rely c seat u w → IsResolving c u seat a at → IsResolving c w seat a at
-resolving_stays c u w seat a at shared rely (inl can) = inl (resolving_steps.stays c u w seat a at shared rely can)
-resolving_stays c u w seat a at shared rely (inr can) = inr (following_steps.stays c u w seat a at shared rely can)
+resolving_stays c u w seat a at shared rely (inl can) = inl (((resolving_steps.steps c seat a).stands u at shared can).stays w rely)
+resolving_stays c u w seat a at shared rely (inr can) = inr (((following_steps.steps c seat a).stands u at shared can).stays w rely)
 
 -- the word that it finds is fit
 pub resolving_fits : (c : Config) (u : World) (seat a phase : ℕ) (at : ResolveSpot) → resolves.is_resolved at ≡ false → Shared c u → phase ≡ u.memory Phase → IsResolving c u seat a at
     → load.IsFit c seat a phase at (u.memory (resolves.touch_at c seat a at).word)
 resolving_fits c u seat a phase at going shared same (inl can) =
-    subst (λ p. load.IsFit c seat a p at (u.memory (resolves.touch_at c seat a at).word)) (sym (same ∙ can.phase)) (resolving_steps.fits c u seat a at going shared can)
+    subst (λ p. load.IsFit c seat a p at (u.memory (resolves.touch_at c seat a at).word)) (sym (same ∙ can.phase)) ((resolving_steps.steps c seat a).goes u at going shared can).fits
 resolving_fits c u seat a phase at going shared same (inr can) =
-    subst (λ p. load.IsFit c seat a p at (u.memory (resolves.touch_at c seat a at).word)) (sym (same ∙ can.phase)) (following_steps.fits c u seat a at going shared can)
+    subst (λ p. load.IsFit c seat a p at (u.memory (resolves.touch_at c seat a at).word)) (sym (same ∙ can.phase)) ((following_steps.steps c seat a).goes u at going shared can).fits
 
 -- its access is of a word of the table
 pub resolving_inside : (c : Config) (u : World) (seat a : ℕ) (at : ResolveSpot) → Shared c u → IsResolving c u seat a at → IsWord c (resolves.touch_at c seat a at).word
-resolving_inside c u seat a at shared (inl can) = resolving_steps.inside c u seat a at shared can
-resolving_inside c u seat a at shared (inr can) = following_steps.inside c u seat a at shared can
+resolving_inside c u seat a at shared (inl can) = ((resolving_steps.steps c seat a).stands u at shared can).inside
+resolving_inside c u seat a at shared (inr can) = ((following_steps.steps c seat a).stands u at shared can).inside
 
 -- and in the end it has the answer
 pub resolving_answers : (c : Config) (u : World) (seat a answer : ℕ) → IsResolving c u seat a (Resolved answer) → IsAnswer c u a answer
