@@ -47,21 +47,25 @@ pub record Same (t : ℕ) (g h : Graph) : Type 0 where
   pub object : (n : ℕ) → g.object (own t n) ≡ h.object (own t n)
   pub link : field_of g hub t ≡ field_of h hub t
 
+-- what a thread has is below the hub and its own, and is small
+pub record IsTidyThread (g : Graph) (t : ℕ) : Type 0 where
+  pub hub_root : g.root t 0 ≡ Some hub
+  pub box_root : IsBox t (g.root t 1)
+  pub leaf_root : (r : ℕ) → 2 ≤ r → IsLeaf t (g.root t r)
+  pub slots : (f : ℕ) → IsLeaf t (field_of g (own t 1) f)
+  pub slot_count : length (fields_of g (own t 1)) ≤ 16
+  pub leaves : (n f : ℕ) → 2 ≤ n → field_of g (own t n) f ≡ None
+  pub small : (n : ℕ) → size (named g (Some (own t n))) ≤ 19
+
 -- the threads are apart, and what they have is small
 pub record Tidy (g : Graph) : Type 0 where
   pub hub_is : g.object hub ≡ Some (named g (Some hub))
   pub hub_size : length (fields_of g hub) ≡ 16
   pub hub_nums : (named g (Some hub)).nums ≡ []
   pub links : (f : ℕ) → IsLink f (field_of g hub f)
-  pub hub_root : (t : ℕ) → IsThread t → g.root t 0 ≡ Some hub
-  pub box_root : (t : ℕ) → IsThread t → IsBox t (g.root t 1)
-  pub leaf_root : (t r : ℕ) → IsThread t → 2 ≤ r → IsLeaf t (g.root t r)
+  pub threads : (t : ℕ) → IsThread t → IsTidyThread g t
   pub high_root : (t r : ℕ) → 5 ≤ r → g.root t r ≡ None
   pub no_root : (t r : ℕ) → (IsThread t → ⊥) → g.root t r ≡ None
-  pub slots : (t f : ℕ) → IsThread t → IsLeaf t (field_of g (own t 1) f)
-  pub slot_count : (t : ℕ) → IsThread t → length (fields_of g (own t 1)) ≤ 16
-  pub leaves : (t n f : ℕ) → IsThread t → 2 ≤ n → field_of g (own t n) f ≡ None
-  pub small : (t n : ℕ) → IsThread t → size (named g (Some (own t n))) ≤ 19
   pub no_count : (t : ℕ) → (IsThread t → ⊥) → g.count t ≡ 0
   pub no_object : (m : Name) → (IsThread m.thread → ⊥) → same_name m hub ≡ false → g.object m ≡ None
   pub no_pin : (t s : ℕ) → g.pin t s ≡ None

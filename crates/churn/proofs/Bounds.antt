@@ -28,14 +28,14 @@ IsKnown g n = (n ≡ hub) ⊎ ((t : ℕ) × IsThread t × ((n ≡ own t 1) ⊎ (
 
 by_root : (g : Graph) → Tidy g → (t r : ℕ) (n : Name) → IsThread t → g.root t r ≡ Some n → IsKnown g n
 by_root g tidy t zero n is held =
-    let e : Some hub ≡ Some n = sym (tidy.hub_root t is) ∙ held in
+    let e : Some hub ≡ Some n = sym (tidy.threads t is).hub_root ∙ held in
     inl (cc)
 by_root g tidy t (suc zero) n is held =
-    let box = subst (IsBox t) held (tidy.box_root t is) in
+    let box = subst (IsBox t) held (tidy.threads t is).box_root in
     inr (t, is, inl (name_of n t 1 box.0 box.1))
-by_root g tidy t (suc (suc zero)) n is held = inr (t, is, inr (subst (IsLeaf t) held (tidy.leaf_root t 2 is (omega arith)), (0, omega arith, held)))
-by_root g tidy t (suc (suc (suc zero))) n is held = inr (t, is, inr (subst (IsLeaf t) held (tidy.leaf_root t 3 is (omega arith)), (1, omega arith, held)))
-by_root g tidy t (suc (suc (suc (suc zero)))) n is held = inr (t, is, inr (subst (IsLeaf t) held (tidy.leaf_root t 4 is (omega arith)), (2, omega arith, held)))
+by_root g tidy t (suc (suc zero)) n is held = inr (t, is, inr (subst (IsLeaf t) held ((tidy.threads t is).leaf_root 2 (omega arith)), (0, omega arith, held)))
+by_root g tidy t (suc (suc (suc zero))) n is held = inr (t, is, inr (subst (IsLeaf t) held ((tidy.threads t is).leaf_root 3 (omega arith)), (1, omega arith, held)))
+by_root g tidy t (suc (suc (suc (suc zero)))) n is held = inr (t, is, inr (subst (IsLeaf t) held ((tidy.threads t is).leaf_root 4 (omega arith)), (2, omega arith, held)))
 by_root g tidy t (suc (suc (suc (suc (suc r))))) n is held =
     let none = tidy.high_root t (suc (suc (suc (suc (suc r))))) (omega arith) in
     let never : None ≡ Some n = sym none ∙ held in
@@ -57,13 +57,13 @@ by_field g tidy m n f known is =
               t,
               w.1,
               inr (
-                subst (IsLeaf t) value (tidy.slots t f w.1),
+                subst (IsLeaf t) value ((tidy.threads t w.1).slots f),
                 Contains-append_right (g.root t 2 ∷ g.root t 3 ∷ g.root t 4 ∷ []) (fields_of g (own t 1)) (Some n) (Contains-from_slice_get (fields_of g (own t 1)) f (Some n) here),
               ),
             )
         | inr leaf ↦
             let t = w.0 in
-            let none : field_of g (own t m.count) f ≡ None = tidy.leaves t m.count f w.1 leaf.0.1 in
+            let none : field_of g (own t m.count) f ≡ None = (tidy.threads t w.1).leaves m.count f leaf.0.1 in
             let same = name_of m t m.count leaf.0.0 refl in
             let value : field_of g m f ≡ Some n = get_or_from_slice_get (fields_of g m) f (Some n) None is in
             let never : None ≡ Some n = sym none ∙ ap (λ (x : Name). field_of g x f) (sym same) ∙ value in
@@ -86,8 +86,8 @@ known_small g tidy n known =
     elim known [
       | inl at_hub ↦ subst (λ (x : Name). size (named g (Some x)) ≤ 19) (sym at_hub) (omega (arith, tidy.hub_size, ap (length {A = ℕ}) tidy.hub_nums))
       | inr w ↦ elim (w.2) [
-        | inl at_box ↦ subst (λ (x : Name). size (named g (Some x)) ≤ 19) (sym at_box) (tidy.small w.0 1 w.1)
-        | inr leaf ↦ subst (λ (x : Name). size (named g (Some x)) ≤ 19) (sym (name_of n w.0 n.count leaf.0.0 refl)) (tidy.small w.0 n.count w.1)
+        | inl at_box ↦ subst (λ (x : Name). size (named g (Some x)) ≤ 19) (sym at_box) ((tidy.threads w.0 w.1).small 1)
+        | inr leaf ↦ subst (λ (x : Name). size (named g (Some x)) ≤ 19) (sym (name_of n w.0 n.count leaf.0.0 refl)) ((tidy.threads w.0 w.1).small n.count)
       ]
     ]
 
@@ -105,9 +105,9 @@ few_names g tidy =
     let a = few_held (held g 1) in
     let b = few_held (held g 2) in
     let c = few_held (held g 3) in
-    let sa = tidy.slot_count 1 (omega arith, omega arith) in
-    let sb = tidy.slot_count 2 (omega arith, omega arith) in
-    let sc = tidy.slot_count 3 (omega arith, omega arith) in
+    let sa = (tidy.threads 1 (omega arith, omega arith)).slot_count in
+    let sb = (tidy.threads 2 (omega arith, omega arith)).slot_count in
+    let sc = (tidy.threads 3 (omega arith, omega arith)).slot_count in
     omega (
       arith,
       length-append (hub ∷ own 1 1 ∷ own 2 1 ∷ own 3 1 ∷ []) (names_held (held g 1) ++ (names_held (held g 2) ++ names_held (held g 3))),

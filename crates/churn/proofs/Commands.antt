@@ -49,30 +49,30 @@ number_same t g h r i same of = ap (λ (o : Object). slice_get o.nums i) (root_n
 
 -- what the box holds is a leaf
 loaded : (t : ℕ) (g : Graph) (k : ℕ) (v : Reference) → Tidy g → IsThread t → field_at g t 1 k ≡ Some v → IsLeaf t v
-loaded t g k v tidy thread is = at (g.root t 1) (tidy.box_root t thread) is
+loaded t g k v tidy thread is = at (g.root t 1) (tidy.threads t thread).box_root is
   where
     at : (r : Reference) → IsBox t r → slice_get (named g r).refs k ≡ Some v → IsLeaf t v
     at None box is = cc
     at (Some m) box is =
         let here : slice_get (fields_of g (own t 1)) k ≡ Some v = subst (λ (n : Name). slice_get (fields_of g n) k ≡ Some v) (name_of m t 1 box.0 box.1) is in
-        subst (IsLeaf t) (get_or_from_slice_get (fields_of g (own t 1)) k v None here) (tidy.slots t k thread)
+        subst (IsLeaf t) (get_or_from_slice_get (fields_of g (own t 1)) k v None here) ((tidy.threads t thread).slots k)
 
 moved_slot : (t : ℕ) (g h : Graph) (k r : ℕ) → IsThread t → Tidy g → Tidy h → Same t g h → 2 ≤ r → Moved t g h (with_field g t 1 k (g.root t r)) (with_field h t 1 k (h.root t r))
 moved_slot t g h k r thread tidy other same above =
     subst (λ (v : Reference). Moved t g h (with_field g t 1 k (g.root t r)) (with_field h t 1 k v)) (same.root r)
     (subst (λ (b : Reference). Moved t g h (with_field g t 1 k (g.root t r)) (with_named h b (with_slot (named h b) k (g.root t r)))) (same.root 1)
-    (moved_box t g h (g.root t 1) k (g.root t r) thread tidy other same (tidy.box_root t thread) (tidy.leaf_root t r thread above)))
+    (moved_box t g h (g.root t 1) k (g.root t r) thread tidy other same (tidy.threads t thread).box_root ((tidy.threads t thread).leaf_root r above)))
 
 moved_number : (t : ℕ) (g h : Graph) (i x : ℕ) → IsThread t → Tidy g → Tidy h → Same t g h → Moved t g h (with_number g t 2 i x) (with_number h t 2 i x)
 moved_number t g h i x thread tidy other same =
     subst (λ (b : Reference). Moved t g h (with_number g t 2 i x) (with_named h b (with_value (named h b) i x))) (same.root 2)
-    (moved_leaf t g h (g.root t 2) i x thread tidy other same (tidy.leaf_root t 2 thread (omega arith)))
+    (moved_leaf t g h (g.root t 2) i x thread tidy other same ((tidy.threads t thread).leaf_root 2 (omega arith)))
 
 moved_link : (t : ℕ) (g h : Graph) → IsThread t → Tidy g → Tidy h → Same t g h → Moved t g h (with_field g t 0 t (g.root t 1)) (with_field h t 0 t (h.root t 1))
 moved_link t g h thread tidy other same =
-    subst (λ (r : Reference). Moved t g h (with_named g r (with_slot (named g r) t (g.root t 1))) (with_field h t 0 t (h.root t 1))) (sym (tidy.hub_root t thread))
-    (subst (λ (r : Reference). Moved t g h (with_named g (Some hub) (with_slot (named g (Some hub)) t (g.root t 1))) (with_named h r (with_slot (named h r) t (h.root t 1)))) (sym (other.hub_root t thread))
-    (moved_hub t g h (g.root t 1) (h.root t 1) thread tidy other same (same.root 1) (tidy.box_root t thread)))
+    subst (λ (r : Reference). Moved t g h (with_named g r (with_slot (named g r) t (g.root t 1))) (with_field h t 0 t (h.root t 1))) (sym (tidy.threads t thread).hub_root)
+    (subst (λ (r : Reference). Moved t g h (with_named g (Some hub) (with_slot (named g (Some hub)) t (g.root t 1))) (with_named h r (with_slot (named h r) t (h.root t 1)))) (sym (other.threads t thread).hub_root)
+    (moved_hub t g h (g.root t 1) (h.root t 1) thread tidy other same (same.root 1) (tidy.threads t thread).box_root))
 
 link_same : (t : ℕ) (g h : Graph) → IsThread t → Tidy g → Tidy h → Same t g h → field_at g t 0 t ≡ field_at h t 0 t
 link_same t g h thread tidy other same =
@@ -81,7 +81,7 @@ link_same t g h thread tidy other same =
     at : (g : Graph) → Tidy g → field_at g t 0 t ≡ Some (field_of g hub t)
     at g tidy =
         let size = tidy.hub_size in
-        subst (λ (r : Reference). slice_get (named g r).refs t ≡ Some (field_of g hub t)) (sym (tidy.hub_root t thread))
+        subst (λ (r : Reference). slice_get (named g r).refs t ≡ Some (field_of g hub t)) (sym (tidy.threads t thread).hub_root)
         (slice_get-get_or (fields_of g hub) t None (omega arith))
 
 moved_new : (t : ℕ) (g h : Graph) (dst refs nums : ℕ) → IsThread t → Tidy g → Tidy h → Same t g h → 1 ≤ dst → dst < 5
@@ -108,7 +108,7 @@ later-step t g h _ thread tidy other same some (makes refs nums few) =
     (λ is. absurd (omega arith)) (λ _. omega arith)
 later-step t g h _ thread tidy other same some (writes value) =
     on-step t g h (number_at g t 2 0) (number_at h t 2 0) (λ _. answers reply.Ok (with_number g t 2 0 value)) (λ _. answers reply.Ok (with_number h t 2 0 value)) tidy other same
-    (number_same t g h 2 0 same (leaf_of t (g.root t 2) (tidy.leaf_root t 2 thread (omega arith))))
+    (number_same t g h 2 0 same (leaf_of t (g.root t 2) ((tidy.threads t thread).leaf_root 2 (omega arith))))
     (λ v is. record { reply = refl; moved = moved_number t g h 0 value thread tidy other same })
 later-step t g h _ thread tidy other same some links =
     on-step t g h (field_at g t 0 t) (field_at h t 0 t) (λ _. answers reply.Ok (with_field g t 0 t (g.root t 1))) (λ _. answers reply.Ok (with_field h t 0 t (h.root t 1))) tidy other same
@@ -116,23 +116,23 @@ later-step t g h _ thread tidy other same some links =
     (λ v is. record { reply = refl; moved = moved_link t g h thread tidy other same })
 later-step t g h _ thread tidy other same some (stores k) =
     on-step t g h (field_at g t 1 k) (field_at h t 1 k) (λ _. answers reply.Ok (with_field g t 1 k (g.root t 2))) (λ _. answers reply.Ok (with_field h t 1 k (h.root t 2))) tidy other same
-    (field_same t g h 1 k same (box_of t (g.root t 1) (tidy.box_root t thread)))
+    (field_same t g h 1 k same (box_of t (g.root t 1) (tidy.threads t thread).box_root))
     (λ v is. record { reply = refl; moved = moved_slot t g h k 2 thread tidy other same (omega arith) })
 later-step t g h _ thread tidy other same some drops =
     record { reply = refl; moved = moved_root t g h g h 2 None None thread (stays t g h tidy other same) refl (omega arith) (omega arith) (λ _. tt) (λ _. tt) }
 later-step t g h _ thread tidy other same some (loads k) =
     on-step t g h (field_at g t 1 k) (field_at h t 1 k) (λ v. answers (shown v) (with_root g t 3 v)) (λ v. answers (shown v) (with_root h t 3 v)) tidy other same
-    (field_same t g h 1 k same (box_of t (g.root t 1) (tidy.box_root t thread)))
+    (field_same t g h 1 k same (box_of t (g.root t 1) (tidy.threads t thread).box_root))
     (λ v is. record { reply = refl; moved = moved_root t g h g h 3 v v thread (stays t g h tidy other same) refl (omega arith) (omega arith) (λ e. absurd (omega arith)) (λ _. loaded t g k v tidy thread is) })
 later-step t g h _ thread tidy other same some reads =
     on-step t g h (number_at g t 3 0) (number_at h t 3 0) (λ n. answers (reply.Number n) g) (λ n. answers (reply.Number n) h) tidy other same
-    (number_same t g h 3 0 same (leaf_of t (g.root t 3) (tidy.leaf_root t 3 thread (omega arith))))
+    (number_same t g h 3 0 same (leaf_of t (g.root t 3) ((tidy.threads t thread).leaf_root 3 (omega arith))))
     (λ v is. record { reply = refl; moved = stays t g h tidy other same })
 later-step t g h _ thread tidy other same some (swaps k) =
     on-step t g h (field_at g t 1 k) (field_at h t 1 k)
     (λ v. if same_reference v (g.root t 3) then answers reply.Yes (with_field g t 1 k (g.root t 3)) else answers reply.No g)
     (λ v. if same_reference v (h.root t 3) then answers reply.Yes (with_field h t 1 k (h.root t 3)) else answers reply.No h) tidy other same
-    (field_same t g h 1 k same (box_of t (g.root t 1) (tidy.box_root t thread)))
+    (field_same t g h 1 k same (box_of t (g.root t 1) (tidy.threads t thread).box_root))
     (λ v is. subst (λ (w : Reference). Stepped t g h (if same_reference v (g.root t 3) then answers reply.Yes (with_field g t 1 k (g.root t 3)) else answers reply.No g)
     (if same_reference v w then answers reply.Yes (with_field h t 1 k (h.root t 3)) else answers reply.No h)) (same.root 3)
     (elim (same_reference v (g.root t 3)) as (λ b. Stepped t g h (if b then answers reply.Yes (with_field g t 1 k (g.root t 3)) else answers reply.No g)
@@ -141,7 +141,7 @@ later-step t g h _ thread tidy other same some (swaps k) =
 later-step t g h _ thread tidy other same some (exchanges k) =
     on-step t g h (field_at g t 1 k) (field_at h t 1 k)
     (λ v. answers (shown v) (with_root (with_field g t 1 k (g.root t 3)) t 4 v)) (λ v. answers (shown v) (with_root (with_field h t 1 k (h.root t 3)) t 4 v)) tidy other same
-    (field_same t g h 1 k same (box_of t (g.root t 1) (tidy.box_root t thread)))
+    (field_same t g h 1 k same (box_of t (g.root t 1) (tidy.threads t thread).box_root))
     (λ v is. record {
       reply = refl;
       moved = moved_root t g h (with_field g t 1 k (g.root t 3)) (with_field h t 1 k (h.root t 3)) 4 v v thread (moved_slot t g h k 3 thread tidy other same (omega arith))

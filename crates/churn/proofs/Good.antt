@@ -275,11 +275,11 @@ good-link : (t : ℕ) (g : Graph) → IsThread t → Tidy g → Ready t g → Go
 good-link t g is tidy ready =
     let size = tidy.hub_size in
     let there : field_at g t 0 t ≡ Some (field_of g hub t) =
-    subst (λ (r : Reference). slice_get (named g r).refs t ≡ Some (field_of g hub t)) (sym (tidy.hub_root t is)) (slice_get-get_or (fields_of g hub) t None (omega arith)) in
+    subst (λ (r : Reference). slice_get (named g r).refs t ≡ Some (field_of g hub t)) (sym (tidy.threads t is).hub_root) (slice_get-get_or (fields_of g hub) t None (omega arith)) in
     let other : own t 1 ≡ hub → ⊥ = λ e. let c : t ≡ 0 = ap (λ (m : Name). m.thread) e in omega (arith, is.0) in
     let w = ready-object t g hub (hub_with g t (g.root t 1)) ready (record { filled = λ h. h; size = λ e. absurd (other e); slots = λ e. absurd (other e) }) in
     by_outcome t g (Set 0 t 1) (Ready t) reply.Ok (with_field g t 0 t (g.root t 1)) (rw there refl) (λ e. cc)
-    (subst (λ (r : Reference). Ready t (with_named g r (with_slot (named g r) t (g.root t 1)))) (sym (tidy.hub_root t is)) w)
+    (subst (λ (r : Reference). Ready t (with_named g r (with_slot (named g r) t (g.root t 1)))) (sym (tidy.threads t is).hub_root) w)
 
 pub script_good : (seed count t : ℕ) → IsThread t → AllGood t (opening 3) (churn_script seed count t)
 script_good seed count t is =

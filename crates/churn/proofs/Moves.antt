@@ -36,15 +36,17 @@ with_root-tidy g t r v tidy thread low high box leaf = record {
   hub_size = tidy.hub_size;
   hub_nums = tidy.hub_nums;
   links = tidy.links;
-  hub_root = λ u is. root_case (λ x. x ≡ Some hub) u t 0 r v (g.root u 0) (λ _ e. absurd (omega arith)) (tidy.hub_root u is);
-  box_root = λ u is. root_case (IsBox u) u t 1 r v (g.root u 1) (λ a b. subst (λ (k : ℕ). IsBox k v) (sym a) (box (sym b))) (tidy.box_root u is);
-  leaf_root = λ u s is above. root_case (IsLeaf u) u t s r v (g.root u s) (λ a b. subst (λ (k : ℕ). IsLeaf k v) (sym a) (leaf (omega arith))) (tidy.leaf_root u s is above);
+  threads = λ u is. record {
+    hub_root = root_case (λ x. x ≡ Some hub) u t 0 r v (g.root u 0) (λ _ e. absurd (omega arith)) (tidy.threads u is).hub_root;
+    box_root = root_case (IsBox u) u t 1 r v (g.root u 1) (λ a b. subst (λ (k : ℕ). IsBox k v) (sym a) (box (sym b))) (tidy.threads u is).box_root;
+    leaf_root = λ s above. root_case (IsLeaf u) u t s r v (g.root u s) (λ a b. subst (λ (k : ℕ). IsLeaf k v) (sym a) (leaf (omega arith))) ((tidy.threads u is).leaf_root s above);
+    slots = (tidy.threads u is).slots;
+    slot_count = (tidy.threads u is).slot_count;
+    leaves = (tidy.threads u is).leaves;
+    small = (tidy.threads u is).small;
+  };
   high_root = λ u s above. root_case (λ x. x ≡ None) u t s r v (g.root u s) (λ a b. absurd (omega arith)) (tidy.high_root u s above);
   no_root = λ u s out. root_case (λ x. x ≡ None) u t s r v (g.root u s) (λ a b. absurd (out (subst IsThread (sym a) thread))) (tidy.no_root u s out);
-  slots = tidy.slots;
-  slot_count = tidy.slot_count;
-  leaves = tidy.leaves;
-  small = tidy.small;
   no_count = tidy.no_count;
   no_object = tidy.no_object;
   no_pin = tidy.no_pin;
@@ -111,17 +113,19 @@ own_object-tidy g t n o tidy thread fits =
       hub_size = subst (λ (x : Object). length x.refs ≡ 16) (sym (named_other g hub (own t n) o e)) tidy.hub_size;
       hub_nums = subst (λ (x : Object). x.nums ≡ []) (sym (named_other g hub (own t n) o e)) tidy.hub_nums;
       links = λ f. subst (IsLink f) (sym (field_other g hub (own t n) o f e)) (tidy.links f);
-      hub_root = tidy.hub_root;
-      box_root = tidy.box_root;
-      leaf_root = tidy.leaf_root;
+      threads = λ u is. record {
+        hub_root = (tidy.threads u is).hub_root;
+        box_root = (tidy.threads u is).box_root;
+        leaf_root = (tidy.threads u is).leaf_root;
+        slots = λ f. object_case (λ x. IsLeaf u (get_or x.refs f None)) g (own u 1) (own t n) o
+            (λ e. subst (λ (k : ℕ). IsLeaf k (get_or o.refs f None)) (sym (ap (λ m. m.thread) e)) (fits.box (sym (ap (λ m. m.count) e)) f)) ((tidy.threads u is).slots f);
+        slot_count = object_case (λ x. length x.refs ≤ 16) g (own u 1) (own t n) o (λ e. fits.box_size (sym (ap (λ m. m.count) e))) (tidy.threads u is).slot_count;
+        leaves = λ k f above. object_case (λ x. get_or x.refs f None ≡ None) g (own u k) (own t n) o
+            (λ e. let c : k ≡ n = ap (λ m. m.count) e in fits.leaf (omega arith) f) ((tidy.threads u is).leaves k f above);
+        small = λ k. object_case (λ x. size x ≤ 19) g (own u k) (own t n) o (λ e. fits.small) ((tidy.threads u is).small k);
+      };
       high_root = tidy.high_root;
       no_root = tidy.no_root;
-      slots = λ u f is. object_case (λ x. IsLeaf u (get_or x.refs f None)) g (own u 1) (own t n) o
-          (λ e. subst (λ (k : ℕ). IsLeaf k (get_or o.refs f None)) (sym (ap (λ m. m.thread) e)) (fits.box (sym (ap (λ m. m.count) e)) f)) (tidy.slots u f is);
-      slot_count = λ u is. object_case (λ x. length x.refs ≤ 16) g (own u 1) (own t n) o (λ e. fits.box_size (sym (ap (λ m. m.count) e))) (tidy.slot_count u is);
-      leaves = λ u k f is above. object_case (λ x. get_or x.refs f None ≡ None) g (own u k) (own t n) o
-          (λ e. let c : k ≡ n = ap (λ m. m.count) e in fits.leaf (omega arith) f) (tidy.leaves u k f is above);
-      small = λ u k is. object_case (λ x. size x ≤ 19) g (own u k) (own t n) o (λ e. fits.small) (tidy.small u k is);
       no_count = tidy.no_count;
       no_object = λ m out apart. object_none m out apart;
       no_pin = tidy.no_pin;
@@ -169,15 +173,17 @@ with_fresh-tidy g t o tidy thread fits =
       hub_size = w.hub_size;
       hub_nums = w.hub_nums;
       links = w.links;
-      hub_root = w.hub_root;
-      box_root = w.box_root;
-      leaf_root = w.leaf_root;
+      threads = λ u is. record {
+        hub_root = (w.threads u is).hub_root;
+        box_root = (w.threads u is).box_root;
+        leaf_root = (w.threads u is).leaf_root;
+        slots = (w.threads u is).slots;
+        slot_count = (w.threads u is).slot_count;
+        leaves = (w.threads u is).leaves;
+        small = (w.threads u is).small;
+      };
       high_root = w.high_root;
       no_root = w.no_root;
-      slots = w.slots;
-      slot_count = w.slot_count;
-      leaves = w.leaves;
-      small = w.small;
       no_count = λ u out. rw (eqb_other u out) (tidy.no_count u out);
       no_object = w.no_object;
       no_pin = w.no_pin;
@@ -241,15 +247,17 @@ hub-tidy g t v tidy thread box = record {
   hub_size = length-set (fields_of g hub) t v ∙ tidy.hub_size;
   hub_nums = tidy.hub_nums;
   links = field_case IsLink (fields_of g hub) t v tidy.links (link v box);
-  hub_root = tidy.hub_root;
-  box_root = tidy.box_root;
-  leaf_root = tidy.leaf_root;
+  threads = λ u is. record {
+    hub_root = (tidy.threads u is).hub_root;
+    box_root = (tidy.threads u is).box_root;
+    leaf_root = (tidy.threads u is).leaf_root;
+    slots = λ f. subst (IsLeaf u) (sym (field_other g (own u 1) hub (hub_with g t v) f (not_hub_too u 1 is))) ((tidy.threads u is).slots f);
+    slot_count = subst (λ (x : Object). length x.refs ≤ 16) (sym (named_other g (own u 1) hub (hub_with g t v) (not_hub_too u 1 is))) (tidy.threads u is).slot_count;
+    leaves = λ k f above. field_other g (own u k) hub (hub_with g t v) f (not_hub_too u k is) ∙ (tidy.threads u is).leaves k f above;
+    small = λ k. subst (λ (x : Object). size x ≤ 19) (sym (named_other g (own u k) hub (hub_with g t v) (not_hub_too u k is))) ((tidy.threads u is).small k);
+  };
   high_root = tidy.high_root;
   no_root = tidy.no_root;
-  slots = λ u f is. subst (IsLeaf u) (sym (field_other g (own u 1) hub (hub_with g t v) f (not_hub_too u 1 is))) (tidy.slots u f is);
-  slot_count = λ u is. subst (λ (x : Object). length x.refs ≤ 16) (sym (named_other g (own u 1) hub (hub_with g t v) (not_hub_too u 1 is))) (tidy.slot_count u is);
-  leaves = λ u k f is above. field_other g (own u k) hub (hub_with g t v) f (not_hub_too u k is) ∙ tidy.leaves u k f is above;
-  small = λ u k is. subst (λ (x : Object). size x ≤ 19) (sym (named_other g (own u k) hub (hub_with g t v) (not_hub_too u k is))) (tidy.small u k is);
   no_count = tidy.no_count;
   no_object = λ m out apart. rw apart (tidy.no_object m out apart);
   no_pin = tidy.no_pin;
@@ -296,10 +304,10 @@ with_value o i n = record { refs = o.refs; nums = set o.nums i n }
 
 box-fits : (g : Graph) (t k : ℕ) (v : Reference) → Tidy g → IsThread t → IsLeaf t v → Fits t 1 (with_slot (named g (Some (own t 1))) k v)
 box-fits g t k v tidy thread leaf =
-    let small = tidy.small t 1 thread in
-    let count = tidy.slot_count t thread in
+    let small = (tidy.threads t thread).small 1 in
+    let count = (tidy.threads t thread).slot_count in
     record {
-      box = λ _. field_case (λ _ r. IsLeaf t r) (fields_of g (own t 1)) k v (λ f. tidy.slots t f thread) leaf;
+      box = λ _. field_case (λ _ r. IsLeaf t r) (fields_of g (own t 1)) k v (λ f. (tidy.threads t thread).slots f) leaf;
       box_size = λ _. omega (arith, length-set (fields_of g (own t 1)) k v);
       leaf = λ above. absurd (omega arith);
       small = omega (arith, length-set (fields_of g (own t 1)) k v);
@@ -317,11 +325,11 @@ moved_box t g h (Some m) k v thread tidy other same box leaf =
 
 leaf-fits : (g : Graph) (t n i x : ℕ) → Tidy g → IsThread t → 2 ≤ n → Fits t n (with_value (named g (Some (own t n))) i x)
 leaf-fits g t n i x tidy thread above =
-    let small = tidy.small t n thread in
+    let small = (tidy.threads t thread).small n in
     record {
       box = λ is. absurd (omega arith);
       box_size = λ is. absurd (omega arith);
-      leaf = λ _ f. tidy.leaves t n f thread above;
+      leaf = λ _ f. (tidy.threads t thread).leaves n f above;
       small = omega (arith, length-set (named g (Some (own t n))).nums i x);
     }
 

@@ -63,18 +63,20 @@ tidy_opening = record {
   hub_size = refl;
   hub_nums = refl;
   links = λ f. subst (IsLink f) (sym (none_in 16 f)) tt;
-  hub_root = λ t is. elim (thread_cases t is) as (λ _. (opening 3).root t 0 ≡ Some hub) [
-    | inl one ↦ rw one refl
-    | inr more ↦ elim more as (λ _. (opening 3).root t 0 ≡ Some hub) [ inl two ↦ rw two refl | inr three ↦ rw three refl ]
-  ];
-  box_root = λ t is. subst (IsBox t) (sym (begins_none t 1 (omega arith))) tt;
-  leaf_root = λ t r is above. subst (IsLeaf t) (sym (begins_none t r (omega arith))) tt;
+  threads = λ t is. record {
+    hub_root = elim (thread_cases t is) as (λ _. (opening 3).root t 0 ≡ Some hub) [
+      | inl one ↦ rw one refl
+      | inr more ↦ elim more as (λ _. (opening 3).root t 0 ≡ Some hub) [ inl two ↦ rw two refl | inr three ↦ rw three refl ]
+    ];
+    box_root = subst (IsBox t) (sym (begins_none t 1 (omega arith))) tt;
+    leaf_root = λ r above. subst (IsLeaf t) (sym (begins_none t r (omega arith))) tt;
+    slots = λ f. subst (IsLeaf t) (sym (bare_field t 1 f is)) tt;
+    slot_count = subst (λ (o : Object). length o.refs ≤ 16) (sym (begins_bare t 1 is)) (omega arith);
+    leaves = λ n f above. bare_field t n f is;
+    small = λ n. subst (λ (o : Object). size o ≤ 19) (sym (begins_bare t n is)) (omega arith);
+  };
   high_root = λ t r above. begins_none t r (omega arith);
   no_root = begins_out;
-  slots = λ t f is. subst (IsLeaf t) (sym (bare_field t 1 f is)) tt;
-  slot_count = λ t is. subst (λ (o : Object). length o.refs ≤ 16) (sym (begins_bare t 1 is)) (omega arith);
-  leaves = λ t n f is above. bare_field t n f is;
-  small = λ t n is. subst (λ (o : Object). size o ≤ 19) (sym (begins_bare t n is)) (omega arith);
   no_count = λ t out. refl;
   no_object = λ m out apart. rw apart refl;
   no_pin = λ t s. refl;
