@@ -36,7 +36,7 @@ FILES = {
     "Updating": "updating of references: a folder",
 }
 # Words of rows, that each part or role has.
-ROWS = """place_at touch_at next_at says_at says_of says_by says takes_at answer_at is_ended is_ready IsFit PartFit WaitsAt waits_at HasNoneLeft
+ROWS = """place_at touch_at next_at says_at says_of says_by takes_at answer_at is_ended is_ready IsFit PartFit WaitsAt waits_at HasNoneLeft
 IsDoneAt has_unit next_spot spot_then numbers_fit begins_unit is_gone take_next after_enter after_evacuation after_resolve after_scan after_shape
 after_take after_first after_words after_updating after_word evacuating_says scanning_says updating_says AccessesAreInside StaysReady UnitGoesOn
 takes_hint hinted_by greys_at IsHintFor""".split()

@@ -16,7 +16,7 @@ use Rattle.alloc_buffers.specs.declared.spot.TakeSpot.{TakeSpot}
 use Rattle.alloc_buffers.specs.declared.spot.TakeSpot.TheVariants.{LoadBuffer, LoadShared, LoadTop, Carve, LoadFree, TakeRegion, ShareRegion, GiveBack, Fill, StoreBuffer, Ended}
 use Rattle.regions.specs.Place.{base_of}
 use Rattle.heap_world.specs.World.{World, spare}
-use Rattle.alloc_buffers.specs.Rows.{place_at, touch_at, next_at, says, free_words, carved_at}
+use Rattle.alloc_buffers.specs.Rows.{place_at, touch_at, next_at, says_at, free_words, carved_at}
 use Rattle.alloc_buffers.specs.Facts.{CanTake}
 use Rattle.alloc_buffers.specs.Waits.{WaitsAt}
 
@@ -125,7 +125,7 @@ may_wait (ShareRegion buffer shared region) = true
 may_wait _ = false
 
 -- a step that cannot come too late never says that another machine was faster
-never : (take next : TakeSpot) → may_wait take ≡ false → says take next ≡ Again → ⊥
+never : (take next : TakeSpot) → may_wait take ≡ false → says_at take next ≡ Again → ⊥
 never (Carve buffer region top room) next waits is = absurd (true≢false waits)
 never (TakeRegion buffer shared region) next waits is = absurd (true≢false waits)
 never (ShareRegion buffer shared region) next waits is = absurd (true≢false waits)
@@ -147,24 +147,24 @@ never (Ended taken end) (Ended answer to) waits is = cc
 never (Ended taken end) _ waits is = cc
 
 -- where it has carved it goes on
-carved_never : (buffer region top room address : ℕ) → says (Carve buffer region top room) (carved_at buffer address room) ≡ Again → ⊥
+carved_never : (buffer region top room address : ℕ) → says_at (Carve buffer region top room) (carved_at buffer address room) ≡ Again → ⊥
 carved_never buffer region top room address = by_test (nat_lt (next_in buffer) (end_in buffer))
   where
-    by_test : (b : Bool) → says (Carve buffer region top room) (if b then Fill buffer address room else StoreBuffer address room) ≡ Again → ⊥
+    by_test : (b : Bool) → says_at (Carve buffer region top room) (if b then Fill buffer address room else StoreBuffer address room) ≡ Again → ⊥
     by_test true is = cc
     by_test false is = cc
 
 -- a step says so exactly where the taking waits
-pub says_where_it_waits : (c : Config) (words : ℕ) (kind : Kind) (take : TakeSpot) (got : ℕ) → (says take (next_at c words kind take got) ≡ Again) ↔ WaitsAt take got
+pub says_where_it_waits : (c : Config) (words : ℕ) (kind : Kind) (take : TakeSpot) (got : ℕ) → (says_at take (next_at c words kind take got) ≡ Again) ↔ WaitsAt take got
 says_where_it_waits c words kind (Carve buffer region top room) got = ⊎_elim
     (λ (same : got ≡ top). (
       λ is. absurd (carved_never buffer region top room (base_of c region + top)
-          (subst (λ b. says (Carve buffer region top room) (if b then carved_at buffer (base_of c region + top) room else LoadShared buffer) ≡ Again) (eq-eqb got top same) is)),
+          (subst (λ b. says_at (Carve buffer region top room) (if b then carved_at buffer (base_of c region + top) room else LoadShared buffer) ≡ Again) (eq-eqb got top same) is)),
       λ waits. absurd (waits same),
     ))
     (λ (differs : got ≢ top). (
       λ is. differs,
-      λ waits. ap (says (Carve buffer region top room)) (cond-false (got == top) (carved_at buffer (base_of c region + top) room) (LoadShared buffer) (ne_eqb got top differs)),
+      λ waits. ap (says_at (Carve buffer region top room)) (cond-false (got == top) (carved_at buffer (base_of c region + top) room) (LoadShared buffer) (ne_eqb got top differs)),
     ))
     (cases_eq got top)
 says_where_it_waits c words kind (TakeRegion buffer shared region) got = grind (arith, nat_tests)

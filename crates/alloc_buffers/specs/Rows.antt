@@ -110,12 +110,12 @@ next_at c words kind (StoreBuffer address room) got = Ended (At address) (addres
 next_at c words kind (Ended taken end) got = Ended taken end
 
 -- what a step that leads from one spot to another says: another machine was faster, the taking has ended, or neither
-abbrev pub says : TakeSpot → TakeSpot → Took
-says (Carve buffer region top room) (LoadShared same) = Again
-says (TakeRegion buffer shared region) (LoadFree same again) = Again
-says (ShareRegion buffer shared region) (GiveBack same again) = Again
-says spot (Ended taken end) = Done
-says spot next = More
+abbrev pub says_at : TakeSpot → TakeSpot → Took
+says_at (Carve buffer region top room) (LoadShared same) = Again
+says_at (TakeRegion buffer shared region) (LoadFree same again) = Again
+says_at (ShareRegion buffer shared region) (GiveBack same again) = Again
+says_at spot (Ended taken end) = Done
+says_at spot next = More
 
 -- whether the machine has its answer
 abbrev pub is_ended : TakeSpot → Bool

@@ -269,7 +269,7 @@ impl TakeSpot {
 
     /// What the step says that has led from here to the next spot.
     pub fn says(self, next: TakeSpot) -> Took
-        ensures { result ≡ rows.says self next }
+        ensures { result ≡ rows.says_at self next }
     {
         match (self, next) {
             (TakeSpot::Carve { .. }, TakeSpot::LoadShared { .. }) => Took::Again,

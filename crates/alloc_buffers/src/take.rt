@@ -24,7 +24,7 @@ impl Take {
     ghost use Rattle.heap_words.specs.Access.{table_index};
     ghost use Rattle.heap_words.specs.Words.{table_words};
     ghost use Rattle.heap_words.specs.Touch.{placed};
-    ghost use Rattle.alloc_buffers.specs.Rows.{place_at, touch_at, next_at, is_ended, says};
+    ghost use Rattle.alloc_buffers.specs.Rows.{place_at, touch_at, next_at, is_ended, says_at};
     ghost use Rattle.alloc_buffers.specs.Seen.{wanted, spot_of, taken_in, end_of_taken, looks_at_free, IsFit};
     ghost use Rattle.alloc_buffers.specs.Waits.{WaitsAt, TakingEndsAt};
     ghost use Rattle.alloc_buffers.specs.Room.{MayTakeNone};
@@ -69,7 +69,7 @@ impl Take {
         requires fit { let w = wanted self.old in IsFit w.config w.seat w.words w.kind (spot_of self.old) got }
         ensures row { let w = wanted self.old in spot_of self.new ≡ next_at w.config w.words w.kind (spot_of self.old) got }
         ensures wanted { wanted self.new ≡ wanted self.old }
-        ensures says { result ≡ says (spot_of self.old) (spot_of self.new) }
+        ensures says { result ≡ says_at (spot_of self.old) (spot_of self.new) }
 
         // The taking ends at TS, and at TF where no region may be taken, and its answer is there then.
         ensures done { let w = wanted self.old in (result ≡ Took.Done) ↔ TakingEndsAt w.config w.kind (spot_of self.old) got }

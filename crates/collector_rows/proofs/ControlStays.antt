@@ -12,7 +12,7 @@ use Rattle.heap_words.specs.Touch.{Touch, placed}
 use Rattle.heap_words.proofs.Touches.{table_index-access_at}
 use Rattle.handshake.specs.declared.stop_spot.StopSpot.{StopSpot}
 use Rattle.handshake.specs.declared.stop_spot.StopSpot.TheVariants as stop
-use Rattle.handshake.specs.Rows.{after_seat, stop_touch}
+use Rattle.handshake.specs.StopRows.{after_seat, touch_at as stop_touch}
 use Rattle.heap_words.specs.declared.access.Unit.TheVariants.{Worked, NoneLeft}
 use Rattle.unit_part.specs.declared.spot.UnitSpot.{UnitSpot}
 use Rattle.unit_part.specs.declared.spot.UnitSpot.TheVariants.{Ended}

@@ -5,7 +5,7 @@ use Rattle.heap_words.specs.declared.config.Config.{Config}
 use Rattle.heap_words.specs.Access.{table_index}
 use Rattle.heap_words.specs.Words.{Heap, IsWord, table_words}
 use Rattle.heap_words.specs.Fits.{touch_fits}
-use Rattle.handshake.specs.Rows.{stop_touch, is_stopped}
+use Rattle.handshake.specs.StopRows.{touch_at as stop_touch, is_ended as is_stopped}
 use Rattle.unit_part.specs.Rows as units
 use Rattle.unit_part.specs.Ready as unit
 use Rattle.heap_world.specs.Change.{image_words}

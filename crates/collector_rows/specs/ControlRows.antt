@@ -15,7 +15,7 @@ use Rattle.heap_words.specs.Touch.{Touch, touch, loads, stores, placed}
 use Rattle.regions.specs.Sets.{members_below}
 use Rattle.handshake.specs.declared.stop_spot.StopSpot.{StopSpot}
 use Rattle.handshake.specs.declared.stop_spot.StopSpot.TheVariants as stop
-use Rattle.handshake.specs.Rows.{stop_place, stop_touch, stop_next, go_touch}
+use Rattle.handshake.specs.StopRows.{place_at as stop_place, touch_at as stop_touch, next_at as stop_next, go_touch}
 use Rattle.heap_words.specs.declared.access.Unit.TheVariants.{Worked, NoneLeft}
 use Rattle.heap_words.specs.Phases.{idle_phase}
 use Rattle.unit_part.specs.declared.spot.UnitSpot.{UnitSpot}

@@ -5,7 +5,7 @@ use Rattle.heap_words.specs.declared.config.Config.{Config}
 use Rattle.heap_words.specs.Access.{table_index}
 use Rattle.heap_words.specs.Words.{Heap, IsWord, table_words}
 use Rattle.heap_words.specs.Touch.{placed}
-use Rattle.handshake.specs.Rows.{is_entered}
+use Rattle.handshake.specs.EnterRows.{is_ended as is_entered}
 use Rattle.unit_part.specs.Rows as units
 use Rattle.unit_part.specs.Ready as unit
 use Rattle.collector_rows.specs.declared.help_spot.HelpSpot.{HelpSpot}

@@ -13,7 +13,7 @@ use Rattle.heap_words.specs.Phases.{idle_phase}
 use Rattle.heap_words.specs.Touch.{Touch, touch, loads}
 use Rattle.handshake.specs.declared.enter_spot.EnterSpot.{EnterSpot}
 use Rattle.handshake.specs.declared.enter_spot.EnterSpot.TheVariants as enter
-use Rattle.handshake.specs.Rows.{enter_place, enter_touch, enter_next, leave_touch}
+use Rattle.handshake.specs.EnterRows.{place_at as enter_place, touch_at as enter_touch, next_at as enter_next, leave_touch}
 use Rattle.unit_part.specs.declared.spot.UnitSpot.{UnitSpot}
 use Rattle.unit_part.specs.declared.spot.UnitSpot.TheVariants.{Ended}
 use Rattle.unit_part.specs.Rows as units

@@ -301,7 +301,7 @@ fn is_wanted(config: Config, seen: u64, free: u64) -> bool
 fn stopping(config: Config, phase: u64, at: StopSpot) -> ControlSpot
     ensures { result ≡ rows.stopping config phase at }
 {
-    if at.is_stopped() {
+    if at.is_ended() {
         ControlSpot::LoadWord {
             index: 0,
             extent: first_extent(config, phase),

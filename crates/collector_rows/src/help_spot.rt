@@ -175,7 +175,7 @@ impl HelpSpot {
 fn after_enter(at: EnterSpot) -> HelpSpot
     ensures { result ≡ rows.after_enter at }
 {
-    if at.is_entered() {
+    if at.is_ended() {
         HelpSpot::LoadPhase
     } else {
         HelpSpot::Entering { at }

@@ -23,7 +23,7 @@ use Rattle.collector_rows.specs.declared.control_spot.ControlSpot.{ControlSpot}
 use Rattle.collector_rows.specs.declared.control_spot.ControlSpot.TheVariants.{LookLeft, StoreEnd, LookAsked, LookFree, Working, Stopping, LoadWord, StoreWord, Go, Gone}
 use Rattle.collector_rows.specs.ControlReady.{is_ready}
 use Rattle.collector_rows.specs.ControlRows.{Controlling, takes_hint, hinted_by, control_hinted, access_with, word_stored, control_access, after_unit, stopping, begins_pause, unasked, wants_pause, after_load, after_store, next_spot, stored_next, control_next, next_image, next_seen, next_phase, next_set}
-use Rattle.handshake.specs.Rows.{stop_next}
+use Rattle.handshake.specs.StopRows.{next_at as stop_next}
 use Rattle.unit_part.specs.Rows as units
 use Rattle.collector_rows.proofs.Extents.{early, next_is, stored_next_is, stored_next_one}
 use Rattle.control.specs.Image.{part_in, is_seen, image_shown, words_seen, SeesOwn, IsLoadedFrom}

@@ -17,7 +17,7 @@ use Rattle.heap_world.proofs.Keeping.{load_keeps}
 use Rattle.heap_world.proofs.Updates.{updated, updated_there, updated_else}
 use Rattle.satb_barrier.specs.declared.spot.RememberSpot.{RememberSpot}
 use Rattle.satb_barrier.specs.declared.spot.RememberSpot.TheVariants.{LoadCount, LoadEntry, MarkEntry, ClearCount, StoreEntry, StoreCount, Recorded}
-use Rattle.satb_barrier.specs.Rows.{touch_at, next_at, is_recorded}
+use Rattle.satb_barrier.specs.Rows.{touch_at, next_at, is_ended}
 use Rattle.satb_barrier.specs.Recorded.{IsRecorded, LeaveBuffer}
 use Rattle.satb_barrier.specs.Facts.{CanRemember}
 use Rattle.satb_barrier.proofs.Remembering.{RememberStep, can_remember_stays, each_remembers}
@@ -38,7 +38,7 @@ recorded_noted c memory recording mutator v seated (inl mark) = IsNoted.by_mark 
 recorded_noted c memory recording mutator v seated (inr (k, below, is)) = IsNoted.by_entry mutator k seated below is
 
 -- until then the address is in hand
-in_hand : (at : RememberSpot) (v : ℕ) → is_recorded at ≡ false → recording_of at v ≡ Some v
+in_hand : (at : RememberSpot) (v : ℕ) → is_ended at ≡ false → recording_of at v ≡ Some v
 in_hand Recorded v going = absurd (cc (going))
 in_hand _ v going = refl
 
@@ -108,7 +108,7 @@ module _ (c : Config) (u : World) (mutator v : ℕ) where
   loaded_entries entries seated after_load same =
       subst (λ m. (k : ℕ) → k < m (Count mutator) → IsMarkable u.block (m (Buffer mutator k))) same (λ k below. entries.of_objects mutator k seated below)
 
-  module _ (at : RememberSpot) (going : is_recorded at ≡ false) (shared : Shared c u) (can : CanRecord c u mutator v at) where
+  module _ (at : RememberSpot) (going : is_ended at ≡ false) (shared : Shared c u) (can : CanRecord c u mutator v at) where
     -- what the step keeps of the words by themselves
     remembers : RememberStep c u.memory mutator v at
     remembers = each_remembers c u.memory mutator v at going (markable_word c u v shared can.markable) can.words
@@ -165,7 +165,7 @@ module _ (c : Config) (u : World) (mutator v : ℕ) where
       (cases_eq k entry)
   own_entries Recorded shared can k below = loaded_entries (shared.marked.marking can.phase).entries can.seated (after Recorded) (load_keeps u.memory (Count mutator)) k below
 
-  module _ (at : RememberSpot) (going : is_recorded at ≡ false) (shared : Shared c u) (can : CanRecord c u mutator v at) where
+  module _ (at : RememberSpot) (going : is_ended at ≡ false) (shared : Shared c u) (can : CanRecord c u mutator v at) where
     entries_then : AreEntries c (λ t. after at (Count t)) (λ t k. after at (Buffer t k)) u.block
     entries_then = record {
       few = λ t inside. ⊎_elim

@@ -21,7 +21,7 @@ use Rattle.cycle_steps.specs.Scanning.{CanScan}
 abbrev pub recording_part : Config → (mutator v : ℕ) → Part
 recording_part c mutator v = record {
   Spot = RememberSpot;
-  is_ended = remember.is_recorded;
+  is_ended = remember.is_ended;
   touch = remember.touch_at c mutator v;
   next = remember.next_at;
   IsFit = remember.IsFit c;

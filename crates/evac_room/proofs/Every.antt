@@ -20,7 +20,7 @@ use Rattle.heap_words.specs.Counter.{count_of, is_out_of_room, IsQuiet}
 use Rattle.evac_room.specs.declared.spot.RoomSpot.{RoomSpot}
 use Rattle.evac_room.specs.declared.spot.RoomSpot.TheVariants.{Outside, Inside}
 use Rattle.evac_room.specs.Spot.{is_counted}
-use Rattle.evac_room.specs.Rows.{form_at, next_at, answer_at, IsFit}
+use Rattle.evac_room.specs.Rows.{form_at, next_at, says_at, IsFit}
 use Rattle.evac_room.specs.Core.{takes_at, wish_begun, copier_kind, opening, IsFew, AreOfOthers, copiers_reached, counter, counted, said, copying_at, answer_by, answer_to}
 use Rattle.evac_room.proofs.OneStep.{Mine, mine_stays, after, IsKept, Says, CanStep, each_keeps, each_says, each_fits}
 use Rattle.evac_room.proofs.Spots.{begun_goes, begun_weight, weight_one, begun_mine, counted_set, weight_counted, counted_outside, outside_here, accessed_one, found_one}
@@ -173,7 +173,7 @@ act_inside s step sound = by_machine (slice_get s.machines step.number) refl
     by_takes : (spot : RoomSpot) (b : Bool) → slice_get s.machines step.number ≡ Some spot → takes_at spot step.order ≡ b
         → (if b then Some (copying_at (wish_begun spot step.order) (counter s)) else None) ≡ Some copying.Inside → slice_get (act copier_kind s step).machines step.number ≡ Some Inside
     by_takes spot true here takes is =
-        let next_is : next_at (wish_begun spot step.order) (counter s) ≡ Inside = inside_by_answer (answer_at (wish_begun spot step.order) (counter s)) _ (cc (is)) in
+        let next_is : next_at (wish_begun spot step.order) (counter s) ≡ Inside = inside_by_answer (says_at (wish_begun spot step.order) (counter s)) _ (cc (is)) in
         ap (λ x. slice_get x.machines step.number) (act-event copier_kind s step spot (record { here = here; takes = takes }) ∙ moved_is s step.number spot step.order sound.one)
         ∙ slice_get-set_same s.machines step.number spot _ here ∙ ap (λ x. Some x) next_is
     by_takes spot false here takes is = absurd (cc (is))

@@ -9,7 +9,7 @@ use Rattle.evac_room.specs.declared.wish.Copying.TheVariants as copying
 use Rattle.heap_words.specs.Counter.{count_of, is_out_of_room, marked, IsQuiet}
 use Rattle.evac_room.specs.declared.spot.RoomSpot.{RoomSpot}
 use Rattle.evac_room.specs.declared.spot.RoomSpot.TheVariants.{Outside, Look, Raise, Inside, Lower, Ask, Mark, Wait, Stopped}
-use Rattle.evac_room.specs.Spot.{is_at_rest, is_counted}
+use Rattle.evac_room.specs.Spot.{is_ended, is_counted}
 use Rattle.evac_room.specs.Rows.{form_at, next_at, IsFit}
 use Rattle.evac_room.specs.Core.{copying_at, said}
 
@@ -48,7 +48,7 @@ pub record Says (word : ℕ) (answer : Copying) : Type 0 where
 
 -- what a copier may be sure of when it steps
 pub record CanStep (word : ℕ) (spot : RoomSpot) : Type 0 where
-  pub going : is_at_rest spot ≡ false
+  pub going : is_ended spot ≡ false
   pub is_word : word < 2 ^ 64
   pub few : count_of word ≤ 12
   pub is_in : is_counted spot ≡ true → 1 ≤ count_of word

@@ -9,12 +9,12 @@ use Rattle.evac_room.specs.declared.wish.Wish.{Wish}
 use Rattle.evac_room.specs.declared.wish.Wish.TheVariants.{Enter, Leave, NoRoom}
 use Rattle.evac_room.specs.declared.spot.RoomSpot.{RoomSpot}
 use Rattle.evac_room.specs.declared.spot.RoomSpot.TheVariants.{Outside, Inside, Stopped}
-use Rattle.evac_room.specs.Spot.{is_at_rest, is_counted}
+use Rattle.evac_room.specs.Spot.{is_ended, is_counted}
 use Rattle.evac_room.specs.Core.{takes_at, wish_begun, counted}
 use Rattle.evac_room.proofs.OneStep.{Mine, weight}
 
 -- a copier that takes the wish then has an access to make
-pub begun_goes : (spot : RoomSpot) (wish : Wish) → takes_at spot wish ≡ true → is_at_rest (wish_begun spot wish) ≡ false
+pub begun_goes : (spot : RoomSpot) (wish : Wish) → takes_at spot wish ≡ true → is_ended (wish_begun spot wish) ≡ false
 begun_goes Outside Enter takes = refl
 begun_goes Outside Leave takes = absurd (cc (takes))
 begun_goes Outside NoRoom takes = absurd (cc (takes))

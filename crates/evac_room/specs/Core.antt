@@ -11,7 +11,7 @@ use Rattle.evac_room.specs.declared.wish.Copying.TheVariants as copying
 use Rattle.evac_room.specs.declared.spot.RoomSpot.{RoomSpot}
 use Rattle.evac_room.specs.declared.spot.RoomSpot.TheVariants.{Outside, Look, Inside, Lower, Ask, Stopped}
 use Rattle.evac_room.specs.Spot.{is_counted}
-use Rattle.evac_room.specs.Rows.{form_at, next_at, answer_at}
+use Rattle.evac_room.specs.Rows.{form_at, next_at, says_at}
 
 -- whether a copier takes the wish: at rest outside only to enter, at rest inside only to leave or that it found no room;
 -- in between it takes any, and goes on
@@ -78,7 +78,7 @@ said took.Done next = ended_at next
 
 -- what it says of the step that finds this word
 abbrev pub copying_at : RoomSpot → ℕ → Copying
-copying_at spot got = said (answer_at spot got) (next_at spot got)
+copying_at spot got = said (says_at spot got) (next_at spot got)
 
 -- what a step answers, if there is the copier and it takes the wish
 abbrev pub answer_by : ℕ → Wish → Option RoomSpot → Option Copying

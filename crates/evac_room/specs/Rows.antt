@@ -1,13 +1,11 @@
 -- The rows of the steps of a copier: for each spot its place, the access that it makes and what follows.
 use Rattle.std.specs.Prelude.{ℕ, ◌≤◌, ◌+◌, ◌==◌, ⊤, if◌then◌else◌}
-use Rattle.heap_words.specs.declared.config.Config.{Config}
-use Rattle.heap_words.specs.declared.access.Access.{Access}
 use Rattle.heap_words.specs.declared.access.Took.{Took}
 use Rattle.heap_words.specs.declared.access.Took.TheVariants.{More, Again, Done}
 use Rattle.heap_words.specs.declared.place.Place.{Place}
 use Rattle.heap_words.specs.declared.place.Place.TheVariants as place
 use Rattle.heap_words.specs.Words.{Evac}
-use Rattle.heap_words.specs.Touch.{Form, loads, subtracts, exchanges, touch, placed}
+use Rattle.heap_words.specs.Touch.{Touch, Form, loads, subtracts, exchanges, touch}
 use Rattle.heap_words.specs.Counter.{count_of, is_out_of_room, marked}
 use Rattle.evac_room.specs.declared.spot.RoomSpot.{RoomSpot}
 use Rattle.evac_room.specs.declared.spot.RoomSpot.TheVariants.{Outside, Look, Raise, Inside, Lower, Ask, Mark, Wait, Stopped}
@@ -31,9 +29,9 @@ form_at Lower = subtracts 1
 form_at (Mark found) = exchanges found (marked found)
 form_at _ = loads
 
--- the access of the table
-abbrev pub access_of : Config → RoomSpot → Access
-access_of c spot = placed c (touch Evac (form_at spot))
+-- the next access, of the word that counts the copiers
+abbrev pub touch_at : RoomSpot → Touch
+touch_at spot = touch Evac (form_at spot)
 
 -- where the copier stands after the access, by the word that it found; at rest it stays
 abbrev pub next_at : RoomSpot → ℕ → RoomSpot
@@ -46,13 +44,13 @@ next_at Wait got = if count_of got == 0 then Stopped else Wait
 next_at spot got = spot
 
 -- what the step says
-abbrev pub answer_at : RoomSpot → ℕ → Took
-answer_at Look got = if is_out_of_room got then (if count_of got == 0 then Done else Again) else More
-answer_at (Raise found) got = if got == found then Done else Again
-answer_at (Mark found) got = if got == found then More else Again
-answer_at Wait got = if count_of got == 0 then Done else Again
-answer_at Ask got = More
-answer_at _ got = Done
+abbrev pub says_at : RoomSpot → ℕ → Took
+says_at Look got = if is_out_of_room got then (if count_of got == 0 then Done else Again) else More
+says_at (Raise found) got = if got == found then Done else Again
+says_at (Mark found) got = if got == found then More else Again
+says_at Wait got = if count_of got == 0 then Done else Again
+says_at Ask got = More
+says_at _ got = Done
 
 -- the word is fit: no number that the row computes is below 0 or above a word
 abbrev pub IsFit : RoomSpot → ℕ → Type 0

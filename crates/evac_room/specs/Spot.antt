@@ -4,11 +4,11 @@ use Rattle.evac_room.specs.declared.spot.RoomSpot.{RoomSpot}
 use Rattle.evac_room.specs.declared.spot.RoomSpot.TheVariants.{Outside, Look, Raise, Inside, Lower, Ask, Mark, Wait, Stopped}
 
 -- whether its call has ended
-abbrev pub is_at_rest : RoomSpot → Bool
-is_at_rest Outside = true
-is_at_rest Inside = true
-is_at_rest Stopped = true
-is_at_rest _ = false
+abbrev pub is_ended : RoomSpot → Bool
+is_ended Outside = true
+is_ended Inside = true
+is_ended Stopped = true
+is_ended _ = false
 
 -- whether the counter counts it
 abbrev pub is_counted : RoomSpot → Bool

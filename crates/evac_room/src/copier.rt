@@ -21,13 +21,13 @@ impl Copier {
     ghost use Rattle.std.specs.Prelude.{true, false};
     ghost use Rattle.heap_words.specs.Access.{made_of};
     ghost use Rattle.heap_words.specs.Touch.{formed};
-    ghost use Rattle.evac_room.specs.Spot.{is_at_rest};
+    ghost use Rattle.evac_room.specs.Spot.{is_ended};
     ghost use Rattle.evac_room.specs.Rows.{form_at, next_at, IsFit};
     ghost use Rattle.evac_room.specs.Core.{takes_at, wish_begun, copying_at};
 
     // Whether its call has ended.
-    fn is_at_rest(&self) -> bool
-        ensures { result ≡ is_at_rest (spot_of self.now) }
+    fn is_ended(&self) -> bool
+        ensures { result ≡ is_ended (spot_of self.now) }
     {
         match self {
             Copier::Outside => true,
@@ -41,7 +41,7 @@ impl Copier {
     pub(crate) fn takes(&self, wish: Wish) -> bool
         ensures { result ≡ takes_at (spot_of self.now) wish }
     {
-        if !self.is_at_rest() {
+        if !self.is_ended() {
             return true;
         }
         let inside = match self {
@@ -58,9 +58,9 @@ impl Copier {
     fn begin(&mut self, config: Config, wish: Wish)
         requires { takes_at (spot_of self.old) wish ≡ true }
         ensures begun { spot_of self.new ≡ wish_begun (spot_of self.old) wish }
-        ensures going { is_at_rest (spot_of self.new) ≡ false }
+        ensures going { is_ended (spot_of self.new) ≡ false }
     {
-        if self.is_at_rest() {
+        if self.is_ended() {
             *self = match wish {
                 Wish::Enter => Copier::Entering(EnterEvac::new(config)),
                 Wish::Leave => Copier::Leaving(LeaveEvac::new(config)),
@@ -71,7 +71,7 @@ impl Copier {
 
     // The access of its next step.
     fn plan(&self) -> Access
-        requires { is_at_rest (spot_of self.now) ≡ false }
+        requires { is_ended (spot_of self.now) ≡ false }
         ensures { (found : ℕ) → made_of result found ≡ formed (form_at (spot_of self.now)) found }
     {
         match self {
@@ -84,7 +84,7 @@ impl Copier {
 
     // Goes on with the word that its access has found.
     fn took(&mut self, got: u64) -> Copying
-        requires going { is_at_rest (spot_of self.old) ≡ false }
+        requires going { is_ended (spot_of self.old) ≡ false }
         requires fit { IsFit (spot_of self.old) got }
         ensures spot { spot_of self.new ≡ next_at (spot_of self.old) got }
         ensures says { result ≡ copying_at (spot_of self.old) got }

@@ -19,9 +19,10 @@ impl EnterEvac {
     ghost use Rattle.std.specs.Prelude.{false, Some, ◌↔◌, ◌<◌};
     ghost use Rattle.heap_words.specs.Access.{table_index};
     ghost use Rattle.heap_words.specs.Words.{table_words};
+    ghost use Rattle.heap_words.specs.Touch.{placed};
     ghost use Rattle.heap_words.specs.Counter.{IsQuiet};
-    ghost use Rattle.evac_room.specs.Spot.{is_at_rest};
-    ghost use Rattle.evac_room.specs.Rows.{place_at, access_of, next_at, answer_at};
+    ghost use Rattle.evac_room.specs.Spot.{is_ended};
+    ghost use Rattle.evac_room.specs.Rows.{place_at, touch_at, next_at, says_at};
     ghost use Rattle.evac_room.specs.Seen.{spot_of_enter, config_of_enter, room_at};
 
     /// A copier that looks at the counter next.
@@ -37,14 +38,14 @@ impl EnterEvac {
 
     /// Whether it is done. It makes no step then.
     pub fn is_done(&self) -> bool
-        ensures { result ≡ is_at_rest (spot_of_enter self.now) }
+        ensures { result ≡ is_ended (spot_of_enter self.now) }
     {
-        self.spot.is_at_rest()
+        self.spot.is_ended()
     }
 
     /// The place of its next access.
     pub fn place(&self) -> Place
-        requires { is_at_rest (spot_of_enter self.now) ≡ false }
+        requires { is_ended (spot_of_enter self.now) ≡ false }
         ensures { result ≡ place_at (spot_of_enter self.now) }
     {
         self.spot.place()
@@ -52,8 +53,8 @@ impl EnterEvac {
 
     /// The access of its next step.
     pub fn plan(&self) -> Access
-        requires { is_at_rest (spot_of_enter self.now) ≡ false }
-        ensures row { result ≡ access_of (config_of_enter self.now) (spot_of_enter self.now) }
+        requires { is_ended (spot_of_enter self.now) ≡ false }
+        ensures row { result ≡ placed (config_of_enter self.now) (touch_at (spot_of_enter self.now)) }
         ensures inside { table_index result < table_words (config_of_enter self.now) }
     {
         self.spot.access(self.config)
@@ -61,11 +62,11 @@ impl EnterEvac {
 
     /// Goes on with the word that its access has found; every word is fit.
     pub fn took(&mut self, got: u64) -> Took
-        requires { is_at_rest (spot_of_enter self.old) ≡ false }
+        requires { is_ended (spot_of_enter self.old) ≡ false }
         ensures spot { spot_of_enter self.new ≡ next_at (spot_of_enter self.old) got }
         ensures config { config_of_enter self.new ≡ config_of_enter self.old }
-        ensures answer { result ≡ answer_at (spot_of_enter self.old) got }
-        ensures done { (result ≡ Took.Done) ↔ (is_at_rest (spot_of_enter self.new) ≡ true) }
+        ensures answer { result ≡ says_at (spot_of_enter self.old) got }
+        ensures done { (result ≡ Took.Done) ↔ (is_ended (spot_of_enter self.new) ≡ true) }
         ensures stopped { (spot_of_enter self.new ≡ RoomSpot.Stopped) ↔ ((spot_of_enter self.old ≡ RoomSpot.Look) × IsQuiet got) }
     {
         let before = self.spot;
@@ -75,7 +76,7 @@ impl EnterEvac {
 
     /// Whether it may copy, once it is done.
     pub fn answer(&self) -> Room
-        requires { is_at_rest (spot_of_enter self.now) ≡ true }
+        requires { is_ended (spot_of_enter self.now) ≡ true }
         ensures { room_at (spot_of_enter self.now) ≡ Some result }
     {
         match self.spot {

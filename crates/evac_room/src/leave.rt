@@ -16,8 +16,9 @@ impl LeaveEvac {
     ghost use Rattle.std.specs.Prelude.{false, ◌<◌};
     ghost use Rattle.heap_words.specs.Access.{table_index};
     ghost use Rattle.heap_words.specs.Words.{table_words};
-    ghost use Rattle.evac_room.specs.Spot.{is_at_rest};
-    ghost use Rattle.evac_room.specs.Rows.{place_at, access_of, next_at, answer_at, IsFit};
+    ghost use Rattle.heap_words.specs.Touch.{placed};
+    ghost use Rattle.evac_room.specs.Spot.{is_ended};
+    ghost use Rattle.evac_room.specs.Rows.{place_at, touch_at, next_at, says_at, IsFit};
     ghost use Rattle.evac_room.specs.Seen.{spot_of_leave, config_of_leave};
 
     /// A copier that takes itself off the counter next.
@@ -33,14 +34,14 @@ impl LeaveEvac {
 
     /// Whether it is done. It makes no step then.
     pub fn is_done(&self) -> bool
-        ensures { result ≡ is_at_rest (spot_of_leave self.now) }
+        ensures { result ≡ is_ended (spot_of_leave self.now) }
     {
-        self.spot.is_at_rest()
+        self.spot.is_ended()
     }
 
     /// The place of its access.
     pub fn place(&self) -> Place
-        requires { is_at_rest (spot_of_leave self.now) ≡ false }
+        requires { is_ended (spot_of_leave self.now) ≡ false }
         ensures { result ≡ place_at (spot_of_leave self.now) }
     {
         self.spot.place()
@@ -48,8 +49,8 @@ impl LeaveEvac {
 
     /// The access of its step.
     pub fn plan(&self) -> Access
-        requires { is_at_rest (spot_of_leave self.now) ≡ false }
-        ensures row { result ≡ access_of (config_of_leave self.now) (spot_of_leave self.now) }
+        requires { is_ended (spot_of_leave self.now) ≡ false }
+        ensures row { result ≡ placed (config_of_leave self.now) (touch_at (spot_of_leave self.now)) }
         ensures inside { table_index result < table_words (config_of_leave self.now) }
     {
         self.spot.access(self.config)
@@ -57,11 +58,11 @@ impl LeaveEvac {
 
     /// Goes on with the word that its access has found. A word is fit if it is not 0.
     pub fn took(&mut self, got: u64) -> Took
-        requires busy { is_at_rest (spot_of_leave self.old) ≡ false }
+        requires busy { is_ended (spot_of_leave self.old) ≡ false }
         requires fit { IsFit (spot_of_leave self.old) got }
         ensures spot { spot_of_leave self.new ≡ next_at (spot_of_leave self.old) got }
         ensures config { config_of_leave self.new ≡ config_of_leave self.old }
-        ensures answer { result ≡ answer_at (spot_of_leave self.old) got }
+        ensures answer { result ≡ says_at (spot_of_leave self.old) got }
     {
         let before = self.spot;
         self.spot = before.after(got);

@@ -1,6 +1,7 @@
 ghost use Rattle.std.specs.Prelude.{◌≡◌, ◌<◌, true, false};
 ghost use Rattle.heap_words.specs.Access.{table_index};
 ghost use Rattle.heap_words.specs.Words.{table_words};
+ghost use Rattle.heap_words.specs.Touch.{placed};
 ghost use Rattle.evac_room.specs.Spot as spots;
 ghost use Rattle.evac_room.specs.Rows as rows;
 
@@ -38,8 +39,8 @@ pub enum RoomSpot {
 
 impl RoomSpot {
     /// Whether its call has ended. It makes no access then.
-    pub fn is_at_rest(self) -> bool
-        ensures { result ≡ spots.is_at_rest self }
+    pub fn is_ended(self) -> bool
+        ensures { result ≡ spots.is_ended self }
     {
         matches!(
             self,
@@ -63,9 +64,9 @@ impl RoomSpot {
 
     /// Its next access, of the word that counts the copiers. A word that it raises has bit 63 clear.
     pub fn access(self, config: Config) -> Access
-        requires busy { spots.is_at_rest self ≡ false }
+        requires busy { spots.is_ended self ≡ false }
         requires clear { spots.raises_clear self ≡ true }
-        ensures row { result ≡ rows.access_of config self }
+        ensures row { result ≡ placed config (rows.touch_at self) }
         ensures inside { table_index result < table_words config }
     {
         let at = config.evac_at();
@@ -111,7 +112,7 @@ impl RoomSpot {
 
     /// What the step says that finds this word.
     pub fn says(self, got: u64) -> Took
-        ensures { result ≡ rows.answer_at self got }
+        ensures { result ≡ rows.says_at self got }
     {
         match self {
             RoomSpot::Look if !is_out_of_room(got) => Took::More,

@@ -13,7 +13,8 @@ use Rattle.handshake.specs.declared.enter_spot.EnterSpot.{EnterSpot}
 use Rattle.handshake.specs.declared.enter_spot.EnterSpot.TheVariants as enter
 use Rattle.handshake.specs.declared.stop_spot.StopSpot.{StopSpot}
 use Rattle.handshake.specs.declared.stop_spot.StopSpot.TheVariants as stop
-use Rattle.handshake.specs.Rows.{enter_touch, enter_next, is_entered, leave_touch, stop_touch, stop_next, is_stopped, after_seat, go_touch}
+use Rattle.handshake.specs.EnterRows.{touch_at as enter_touch, next_at as enter_next, is_ended as is_entered, leave_touch}
+use Rattle.handshake.specs.StopRows.{touch_at as stop_touch, next_at as stop_next, is_ended as is_stopped, after_seat, go_touch}
 use Rattle.handshake.specs.Standing.{Standing, outside, looks, backs, inside, leaves, idle, stops, checks, works, goes, is_within, is_pausing, is_free, enter_standing, stop_standing}
 use Rattle.handshake.specs.Obeys.{IsElsewhere, Obeys, RowsObey}
 

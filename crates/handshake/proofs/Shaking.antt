@@ -14,7 +14,7 @@ use Rattle.heap_words.specs.Steps.{MachineKind, Stage, Event, act, go, accessed}
 use Rattle.heap_words.proofs.Runs.{go-none, go-first}
 use Rattle.heap_words.proofs.Laws.{act_cases}
 use Rattle.handshake.specs.declared.stop_spot.StopSpot.TheVariants.{Check, Stopped}
-use Rattle.handshake.specs.Rows.{after_seat}
+use Rattle.handshake.specs.StopRows.{after_seat}
 use Rattle.handshake.specs.Standing.{Standing, outside, looks, backs, inside, leaves, idle, stops, checks, works, goes, state_word, pause_word, is_within, is_pausing, is_free, is_checked, HasSeat, control_seat, stop_standing}
 use Rattle.handshake.specs.Obeys.{is_load, IsHarmless, Enters, StaysOut, Looks, GoesOut, GoesOn, Stops, Checks, EndsPause, Obeys}
 use Rattle.handshake.specs.Shaken.{IsShaken, EventObeys, EachObeys}

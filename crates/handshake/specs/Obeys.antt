@@ -9,7 +9,8 @@ use Rattle.heap_words.specs.Words.{Pause, State, word_at, image_start}
 use Rattle.heap_words.specs.Touch.{touch, loads, stores, placed}
 use Rattle.handshake.specs.declared.enter_spot.EnterSpot.{EnterSpot}
 use Rattle.handshake.specs.declared.stop_spot.StopSpot.{StopSpot}
-use Rattle.handshake.specs.Rows.{enter_touch, enter_next, is_entered, leave_touch, stop_touch, stop_next, is_stopped, after_seat, go_touch}
+use Rattle.handshake.specs.EnterRows.{touch_at as enter_touch, next_at as enter_next, is_ended as is_entered, leave_touch}
+use Rattle.handshake.specs.StopRows.{touch_at as stop_touch, next_at as stop_next, is_ended as is_stopped, after_seat, go_touch}
 use Rattle.handshake.specs.Standing.{Standing, outside, looks, backs, inside, leaves, idle, stops, checks, works, goes, is_within, is_pausing, is_free, control_seat, enter_standing, stop_standing}
 
 -- the access is of no state word and not of the pause word

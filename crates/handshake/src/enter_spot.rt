@@ -2,7 +2,7 @@ ghost use Rattle.std.specs.Prelude.{◌≡◌, ◌<◌, ◌+◌, false};
 ghost use Rattle.heap_words.specs.Access.{table_index};
 ghost use Rattle.heap_words.specs.Words.{table_words};
 ghost use Rattle.heap_words.specs.Touch.{placed};
-ghost use Rattle.handshake.specs.Rows as rows;
+ghost use Rattle.handshake.specs.EnterRows as rows;
 
 use crate::values::{IN, OUT, UNWANTED};
 use heap_words::{Access, Config, Place, Took};
@@ -25,7 +25,7 @@ pub enum EnterSpot {
 impl EnterSpot {
     /// The place of the next access. There is none inside, where it is named as that of the last access.
     pub fn place(self) -> Place
-        ensures { result ≡ rows.enter_place self }
+        ensures { result ≡ rows.place_at self }
     {
         match self {
             EnterSpot::Raise => Place::E1,
@@ -36,8 +36,8 @@ impl EnterSpot {
     }
 
     /// Whether it is inside.
-    pub fn is_entered(self) -> bool
-        ensures { result ≡ rows.is_entered self }
+    pub fn is_ended(self) -> bool
+        ensures { result ≡ rows.is_ended self }
     {
         matches!(self, EnterSpot::Inside)
     }
@@ -45,8 +45,8 @@ impl EnterSpot {
     /// The next access, of the machine of a seat of a mutator or a helper.
     pub fn access(self, config: Config, seat: usize) -> Access
         requires seat { seat < config.mutators + config.helpers }
-        requires busy { rows.is_entered self ≡ false }
-        ensures row { result ≡ placed config (rows.enter_touch seat self) }
+        requires busy { rows.is_ended self ≡ false }
+        ensures row { result ≡ placed config (rows.touch_at seat self) }
         ensures inside { table_index result < table_words config }
     {
         match self {
@@ -69,7 +69,7 @@ impl EnterSpot {
 
     /// Where it stands after it, by the word that the access has found; inside it stays.
     pub fn after(self, got: u64) -> EnterSpot
-        ensures row { result ≡ rows.enter_next self got }
+        ensures row { result ≡ rows.next_at self got }
     {
         match self {
             EnterSpot::Raise => EnterSpot::Look,
@@ -84,7 +84,7 @@ impl EnterSpot {
 
     /// What the step says that finds this word: done where it leads inside, again where it waits on.
     pub fn says(self, got: u64) -> Took
-        ensures { result ≡ rows.enter_says self got }
+        ensures { result ≡ rows.says_at self got }
     {
         match self {
             EnterSpot::Look if got == UNWANTED => Took::Done,

@@ -15,7 +15,7 @@ impl Go {
     ghost use Rattle.heap_words.specs.Access.{table_index};
     ghost use Rattle.heap_words.specs.Words.{table_words};
     ghost use Rattle.heap_words.specs.Touch.{placed};
-    ghost use Rattle.handshake.specs.Rows.{go_touch};
+    ghost use Rattle.handshake.specs.StopRows.{go_touch};
     ghost use Rattle.handshake.specs.Seen.{config_of_go, has_gone};
 
     /// A control whose work in the pause is done.

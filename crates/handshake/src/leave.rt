@@ -17,7 +17,7 @@ impl Leave {
     ghost use Rattle.heap_words.specs.Access.{table_index};
     ghost use Rattle.heap_words.specs.Words.{table_words};
     ghost use Rattle.heap_words.specs.Touch.{placed};
-    ghost use Rattle.handshake.specs.Rows.{leave_touch};
+    ghost use Rattle.handshake.specs.EnterRows.{leave_touch};
     ghost use Rattle.handshake.specs.Seen.{seat_of_leave, has_left};
 
     /// A machine of this seat, counted from 0: the mutators come first, then the helpers.

@@ -2,7 +2,8 @@ ghost use Rattle.std.specs.Prelude.{◌≡◌, ◌<◌, ◌+◌};
 ghost use Rattle.heap_words.specs.Access.{table_index};
 ghost use Rattle.heap_words.specs.Words.{table_words};
 ghost use Rattle.heap_words.specs.Touch.{placed};
-ghost use Rattle.handshake.specs.Rows.{leave_touch, go_touch};
+ghost use Rattle.handshake.specs.EnterRows.{leave_touch};
+ghost use Rattle.handshake.specs.StopRows.{go_touch};
 
 use crate::values::{OUT, UNWANTED};
 use heap_words::{Access, Config};

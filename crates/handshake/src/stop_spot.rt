@@ -3,7 +3,7 @@ ghost use Rattle.heap_words.specs.Access.{table_index};
 ghost use Rattle.heap_words.specs.Words.{table_words};
 ghost use Rattle.heap_words.specs.Touch.{placed};
 ghost use Rattle.heap_words.specs.Fits.{touch_fits};
-ghost use Rattle.handshake.specs.Rows as rows;
+ghost use Rattle.handshake.specs.StopRows as rows;
 
 use crate::values::{OUT, WANTED};
 use heap_words::{Access, Config, Place, Took};
@@ -25,7 +25,7 @@ pub enum StopSpot {
 impl StopSpot {
     /// The place of the next access. There is none at the end, where it is named as that of the last access.
     pub fn place(self) -> Place
-        ensures { result ≡ rows.stop_place self }
+        ensures { result ≡ rows.place_at self }
     {
         match self {
             StopSpot::Raise => Place::P1,
@@ -34,17 +34,17 @@ impl StopSpot {
     }
 
     /// Whether all seats are out.
-    pub fn is_stopped(self) -> bool
-        ensures { result ≡ rows.is_stopped self }
+    pub fn is_ended(self) -> bool
+        ensures { result ≡ rows.is_ended self }
     {
         matches!(self, StopSpot::Stopped)
     }
 
     /// The next access. A seat that it checks is one of a mutator or a helper.
     pub fn access(self, config: Config) -> Access
-        requires ready { touch_fits config (rows.stop_touch self) ≡ true }
-        requires busy { rows.is_stopped self ≡ false }
-        ensures row { result ≡ placed config (rows.stop_touch self) }
+        requires ready { touch_fits config (rows.touch_at self) ≡ true }
+        requires busy { rows.is_ended self ≡ false }
+        ensures row { result ≡ placed config (rows.touch_at self) }
         ensures inside { table_index result < table_words config }
     {
         match self {
@@ -62,9 +62,9 @@ impl StopSpot {
 
     /// Where it stands after it, by the word that the access has found; once stopped it stays.
     pub fn after(self, config: Config, got: u64) -> StopSpot
-        requires { touch_fits config (rows.stop_touch self) ≡ true }
-        ensures row { result ≡ rows.stop_next config self got }
-        ensures ready { touch_fits config (rows.stop_touch result) ≡ true }
+        requires { touch_fits config (rows.touch_at self) ≡ true }
+        ensures row { result ≡ rows.next_at config self got }
+        ensures ready { touch_fits config (rows.touch_at result) ≡ true }
     {
         match self {
             StopSpot::Raise => StopSpot::Check { seat: 0 },
@@ -76,12 +76,12 @@ impl StopSpot {
 
     /// What the step says that finds this word: done where it was the last seat, again where it waits on.
     pub fn says(self, config: Config, got: u64) -> Took
-        requires { touch_fits config (rows.stop_touch self) ≡ true }
-        ensures { result ≡ rows.stop_says config self got }
+        requires { touch_fits config (rows.touch_at self) ≡ true }
+        ensures { result ≡ rows.says_at config self got }
     {
         match self {
             StopSpot::Check { .. } if got != OUT => Took::Again,
-            StopSpot::Check { seat } if after_seat(config, seat).is_stopped() => Took::Done,
+            StopSpot::Check { seat } if after_seat(config, seat).is_ended() => Took::Done,
             StopSpot::Stopped => Took::Done,
             _ => Took::More,
         }
@@ -92,7 +92,7 @@ impl StopSpot {
 fn after_seat(config: Config, seat: usize) -> StopSpot
     requires { seat < config.mutators + config.helpers }
     ensures row { result ≡ rows.after_seat config seat }
-    ensures ready { touch_fits config (rows.stop_touch result) ≡ true }
+    ensures ready { touch_fits config (rows.touch_at result) ≡ true }
 {
     if seat + 1 < config.mutators() + config.helpers() {
         StopSpot::Check { seat: seat + 1 }

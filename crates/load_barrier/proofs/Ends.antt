@@ -13,40 +13,40 @@ use Rattle.evac_room.specs.declared.spot.RoomSpot.TheVariants as room
 use Rattle.evac_room.specs.Rows as rooms
 use Rattle.load_barrier.specs.declared.spot.ResolveSpot.{ResolveSpot}
 use Rattle.load_barrier.specs.declared.spot.ResolveSpot.TheVariants.{Entering, Taking, Stopping, Resolved}
-use Rattle.load_barrier.specs.Rows.{next_at, says_at, is_resolved, says_of, says_by, after_enter, after_take, after_stop, take_next}
+use Rattle.load_barrier.specs.Rows.{next_at, says_at, is_ended, says_of, says_by, after_enter, after_take, after_stop, take_next}
 
-says_resolved : (next : ResolveSpot) → says_of next ≡ Done → is_resolved next ≡ true
+says_resolved : (next : ResolveSpot) → says_of next ≡ Done → is_ended next ≡ true
 says_resolved (Resolved answer) done = refl
 says_resolved next done = absurd (cc (done))
 
-resolved_says : (next : ResolveSpot) → is_resolved next ≡ true → says_of next ≡ Done
+resolved_says : (next : ResolveSpot) → is_ended next ≡ true → says_of next ≡ Done
 resolved_says (Resolved answer) resolved = refl
 resolved_says next resolved = absurd (cc (resolved))
 
-says_is : (next : ResolveSpot) → (says_of next ≡ Done) ↔ (is_resolved next ≡ true)
+says_is : (next : ResolveSpot) → (says_of next ≡ Done) ↔ (is_ended next ≡ true)
 says_is next = (says_resolved next, resolved_says next)
 
-says_by_is : (said : Took) (next : ResolveSpot) → is_resolved next ≡ false → (says_by said next ≡ Done) ↔ (is_resolved next ≡ true)
+says_by_is : (said : Took) (next : ResolveSpot) → is_ended next ≡ false → (says_by said next ≡ Done) ↔ (is_ended next ≡ true)
 says_by_is Again next going = ((λ done. absurd (cc (done))), (λ resolved. absurd (cc (going, resolved))))
 says_by_is said next going = says_is next
 
-enter_goes : (at : RoomSpot) → is_resolved (after_enter at) ≡ false
+enter_goes : (at : RoomSpot) → is_ended (after_enter at) ≡ false
 enter_goes room.Inside = refl
 enter_goes room.Stopped = refl
 enter_goes at = refl
 
-take_goes : (words : ℕ) (at : TakeSpot) → is_resolved (after_take words at) ≡ false
+take_goes : (words : ℕ) (at : TakeSpot) → is_ended (after_take words at) ≡ false
 take_goes words (take.Ended (At copy) end) = refl
 take_goes words (take.Ended NoRoom end) = refl
 take_goes words at = refl
 
-stop_goes : (at : RoomSpot) → is_resolved (after_stop at) ≡ false
+stop_goes : (at : RoomSpot) → is_ended (after_stop at) ≡ false
 stop_goes room.Stopped = refl
 stop_goes at = refl
 
-pub done_is : (c : Config) (address phase : ℕ) (at : ResolveSpot) (got : ℕ) → (says_at c address phase at got ≡ Done) ↔ (is_resolved (next_at c address phase at got) ≡ true)
-done_is c address phase (Entering at) got = says_by_is (rooms.answer_at at got) (after_enter (rooms.next_at at got)) (enter_goes (rooms.next_at at got))
+pub done_is : (c : Config) (address phase : ℕ) (at : ResolveSpot) (got : ℕ) → (says_at c address phase at got ≡ Done) ↔ (is_ended (next_at c address phase at got) ≡ true)
+done_is c address phase (Entering at) got = says_by_is (rooms.says_at at got) (after_enter (rooms.next_at at got)) (enter_goes (rooms.next_at at got))
 done_is c address phase (Taking words at) got =
-    says_by_is (takes.says at (take_next c words at got)) (after_take words (take_next c words at got)) (take_goes words (take_next c words at got))
-done_is c address phase (Stopping at) got = says_by_is (rooms.answer_at at got) (after_stop (rooms.next_at at got)) (stop_goes (rooms.next_at at got))
+    says_by_is (takes.says_at at (take_next c words at got)) (after_take words (take_next c words at got)) (take_goes words (take_next c words at got))
+done_is c address phase (Stopping at) got = says_by_is (rooms.says_at at got) (after_stop (rooms.next_at at got)) (stop_goes (rooms.next_at at got))
 done_is c address phase at got = says_is (next_at c address phase at got)

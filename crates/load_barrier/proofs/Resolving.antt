@@ -19,7 +19,7 @@ use Rattle.load_barrier.specs.declared.copying.CopySpot.{CopySpot}
 use Rattle.load_barrier.specs.declared.copying.CopySpot.TheVariants.{LoadWord, StoreWord, StoreHeader, Publish, GiveBack}
 use Rattle.load_barrier.specs.declared.spot.ResolveSpot.{ResolveSpot}
 use Rattle.load_barrier.specs.declared.spot.ResolveSpot.TheVariants.{LoadHeader, Entering, LoadShape, Taking, Copying, Leaving, Stopping, LoadAgain, Resolved}
-use Rattle.load_barrier.specs.Rows.{touch_at, next_at, is_resolved, current_copy, after_header, after_enter, after_take, after_word, after_publish, after_stop, take_next}
+use Rattle.load_barrier.specs.Rows.{touch_at, next_at, is_ended, current_copy, after_header, after_enter, after_take, after_word, after_publish, after_stop, take_next}
 use Rattle.load_barrier.specs.Alone.{IsHeader, words_by_shape, AreCopied, IsApart, IsCounter}
 use Rattle.load_barrier.proofs.Knows.{CanResolve, Can, header_forwarded, names_copy, current_named}
 
@@ -278,7 +278,7 @@ module _ (c : Config) (seat address phase : ℕ) (memory : Word → ℕ) where
   step_copy copy end Publish apart can = publish_next phase address copy end (λ a. memory (Heap a)) (memory Evac) can
   step_copy copy end (GiveBack answer) apart can = record { header = can.header; counted = λ copies. can.counted refl; knows = can.knows }
 
-  pub each_step : (spot : ResolveSpot) → is_resolved spot ≡ false → IsCounter (memory Evac) → IsApart (λ a. memory (Heap a)) address spot
+  pub each_step : (spot : ResolveSpot) → is_ended spot ≡ false → IsCounter (memory Evac) → IsApart (λ a. memory (Heap a)) address spot
       → Can phase address memory spot → Next spot
   each_step LoadHeader going counter apart can = loaded (Heap address) (after_header address phase (memory (Heap address))) (header_next phase address (λ a. memory (Heap a)) (memory Evac) can)
   each_step (Entering Look) going counter apart can = loaded Evac (after_enter (rooms.next_at Look (memory Evac))) (look_next phase address (λ a. memory (Heap a)) (memory Evac) can)

@@ -11,7 +11,7 @@ use Rattle.alloc_buffers.specs.declared.spot.TakeSpot.TheVariants as take
 use Rattle.load_barrier.specs.declared.copying.CopySpot.TheVariants.{Publish}
 use Rattle.load_barrier.specs.declared.spot.ResolveSpot.{ResolveSpot}
 use Rattle.load_barrier.specs.declared.spot.ResolveSpot.TheVariants.{LoadHeader, LoadShape, Taking, Copying, Leaving, Stopping, Resolved}
-use Rattle.load_barrier.specs.Rows.{touch_at, next_at, is_resolved, current_copy}
+use Rattle.load_barrier.specs.Rows.{touch_at, next_at, is_ended, current_copy}
 
 -- the words, and where the machine stands
 pub record Resolving : Type 0 where
@@ -86,7 +86,7 @@ pub record IsCounter (word : ℕ) : Type 0 where
 
 -- the machine may make its next access: it is not at its end, and its room lies apart from the object
 pub record CanStep (address : ℕ) (s : Resolving) : Type 0 where
-  pub going : is_resolved s.spot ≡ false
+  pub going : is_ended s.spot ≡ false
   pub counter : IsCounter (s.memory Evac)
   pub apart : IsApart (λ a. s.memory (Heap a)) address s.spot
 

@@ -4,7 +4,7 @@ use Rattle.heap_words.specs.declared.config.Config.{Config}
 use Rattle.heap_words.specs.Words.{Heap, is_word}
 use Rattle.alloc_buffers.specs.declared.spot.TakeSpot.{TakeSpot}
 use Rattle.alloc_buffers.specs.Rows as takes
-use Rattle.evac_room.specs.Spot.{is_at_rest, is_entering, is_stopping, raises_clear}
+use Rattle.evac_room.specs.Spot.{is_ended, is_entering, is_stopping, raises_clear}
 use Rattle.load_barrier.specs.declared.copying.CopySpot.{CopySpot}
 use Rattle.load_barrier.specs.declared.copying.CopySpot.TheVariants.{LoadWord, StoreWord, StoreHeader, Publish, GiveBack}
 use Rattle.load_barrier.specs.declared.spot.ResolveSpot.{ResolveSpot}
@@ -46,12 +46,12 @@ take_ready c seat address words at = is_object c address words && (is_busy (take
 -- whether the numbers of a spot are in range, for the machine of a seat that resolves the address: the next access can be made
 abbrev pub is_ready : Config → ℕ → ℕ → ResolveSpot → Bool
 is_ready c seat address LoadHeader = true
-is_ready c seat address (Entering at) = is_entering at && (raises_clear at && is_busy (is_at_rest at))
+is_ready c seat address (Entering at) = is_entering at && (raises_clear at && is_busy (is_ended at))
 is_ready c seat address LoadShape = is_word c (Heap (address + 1))
 is_ready c seat address (Taking words at) = take_ready c seat address words at
 is_ready c seat address (Copying copy end at) = copy_ready c address copy at && nat_lt end (2 ^ 32)
 is_ready c seat address (Leaving answer) = is_word c (Heap answer)
-is_ready c seat address (Stopping at) = is_stopping at && is_busy (is_at_rest at)
+is_ready c seat address (Stopping at) = is_stopping at && is_busy (is_ended at)
 is_ready c seat address LoadAgain = true
 is_ready c seat address (Resolved answer) = is_word c (Heap answer)
 

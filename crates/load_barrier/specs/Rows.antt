@@ -56,12 +56,12 @@ copy_touch seat address copy end (GiveBack answer) = touch (Current seat) (store
 -- the next access of the machine of a seat that resolves the address
 abbrev pub touch_at : Config → ℕ → ℕ → ResolveSpot → Touch
 touch_at c seat address LoadHeader = touch (Heap address) loads
-touch_at c seat address (Entering at) = touch Evac (rooms.form_at at)
+touch_at c seat address (Entering at) = rooms.touch_at at
 touch_at c seat address LoadShape = touch (Heap (address + 1)) loads
 touch_at c seat address (Taking words at) = takes.touch_at seat words at
 touch_at c seat address (Copying copy end at) = copy_touch seat address copy end at
 touch_at c seat address (Leaving answer) = touch Evac (subtracts 1)
-touch_at c seat address (Stopping at) = touch Evac (rooms.form_at at)
+touch_at c seat address (Stopping at) = rooms.touch_at at
 touch_at c seat address LoadAgain = touch (Heap address) loads
 touch_at c seat address (Resolved answer) = touch (Heap address) loads
 
@@ -125,9 +125,9 @@ next_at c address phase LoadAgain got = Resolved (current_copy address got)
 next_at c address phase (Resolved answer) got = Resolved answer
 
 -- whether the address is resolved
-abbrev pub is_resolved : ResolveSpot → Bool
-is_resolved (Resolved answer) = true
-is_resolved _ = false
+abbrev pub is_ended : ResolveSpot → Bool
+is_ended (Resolved answer) = true
+is_ended _ = false
 
 -- what a step says by where it leads: it is done once the address is resolved
 abbrev pub says_of : ResolveSpot → Took
@@ -141,7 +141,7 @@ says_by _ next = says_of next
 
 -- what the step says
 abbrev pub says_at : Config → ℕ → ℕ → ResolveSpot → ℕ → Took
-says_at c address phase (Entering at) got = says_by (rooms.answer_at at got) (after_enter (rooms.next_at at got))
-says_at c address phase (Taking words at) got = says_by (takes.says at (take_next c words at got)) (after_take words (take_next c words at got))
-says_at c address phase (Stopping at) got = says_by (rooms.answer_at at got) (after_stop (rooms.next_at at got))
+says_at c address phase (Entering at) got = says_by (rooms.says_at at got) (after_enter (rooms.next_at at got))
+says_at c address phase (Taking words at) got = says_by (takes.says_at at (take_next c words at got)) (after_take words (take_next c words at got))
+says_at c address phase (Stopping at) got = says_by (rooms.says_at at got) (after_stop (rooms.next_at at got))
 says_at c address phase at got = says_of (next_at c address phase at got)

@@ -3,7 +3,7 @@ use Rattle.std.specs.Prelude.{ℕ, ◌≡◌, ◌+◌, Bool, true, ◌&&◌, nat
 use Rattle.heap_words.specs.declared.config.Config.{Config}
 use Rattle.heap_words.specs.Words.{Heap, is_word}
 use Rattle.load_barrier.specs.declared.spot.ResolveSpot.{ResolveSpot}
-use Rattle.load_barrier.specs.Rows.{is_resolved}
+use Rattle.load_barrier.specs.Rows.{is_ended}
 use Rattle.load_barrier.specs.Fit as resolve
 use Rattle.load_barrier.specs.declared.evac_spot.EvacSpot.{EvacSpot}
 use Rattle.load_barrier.specs.declared.evac_spot.EvacSpot.TheVariants.{LoadClaim, ClaimUnit, LoadTop, LoadFirst, LoadShape, LoadMark, Resolving, Ended}
@@ -20,7 +20,7 @@ is_walkable c next end = if nat_lt next end then is_word c (Heap next) else true
 
 -- whether a resolving of the address can make its next access
 abbrev pub resolve_ready : Config → ℕ → ℕ → ResolveSpot → Bool
-resolve_ready c seat address at = resolve.is_ready c seat address at && resolve.is_busy (is_resolved at)
+resolve_ready c seat address at = resolve.is_ready c seat address at && resolve.is_busy (is_ended at)
 
 -- whether the numbers of a spot are in range, for the machine of a seat: the next access can be made
 abbrev pub is_ready : Config → ℕ → EvacSpot → Bool

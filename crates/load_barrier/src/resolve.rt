@@ -25,7 +25,7 @@ impl Resolve {
     ghost use Rattle.heap_words.specs.Access.{table_index};
     ghost use Rattle.heap_words.specs.Words.{table_words};
     ghost use Rattle.heap_words.specs.Touch.{placed};
-    ghost use Rattle.load_barrier.specs.Rows.{place_at, touch_at, next_at, says_at, is_resolved};
+    ghost use Rattle.load_barrier.specs.Rows.{place_at, touch_at, next_at, says_at, is_ended};
     ghost use Rattle.load_barrier.specs.Fit.{IsFit};
     ghost use Rattle.load_barrier.specs.Waits.{WaitsAt};
     ghost use Rattle.load_barrier.specs.UnitRows.{must_resolve};
@@ -51,14 +51,14 @@ impl Resolve {
 
     /// Whether the address is resolved. It makes no step then.
     pub fn is_done(&self) -> bool
-        ensures { result ≡ is_resolved (spot_of self.now) }
+        ensures { result ≡ is_ended (spot_of self.now) }
     {
-        self.spot.is_resolved()
+        self.spot.is_ended()
     }
 
     /// The place of its next access.
     pub fn place(&self) -> Place
-        requires { is_resolved (spot_of self.now) ≡ false }
+        requires { is_ended (spot_of self.now) ≡ false }
         ensures { result ≡ place_at (spot_of self.now) }
     {
         self.spot.place()
@@ -66,7 +66,7 @@ impl Resolve {
 
     /// The access of its next step.
     pub fn plan(&self) -> Access
-        requires { is_resolved (spot_of self.now) ≡ false }
+        requires { is_ended (spot_of self.now) ≡ false }
         ensures row { let r = resolver_of self.now in result ≡ placed r.config (touch_at r.config r.seat r.address (spot_of self.now)) }
         ensures inside { table_index result < table_words (resolver_of self.now).config }
     {
@@ -76,12 +76,12 @@ impl Resolve {
     /// Goes on with the word that its access has found. A word is fit if the access that follows is of the table, and whoever
     /// leaves the copiers is counted.
     pub fn took(&mut self, got: u64) -> Took
-        requires busy { is_resolved (spot_of self.old) ≡ false }
+        requires busy { is_ended (spot_of self.old) ≡ false }
         requires fit { let r = resolver_of self.old in IsFit r.config r.seat r.address r.phase (spot_of self.old) got }
         ensures spot { let r = resolver_of self.old in spot_of self.new ≡ next_at r.config r.address r.phase (spot_of self.old) got }
         ensures resolver { resolver_of self.new ≡ resolver_of self.old }
         ensures says { let r = resolver_of self.old in result ≡ says_at r.config r.address r.phase (spot_of self.old) got }
-        ensures done { (result ≡ Took.Done) ↔ (is_resolved (spot_of self.new) ≡ true) }
+        ensures done { (result ≡ Took.Done) ↔ (is_ended (spot_of self.new) ≡ true) }
         ensures again { (result ≡ Took.Again) ↔ WaitsAt (spot_of self.old) got }
     {
         let (spot, said) = self
@@ -93,7 +93,7 @@ impl Resolve {
 
     /// The address to use, once it is resolved: one of the heap.
     pub fn answer(&self) -> u64
-        requires { is_resolved (spot_of self.now) ≡ true }
+        requires { is_ended (spot_of self.now) ≡ true }
         ensures answer { spot_of self.now ≡ ResolveSpot.Resolved result }
         ensures inside { IsWord (resolver_of self.now).config (Heap result) }
     {

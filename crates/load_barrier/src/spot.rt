@@ -78,8 +78,8 @@ impl ResolveSpot {
     }
 
     /// Whether the address is resolved.
-    pub fn is_resolved(self) -> bool
-        ensures { result ≡ rows.is_resolved self }
+    pub fn is_ended(self) -> bool
+        ensures { result ≡ rows.is_ended self }
     {
         matches!(self, ResolveSpot::Resolved { .. })
     }
@@ -89,7 +89,7 @@ impl ResolveSpot {
         requires seat { seat < seat_count config.mutators config.helpers }
         requires address { IsWord config (Heap address) }
         requires ready { is_ready config seat address self ≡ true }
-        requires busy { rows.is_resolved self ≡ false }
+        requires busy { rows.is_ended self ≡ false }
         ensures row { result ≡ placed config (rows.touch_at config seat address self) }
         ensures inside { table_index result < table_words config }
     {

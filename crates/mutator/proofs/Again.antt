@@ -6,7 +6,7 @@ use Rattle.heap_words.specs.declared.config.Config.{Config}
 use Rattle.shen_graph.specs.declared.command.Command.{Command}
 use Rattle.handshake.specs.declared.enter_spot.EnterSpot.{EnterSpot}
 use Rattle.handshake.specs.declared.enter_spot.EnterSpot.TheVariants as enter
-use Rattle.handshake.specs.Rows.{enter_says}
+use Rattle.handshake.specs.EnterRows.{says_at as enter_says}
 use Rattle.alloc_buffers.specs.declared.spot.Kind.TheVariants.{Fresh}
 use Rattle.alloc_buffers.proofs.Accesses as taking
 use Rattle.mutator.specs.declared.spot.Entered.{Entered}

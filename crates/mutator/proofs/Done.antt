@@ -5,7 +5,7 @@ use Rattle.heap_words.specs.declared.config.Config.{Config}
 use Rattle.heap_words.specs.declared.access.Took.{Took}
 use Rattle.heap_words.specs.declared.access.Took.TheVariants as took
 use Rattle.shen_graph.specs.declared.command.Reply.{Reply}
-use Rattle.handshake.specs.Rows.{enter_says}
+use Rattle.handshake.specs.EnterRows.{says_at as enter_says}
 use Rattle.alloc_buffers.specs.Rows as takes
 use Rattle.load_barrier.specs.Rows as resolves
 use Rattle.mutator.specs.declared.spot.Spot.{Spot}
@@ -31,7 +31,7 @@ goes_on _ is = cc
 
 -- nor does the making of an object
 pub makes_go_on : (c : Config) (command : Command) (at : MakeSpot) (got : ℕ) → make_says c command at got ≡ took.Done → ⊥
-makes_go_on c command (Taking take) got is = goes_on (takes.says take (take_next c command take got)) is
+makes_go_on c command (Taking take) got is = goes_on (takes.says_at take (take_next c command take got)) is
 makes_go_on c command _ got is = cc
 
 -- a step that says Done gives its reply, and no other step does

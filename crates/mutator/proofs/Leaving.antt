@@ -8,7 +8,7 @@ use Rattle.shen_graph.specs.declared.order.Order.TheVariants.{End}
 use Rattle.shen_graph.specs.declared.command.Reply.{Reply}
 use Rattle.handshake.specs.declared.enter_spot.EnterSpot.{EnterSpot}
 use Rattle.handshake.specs.declared.enter_spot.EnterSpot.TheVariants as enter
-use Rattle.handshake.specs.Rows.{enter_place}
+use Rattle.handshake.specs.EnterRows.{place_at as enter_place}
 use Rattle.alloc_buffers.specs.declared.spot.TakeSpot.{TakeSpot}
 use Rattle.alloc_buffers.specs.Rows as takes
 use Rattle.alloc_buffers.proofs.Accesses.{stands_elsewhere}

@@ -7,7 +7,7 @@ use Rattle.shen_graph.specs.declared.order.Order.{Order}
 use Rattle.shen_graph.specs.declared.order.Order.TheVariants.{Nothing, End}
 use Rattle.shen_graph.specs.declared.command.Command.{Command}
 use Rattle.handshake.specs.declared.enter_spot.EnterSpot.{EnterSpot}
-use Rattle.handshake.specs.Rows.{is_entered}
+use Rattle.handshake.specs.EnterRows.{is_ended as is_entered}
 use Rattle.alloc_buffers.specs.declared.spot.TakeSpot.{TakeSpot}
 use Rattle.alloc_buffers.specs.Rows as takes
 use Rattle.satb_barrier.specs.declared.spot.RememberSpot.{RememberSpot}
@@ -62,7 +62,7 @@ wait_fits made command at = can_count made at
 
 -- whether the recording of an address of the heap has not ended, and its numbers are in range
 abbrev pub remember_fits : Config → ℕ → RememberSpot → Bool
-remember_fits c address at = (if satb.is_recorded at then false else true) && (satb.is_ready c at && is_word c (Heap address))
+remember_fits c address at = (if satb.is_ended at then false else true) && (satb.is_ready c at && is_word c (Heap address))
 
 -- whether the resolving of an address of the heap, by the mutator of a seat, has not ended, and its numbers are in range
 abbrev pub resolve_fits : Config → ℕ → ℕ → ResolveSpot → Bool

@@ -12,7 +12,7 @@ use Rattle.heap_words.specs.Encoding.{refs_in, thread_in, count_in, fresh_word}
 use Rattle.heap_words.specs.Phases.{idle_phase, marking_phase}
 use Rattle.heap_words.specs.Touch.{Touch, touch, loads, stores, swaps, subtracts, sets_bits, exchanges}
 use Rattle.handshake.specs.declared.enter_spot.EnterSpot.TheVariants.{Raise, Look}
-use Rattle.handshake.specs.Rows as enters
+use Rattle.handshake.specs.EnterRows as enters
 use Rattle.alloc_buffers.specs.Rows as takes
 use Rattle.alloc_buffers.specs.declared.spot.Kind.TheVariants.{Fresh}
 use Rattle.alloc_buffers.specs.declared.spot.Taken.TheVariants.{At, NoRoom}
@@ -111,13 +111,13 @@ greys_at _ = None
 -- between two calls it is by the order: that of the first access of a call, or of the access by which a mutator ends
 abbrev pub first_place : Order → Place
 first_place End = place.ML
-first_place order = enters.enter_place Raise
+first_place order = enters.place_at Raise
 
 -- and of a mutator. One that has ended makes no access, and the place is named as that of its last one
 abbrev pub place_at : Order → Spot → Place
 place_at order Rest = first_place order
 place_at order (Ended reply) = first_place order
-place_at order (Entering at next) = enters.enter_place at
+place_at order (Entering at next) = enters.place_at at
 place_at order LoadPhase = place.PH
 place_at order LoadSet = place.CS
 place_at order (Loading at) = load_place at
@@ -173,13 +173,13 @@ make_touch seat made command (make.StoreRoot address) = touch (Root seat (dst_of
 -- between two calls it is by the order: a call begins by entering the heap, and to end is to be one mutator less
 abbrev pub first_touch : ℕ → Order → Touch
 first_touch seat End = touch Left (subtracts 1)
-first_touch seat order = enters.enter_touch seat Raise
+first_touch seat order = enters.touch_at seat Raise
 
 -- and of a mutator. One that has ended makes none
 abbrev pub touch_at : Config → ℕ → ℕ → Kept → Order → Spot → Touch
 touch_at c seat made kept order Rest = first_touch seat order
 touch_at c seat made kept order (Ended reply) = first_touch seat order
-touch_at c seat made kept order (Entering at next) = enters.enter_touch seat at
+touch_at c seat made kept order (Entering at next) = enters.touch_at seat at
 touch_at c seat made kept order LoadPhase = touch Phase loads
 touch_at c seat made kept order LoadSet = touch Cset loads
 touch_at c seat made kept order (Loading at) = load_touch seat kept.command at
@@ -359,7 +359,7 @@ call_begun (Hint address) m = m
 abbrev pub next_at : Config → Mutating → Order → ℕ → Spot → Mutating
 next_at c m order got Rest = call_begun order m
 next_at c m order got (Ended reply) = call_begun order m
-next_at c m order got (Entering at next) = record m { spot = after_enter next (enters.enter_next at got) }
+next_at c m order got (Entering at next) = record m { spot = after_enter next (enters.next_at at got) }
 next_at c m order got LoadPhase = record m { kept = record m.kept { phase = got }; spot = LoadSet }
 next_at c m order got LoadSet = record m { kept = record m.kept { cset = got }; spot = first_spot m.kept.command }
 next_at c m order got (Loading at) = record m { spot = load_next m.kept.phase m.kept.command at got }
@@ -386,11 +386,11 @@ field_says (fields.Exchange found expect value) got = if got == found then More 
 field_says _ got = More
 
 abbrev pub make_says : Config → Command → MakeSpot → ℕ → Took
-make_says c command (make.Taking take) got = call_says (takes.says take (take_next c command take got))
+make_says c command (make.Taking take) got = call_says (takes.says_at take (take_next c command take got))
 make_says c command _ got = More
 
 abbrev pub answer_at : Config → Kept → Spot → ℕ → Took
-answer_at c kept (Entering at next) got = call_says (enters.enter_says at got)
+answer_at c kept (Entering at next) got = call_says (enters.says_at at got)
 answer_at c kept (OnField object at) got = field_says at got
 answer_at c kept (Resolving address at next) got = call_says (resolves.says_at c address kept.phase at got)
 answer_at c kept (Making at) got = make_says c kept.command at got

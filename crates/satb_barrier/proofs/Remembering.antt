@@ -12,7 +12,7 @@ use Rattle.regions.specs.Touches.{grey_touch}
 use Rattle.regions.proofs.MarksApart.{bit_below, bits_stay, mark_set}
 use Rattle.satb_barrier.specs.declared.spot.RememberSpot.{RememberSpot}
 use Rattle.satb_barrier.specs.declared.spot.RememberSpot.TheVariants.{LoadCount, LoadEntry, MarkEntry, ClearCount, StoreEntry, StoreCount, Recorded}
-use Rattle.satb_barrier.specs.Rows.{touch_at, next_at, is_recorded, is_ready, IsFit}
+use Rattle.satb_barrier.specs.Rows.{touch_at, next_at, is_ended, is_ready, IsFit}
 use Rattle.satb_barrier.specs.Recorded.{greys_in, IsRecorded, IsSatbBuffer, LeaveBuffer}
 use Rattle.satb_barrier.specs.Facts.{AreGrey, RememberFacts, CanRemember}
 
@@ -252,7 +252,7 @@ module _ (c : Config) (memory : Word → ℕ) (mutator address : ℕ) where
       keeps_all more x (inr (k, below, is)) = inr (k, omega (arith, below, more, can.facts.0), is)
 
   -- each step of the mutator
-  pub each_remembers : (spot : RememberSpot) → is_recorded spot ≡ false → IsWord c (Heap address) → CanRemember c memory mutator address spot → RememberStep spot
+  pub each_remembers : (spot : RememberSpot) → is_ended spot ≡ false → IsWord c (Heap address) → CanRemember c memory mutator address spot → RememberStep spot
   each_remembers LoadCount going heap can = step_load_count can
   each_remembers (LoadEntry entry) going heap can = step_load_entry entry can
   each_remembers (MarkEntry entry found) going heap can = step_mark_entry entry found can

@@ -5,7 +5,7 @@ use Rattle.heap_words.specs.Words.{Word, Heap, IsWord}
 use Rattle.heap_words.specs.Touch.{touched}
 use Rattle.satb_barrier.specs.declared.spot.RememberSpot.{RememberSpot}
 use Rattle.satb_barrier.specs.declared.spot.RememberSpot.TheVariants.{LoadCount, Recorded}
-use Rattle.satb_barrier.specs.Rows.{touch_at, next_at, is_recorded, is_ready, IsFit}
+use Rattle.satb_barrier.specs.Rows.{touch_at, next_at, is_ended, is_ready, IsFit}
 use Rattle.satb_barrier.specs.Recorded.{IsRecorded, IsSatbBuffer, LeaveBuffer}
 
 -- the words, and where the mutator stands
@@ -43,7 +43,7 @@ module _ (c : Config) (mutator address : ℕ) where
 
   -- a move may be made: the mutator makes a step until the address is recorded, and others leave its buffer
   abbrev pub IsMove : Recording → Move → Type 0
-  IsMove s own = is_recorded s.spot ≡ false
+  IsMove s own = is_ended s.spot ≡ false
   IsMove s (others after) = LeaveBuffer mutator s.memory after
 
   -- each of these moves may be made, one after the other
@@ -57,7 +57,7 @@ module _ (c : Config) (mutator address : ℕ) where
     pub buffer : IsSatbBuffer c s.memory mutator
     -- its next access can be made, and the word that it finds is fit
     pub ready : is_ready c s.spot ≡ true
-    pub fits : is_recorded s.spot ≡ false → IsFit c s.spot (word_found s)
+    pub fits : is_ended s.spot ≡ false → IsFit c s.spot (word_found s)
     -- at the end the address is recorded
     pub recorded : s.spot ≡ Recorded → IsRecorded c s.memory mutator address
 

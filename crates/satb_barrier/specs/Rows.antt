@@ -44,9 +44,9 @@ next_at (StoreCount entry) got = Recorded
 next_at Recorded got = Recorded
 
 -- whether the address is recorded
-abbrev pub is_recorded : RememberSpot → Bool
-is_recorded Recorded = true
-is_recorded _ = false
+abbrev pub is_ended : RememberSpot → Bool
+is_ended Recorded = true
+is_ended _ = false
 
 -- the address that the next access makes grey, if it does so
 abbrev pub greys_at : RememberSpot → Option ℕ

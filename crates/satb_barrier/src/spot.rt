@@ -70,8 +70,8 @@ impl RememberSpot {
     }
 
     /// Whether the address is recorded.
-    pub fn is_recorded(self) -> bool
-        ensures { result ≡ rows.is_recorded self }
+    pub fn is_ended(self) -> bool
+        ensures { result ≡ rows.is_ended self }
     {
         matches!(self, RememberSpot::Recorded)
     }
@@ -80,7 +80,7 @@ impl RememberSpot {
     pub fn access(self, config: Config, mutator: usize, address: u64) -> Access
         requires mutator { mutator < config.mutators }
         requires ready { rows.is_ready config self ≡ true }
-        requires busy { rows.is_recorded self ≡ false }
+        requires busy { rows.is_ended self ≡ false }
         ensures row { result ≡ placed config (rows.touch_at config mutator address self) }
         ensures inside { table_index result < table_words config }
     {

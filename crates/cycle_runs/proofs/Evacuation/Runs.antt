@@ -34,7 +34,7 @@ use Rattle.collector_rows.specs.ControlRows.{Controlling, control_seat, control_
 use Rattle.collector_rows.proofs.ControlHinted.{control_hinted_ready}
 use Rattle.shen_graph.specs.Order.{hint_in}
 use Rattle.unit_part.proofs.Inside.{unit_inside}
-use Rattle.handshake.specs.Rows.{stop_touch}
+use Rattle.handshake.specs.StopRows.{touch_at as stop_touch}
 use Rattle.step_core.specs.Actor.{Machine, mutating, helping, controlling, Actor}
 use Rattle.step_core.specs.Begins.{Begins}
 use Rattle.step_core.specs.History.{history}

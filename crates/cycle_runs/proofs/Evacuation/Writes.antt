@@ -16,7 +16,8 @@ use Rattle.handshake.specs.declared.enter_spot.EnterSpot.{EnterSpot}
 use Rattle.handshake.specs.declared.stop_spot.StopSpot.{StopSpot}
 use Rattle.handshake.specs.declared.stop_spot.StopSpot.TheVariants as stop
 use Rattle.handshake.specs.declared.enter_spot.EnterSpot.TheVariants as enter
-use Rattle.handshake.specs.Rows.{enter_touch, stop_touch}
+use Rattle.handshake.specs.EnterRows.{touch_at as enter_touch}
+use Rattle.handshake.specs.StopRows.{touch_at as stop_touch}
 use Rattle.alloc_buffers.specs.declared.spot.TakeSpot.{TakeSpot}
 use Rattle.alloc_buffers.specs.declared.spot.TakeSpot.TheVariants as take
 use Rattle.alloc_buffers.specs.Rows as takes
@@ -141,7 +142,7 @@ module _ (c : Config) (w : World) (shared : Shared c w) where
   take_writes seat words (take.Ended taken end) Work facts = Writes.elsewhere refl
 
   -- a step of a resolving leaves the word of the copiers quiet
-  quiet_then : (seat a : ℕ) (at : ResolveSpot) → resolves.is_resolved at ≡ false → CanResolve c w seat a at → IsQuiet (w.memory Evac) → IsQuiet (touched w.memory (resolves.touch_at c seat a at) Evac)
+  quiet_then : (seat a : ℕ) (at : ResolveSpot) → resolves.is_ended at ≡ false → CanResolve c w seat a at → IsQuiet (w.memory Evac) → IsQuiet (touched w.memory (resolves.touch_at c seat a at) Evac)
   quiet_then seat a at going can quiet =
       let step = ((resolving_steps.steps c seat a).goes w at going shared can).step in
       subst (λ (memory : Word → ℕ). IsQuiet (memory Evac)) step.memory (step.keeps.copies.quiet quiet)

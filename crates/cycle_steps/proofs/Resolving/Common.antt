@@ -9,7 +9,7 @@ use Rattle.heap_words.specs.Touch.{touch, touched}
 use Rattle.heap_words.specs.Counter.{IsQuiet}
 use Rattle.evac_room.specs.declared.spot.RoomSpot.{RoomSpot}
 use Rattle.evac_room.specs.declared.spot.RoomSpot.TheVariants.{Look}
-use Rattle.evac_room.specs.Spot.{is_at_rest, is_counted}
+use Rattle.evac_room.specs.Spot.{is_ended, is_counted}
 use Rattle.evac_room.specs.Rows as rooms
 use Rattle.evac_room.proofs.OneStep.{Mine}
 use Rattle.heap_world.specs.World.{World, Block, thing, spent, Body, body_at, IsCollected, TargetIn, Shared}
@@ -123,7 +123,7 @@ module _ (c : Config) (u : World) (seat a : ℕ) (unit : Option ℕ) (shared : S
   leads_header to = cond-true (is_forwarded (header_word to)) (Resolved (forwardee_in (header_word to))) (Entering Look) (header_forwarded to) ∙ ap (λ x. Resolved x) (header_names to)
 
   -- what it counts on after a step of the counter
-  module _ (at : ResolveSpot) (spot : RoomSpot) (can : CanResolveFor c u seat a unit at) (going : is_at_rest spot ≡ false) (counts : is_copier at ≡ is_counted spot) (mine : Mine (u.memory Evac) spot)
+  module _ (at : ResolveSpot) (spot : RoomSpot) (can : CanResolveFor c u seat a unit at) (going : is_ended spot ≡ false) (counts : is_copier at ≡ is_counted spot) (mine : Mine (u.memory Evac) spot)
       (touches : touch_at c seat a at ≡ touch Evac (rooms.form_at spot)) where
     abbrev pub counted_then : World
     counted_then = counted_world c u seat spot shared can.resolves.phase can.resolves.seated going (can.resolves.copying ∙ counts) mine

@@ -7,7 +7,7 @@ use Rattle.heap_words.specs.Words.{Phase, Evac, Top, Heap}
 use Rattle.heap_words.specs.Touch.{touch, formed}
 use Rattle.heap_words.specs.Counter.{IsQuiet}
 use Rattle.evac_room.specs.declared.spot.RoomSpot.{RoomSpot}
-use Rattle.evac_room.specs.Spot.{is_at_rest, is_counted}
+use Rattle.evac_room.specs.Spot.{is_ended, is_counted}
 use Rattle.evac_room.specs.Rows.{form_at, next_at}
 use Rattle.evac_room.proofs.OneStep.{Mine, after, IsKept, CanStep, each_keeps}
 use Rattle.heap_world.specs.World.{World, copiers, IsCounted, Shared}
@@ -56,7 +56,7 @@ copiers_moved copying seat (suc n) v below = ⊎_elim
     (cases_eq seat n)
 
 module _ (c : Config) (u : World) (seat : ℕ) (spot : RoomSpot) (shared : Shared c u) (on : u.memory Phase ≡ 2) (seated : seat < seat_count c.mutators c.helpers)
-    (going : is_at_rest spot ≡ false) (copying : u.ghost.copying seat ≡ is_counted spot) (mine : Mine (u.memory Evac) spot) where
+    (going : is_ended spot ≡ false) (copying : u.ghost.copying seat ≡ is_counted spot) (mine : Mine (u.memory Evac) spot) where
   -- the copier can step
   pub can_step : CanStep (u.memory Evac) spot
   can_step = record {

@@ -17,7 +17,7 @@ use Rattle.heap_world.proofs.Keeping.{load_keeps}
 use Rattle.heap_world.proofs.Pointing.{copy_cases}
 use Rattle.load_barrier.specs.declared.spot.ResolveSpot.{ResolveSpot}
 use Rattle.load_barrier.specs.declared.spot.ResolveSpot.TheVariants.{LoadHeader, Entering, LoadShape, Taking, Copying, Leaving, Stopping, LoadAgain, Resolved}
-use Rattle.load_barrier.specs.Rows.{is_resolved, current_copy, after_stop}
+use Rattle.load_barrier.specs.Rows.{is_ended, current_copy, after_stop}
 use Rattle.load_barrier.proofs.Knows.{header_forwarded, header_names}
 use Rattle.cycle_steps.proofs.Resolving.Bodies.{piece_begins, copy_piece}
 use Rattle.cycle_steps.proofs.Resolving.Counts.{counter_kept}
@@ -112,7 +112,7 @@ module _ (c : Config) (u : World) (seat a : ℕ) (unit : Option ℕ) (shared : S
   at_stopping Stopped can = absurd (let ready = can.resolves.ready in cc)
 
   -- each step of a resolving
-  pub each_resolve : (at : ResolveSpot) → is_resolved at ≡ false → CanResolveFor c u seat a unit at → ResolveStep c u seat a unit at
+  pub each_resolve : (at : ResolveSpot) → is_ended at ≡ false → CanResolveFor c u seat a unit at → ResolveStep c u seat a unit at
   each_resolve LoadHeader going can = at_load_header c u seat a unit shared can
   each_resolve (Entering at) going can = at_entering at can
   each_resolve LoadShape going can = at_load_shape c u seat a unit shared can

@@ -14,7 +14,7 @@ use Rattle.heap_world.proofs.Keeping.{load_keeps, rely_same, keeps_of}
 use Rattle.heap_world.proofs.Pointing.{copy_cases}
 use Rattle.load_barrier.specs.declared.spot.ResolveSpot.{ResolveSpot}
 use Rattle.load_barrier.specs.declared.spot.ResolveSpot.TheVariants.{LoadHeader, Entering, LoadShape, Taking, Copying, Leaving, Stopping, LoadAgain, Resolved}
-use Rattle.load_barrier.specs.Rows.{touch_at, next_at, after_header, is_resolved}
+use Rattle.load_barrier.specs.Rows.{touch_at, next_at, after_header, is_ended}
 use Rattle.load_barrier.specs.Fit as resolve
 use Rattle.load_barrier.specs.Alone.{is_copier}
 use Rattle.load_barrier.proofs.Knows.{header_forwarded, header_names}
@@ -70,7 +70,7 @@ module _ (c : Config) (u : World) (seat a : ℕ) (shared : Shared c u) where
       })
 
   -- each step
-  pub each_follow : (at : ResolveSpot) → is_resolved at ≡ false → CanFollow c u seat a at → FollowStep c u seat a at
+  pub each_follow : (at : ResolveSpot) → is_ended at ≡ false → CanFollow c u seat a at → FollowStep c u seat a at
   each_follow LoadHeader going can = at_load_header can
   each_follow (Resolved answer) going can = absurd (cc (going))
   each_follow (Entering at) going can = absurd can.facts

@@ -8,7 +8,7 @@ use Rattle.regions.specs.Place.{base_of, region_with}
 use Rattle.regions.specs.Sets.{IsIn}
 use Rattle.alloc_buffers.specs.Facts.{OnlySpares}
 use Rattle.heap_world.specs.World.{World, Block, words_of, filling, IsCollected, IsSweptTo}
-use Rattle.load_barrier.specs.Rows.{is_resolved}
+use Rattle.load_barrier.specs.Rows.{is_ended}
 use Rattle.load_barrier.specs.declared.evac_spot.EvacSpot.{EvacSpot}
 use Rattle.load_barrier.specs.declared.evac_spot.EvacSpot.TheVariants.{LoadClaim, ClaimUnit, LoadTop, LoadFirst, LoadShape, LoadMark, Resolving, Ended}
 use Rattle.cycle_steps.specs.Resolving.Facts.{CanResolve}
@@ -63,7 +63,7 @@ WorkFacts c w seat (LoadTop region) = HasNothing w seat × IsIn (w.memory Cset) 
 WorkFacts c w seat (LoadFirst address end) = HasNothing w seat × IsWalkedTo c w address end
 WorkFacts c w seat (LoadShape address end) = HasNothing w seat × IsAtObject c w address end
 WorkFacts c w seat (LoadMark address end next) = HasNothing w seat × IsMeasured c w address end next
-WorkFacts c w seat (Resolving address end next at) = (is_resolved at ≡ false) × CanResolve c w seat address at × IsMeasured c w address end next
+WorkFacts c w seat (Resolving address end next at) = (is_ended at ≡ false) × CanResolve c w seat address at × IsMeasured c w address end next
 WorkFacts c w seat (Ended unit) = HasNothing w seat
 
 -- Objects are evacuated, the machine knows the collection set, and works on the region of which its spot tells.

@@ -12,7 +12,7 @@ use Rattle.heap_world.specs.Part.{Part, PartSteps}
 use Rattle.load_barrier.specs.declared.spot.ResolveSpot.{ResolveSpot}
 use Rattle.load_barrier.specs.declared.spot.ResolveSpot.TheVariants.{LoadHeader, Copying, Resolved}
 use Rattle.load_barrier.specs.declared.copying.CopySpot.TheVariants.{Publish}
-use Rattle.load_barrier.specs.Rows.{touch_at, next_at, is_resolved}
+use Rattle.load_barrier.specs.Rows.{touch_at, next_at, is_ended as is_resolved}
 use Rattle.load_barrier.specs.Fit.{IsFit}
 use Rattle.cycle_steps.specs.Resolving.Facts.{IsAnswer, CanResolve}
 use Rattle.alloc_buffers.specs.Facts.{OnlySpares}

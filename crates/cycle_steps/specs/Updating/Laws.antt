@@ -49,7 +49,7 @@ pub record UpdatingSteps : Type 0 where
 abbrev pub following_part : Config → (seat a : ℕ) → Part
 following_part c seat a = record {
   Spot = ResolveSpot;
-  is_ended = resolves.is_resolved;
+  is_ended = resolves.is_ended;
   touch = resolves.touch_at c seat a;
   next = resolves.next_at c a updating_phase;
   IsFit = resolve.IsFit c seat a updating_phase;

@@ -10,7 +10,7 @@ use Rattle.heap_words.specs.Fits.{touch_fits}
 use Rattle.heap_words.specs.Touch.{touch, loads, stores, placed}
 use Rattle.handshake.specs.declared.stop_spot.StopSpot.{StopSpot}
 use Rattle.handshake.specs.declared.stop_spot.StopSpot.TheVariants as stop
-use Rattle.handshake.specs.Rows.{stop_touch, stop_next, is_stopped}
+use Rattle.handshake.specs.StopRows.{touch_at as stop_touch, next_at as stop_next, is_ended as is_stopped}
 use Rattle.handshake.specs.Standing.{Standing, is_free, is_pausing, stop_standing}
 use Rattle.handshake.specs.Obeys.{Obeys}
 use Rattle.handshake.specs.Left.{Counts}

@@ -15,7 +15,7 @@ use Rattle.handshake.specs.declared.enter_spot.EnterSpot.{EnterSpot}
 use Rattle.handshake.specs.declared.enter_spot.EnterSpot.TheVariants as enter
 use Rattle.handshake.specs.declared.stop_spot.StopSpot.{StopSpot}
 use Rattle.handshake.specs.declared.stop_spot.StopSpot.TheVariants as stop
-use Rattle.handshake.specs.Rows.{stop_next}
+use Rattle.handshake.specs.StopRows.{next_at as stop_next}
 use Rattle.handshake.specs.Obeys.{is_load}
 use Rattle.handshake.specs.Ending.{KeepsEnd}
 use Rattle.handshake.proofs.Obeying.{placed_above}

@@ -8,7 +8,7 @@ use Rattle.heap_words.specs.Words.{End, Phase, Cset, word_at, image_start}
 use Rattle.heap_words.specs.Touch.{touch, loads, placed}
 use Rattle.handshake.specs.declared.enter_spot.EnterSpot.{EnterSpot}
 use Rattle.handshake.specs.declared.enter_spot.EnterSpot.TheVariants as enter
-use Rattle.handshake.specs.Rows.{enter_next, is_entered}
+use Rattle.handshake.specs.EnterRows.{next_at as enter_next, is_ended as is_entered}
 use Rattle.handshake.specs.Standing.{outside, is_within, enter_standing}
 use Rattle.handshake.specs.Obeys.{is_load, Obeys}
 use Rattle.handshake.specs.Left.{Counts}

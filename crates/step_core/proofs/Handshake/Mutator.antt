@@ -16,7 +16,7 @@ use Rattle.satb_barrier.specs.declared.spot.RememberSpot.{RememberSpot}
 use Rattle.satb_barrier.specs.declared.spot.RememberSpot.TheVariants.{LoadCount, LoadEntry, MarkEntry, ClearCount, StoreEntry, StoreCount, Recorded}
 use Rattle.handshake.specs.declared.enter_spot.EnterSpot.{EnterSpot}
 use Rattle.handshake.specs.declared.enter_spot.EnterSpot.TheVariants.{Raise, Look, Lower, Await, Inside}
-use Rattle.handshake.specs.Rows.{enter_next, is_entered}
+use Rattle.handshake.specs.EnterRows.{next_at as enter_next, is_ended as is_entered}
 use Rattle.handshake.specs.Standing.{outside, inside, is_within, enter_standing}
 use Rattle.handshake.specs.Obeys.{Obeys}
 use Rattle.handshake.specs.Left.{Counts}

@@ -15,7 +15,7 @@ use Rattle.shen_graph.specs.declared.order.Order.TheVariants.{Nothing, Begin, En
 use Rattle.shen_graph.specs.History.{Entry, commands_of}
 use Rattle.handshake.specs.declared.enter_spot.EnterSpot.{EnterSpot}
 use Rattle.handshake.specs.declared.enter_spot.EnterSpot.TheVariants.{Inside}
-use Rattle.handshake.specs.Rows.{enter_next}
+use Rattle.handshake.specs.EnterRows.{next_at as enter_next}
 use Rattle.handshake.specs.Standing.{inside}
 use Rattle.mutator.specs.declared.spot.Spot.{Spot}
 use Rattle.mutator.specs.declared.spot.Spot.TheVariants.{Rest, Ended, Entering, LoadPhase, LoadSet, Loading, OnField, Resolving, Recording, OnNumber, Showing, StoreRoot, Making, AskCycle, Pinning, Waiting, Leave, Gone}

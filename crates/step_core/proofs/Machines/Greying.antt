@@ -8,7 +8,8 @@ use Rattle.handshake.specs.declared.enter_spot.EnterSpot.{EnterSpot}
 use Rattle.handshake.specs.declared.enter_spot.EnterSpot.TheVariants as enter
 use Rattle.handshake.specs.declared.stop_spot.StopSpot.{StopSpot}
 use Rattle.handshake.specs.declared.stop_spot.StopSpot.TheVariants as stop
-use Rattle.handshake.specs.Rows as enters
+use Rattle.handshake.specs.EnterRows as enters
+use Rattle.handshake.specs.StopRows as stops
 use Rattle.alloc_buffers.specs.declared.spot.TakeSpot.{TakeSpot}
 use Rattle.alloc_buffers.specs.declared.spot.TakeSpot.TheVariants as take
 use Rattle.alloc_buffers.specs.Rows as takes
@@ -85,7 +86,7 @@ by_greyed None = 0
 by_greyed (Some address) = 2
 
 -- the parts of a call
-enter_kind : (at : EnterSpot) → kind (enters.enter_place at) ≡ 0
+enter_kind : (at : EnterSpot) → kind (enters.place_at at) ≡ 0
 enter_kind enter.Raise = refl
 enter_kind _ = refl
 
@@ -178,7 +179,7 @@ unit_kind (Evacuating cset at) goes = evac_kind at
 unit_kind (Updating cset at) goes = update_kind at
 unit_kind (Ended unit) goes = refl
 
-stop_kind : (at : StopSpot) → kind (enters.stop_place at) ≡ 0
+stop_kind : (at : StopSpot) → kind (stops.place_at at) ≡ 0
 stop_kind stop.Raise = refl
 stop_kind _ = refl
 
@@ -228,12 +229,12 @@ unit_greys (Ended unit) = greyed_by KX None refl
 
 help_greys : (spot : HelpSpot) → (helpers.greys_at spot ≡ None) ↔ (helpers.place_at spot ≡ GO → ⊥)
 help_greys (help.Working at) = unit_greys at
-help_greys (help.Entering at) = greyed_by (enters.enter_place at) None (enter_kind at)
+help_greys (help.Entering at) = greyed_by (enters.place_at at) None (enter_kind at)
 help_greys spot = greyed_by (helpers.place_at spot) None refl
 
 control_greys : (spot : ControlSpot) → (controls.greys_at spot ≡ None) ↔ (controls.control_place spot ≡ GO → ⊥)
 control_greys (control.Working at) = unit_greys at
-control_greys (control.Stopping at) = greyed_by (enters.stop_place at) None (stop_kind at)
+control_greys (control.Stopping at) = greyed_by (stops.place_at at) None (stop_kind at)
 control_greys spot = greyed_by (controls.control_place spot) None refl
 
 greyed_there : (machine : Machine) → (greys_of machine ≡ None) ↔ (place_in Nothing machine ≡ GO → ⊥)

@@ -50,11 +50,11 @@ remember_numbers c w seat address (StoreCount entry) shared can = number_small (
 remember_numbers c w seat address Recorded shared can = refl
 
 -- a recording that goes on has not ended
-still_records : (at : RememberSpot) → satb.is_recorded at ≡ false → (if satb.is_recorded at then false else true) ≡ true
+still_records : (at : RememberSpot) → satb.is_ended at ≡ false → (if satb.is_ended at then false else true) ≡ true
 still_records at going = rw going refl
 
 -- the accesses can be made
-pub record_ready : (c : Config) (w : World) (seat made : ℕ) (kept : Kept) (at : RememberSpot) (address : ℕ) (next : Overwritten) → satb.is_recorded at ≡ false → Shared c w → CanRecord c w seat address at
+pub record_ready : (c : Config) (w : World) (seat made : ℕ) (kept : Kept) (at : RememberSpot) (address : ℕ) (next : Overwritten) → satb.is_ended at ≡ false → Shared c w → CanRecord c w seat address at
     → is_ready c seat made kept (Recording at address next) ≡ true
 record_ready c w seat made kept at address next going shared can =
     and_from _ _

@@ -42,10 +42,10 @@ module _ (c : Config) (u : World) (seat made : ℕ) (kept : Kept) (command : Com
 
   module _ (before : RememberSpot) (address : ℕ) (next : Overwritten) (mine : Mine c u (at_spot (Recording before address next)) command fixed) where
     -- it has not ended
-    going_now : satb.is_recorded before ≡ false
+    going_now : satb.is_ended before ≡ false
     going_now = still before (and_parts _ _ (and_parts (touch_fits c (satb.touch_at c seat address before)) (remember_fits c address before) mine.ready).1).0
       where
-        still : (at : RememberSpot) → (if satb.is_recorded at then false else true) ≡ true → satb.is_recorded at ≡ false
+        still : (at : RememberSpot) → (if satb.is_ended at then false else true) ≡ true → satb.is_ended at ≡ false
         still Recorded going = absurd (false≢true going)
         still _ going = refl
 
@@ -63,7 +63,7 @@ module _ (c : Config) (u : World) (seat made : ℕ) (kept : Kept) (command : Com
       roots_then i below = rw (now_stays c u w seat keeps kept (Recording before address next) i) (root_stays c u w seat keeps _ i (mine.roots i below))
 
       -- where it goes on recording
-      mine_at : (at : RememberSpot) → satb.is_recorded at ≡ false → w.ghost.recording seat ≡ Some address → CanRecord c w seat address at → SameWork u w seat
+      mine_at : (at : RememberSpot) → satb.is_ended at ≡ false → w.ghost.recording seat ≡ Some address → CanRecord c w seat address at → SameWork u w seat
           → Mine c w (at_spot (Recording at address next)) command fixed
       mine_at at going records can work = record {
         seated = seated_stays c u w seat keeps made false mine.seated;

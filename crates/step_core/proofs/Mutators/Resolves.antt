@@ -70,7 +70,7 @@ pub record ResolvesAlone (c : Config) (w : World) (seat a : ℕ) (at : ResolveSp
   pub working : w.ghost.working seat ≡ None
 
 -- what a step of it owes, in the phase that there is
-pub resolving_step : (c : Config) (u : World) (seat a phase : ℕ) (at : ResolveSpot) → resolves.is_resolved at ≡ false → Shared c u → phase ≡ u.memory Phase → ResolvesAlone c u seat a at
+pub resolving_step : (c : Config) (u : World) (seat a phase : ℕ) (at : ResolveSpot) → resolves.is_ended at ≡ false → Shared c u → phase ≡ u.memory Phase → ResolvesAlone c u seat a at
     → PartStep c u seat (resolves.touch_at c seat a at) (λ w. ResolvesAlone c w seat a (resolves.next_at c a phase at (u.memory (resolves.touch_at c seat a at).word)))
 resolving_step c u seat a phase at going shared same alone = by_way alone.can
   where
@@ -107,7 +107,7 @@ resolving_stays c u w seat a at shared rely (inl can) = inl (((resolving_steps.s
 resolving_stays c u w seat a at shared rely (inr can) = inr (((following_steps.steps c seat a).stands u at shared can).stays w rely)
 
 -- the word that it finds is fit
-pub resolving_fits : (c : Config) (u : World) (seat a phase : ℕ) (at : ResolveSpot) → resolves.is_resolved at ≡ false → Shared c u → phase ≡ u.memory Phase → IsResolving c u seat a at
+pub resolving_fits : (c : Config) (u : World) (seat a phase : ℕ) (at : ResolveSpot) → resolves.is_ended at ≡ false → Shared c u → phase ≡ u.memory Phase → IsResolving c u seat a at
     → load.IsFit c seat a phase at (u.memory (resolves.touch_at c seat a at).word)
 resolving_fits c u seat a phase at going shared same (inl can) =
     subst (λ p. load.IsFit c seat a p at (u.memory (resolves.touch_at c seat a at).word)) (sym (same ∙ can.phase)) ((resolving_steps.steps c seat a).goes u at going shared can).fits

@@ -100,7 +100,7 @@ usable_found c w phase cset got v shared phase_is set_is other is = ⊎_elim
         (copy_cases (w.block got) (body_of n body.0 body.1) body.2)
 
 -- a resolving can make its next access where it can resolve and has not ended
-pub resolving_ready : (c : Config) (w : World) (seat made : ℕ) (kept : Kept) (address : ℕ) (at : ResolveSpot) (next : Loaded) → Shared c w → IsResolving c w seat address at → resolves.is_resolved at ≡ false
+pub resolving_ready : (c : Config) (w : World) (seat made : ℕ) (kept : Kept) (address : ℕ) (at : ResolveSpot) (next : Loaded) → Shared c w → IsResolving c w seat address at → resolves.is_ended at ≡ false
     → is_ready c seat made kept (Resolving address at next) ≡ true
 resolving_ready c w seat made kept address at next shared can going =
     let is = resolves_by c w seat address at shared can in
@@ -224,10 +224,10 @@ module _ (c : Config) (u : World) (seat made : ℕ) (kept : Kept) (command : Com
 
   module _ (before : ResolveSpot) (address : ℕ) (next : Loaded) (mine : Mine c u (at_spot (Resolving address before next)) command fixed) where
     -- it has not ended
-    pub going_now : resolves.is_resolved before ≡ false
+    pub going_now : resolves.is_ended before ≡ false
     going_now =
-        still (resolves.is_resolved before)
-        (and_parts (load.is_ready c seat address before) (load.is_busy (resolves.is_resolved before))
+        still (resolves.is_ended before)
+        (and_parts (load.is_ready c seat address before) (load.is_busy (resolves.is_ended before))
         (and_parts (is_word c (Heap address)) (resolve_ready c seat address before)
         (and_parts (is_word c (resolves.touch_at c seat address before).word && true) (resolve_fits c seat address before) mine.ready).1).1).1
       where
@@ -248,7 +248,7 @@ module _ (c : Config) (u : World) (seat made : ℕ) (kept : Kept) (command : Com
       roots_then i below = rw (now_stays c u w seat keeps kept (Resolving address before next) i) (root_stays c u w seat keeps _ i (mine.roots i below))
 
       -- where it goes on resolving
-      mine_at : (at : ResolveSpot) → resolves.is_resolved at ≡ false → ResolvesAlone c w seat address at → Mine c w (at_spot (Resolving address at next)) command fixed
+      mine_at : (at : ResolveSpot) → resolves.is_ended at ≡ false → ResolvesAlone c w seat address at → Mine c w (at_spot (Resolving address at next)) command fixed
       mine_at at going alone = record {
         seated = seated_stays c u w seat keeps made false mine.seated;
         ready = resolving_ready c w seat made kept address at next shared alone.can going;

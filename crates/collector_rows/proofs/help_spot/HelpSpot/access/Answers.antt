@@ -1,6 +1,6 @@
 use Rattle.std.proofs.Common.{arith}
 use Rattle.std.proofs.lemmas.Bool.{and_parts}
-use Rattle.handshake.specs.Rows.{is_entered}
+use Rattle.handshake.specs.EnterRows.{is_ended as is_entered}
 use Rattle.unit_part.specs.Rows as units
 use Rattle.unit_part.proofs.Inside.{not_ended}
 use Rattle.collector_rows.specs.declared.help_spot.HelpSpot.TheVariants.{Entering, Working}

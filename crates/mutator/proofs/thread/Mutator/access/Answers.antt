@@ -1,5 +1,5 @@
 use Rattle.std.proofs.Common.{arith}
-use Rattle.handshake.specs.Rows.{is_entered}
+use Rattle.handshake.specs.EnterRows.{is_ended as is_entered}
 use Rattle.mutator.specs.declared.spot.Spot.TheVariants.{OnField, Entering, Loading, OnNumber, Showing}
 use Rattle.mutator.proofs.Inside.{ready_at, not_ended}
 use Rattle.mutator.proofs.thread.Mutator.access.Goals as goal

@@ -2,8 +2,8 @@ use Rattle.std.proofs.Common.{arith}
 use Rattle.std.proofs.lemmas.Bool.{and_parts}
 use Rattle.heap_words.specs.Words.{Heap}
 use Rattle.heap_words.proofs.Stores.{is_word_true}
-use Rattle.satb_barrier.specs.Rows.{is_recorded}
-use Rattle.load_barrier.specs.Rows.{is_resolved}
+use Rattle.satb_barrier.specs.Rows.{is_ended}
+use Rattle.load_barrier.specs.Rows.{is_ended as is_resolved}
 use Rattle.mutator.specs.declared.spot.Spot.TheVariants.{Resolving, Recording, Making, Pinning, Waiting}
 use Rattle.mutator.proofs.Inside.{ready_at, not_ended}
 use Rattle.mutator.proofs.thread.Mutator.access_apart.Goals as goal
@@ -33,7 +33,7 @@ pub access-requires-in-Recording-clause-ready : goal.access-requires-in-Recordin
 access-requires-in-Recording-clause-ready c = let m = c.args.self.now in let ready = ready_at m.config m.mutator m.made m.kept m.spot (Recording c.in-Recording.at c.in-Recording.address c.in-Recording.next) c.in-Recording.is m.ready in (and_parts _ _ (and_parts _ _ ready.1).1).0
 
 pub access-requires-in-Recording-clause-busy : goal.access-requires-in-Recording-clause-busy
-access-requires-in-Recording-clause-busy c = let m = c.args.self.now in let ready = ready_at m.config m.mutator m.made m.kept m.spot (Recording c.in-Recording.at c.in-Recording.address c.in-Recording.next) c.in-Recording.is m.ready in not_ended (is_recorded c.in-Recording.at) (and_parts _ _ ready.1).0
+access-requires-in-Recording-clause-busy c = let m = c.args.self.now in let ready = ready_at m.config m.mutator m.made m.kept m.spot (Recording c.in-Recording.at c.in-Recording.address c.in-Recording.next) c.in-Recording.is m.ready in not_ended (is_ended c.in-Recording.at) (and_parts _ _ ready.1).0
 
 pub access-requires-in-Pinning : goal.access-requires-in-Pinning
 access-requires-in-Pinning c = let m = c.args.self.now in let ready = ready_at m.config m.mutator m.made m.kept m.spot (Pinning c.in-Pinning.value c.in-Pinning.at) c.in-Pinning.is m.ready in ready.0
