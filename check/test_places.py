@@ -25,17 +25,17 @@ COPIED = [*EVACUATING, "get 1 0 0"]
 NO_ROOM = [*EVACUATING, "new 2 16 16", "new 2 16 7"]
 WORDS = 4
 RUNS = {
-    ("`new`", "no region is shared yet"): ([], "new 1 1 2"),
-    ("`new`", "the thread's buffer has room"): (["new 1 0 0"], "new 2 2 1"),
-    ("`new`", "the thread has no buffer, or one without free words; the shared region has room"): (
+    ("`new`", "no region is shared"): ([], "new 1 1 2"),
+    ("`new`", "its buffer has room"): (["new 1 0 0"], "new 2 2 1"),
+    ("`new`", "its buffer, if any, has no free words; the shared region has room"): (
         ["new 1 16 16", "new 1 16 10"],
         "new 2 2 1",
         "8 128 0",
     ),
-    ("`new`", "its buffer has some free words, but too few; the shared region has room"): (["new 1 16 16"], "new 2 16 16", "8 128 0"),
-    ("`new`", "its buffer has some free words, but too few, and the shared region has too little room"): (["new 1 16 16"], "new 2 16 16"),
+    ("`new`", "its buffer has too few; the shared region has room"): (["new 1 16 16"], "new 2 16 16", "8 128 0"),
+    ("`new`", "its buffer has too few, and the shared region too little room"): (["new 1 16 16"], "new 2 16 16"),
     ("`new`", "a pause makes the object; no region is shared"): ([], "new 1 16 16", "8 64 7"),
-    ("`new`", "a pause makes the object; its buffer and the shared region have too little room"): (
+    ("`new`", "a pause makes the object; the shared region has too little room"): (
         ["new 1 16 16"] * 3,
         "new 1 16 16",
         "4 64 0",
@@ -45,32 +45,32 @@ RUNS = {
         "new 5 16 16",
         "4 64 0",
     ),
-    ("`new`", "the answer is `full`; its buffer and the shared region have too little room"): (
+    ("`new`", "the answer is `full`; the shared region has too little room"): (
         [f"new {root} 16 16" for root in (1, 1, 1, 2, 3, 4)],
         "new 5 16 16",
         "4 64 0",
     ),
-    ("`get`", "the field has an object"): (["set 0 0 0"], "get 1 0 0"),
-    ("`get`", "the field is null"): ([], "get 1 0 0"),
-    ("`get`", "the field has an object of the collection set, which was copied before"): (COPIED, "get 1 0 0"),
-    ("`get`", "the same, and the thread copies it into its buffer"): (EVACUATING, "get 1 0 0"),
-    ("`get`", "the same, and there is no room for it"): (NO_ROOM, "get 1 0 0", "4 64 0"),
-    ("`get`", "the same, and there was no room for another one"): ([*NO_ROOM, "get 1 0 0"], "get 1 0 0", "4 64 0"),
+    ("`get`", "an object"): (["set 0 0 0"], "get 1 0 0"),
+    ("`get`", "null"): ([], "get 1 0 0"),
+    ("`get`", "an object of the set, copied before"): (COPIED, "get 1 0 0"),
+    ("`get`", "of the set, and the thread copies it into its buffer"): (EVACUATING, "get 1 0 0"),
+    ("`get`", "of the set, and there is no room for it"): (NO_ROOM, "get 1 0 0", "4 64 0"),
+    ("`get`", "of the set, and there was no room for another"): ([*NO_ROOM, "get 1 0 0"], "get 1 0 0", "4 64 0"),
     ("`set`", ""): ([], "set 0 0 1"),
-    ("`set`", "objects are marked; the field is null"): (MARKING, "set 0 1 0"),
-    ("`set`", "objects are marked; the field has an object"): (MARKING, "set 0 0 1"),
-    ("`set`", "objects are marked; the field has an object, and the buffer is full"): (FULL, "set 0 0 1"),
+    ("`set`", "marking; null"): (MARKING, "set 0 1 0"),
+    ("`set`", "marking; an object"): (MARKING, "set 0 0 1"),
+    ("`set`", "marking; an object, and the buffer is full"): (FULL, "set 0 0 1"),
     ("`cas`", "`yes`"): ([], "cas 0 0 1 0"),
-    ("`cas`", "`yes`; objects are marked, and the field had an object"): (MARKING, "cas 0 0 0 1"),
-    ("`cas`", "`yes`; objects are marked, the field had an object, and the buffer is full"): (FULL, "cas 0 0 0 1"),
-    ("`cas`", "`yes`; the field has an object of the collection set, which was copied before"): (COPIED, "cas 0 0 1 2"),
+    ("`cas`", "`yes`; marking; an object"): (MARKING, "cas 0 0 0 1"),
+    ("`cas`", "`yes`; marking; an object, and the buffer is full"): (FULL, "cas 0 0 0 1"),
+    ("`cas`", "`yes`; an object of the set, copied before"): (COPIED, "cas 0 0 1 2"),
     ("`cas`", "`no`"): ([], "cas 0 0 0 0"),
-    ("`cas`", "`no`; the field has an object of the collection set, which was copied before"): (COPIED, "cas 0 0 2 1"),
-    ("`xchg`", "the field has an object"): (["set 0 0 0"], "xchg 1 0 0 0"),
-    ("`xchg`", "objects are marked; the field has an object"): (MARKING, "xchg 1 0 0 1"),
-    ("`xchg`", "objects are marked; the field has an object, and the buffer is full"): (FULL, "xchg 1 0 0 1"),
-    ("`xchg`", "the field has an object of the collection set, which was copied before"): (COPIED, "xchg 1 0 0 2"),
-    ("`xchg`", "the field is null"): ([], "xchg 1 0 0 0"),
+    ("`cas`", "`no`; an object of the set, copied before"): (COPIED, "cas 0 0 2 1"),
+    ("`xchg`", "an object"): (["set 0 0 0"], "xchg 1 0 0 0"),
+    ("`xchg`", "marking; an object"): (MARKING, "xchg 1 0 0 1"),
+    ("`xchg`", "marking; an object, and the buffer is full"): (FULL, "xchg 1 0 0 1"),
+    ("`xchg`", "an object of the set, copied before"): (COPIED, "xchg 1 0 0 2"),
+    ("`xchg`", "null"): ([], "xchg 1 0 0 0"),
     ("`rd`", ""): (["new 1 0 1"], "rd 1 0"),
     ("`wr`", ""): (["new 1 0 1"], "wr 1 0 7"),
     ("`copy`", ""): ([], "copy 1 0"),
@@ -156,7 +156,7 @@ def main():
         before, line, heap = (*RUNS[command, where], "8 64 0")[:3]
         numbers = line.split()[2:]
         words = 3 + sum(map(int, numbers)) if line.startswith("new") else 0
-        codes = places.replace(", IW for each word,", " IW" * words).replace(", BL GO for each entry,", " BL GO" * 8)
+        codes = f"E1 E2 PH CS {places} LV".replace(", IW for each word,", " IW" * words).replace(", BL GO for each entry,", " BL GO" * 8)
         codes = codes.replace(", CL CP for each word but the first,", " CL CP" * (WORDS - 1)).split()
         terms = {"words": WORDS, **dict(zip(("refs", "nums"), map(int, numbers)))}
         wanted = sum(int(it) if it.isdigit() else terms[it] for it in re.findall(r"\w+", steps))
