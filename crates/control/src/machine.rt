@@ -10,7 +10,7 @@ use crate::pause::{clear, load, put_word, take_found};
 use crate::starts::{next_stored, no_starts};
 use collector_rows::{ControlSpot, Extent, LastPause, image_words};
 use heap_words::phase::IDLE;
-use heap_words::{Access, Config, Place, Took};
+use heap_words::{Access, Config, Place, Took, make_access};
 use image_graph::Image;
 use regions::size;
 use shen_graph::GraphText;
@@ -54,7 +54,7 @@ impl Control {
     ghost use Rattle.cycle_pauses.specs.Collect.{collect_image};
     ghost use Rattle.control.specs.Fit.{IsFit};
     ghost use Rattle.control.specs.Image.{image_from, is_storing, is_inside_image, IsLoadedFrom};
-    ghost use Rattle.control.specs.Seen.{config_in, seen_control, hint_of};
+    ghost use Rattle.control.specs.Seen.{config_in, seen_control, hint_of, hinted, access_of, word_found};
 
     /// The control of the image's heap. It has seen the image's phase, collection set and free word. Nothing else of the image
     /// matters.
@@ -191,24 +191,26 @@ impl Control {
         ensures row { result ≡ control_access (config_in self.now) (control_hinted (config_in self.now) (hint_of self.now) (seen_control self.now)) }
         ensures inside { table_index result < table_words (config_in self.now) }
     {
-        if self.hint.is_some() {
-            return self.plan_apart();
-        }
-        match self.spot {
-            ControlSpot::LookLeft => Access::Load {
-                at: self.image.config().left_at(),
-            },
-            ControlSpot::LookAsked => Access::Load {
-                at: self.image.config().ask_at(),
-            },
-            ControlSpot::LookFree => Access::Load {
-                at: self.image.config().free_at(),
-            },
-            _ => self.plan_apart(),
+        match self.looks_at() {
+            Some(at) => Access::Load { at },
+            None => self.plan_apart(),
         }
     }
 
-    // The same wherever it stands. The three looks, nearly all of its steps outside pauses, do not pay for the copy of its spot.
+    // The index of the word that it looks at, if its next step is one of the three looks: nearly all of its steps outside pauses are.
+    #[inline(always)]
+    fn looks_at(&self) -> Option<usize>
+        ensures { IfSome result (λ at. (hint_of self.now ≡ None) × (control_access (config_in self.now) (seen_control self.now) ≡ Access.Load at) × (at < table_words (config_in self.now))) }
+    {
+        match self.spot {
+            ControlSpot::LookLeft => Some(self.image.config().left_at()),
+            ControlSpot::LookAsked => Some(self.image.config().ask_at()),
+            ControlSpot::LookFree => Some(self.image.config().free_at()),
+            _ => None,
+        }
+    }
+
+    // The same wherever it stands. The three looks do not pay for the copy of its spot.
     #[inline(never)]
     fn plan_apart(&self) -> Access
         requires { is_gone (seen_control self.now).spot ≡ false }
@@ -377,6 +379,42 @@ impl Control {
     {
         self.take_hint();
         self.took_word(got)
+    }
+
+    /// Makes its next step on the words of the heap's table: the access of `plan`, and what `took` makes of the word that it finds.
+    #[inline(always)]
+    pub fn step(&mut self, words: &mut Vec<u64>) -> Took
+        requires busy { is_gone (seen_control self.old).spot ≡ false }
+        requires words { vec_len words.old ≡ table_words (config_in self.old) }
+        requires fit { IsFit (config_in self.old) (hinted self.old) (word_found self.old words.old.items) }
+        ensures words { words.new.items ≡ accessed (access_of self.old) words.old.items }
+        ensures config { config_in self.new ≡ config_in self.old }
+        ensures hint { hint_of self.new ≡ None }
+        ensures row { seen_control self.new ≡ control_next collect_image (config_in self.old) (hinted self.old) (word_found self.old words.old.items) }
+        ensures says { result ≡ control_says (config_in self.old) (hinted self.old) (word_found self.old words.old.items) }
+        ensures again { (result ≡ Took.Again) ↔ WaitsAt (config_in self.old) (hinted self.old) (word_found self.old words.old.items) }
+    {
+        match self.looks_at() {
+            Some(at) => self.took_word(words[at]),
+            None => self.step_apart(words),
+        }
+    }
+
+    // The same wherever it stands.
+    #[inline(never)]
+    fn step_apart(&mut self, words: &mut Vec<u64>) -> Took
+        requires busy { is_gone (seen_control self.old).spot ≡ false }
+        requires words { vec_len words.old ≡ table_words (config_in self.old) }
+        requires fit { IsFit (config_in self.old) (hinted self.old) (word_found self.old words.old.items) }
+        ensures words { words.new.items ≡ accessed (access_of self.old) words.old.items }
+        ensures config { config_in self.new ≡ config_in self.old }
+        ensures hint { hint_of self.new ≡ None }
+        ensures row { seen_control self.new ≡ control_next collect_image (config_in self.old) (hinted self.old) (word_found self.old words.old.items) }
+        ensures says { result ≡ control_says (config_in self.old) (hinted self.old) (word_found self.old words.old.items) }
+        ensures again { (result ≡ Took.Again) ↔ WaitsAt (config_in self.old) (hinted self.old) (word_found self.old words.old.items) }
+    {
+        let got = make_access(words, self.plan_apart());
+        self.took(got)
     }
 
     // Goes on from where its hint leads, which it has taken then, if it has one.

@@ -1,6 +1,8 @@
 -- What the events see of a machine in memory: the one file of this crate's definitions that tells the roles apart, since memory has the
 -- machines of its own.
-use Rattle.std.specs.Prelude.{Bool}
+use Rattle.std.specs.Prelude.{ℕ, List, Bool, slice_index}
+use Rattle.heap_words.specs.declared.access.Access.{Access}
+use Rattle.heap_words.specs.Access.{table_index}
 use Rattle.heap_words.specs.declared.config.Config.{Config}
 use Rattle.shen_graph.specs.declared.order.Order.{Order}
 use Rattle.shen_graph.specs.Order.{hinting}
@@ -8,7 +10,7 @@ use Rattle.mutator.specs.Seen as seen
 use Rattle.collector_rows.specs.Seen as helpers
 use Rattle.control.specs.Seen as controls
 use Rattle.step_core.specs.Actor as actors
-use Rattle.step_core.specs.Machines.{takes_of}
+use Rattle.step_core.specs.Machines.{takes_of, plan_of}
 use Rattle.heap_machines.specs.declared.machine.Machine.{Machine}
 use Rattle.heap_machines.specs.declared.machine.Machine.TheVariants.{Mutator, Helper, Control}
 
@@ -36,3 +38,11 @@ heap_of (Control k) = controls.config_in k
 -- whether it makes a step: it takes the order that it was given
 abbrev pub has_turn : Machine → Bool
 has_turn m = takes_of (shown m) (order_of m)
+
+-- its next access
+abbrev pub access_of : Machine → Access
+access_of m = plan_of (heap_of m) (order_of m) (shown m)
+
+-- the word that this finds in a table
+abbrev pub word_found : Machine → List ℕ → ℕ
+word_found m words = slice_index words (table_index (access_of m))

@@ -8,7 +8,7 @@ ghost use Rattle.heap_machines.specs.Turn.{first_place_of};
 use crate::refusal::refused;
 use collector_rows::Helper;
 use control::Control;
-use heap_words::{Access, Config, NoMemory, Place, Took};
+use heap_words::{Access, Config, NoMemory, Place, Took, make_access};
 use image_graph::Image;
 use mutator::Mutator;
 use shen_graph::{Command, GraphText, Order, Reply};
@@ -41,7 +41,7 @@ impl Machine {
     ghost use Rattle.heap_machines.specs.Pause.{pause_image};
     ghost use Rattle.step_core.specs.Opening.{opening_machine};
     ghost use Rattle.step_core.specs.Machines.{control_in, takes_of, takes_hint, greys_of, hints_of, plan_of, place_in, machine_after, answer_of, is_machine_at, reply_in, may_begin, made_of_machine, WaitsIn, IsFitFor, is_resting};
-    ghost use Rattle.heap_machines.specs.Shown.{shown, order_of, heap_of, has_turn};
+    ghost use Rattle.heap_machines.specs.Shown.{shown, order_of, heap_of, has_turn, access_of, word_found};
     ghost use Rattle.heap_machines.specs.Roles.{is_mutating, phase_in, CanShow};
     ghost use Rattle.heap_machines.specs.Settles.{command_in, reply_settled, refused_by};
     ghost use Rattle.heap_machines.specs.Turn.{order_for};
@@ -216,6 +216,46 @@ impl Machine {
             Machine::Helper(helper) => helper.took(got),
             Machine::Control(control) => control.took(got),
         }
+    }
+
+    /// Makes its next step on the words of the heap's table: the access of `plan`, and what `took` makes of the word that it finds.
+    #[inline(always)]
+    pub fn step(&mut self, words: &mut Vec<u64>) -> Took
+        requires busy { has_turn self.old ≡ true }
+        requires words { vec_len words.old ≡ table_words (heap_of self.old) }
+        requires fit { IsFitFor (heap_of self.old) (order_of self.old) (word_found self.old words.old.items) (shown self.old) }
+        ensures words { words.new.items ≡ accessed (access_of self.old) words.old.items }
+        ensures shown { shown self.new ≡ machine_after pause_image (heap_of self.old) (order_of self.old) (word_found self.old words.old.items) (shown self.old) }
+        ensures order { order_of self.new ≡ Order.Nothing }
+        ensures heap { heap_of self.new ≡ heap_of self.old }
+        ensures answer { answer_of (heap_of self.old) (order_of self.old) (shown self.old) (word_found self.old words.old.items) ≡ Some result }
+        ensures done { (result ≡ Took.Done) ↔ ((is_mutating (shown self.old) ≡ true) × (place_in (order_of self.old) (shown self.old) ≡ Place.LV)) }
+        ensures replied { result ≡ Took.Done → reply_in (shown self.new) ≢ None }
+        ensures again { (result ≡ Took.Again) ↔ WaitsIn (heap_of self.old) (order_of self.old) (shown self.old) (word_found self.old words.old.items) }
+    {
+        match self {
+            Machine::Mutator(mutator) => mutator.step(words),
+            Machine::Control(control) => control.step(words),
+            Machine::Helper(_) => self.step_apart(words),
+        }
+    }
+
+    // The same of any machine.
+    fn step_apart(&mut self, words: &mut Vec<u64>) -> Took
+        requires busy { has_turn self.old ≡ true }
+        requires words { vec_len words.old ≡ table_words (heap_of self.old) }
+        requires fit { IsFitFor (heap_of self.old) (order_of self.old) (word_found self.old words.old.items) (shown self.old) }
+        ensures words { words.new.items ≡ accessed (access_of self.old) words.old.items }
+        ensures shown { shown self.new ≡ machine_after pause_image (heap_of self.old) (order_of self.old) (word_found self.old words.old.items) (shown self.old) }
+        ensures order { order_of self.new ≡ Order.Nothing }
+        ensures heap { heap_of self.new ≡ heap_of self.old }
+        ensures answer { answer_of (heap_of self.old) (order_of self.old) (shown self.old) (word_found self.old words.old.items) ≡ Some result }
+        ensures done { (result ≡ Took.Done) ↔ ((is_mutating (shown self.old) ≡ true) × (place_in (order_of self.old) (shown self.old) ≡ Place.LV)) }
+        ensures replied { result ≡ Took.Done → reply_in (shown self.new) ≢ None }
+        ensures again { (result ≡ Took.Again) ↔ WaitsIn (heap_of self.old) (order_of self.old) (shown self.old) (word_found self.old words.old.items) }
+    {
+        let got = make_access(words, self.plan());
+        self.took(got)
     }
 
     /// Orders the command, which its next step begins. Of a mutator between two calls that has not ended.

@@ -1,11 +1,14 @@
 -- What the events see of a mutator.
-use Rattle.std.specs.Prelude.{Bool, ◌&&◌}
+use Rattle.std.specs.Prelude.{ℕ, List, Bool, ◌&&◌, slice_index}
+use Rattle.heap_words.specs.declared.access.Access.{Access}
+use Rattle.heap_words.specs.Access.{table_index}
 use Rattle.heap_words.specs.declared.config.Config.{Config}
+use Rattle.heap_words.specs.Touch.{placed}
 use Rattle.mutator.specs.declared.thread.Mutator.{Mutator}
 use Rattle.shen_graph.specs.declared.order.Order.{Order}
 use Rattle.shen_graph.specs.Order.{is_nothing}
 use Rattle.mutator.specs.Orders.{is_between_calls}
-use Rattle.mutator.specs.Rows.{Mutating}
+use Rattle.mutator.specs.Rows.{Mutating, touch_of}
 
 -- all but its configuration and the order that it was given
 abbrev pub seen : Mutator → Mutating
@@ -22,3 +25,11 @@ order_of m = m.order
 -- neither a call is in progress nor one to begin
 abbrev pub is_idle : Mutator → Bool
 is_idle m = is_between_calls m.spot && is_nothing m.order
+
+-- its next access
+abbrev pub access_of : Mutator → Access
+access_of m = placed (config_of m) (touch_of (config_of m) (seen m) (order_of m))
+
+-- the word that this finds in a table
+abbrev pub word_found : Mutator → List ℕ → ℕ
+word_found m words = slice_index words (table_index (access_of m))

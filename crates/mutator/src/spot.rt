@@ -1,4 +1,5 @@
 ghost use Rattle.std.specs.Prelude.{◌≡◌};
+ghost use Rattle.mutator.specs.Orders.{takes_commands};
 ghost use Rattle.mutator.specs.Rows.{first_place, place_at};
 ghost use Rattle.mutator.specs.WaitRows.{after_enter, call_says};
 
@@ -164,6 +165,13 @@ pub enum Spot {
 }
 
 impl Spot {
+    // Whether a mutator that stands there may be given a command, or be told to end.
+    pub(crate) fn takes_commands(self) -> bool
+        ensures { result ≡ takes_commands self }
+    {
+        matches!(self, Spot::Rest | Spot::Ended { .. })
+    }
+
     /// The place of the next access under the order; between two calls, that of the first access of a call, or of the access
     /// by which the mutator ends. One that has ended makes no access, and stands where it made its last one.
     pub fn place(self, order: Order) -> Place

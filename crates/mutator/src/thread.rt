@@ -14,7 +14,7 @@ use crate::spot::{Entered, Kept, Spot, call_says};
 use crate::waits::WaitSpot;
 use handshake::{EnterSpot, leave_access};
 use heap_words::phase::IDLE;
-use heap_words::{Access, Config, Place, Took};
+use heap_words::{Access, Config, Place, Took, make_access};
 use load_barrier::ResolveSpot;
 use shen_graph::{Command, Order, Reply};
 
@@ -33,9 +33,10 @@ pub struct Mutator {
 }
 
 impl Mutator {
-    ghost use Rattle.std.specs.Prelude.{◌↔◌, ◌≢◌, Some, None, IfSome, false};
+    ghost use Rattle.std.specs.Prelude.{◌↔◌, ◌≢◌, Some, None, IfSome, false, vec_len};
     ghost use Rattle.shen_graph.specs.Valid.{IsValid};
     ghost use Rattle.heap_words.specs.Access.{table_index};
+    ghost use Rattle.heap_words.specs.Steps.{accessed};
     ghost use Rattle.heap_words.specs.Words.{Heap, IsWord, table_words, view};
     ghost use Rattle.mutator.specs.Orders.{is_between_calls, takes_commands, takes_at};
     ghost use Rattle.mutator.specs.Apart.{is_apart};
@@ -44,7 +45,7 @@ impl Mutator {
     ghost use Rattle.mutator.specs.Fit.{IsFit};
     ghost use Rattle.mutator.specs.Told.{told_of};
     ghost use Rattle.mutator.specs.Waits.{WaitsAt};
-    ghost use Rattle.mutator.specs.Seen.{seen, config_of, order_of, is_idle};
+    ghost use Rattle.mutator.specs.Seen.{seen, config_of, order_of, is_idle, access_of, word_found};
     ghost use Rattle.load_barrier.specs.Waits as resolves;
 
     /// A mutator, counted from 0, that has not begun a call.
@@ -117,7 +118,7 @@ impl Mutator {
     pub fn takes_commands(&self) -> bool
         ensures { result ≡ takes_commands (seen self.now).spot }
     {
-        matches!(self.spot, Spot::Rest | Spot::Ended { .. })
+        self.spot.takes_commands()
     }
 
     /// How many objects its thread has made.
@@ -193,17 +194,18 @@ impl Mutator {
         ensures row { result ≡ placed (config_of self.now) (touch_of (config_of self.now) (seen self.now) (order_of self.now)) }
         ensures inside { table_index result < table_words (config_of self.now) }
     {
-        self.access()
+        self.access(self.spot)
     }
 
-    // The same by its spot. That it is inside follows from what a mutator's numbers are. The longer parts of a call have a function
+    // The same by its spot, which whoever calls has at hand. That it is inside follows from what a mutator's numbers are. The longer parts of a call have a function
     // of their own, so that the others do not pay for what those put aside.
     #[inline(always)]
-    fn access(&self) -> Access
-        requires { is_idle self.now ≡ false }
+    fn access(&self, spot: Spot) -> Access
+        requires at { (seen self.now).spot ≡ spot }
+        requires busy { is_idle self.now ≡ false }
         ensures { result ≡ placed (config_of self.now) (touch_of (config_of self.now) (seen self.now) (order_of self.now)) }
     {
-        match self.spot {
+        match spot {
             Spot::Rest | Spot::Ended { .. } => first_access(self.config, self.mutator, self.order),
             Spot::Entering { at, .. } => at.access(self.config, self.mutator),
             Spot::LoadPhase => Access::Load {
@@ -287,11 +289,100 @@ impl Mutator {
         ensures replied { result ≡ Took.Done → reply_at (seen self.new).spot ≢ None }
         ensures again { (result ≡ Took.Again) ↔ WaitsAt (seen self.old).spot got }
     {
-        if self.takes_commands() {
+        self.took_from(self.spot, got)
+    }
+
+    // The same by its spot, which whoever calls has at hand.
+    #[inline(always)]
+    fn took_from(&mut self, spot: Spot, got: u64) -> Took
+        requires at { (seen self.old).spot ≡ spot }
+        requires busy { is_idle self.old ≡ false }
+        requires fit { IsFit (config_of self.old) (seen self.old) (order_of self.old) got }
+        ensures seen { seen self.new ≡ next_of (config_of self.old) (seen self.old) (order_of self.old) got }
+        ensures order { order_of self.new ≡ Order.Nothing }
+        ensures config { config_of self.new ≡ config_of self.old }
+        ensures answer { result ≡ answer_at (config_of self.old) (seen self.old).kept (seen self.old).spot got }
+        ensures done { (result ≡ Took.Done) ↔ (place_at (order_of self.old) (seen self.old).spot ≡ Place.LV) }
+        ensures replied { result ≡ Took.Done → reply_at (seen self.new).spot ≢ None }
+        ensures again { (result ≡ Took.Again) ↔ WaitsAt (seen self.old).spot got }
+    {
+        if spot.takes_commands() {
             self.obey();
             return Took::More;
         }
-        self.go_on(got)
+        self.go_on(spot, got)
+    }
+
+    /// Makes its next step on the words of the heap's table: the access of `plan`, and what `took` makes of the word that it finds. Each
+    /// spot at which calls often stand is named here, so that the compiler makes a way of its own for it, where nothing is looked up
+    /// after the access.
+    #[inline(always)]
+    pub fn step(&mut self, words: &mut Vec<u64>) -> Took
+        requires busy { is_idle self.old ≡ false }
+        requires words { vec_len words.old ≡ table_words (config_of self.old) }
+        requires fit { IsFit (config_of self.old) (seen self.old) (order_of self.old) (word_found self.old words.old.items) }
+        ensures words { words.new.items ≡ accessed (access_of self.old) words.old.items }
+        ensures seen { seen self.new ≡ next_of (config_of self.old) (seen self.old) (order_of self.old) (word_found self.old words.old.items) }
+        ensures order { order_of self.new ≡ Order.Nothing }
+        ensures config { config_of self.new ≡ config_of self.old }
+        ensures answer { result ≡ answer_at (config_of self.old) (seen self.old).kept (seen self.old).spot (word_found self.old words.old.items) }
+        ensures done { (result ≡ Took.Done) ↔ (place_at (order_of self.old) (seen self.old).spot ≡ Place.LV) }
+        ensures replied { result ≡ Took.Done → reply_at (seen self.new).spot ≢ None }
+        ensures again { (result ≡ Took.Again) ↔ WaitsAt (seen self.old).spot (word_found self.old words.old.items) }
+    {
+        match self.spot {
+            Spot::Ended { reply } => self.step_from(Spot::Ended { reply }, words),
+            Spot::Entering { at, then } => self.step_from(Spot::Entering { at, then }, words),
+            Spot::LoadPhase => self.step_from(Spot::LoadPhase, words),
+            Spot::LoadSet => self.step_from(Spot::LoadSet, words),
+            Spot::Loading { at } => self.step_from(Spot::Loading { at }, words),
+            Spot::OnField { object, at } => self.step_from(Spot::OnField { object, at }, words),
+            Spot::OnNumber { object, refs, at } => self.step_from(
+                Spot::OnNumber { object, refs, at },
+                words,
+            ),
+            Spot::Showing { value, at } => self.step_from(Spot::Showing { value, at }, words),
+            Spot::Leave { reply } => self.step_from(Spot::Leave { reply }, words),
+            _ => self.step_apart(words),
+        }
+    }
+
+    // The same wherever it stands.
+    #[inline(never)]
+    fn step_apart(&mut self, words: &mut Vec<u64>) -> Took
+        requires busy { is_idle self.old ≡ false }
+        requires words { vec_len words.old ≡ table_words (config_of self.old) }
+        requires fit { IsFit (config_of self.old) (seen self.old) (order_of self.old) (word_found self.old words.old.items) }
+        ensures words { words.new.items ≡ accessed (access_of self.old) words.old.items }
+        ensures seen { seen self.new ≡ next_of (config_of self.old) (seen self.old) (order_of self.old) (word_found self.old words.old.items) }
+        ensures order { order_of self.new ≡ Order.Nothing }
+        ensures config { config_of self.new ≡ config_of self.old }
+        ensures answer { result ≡ answer_at (config_of self.old) (seen self.old).kept (seen self.old).spot (word_found self.old words.old.items) }
+        ensures done { (result ≡ Took.Done) ↔ (place_at (order_of self.old) (seen self.old).spot ≡ Place.LV) }
+        ensures replied { result ≡ Took.Done → reply_at (seen self.new).spot ≢ None }
+        ensures again { (result ≡ Took.Again) ↔ WaitsAt (seen self.old).spot (word_found self.old words.old.items) }
+    {
+        self.step_from(self.spot, words)
+    }
+
+    // The same by its spot.
+    #[inline(always)]
+    fn step_from(&mut self, spot: Spot, words: &mut Vec<u64>) -> Took
+        requires at { (seen self.old).spot ≡ spot }
+        requires busy { is_idle self.old ≡ false }
+        requires words { vec_len words.old ≡ table_words (config_of self.old) }
+        requires fit { IsFit (config_of self.old) (seen self.old) (order_of self.old) (word_found self.old words.old.items) }
+        ensures words { words.new.items ≡ accessed (access_of self.old) words.old.items }
+        ensures seen { seen self.new ≡ next_of (config_of self.old) (seen self.old) (order_of self.old) (word_found self.old words.old.items) }
+        ensures order { order_of self.new ≡ Order.Nothing }
+        ensures config { config_of self.new ≡ config_of self.old }
+        ensures answer { result ≡ answer_at (config_of self.old) (seen self.old).kept (seen self.old).spot (word_found self.old words.old.items) }
+        ensures done { (result ≡ Took.Done) ↔ (place_at (order_of self.old) (seen self.old).spot ≡ Place.LV) }
+        ensures replied { result ≡ Took.Done → reply_at (seen self.new).spot ≢ None }
+        ensures again { (result ≡ Took.Again) ↔ WaitsAt (seen self.old).spot (word_found self.old words.old.items) }
+    {
+        let got = make_access(words, self.access(spot));
+        self.took_from(spot, got)
     }
 
     /// The reply of the last call, until the next one is ordered.
@@ -308,7 +399,8 @@ impl Mutator {
     // Goes on in a call with the word that its access has found. The longer parts go on in a function of their own, so that the
     // others do not pay for what those put aside.
     #[inline(always)]
-    fn go_on(&mut self, got: u64) -> Took
+    fn go_on(&mut self, spot: Spot, got: u64) -> Took
+        requires at { (seen self.old).spot ≡ spot }
         requires none { order_of self.old ≡ Order.Nothing }
         requires takes { takes_at (seen self.old).spot (seen self.old).made Order.Nothing ≡ true }
         requires fit { IsFit (config_of self.old) (seen self.old) Order.Nothing got }
@@ -318,7 +410,7 @@ impl Mutator {
         ensures answer { result ≡ answer_at (config_of self.old) (seen self.old).kept (seen self.old).spot got }
         ensures again { (result ≡ Took.Again) ↔ WaitsAt (seen self.old).spot got }
     {
-        match self.spot {
+        match spot {
             Spot::Entering { at, then } => {
                 self.spot = then.after(at.after(got));
                 return call_says(at.says(got));

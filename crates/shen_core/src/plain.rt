@@ -5,7 +5,7 @@ ghost use Rattle.heap_machines.specs.Shown.{shown, order_of, heap_of};
 ghost use Rattle.shen_core.specs.Runs.{IsShownBySome};
 
 use heap_machines::{Machine, Stepped, machines_from, open_machines, words_from};
-use heap_words::{Access, Config, NoMemory, Place, make_access};
+use heap_words::{Access, Config, NoMemory, Place};
 use image_graph::Image;
 use shen_graph::{Command, Entry, GraphText, History, Reply, Work};
 use std::alloc::Global;
@@ -179,8 +179,7 @@ impl Plain {
         if machine.is_idle() {
             return Stepped::Idle;
         }
-        let found = make_access(&mut self.words, machine.plan());
-        Stepped::of(machine.took(found))
+        Stepped::of(machine.step(&mut self.words))
     }
 
     // Whether the machine is the control, in a pause whose next step goes from a word of the image to the next one.

@@ -20,7 +20,7 @@ invariant_of-self c =
     record {
       is_mutator = m.is_mutator;
       allowed = pending _ _ _ c.requires.none;
-      ready = ready_next m.config (seen m) Nothing c.args.got (Entering c.in-Entering.at c.in-Entering.then) (at_spot (seen m) c.after-self.result) c.in-Entering.is (ap (at_spot (seen m)) row) c.requires.fit.0;
+      ready = ready_next m.config (seen m) Nothing c.args.got (Entering c.in-Entering.at c.in-Entering.then) (at_spot (seen m) c.after-self.result) (c.requires.at ∙ c.in-Entering.is) (ap (at_spot (seen m)) row) c.requires.fit.0;
     }
 
 pub invariant_of-self-in-LoadPhase : goal.invariant_of-self-in-LoadPhase
@@ -29,7 +29,7 @@ invariant_of-self-in-LoadPhase c =
     record {
       is_mutator = m.is_mutator;
       allowed = pending LoadSet m.made m.order c.requires.none;
-      ready = ready_next m.config (seen m) Nothing c.args.got LoadPhase (record (seen m) { kept = record m.kept { phase = c.args.got }; spot = LoadSet }) c.in-LoadPhase.is refl c.requires.fit.0;
+      ready = ready_next m.config (seen m) Nothing c.args.got LoadPhase (record (seen m) { kept = record m.kept { phase = c.args.got }; spot = LoadSet }) (c.requires.at ∙ c.in-LoadPhase.is) refl c.requires.fit.0;
     }
 
 pub invariant_of-self-in-Loading : goal.invariant_of-self-in-Loading
@@ -38,7 +38,7 @@ invariant_of-self-in-Loading c =
     record {
       is_mutator = m.is_mutator;
       allowed = pending _ _ _ c.requires.none;
-      ready = ready_next m.config (seen m) Nothing c.args.got (Loading c.in-Loading.at) (at_spot (seen m) c.after-self-in-Loading.result) c.in-Loading.is (ap (at_spot (seen m)) (sym c.after-self-in-Loading.ensures)) c.requires.fit.0;
+      ready = ready_next m.config (seen m) Nothing c.args.got (Loading c.in-Loading.at) (at_spot (seen m) c.after-self-in-Loading.result) (c.requires.at ∙ c.in-Loading.is) (ap (at_spot (seen m)) (sym c.after-self-in-Loading.ensures)) c.requires.fit.0;
     }
 
 pub invariant_of-self-in-OnNumber : goal.invariant_of-self-in-OnNumber
@@ -47,7 +47,7 @@ invariant_of-self-in-OnNumber c =
     record {
       is_mutator = m.is_mutator;
       allowed = pending _ _ _ c.requires.none;
-      ready = ready_next m.config (seen m) Nothing c.args.got (OnNumber c.in-OnNumber.object c.in-OnNumber.refs c.in-OnNumber.at) (at_spot (seen m) c.after-self-in-OnNumber.result) c.in-OnNumber.is (ap (at_spot (seen m)) (sym c.after-self-in-OnNumber.ensures)) c.requires.fit.0;
+      ready = ready_next m.config (seen m) Nothing c.args.got (OnNumber c.in-OnNumber.object c.in-OnNumber.refs c.in-OnNumber.at) (at_spot (seen m) c.after-self-in-OnNumber.result) (c.requires.at ∙ c.in-OnNumber.is) (ap (at_spot (seen m)) (sym c.after-self-in-OnNumber.ensures)) c.requires.fit.0;
     }
 
 pub invariant_of-self-in-Showing : goal.invariant_of-self-in-Showing
@@ -56,11 +56,11 @@ invariant_of-self-in-Showing c =
     record {
       is_mutator = m.is_mutator;
       allowed = pending _ _ _ c.requires.none;
-      ready = ready_next m.config (seen m) Nothing c.args.got (Showing c.in-Showing.value c.in-Showing.at) (at_spot (seen m) c.after-self-in-Showing.result) c.in-Showing.is (ap (at_spot (seen m)) (sym c.after-self-in-Showing.ensures)) c.requires.fit.0;
+      ready = ready_next m.config (seen m) Nothing c.args.got (Showing c.in-Showing.value c.in-Showing.at) (at_spot (seen m) c.after-self-in-Showing.result) (c.requires.at ∙ c.in-Showing.is) (ap (at_spot (seen m)) (sym c.after-self-in-Showing.ensures)) c.requires.fit.0;
     }
 
 pub returns-in-Entering-clause-again : goal.returns-in-Entering-clause-again
-returns-in-Entering-clause-again c = rw (c.in-Entering.is, c.call_says.ensures, c.says.ensures) (enters_where_it_waits c.in-Entering.at c.in-Entering.then c.args.got)
+returns-in-Entering-clause-again c = rw ((c.requires.at ∙ c.in-Entering.is), c.call_says.ensures, c.says.ensures) (enters_where_it_waits c.in-Entering.at c.in-Entering.then c.args.got)
 
 pub invariant_of-self-in-LoadSet : goal.invariant_of-self-in-LoadSet
 invariant_of-self-in-LoadSet c =
@@ -69,7 +69,7 @@ invariant_of-self-in-LoadSet c =
     record {
       is_mutator = m.is_mutator;
       allowed = pending c.first_spot-self.result m.made m.order c.requires.none;
-      ready = ready_next m.config (seen m) Nothing c.args.got LoadSet (there c.first_spot-self.result) c.in-LoadSet.is (ap there (sym c.first_spot-self.ensures)) c.requires.fit.0;
+      ready = ready_next m.config (seen m) Nothing c.args.got LoadSet (there c.first_spot-self.result) (c.requires.at ∙ c.in-LoadSet.is) (ap there (sym c.first_spot-self.ensures)) c.requires.fit.0;
     }
 
 pub invariant_of-self-in-Leave : goal.invariant_of-self-in-Leave
@@ -78,26 +78,26 @@ invariant_of-self-in-Leave c =
     record {
       is_mutator = m.is_mutator;
       allowed = pending (Ended c.in-Leave.reply) m.made m.order c.requires.none;
-      ready = ready_next m.config (seen m) Nothing c.args.got (Leave c.in-Leave.reply) (at_spot (seen m) (Ended c.in-Leave.reply)) c.in-Leave.is refl c.requires.fit.0;
+      ready = ready_next m.config (seen m) Nothing c.args.got (Leave c.in-Leave.reply) (at_spot (seen m) (Ended c.in-Leave.reply)) (c.requires.at ∙ c.in-Leave.is) refl c.requires.fit.0;
     }
 
 pub returns-in-LoadPhase-clause-again : goal.returns-in-LoadPhase-clause-again
-returns-in-LoadPhase-clause-again c = rw c.in-LoadPhase.is never
+returns-in-LoadPhase-clause-again c = rw (c.requires.at ∙ c.in-LoadPhase.is) never
 
 pub returns-in-LoadSet-clause-again : goal.returns-in-LoadSet-clause-again
-returns-in-LoadSet-clause-again c = rw c.in-LoadSet.is never
+returns-in-LoadSet-clause-again c = rw (c.requires.at ∙ c.in-LoadSet.is) never
 
 pub returns-in-Loading-clause-again : goal.returns-in-Loading-clause-again
-returns-in-Loading-clause-again c = rw c.in-Loading.is never
+returns-in-Loading-clause-again c = rw (c.requires.at ∙ c.in-Loading.is) never
 
 pub returns-in-OnNumber-clause-again : goal.returns-in-OnNumber-clause-again
-returns-in-OnNumber-clause-again c = rw c.in-OnNumber.is never
+returns-in-OnNumber-clause-again c = rw (c.requires.at ∙ c.in-OnNumber.is) never
 
 pub returns-in-Showing-clause-again : goal.returns-in-Showing-clause-again
-returns-in-Showing-clause-again c = rw c.in-Showing.is never
+returns-in-Showing-clause-again c = rw (c.requires.at ∙ c.in-Showing.is) never
 
 pub field-requires-clause-at : goal.field-requires-clause-at
-field-requires-clause-at c = c.in-OnField.is
+field-requires-clause-at c = c.requires.at ∙ c.in-OnField.is
 
 pub field-requires-clause-order : goal.field-requires-clause-order
 field-requires-clause-order c = c.requires.none
@@ -106,4 +106,4 @@ pub field-requires-clause-fit : goal.field-requires-clause-fit
 field-requires-clause-fit c = c.requires.fit
 
 pub returns-in-OnField-clause-again : goal.returns-in-OnField-clause-again
-returns-in-OnField-clause-again c = rw c.in-OnField.is c.field.ensures.again
+returns-in-OnField-clause-again c = rw (c.requires.at ∙ c.in-OnField.is) c.field.ensures.again

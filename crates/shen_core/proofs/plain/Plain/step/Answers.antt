@@ -1,4 +1,4 @@
-use Rattle.std.proofs.Common.{◌≡◌, ◌<◌, not, length, map, All, refl, sym, ap, ◌∙◌, subst, arith}
+use Rattle.std.proofs.Common.{◌≡◌, not, length, map, All, refl, sym, ap, ◌∙◌, subst, arith}
 use Rattle.std.specs.Prelude.{slice_index}
 use Rattle.std.proofs.lemmas.Bool.{false≢true}
 use Rattle.std.proofs.lemmas.List.{length-set}
@@ -12,30 +12,34 @@ use Rattle.shen_core.proofs.Memory.{from_read, put_back, shown_here, heap_here, 
 use Rattle.shen_core.proofs.Turns.{fit_shown}
 use Rattle.shen_core.proofs.plain.Plain.step.Goals as goal
 
-pub took-requires-clause-fit : goal.took-requires-clause-fit
-took-requires-clause-fit c =
+pub step-requires-clause-fit : goal.step-requires-clause-fit
+step-requires-clause-fit c =
     let p = c.args.self.now in
     let m = c.index_mut-machine.result.now in
     let here = from_read p.machines.items c.args.number m (omega (arith, p.all_machines, c.requires)) c.index_mut-machine.ensures.value in
     let heap = heap_here p.config p.machines.items c.args.number m p.one_heap here in
-    let got : c.make_access-found.result ≡ slice_index p.words.items (table_index (plan_of p.config (order_of m) (shown m))) =
-    c.make_access-found.ensures.got ∙ ap (λ x. slice_index p.words.items (table_index x)) (c.plan.ensures.row ∙ ap (λ k. plan_of k (order_of m) (shown m)) heap) in
-    subst (λ k. IsFitFor k (order_of m) c.make_access-found.result (shown m)) (sym heap)
-    (subst (λ x. IsFitFor p.config (order_of m) x (shown m)) (sym got)
-    (fit_shown p.config p.words.items _ c.args.number (shown m) (order_of m) p.reached (shown_here p.machines.items c.args.number m here) (c.is_idle.ensures ∙ ap not c.if-is_idle.false)))
+    subst (λ k. IsFitFor k (order_of m) (slice_index p.words.items (table_index (plan_of k (order_of m) (shown m)))) (shown m)) (sym heap)
+    (fit_shown p.config p.words.items _ c.args.number (shown m) (order_of m) p.reached (shown_here p.machines.items c.args.number m here) (c.is_idle.ensures ∙ ap not c.if-is_idle.false))
+
+pub step-requires-clause-words : goal.step-requires-clause-words
+step-requires-clause-words c =
+    let p = c.args.self.now in
+    let m = c.index_mut-machine.result.now in
+    let here = from_read p.machines.items c.args.number m (omega (arith, p.all_machines, c.requires)) c.index_mut-machine.ensures.value in
+    p.words.ok.0 ∙ p.all_words ∙ ap table_words (sym (heap_here p.config p.machines.items c.args.number m p.one_heap here))
 
 pub invariant_of-self-2 : goal.invariant_of-self-2
 invariant_of-self-2 c =
     let p = c.args.self.now in
     let m = c.index_mut-machine.result.now in
-    let n = c.took.new.self in
-    let made = made_from p.config p.words.items c.make_access-found.new.words.items p.machines.items c.args.number m n c.plan.result c.make_access-found.result
-    (omega (arith, p.all_machines, c.requires)) c.index_mut-machine.ensures.value p.one_heap (c.is_idle.ensures ∙ ap not c.if-is_idle.false) c.plan.ensures.row
-    c.make_access-found.ensures.words c.make_access-found.ensures.got c.took.ensures.shown in
+    let n = c.step.new.self in
+    let made = made_from p.config p.words.items c.step.new.words.items p.machines.items c.args.number m n _ _
+    (omega (arith, p.all_machines, c.requires)) c.index_mut-machine.ensures.value p.one_heap (c.is_idle.ensures ∙ ap not c.if-is_idle.false) refl
+    c.step.ensures.words refl c.step.ensures.shown in
     record {
-      all_words = ap length c.make_access-found.ensures.words ∙ length-set p.words.items _ _ ∙ p.all_words;
+      all_words = ap length c.step.ensures.words ∙ length-set p.words.items _ _ ∙ p.all_words;
       all_machines = length-set p.machines.items _ _ ∙ p.all_machines;
-      one_heap = made_heap _ _ _ _ _ _ _ made c.took.ensures.heap p.one_heap;
+      one_heap = made_heap _ _ _ _ _ _ _ made c.step.ensures.heap p.one_heap;
       reached = ∥∥₁_map p.reached (made_shown _ _ _ _ _ _ _ made);
     }
 
@@ -43,39 +47,39 @@ pub returns-clause-event : goal.returns-clause-event
 returns-clause-event c = λ turn.
     let p = c.args.self.now in
     let m = c.index_mut-machine.result.now in
-    let n = c.took.new.self in
+    let n = c.step.new.self in
     made_step _ _ _ _ _ _ _
-    (made_from p.config p.words.items c.make_access-found.new.words.items p.machines.items c.args.number m n c.plan.result c.make_access-found.result
-    (omega (arith, p.all_machines, c.requires)) c.index_mut-machine.ensures.value p.one_heap (c.is_idle.ensures ∙ ap not c.if-is_idle.false) c.plan.ensures.row
-    c.make_access-found.ensures.words c.make_access-found.ensures.got c.took.ensures.shown)
+    (made_from p.config p.words.items c.step.new.words.items p.machines.items c.args.number m n _ _
+    (omega (arith, p.all_machines, c.requires)) c.index_mut-machine.ensures.value p.one_heap (c.is_idle.ensures ∙ ap not c.if-is_idle.false) refl
+    c.step.ensures.words refl c.step.ensures.shown)
 
 pub returns-clause-orders : goal.returns-clause-orders
 returns-clause-orders c = λ turn.
     let p = c.args.self.now in
     let m = c.index_mut-machine.result.now in
-    let n = c.took.new.self in
+    let n = c.step.new.self in
     made_orders _ _ _ _ _ _ _
-    (made_from p.config p.words.items c.make_access-found.new.words.items p.machines.items c.args.number m n c.plan.result c.make_access-found.result
-    (omega (arith, p.all_machines, c.requires)) c.index_mut-machine.ensures.value p.one_heap (c.is_idle.ensures ∙ ap not c.if-is_idle.false) c.plan.ensures.row
-    c.make_access-found.ensures.words c.make_access-found.ensures.got c.took.ensures.shown)
-    c.took.ensures.order
+    (made_from p.config p.words.items c.step.new.words.items p.machines.items c.args.number m n _ _
+    (omega (arith, p.all_machines, c.requires)) c.index_mut-machine.ensures.value p.one_heap (c.is_idle.ensures ∙ ap not c.if-is_idle.false) refl
+    c.step.ensures.words refl c.step.ensures.shown)
+    c.step.ensures.order
 
 pub returns-clause-machines : goal.returns-clause-machines
 returns-clause-machines c = λ turn.
     let p = c.args.self.now in
     let m = c.index_mut-machine.result.now in
-    let n = c.took.new.self in
+    let n = c.step.new.self in
     made_machines _ _ _ _ _ _ _
-    (made_from p.config p.words.items c.make_access-found.new.words.items p.machines.items c.args.number m n c.plan.result c.make_access-found.result
-    (omega (arith, p.all_machines, c.requires)) c.index_mut-machine.ensures.value p.one_heap (c.is_idle.ensures ∙ ap not c.if-is_idle.false) c.plan.ensures.row
-    c.make_access-found.ensures.words c.make_access-found.ensures.got c.took.ensures.shown)
+    (made_from p.config p.words.items c.step.new.words.items p.machines.items c.args.number m n _ _
+    (omega (arith, p.all_machines, c.requires)) c.index_mut-machine.ensures.value p.one_heap (c.is_idle.ensures ∙ ap not c.if-is_idle.false) refl
+    c.step.ensures.words refl c.step.ensures.shown)
 
 pub returns-clause-replied : goal.returns-clause-replied
 returns-clause-replied c = λ done none.
     let p = c.args.self.now in
     let m = c.index_mut-machine.result.now in
     let here = from_read p.machines.items c.args.number m (omega (arith, p.all_machines, c.requires)) c.index_mut-machine.ensures.value in
-    c.took.ensures.replied (done_only c.took.result (sym c.of.ensures ∙ done)) (sym (ap reply_in (machine_now p.machines.items c.args.number m c.took.new.self here)) ∙ none)
+    c.step.ensures.replied (done_only c.step.result (sym c.of.ensures ∙ done)) (sym (ap reply_in (machine_now p.machines.items c.args.number m c.step.new.self here)) ∙ none)
 
 pub index_mut-machine-requires : goal.index_mut-machine-requires
 index_mut-machine-requires c =
@@ -167,21 +171,8 @@ returns-then-is_idle-clause-again c =
     let none = turn_here p.machines.items c.args.number m here ∙ c.is_idle.ensures ∙ ap not c.if-is_idle.true in
     (λ is. absurd cc, λ all. absurd (false≢true (sym none ∙ all.0)))
 
-pub plan-requires : goal.plan-requires
-plan-requires c =
-    c.is_idle.ensures ∙ ap not c.if-is_idle.false
-
-pub make_access-found-requires : goal.make_access-found-requires
-make_access-found-requires c =
-    let p = c.args.self.now in
-    let m = c.index_mut-machine.result.now in
-    let here = from_read p.machines.items c.args.number m (omega (arith, p.all_machines, c.requires)) c.index_mut-machine.ensures.value in
-    let heap = heap_here p.config p.machines.items c.args.number m p.one_heap here in
-    let below = subst (λ n. table_index c.plan.result < n) (ap table_words heap ∙ sym p.all_words) c.plan.ensures.inside in
-    subst (λ n. table_index c.plan.result < n) (sym p.words.ok.0) below
-
-pub took-requires-clause-busy : goal.took-requires-clause-busy
-took-requires-clause-busy c =
+pub step-requires-clause-busy : goal.step-requires-clause-busy
+step-requires-clause-busy c =
     c.is_idle.ensures ∙ ap not c.if-is_idle.false
 
 pub returns-clause-idle : goal.returns-clause-idle
@@ -190,7 +181,7 @@ returns-clause-idle c =
     let m = c.index_mut-machine.result.now in
     let here = from_read p.machines.items c.args.number m (omega (arith, p.all_machines, c.requires)) c.index_mut-machine.ensures.value in
     let turn = turn_here p.machines.items c.args.number m here ∙ c.is_idle.ensures ∙ ap not c.if-is_idle.false in
-    (λ is. absurd (never_idle c.took.result (sym c.of.ensures ∙ is)), λ none. absurd (false≢true (sym none ∙ turn)))
+    (λ is. absurd (never_idle c.step.result (sym c.of.ensures ∙ is)), λ none. absurd (false≢true (sym none ∙ turn)))
 
 pub returns-clause-unchanged : goal.returns-clause-unchanged
 returns-clause-unchanged c =
@@ -208,8 +199,8 @@ returns-clause-says c =
     let m = c.index_mut-machine.result.now in
     let here = from_read p.machines.items c.args.number m (omega (arith, p.all_machines, c.requires)) c.index_mut-machine.ensures.value in
     let heap = heap_here p.config p.machines.items c.args.number m p.one_heap here in
-    says_here p.config p.words.items p.machines.items c.args.number m c.plan.result c.make_access-found.result c.took.result c.of.result here heap (c.is_idle.ensures ∙ ap not c.if-is_idle.false) c.plan.ensures.row
-    c.make_access-found.ensures.got c.of.ensures c.took.ensures.answer
+    says_here p.config p.words.items p.machines.items c.args.number m _ _ c.step.result c.of.result here heap (c.is_idle.ensures ∙ ap not c.if-is_idle.false) refl
+    refl c.of.ensures c.step.ensures.answer
 
 pub returns-clause-config : goal.returns-clause-config
 returns-clause-config c =
@@ -221,8 +212,8 @@ returns-clause-done c =
     let m = c.index_mut-machine.result.now in
     let here = from_read p.machines.items c.args.number m (omega (arith, p.all_machines, c.requires)) c.index_mut-machine.ensures.value in
     let heap = heap_here p.config p.machines.items c.args.number m p.one_heap here in
-    done_here p.config p.words.items p.machines.items c.args.number m c.plan.result c.make_access-found.result c.took.result c.of.result here heap (c.is_idle.ensures ∙ ap not c.if-is_idle.false) c.plan.ensures.row
-    c.make_access-found.ensures.got c.of.ensures c.took.ensures.done
+    done_here p.config p.words.items p.machines.items c.args.number m _ _ c.step.result c.of.result here heap (c.is_idle.ensures ∙ ap not c.if-is_idle.false) refl
+    refl c.of.ensures c.step.ensures.done
 
 pub returns-clause-again : goal.returns-clause-again
 returns-clause-again c =
@@ -230,5 +221,5 @@ returns-clause-again c =
     let m = c.index_mut-machine.result.now in
     let here = from_read p.machines.items c.args.number m (omega (arith, p.all_machines, c.requires)) c.index_mut-machine.ensures.value in
     let heap = heap_here p.config p.machines.items c.args.number m p.one_heap here in
-    again_here p.config p.words.items p.machines.items c.args.number m c.plan.result c.make_access-found.result c.took.result c.of.result here heap (c.is_idle.ensures ∙ ap not c.if-is_idle.false) c.plan.ensures.row
-    c.make_access-found.ensures.got c.of.ensures c.took.ensures.again
+    again_here p.config p.words.items p.machines.items c.args.number m _ _ c.step.result c.of.result here heap (c.is_idle.ensures ∙ ap not c.if-is_idle.false) refl
+    refl c.of.ensures c.step.ensures.again

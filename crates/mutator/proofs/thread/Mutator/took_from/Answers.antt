@@ -4,36 +4,36 @@ use Rattle.heap_words.specs.declared.access.Took.{Took}
 use Rattle.heap_words.specs.declared.access.Took.TheVariants.{Done}
 use Rattle.shen_graph.specs.declared.order.Order.{Order}
 use Rattle.shen_graph.specs.declared.order.Order.TheVariants.{Nothing}
-use Rattle.mutator.specs.Orders.{takes_at}
+use Rattle.mutator.specs.Orders.{takes_at, takes_commands}
 use Rattle.mutator.specs.Rows.{next_of, place_at, reply_at}
 use Rattle.mutator.specs.Fit.{IsFit}
 use Rattle.mutator.specs.Seen.{seen}
 use Rattle.mutator.proofs.Orders.{in_progress, takes_where_busy}
 use Rattle.mutator.proofs.Beginning.{begins, says_more, waits_nowhere}
 use Rattle.mutator.proofs.Leaving.{ends, replies}
-use Rattle.mutator.proofs.thread.Mutator.took.Goals as goal
+use Rattle.mutator.proofs.thread.Mutator.took_from.Goals as goal
 
 pub go_on-requires-clause-none : goal.go_on-requires-clause-none
 go_on-requires-clause-none c =
     let m = c.args.self.now in
-    in_progress m.spot m.made m.order (sym c.takes_commands.ensures ∙ c.if-takes_commands.false) (takes_where_busy _ _ _ c.requires.busy m.allowed)
+    in_progress m.spot m.made m.order (ap takes_commands c.requires.at ∙ sym c.takes_commands.ensures ∙ c.if-takes_commands.false) (takes_where_busy _ _ _ c.requires.busy m.allowed)
 
 pub go_on-requires-clause-takes : goal.go_on-requires-clause-takes
 go_on-requires-clause-takes c =
     let m = c.args.self.now in
     let takes = takes_where_busy _ _ _ c.requires.busy m.allowed in
-    subst (λ (o : Order). takes_at m.spot m.made o ≡ true) (in_progress m.spot m.made m.order (sym c.takes_commands.ensures ∙ c.if-takes_commands.false) takes) takes
+    subst (λ (o : Order). takes_at m.spot m.made o ≡ true) (in_progress m.spot m.made m.order (ap takes_commands c.requires.at ∙ sym c.takes_commands.ensures ∙ c.if-takes_commands.false) takes) takes
 
 pub go_on-requires-clause-fit : goal.go_on-requires-clause-fit
 go_on-requires-clause-fit c =
     let m = c.args.self.now in
-    let none = in_progress m.spot m.made m.order (sym c.takes_commands.ensures ∙ c.if-takes_commands.false) (takes_where_busy _ _ _ c.requires.busy m.allowed) in
+    let none = in_progress m.spot m.made m.order (ap takes_commands c.requires.at ∙ sym c.takes_commands.ensures ∙ c.if-takes_commands.false) (takes_where_busy _ _ _ c.requires.busy m.allowed) in
     subst (λ (o : Order). IsFit m.config (seen m) o c.args.got) none c.requires.fit
 
 pub returns-clause-seen : goal.returns-clause-seen
 returns-clause-seen c =
     let m = c.args.self.now in
-    let none = in_progress m.spot m.made m.order (sym c.takes_commands.ensures ∙ c.if-takes_commands.false) (takes_where_busy _ _ _ c.requires.busy m.allowed) in
+    let none = in_progress m.spot m.made m.order (ap takes_commands c.requires.at ∙ sym c.takes_commands.ensures ∙ c.if-takes_commands.false) (takes_where_busy _ _ _ c.requires.busy m.allowed) in
     c.go_on.ensures.seen ∙ ap (λ (o : Order). next_of m.config (seen m) o c.args.got) (sym none)
 
 pub returns-clause-done : goal.returns-clause-done
@@ -47,17 +47,17 @@ returns-clause-replied c =
 pub returns-then-takes_commands-clause-seen : goal.returns-then-takes_commands-clause-seen
 returns-then-takes_commands-clause-seen c =
     let m = c.args.self.now in
-    c.obey.ensures.seen ∙ sym (begins m.config (seen m) m.order c.args.got m.spot (sym c.takes_commands.ensures ∙ c.if-takes_commands.true))
+    c.obey.ensures.seen ∙ sym (begins m.config (seen m) m.order c.args.got m.spot (ap takes_commands c.requires.at ∙ sym c.takes_commands.ensures ∙ c.if-takes_commands.true))
 
 pub returns-then-takes_commands-clause-answer : goal.returns-then-takes_commands-clause-answer
 returns-then-takes_commands-clause-answer c =
     let m = c.args.self.now in
-    sym (says_more m.config m.kept m.spot c.args.got (sym c.takes_commands.ensures ∙ c.if-takes_commands.true))
+    sym (says_more m.config m.kept m.spot c.args.got (ap takes_commands c.requires.at ∙ sym c.takes_commands.ensures ∙ c.if-takes_commands.true))
 
 pub returns-then-takes_commands-clause-done : goal.returns-then-takes_commands-clause-done
 returns-then-takes_commands-clause-done c =
     let m = c.args.self.now in
-    subst (λ (said : Took). (said ≡ Done) ↔ (place_at m.order m.spot ≡ LV)) (says_more m.config m.kept m.spot c.args.got (sym c.takes_commands.ensures ∙ c.if-takes_commands.true)) (ends m.config m.kept m.order m.spot c.args.got)
+    subst (λ (said : Took). (said ≡ Done) ↔ (place_at m.order m.spot ≡ LV)) (says_more m.config m.kept m.spot c.args.got (ap takes_commands c.requires.at ∙ sym c.takes_commands.ensures ∙ c.if-takes_commands.true)) (ends m.config m.kept m.order m.spot c.args.got)
 
 pub returns-then-takes_commands-clause-replied : goal.returns-then-takes_commands-clause-replied
 returns-then-takes_commands-clause-replied c = λ is. absurd (cc (is))
@@ -65,4 +65,4 @@ returns-then-takes_commands-clause-replied c = λ is. absurd (cc (is))
 pub returns-then-takes_commands-clause-again : goal.returns-then-takes_commands-clause-again
 returns-then-takes_commands-clause-again c =
     let m = c.args.self.now in
-    (λ is. absurd (cc (is)), λ waits. absurd (waits_nowhere m.spot c.args.got (sym c.takes_commands.ensures ∙ c.if-takes_commands.true) waits))
+    (λ is. absurd (cc (is)), λ waits. absurd (waits_nowhere m.spot c.args.got (ap takes_commands c.requires.at ∙ sym c.takes_commands.ensures ∙ c.if-takes_commands.true) waits))

@@ -1,0 +1,46 @@
+use Rattle.std.proofs.Common.{◌≡◌, ℕ, true, sym, ◌∙◌, subst}
+use Rattle.std.specs.Prelude.{◌↔◌, slice_index}
+use Rattle.std.proofs.lemmas.Bool.{false≢true}
+use Rattle.heap_words.specs.Access.{table_index}
+use Rattle.heap_words.specs.declared.access.Took.TheVariants as took
+use Rattle.heap_words.specs.declared.place.Place.TheVariants.{LV}
+use Rattle.shen_graph.specs.Order.{hinting}
+use Rattle.collector_rows.specs.ControlReady.{UnitGoesOn}
+use Rattle.collector_rows.specs.ControlRows.{Controlling, control_access}
+use Rattle.control.specs.Seen as controls
+use Rattle.control.specs.Seen.{config_in, seen_control, hint_of, hinted}
+use Rattle.step_core.specs.Actor.{controlling}
+use Rattle.step_core.specs.Machines.{place_in, IsFitFor}
+use Rattle.step_core.proofs.Helpers.GoOn.{goes_on}
+use Rattle.heap_machines.specs.declared.machine.Machine.{Machine}
+use Rattle.heap_machines.specs.Roles.{is_mutating}
+use Rattle.heap_machines.specs.Shown.{shown, order_of, heap_of, word_found}
+use Rattle.heap_machines.proofs.Fit.{fit_for_control}
+use Rattle.heap_machines.proofs.Hinting.{controlled, whole_with_hint}
+use Rattle.heap_machines.proofs.machine.Machine.step.Goals as goal
+
+pub step-requires-in-Control-clause-fit : goal.step-requires-in-Control-clause-fit
+step-requires-in-Control-clause-fit c =
+    let h = config_in c.in-Control.control in
+    let hint = hint_of c.in-Control.control in
+    let words = c.args.words.now.items in
+    let k : Controlling = hinted c.in-Control.control in
+    let got : ℕ = controls.word_found c.in-Control.control words in
+    let same = controlled h hint (seen_control c.in-Control.control) in
+    let fit = subst (λ (x : Controlling). IsFitFor h (hinting hint) (slice_index words (table_index (control_access h x))) (controlling (seen_control c.in-Control.control))) same
+    (subst (λ (m : Machine). IsFitFor (heap_of m) (order_of m) (word_found m words) (shown m)) c.in-Control.is c.requires.fit) in
+    fit_for_control h k.phase k.spot k.image got (whole_with_hint h hint (seen_control c.in-Control.control) got fit.0)
+    (subst (λ (x : Controlling). UnitGoesOn h x.spot got) same fit.1)
+
+pub returns-in-Control-clause-done : goal.returns-in-Control-clause-done
+returns-in-Control-clause-done c =
+    let k : Controlling = hinted c.in-Control.control in
+    let got : ℕ = controls.word_found c.in-Control.control c.args.words.now.items in
+    subst (λ (m : Machine). (c.step-in-Control.result ≡ took.Done) ↔ ((is_mutating (shown m) ≡ true) × (place_in (order_of m) (shown m) ≡ LV))) (sym c.in-Control.is)
+    (λ done. absurd (goes_on (config_in c.in-Control.control) k.seen k.spot got (sym c.step-in-Control.ensures.says ∙ done)), λ both. absurd (false≢true both.0))
+
+pub returns-in-Control-clause-replied : goal.returns-in-Control-clause-replied
+returns-in-Control-clause-replied c = λ done.
+    let k : Controlling = hinted c.in-Control.control in
+    let got : ℕ = controls.word_found c.in-Control.control c.args.words.now.items in
+    absurd (goes_on (config_in c.in-Control.control) k.seen k.spot got (sym c.step-in-Control.ensures.says ∙ done))
