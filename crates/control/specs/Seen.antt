@@ -21,12 +21,12 @@ abbrev pub hint_of : Control → Option ℕ
 hint_of k = k.hint
 
 -- it, as it goes on with that hint
-abbrev pub hinted : Control → Controlling
-hinted k = control_hinted (config_in k) (hint_of k) (seen_control k)
+abbrev pub past_hint : Control → Controlling
+past_hint k = control_hinted (config_in k) (hint_of k) (seen_control k)
 
 -- its next access
 abbrev pub access_of : Control → Access
-access_of k = control_access (config_in k) (hinted k)
+access_of k = control_access (config_in k) (past_hint k)
 
 -- the word that this finds in a table
 abbrev pub word_found : Control → List ℕ → ℕ

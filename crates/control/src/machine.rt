@@ -54,7 +54,7 @@ impl Control {
     ghost use Rattle.cycle_pauses.specs.Collect.{collect_image};
     ghost use Rattle.control.specs.Fit.{IsFit};
     ghost use Rattle.control.specs.Image.{image_from, is_storing, is_inside_image, IsLoadedFrom};
-    ghost use Rattle.control.specs.Seen.{config_in, seen_control, hint_of, hinted, access_of, word_found};
+    ghost use Rattle.control.specs.Seen.{config_in, seen_control, hint_of, past_hint, access_of, word_found};
 
     /// The control of the image's heap. It has seen the image's phase, collection set and free word. Nothing else of the image
     /// matters.
@@ -386,13 +386,13 @@ impl Control {
     pub fn step(&mut self, words: &mut Vec<u64>) -> Took
         requires busy { is_gone (seen_control self.old).spot ≡ false }
         requires words { vec_len words.old ≡ table_words (config_in self.old) }
-        requires fit { IsFit (config_in self.old) (hinted self.old) (word_found self.old words.old.items) }
+        requires fit { IsFit (config_in self.old) (past_hint self.old) (word_found self.old words.old.items) }
         ensures words { words.new.items ≡ accessed (access_of self.old) words.old.items }
         ensures config { config_in self.new ≡ config_in self.old }
         ensures hint { hint_of self.new ≡ None }
-        ensures row { seen_control self.new ≡ control_next collect_image (config_in self.old) (hinted self.old) (word_found self.old words.old.items) }
-        ensures says { result ≡ control_says (config_in self.old) (hinted self.old) (word_found self.old words.old.items) }
-        ensures again { (result ≡ Took.Again) ↔ WaitsAt (config_in self.old) (hinted self.old) (word_found self.old words.old.items) }
+        ensures row { seen_control self.new ≡ control_next collect_image (config_in self.old) (past_hint self.old) (word_found self.old words.old.items) }
+        ensures says { result ≡ control_says (config_in self.old) (past_hint self.old) (word_found self.old words.old.items) }
+        ensures again { (result ≡ Took.Again) ↔ WaitsAt (config_in self.old) (past_hint self.old) (word_found self.old words.old.items) }
     {
         match self.looks_at() {
             Some(at) => self.took_word(words[at]),
@@ -405,13 +405,13 @@ impl Control {
     fn step_apart(&mut self, words: &mut Vec<u64>) -> Took
         requires busy { is_gone (seen_control self.old).spot ≡ false }
         requires words { vec_len words.old ≡ table_words (config_in self.old) }
-        requires fit { IsFit (config_in self.old) (hinted self.old) (word_found self.old words.old.items) }
+        requires fit { IsFit (config_in self.old) (past_hint self.old) (word_found self.old words.old.items) }
         ensures words { words.new.items ≡ accessed (access_of self.old) words.old.items }
         ensures config { config_in self.new ≡ config_in self.old }
         ensures hint { hint_of self.new ≡ None }
-        ensures row { seen_control self.new ≡ control_next collect_image (config_in self.old) (hinted self.old) (word_found self.old words.old.items) }
-        ensures says { result ≡ control_says (config_in self.old) (hinted self.old) (word_found self.old words.old.items) }
-        ensures again { (result ≡ Took.Again) ↔ WaitsAt (config_in self.old) (hinted self.old) (word_found self.old words.old.items) }
+        ensures row { seen_control self.new ≡ control_next collect_image (config_in self.old) (past_hint self.old) (word_found self.old words.old.items) }
+        ensures says { result ≡ control_says (config_in self.old) (past_hint self.old) (word_found self.old words.old.items) }
+        ensures again { (result ≡ Took.Again) ↔ WaitsAt (config_in self.old) (past_hint self.old) (word_found self.old words.old.items) }
     {
         let got = make_access(words, self.plan_apart());
         self.took(got)
