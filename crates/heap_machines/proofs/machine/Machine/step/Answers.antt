@@ -8,7 +8,7 @@ use Rattle.shen_graph.specs.Order.{hinting}
 use Rattle.collector_rows.specs.ControlReady.{UnitGoesOn}
 use Rattle.collector_rows.specs.ControlRows.{Controlling, control_access}
 use Rattle.control.specs.Seen as controls
-use Rattle.control.specs.Seen.{config_in, seen_control, hint_of, hinted}
+use Rattle.control.specs.Seen.{config_in, seen_control, hint_of, past_hint}
 use Rattle.step_core.specs.Actor.{controlling}
 use Rattle.step_core.specs.Machines.{place_in, IsFitFor}
 use Rattle.step_core.proofs.Helpers.GoOn.{goes_on}
