@@ -24,7 +24,7 @@ step-requires-in-Control-clause-fit c =
     let h = config_in c.in-Control.control in
     let hint = hint_of c.in-Control.control in
     let words = c.args.words.now.items in
-    let k : Controlling = hinted c.in-Control.control in
+    let k : Controlling = past_hint c.in-Control.control in
     let got : ℕ = controls.word_found c.in-Control.control words in
     let same = controlled h hint (seen_control c.in-Control.control) in
     let fit = subst (λ (x : Controlling). IsFitFor h (hinting hint) (slice_index words (table_index (control_access h x))) (controlling (seen_control c.in-Control.control))) same
@@ -34,13 +34,13 @@ step-requires-in-Control-clause-fit c =
 
 pub returns-in-Control-clause-done : goal.returns-in-Control-clause-done
 returns-in-Control-clause-done c =
-    let k : Controlling = hinted c.in-Control.control in
+    let k : Controlling = past_hint c.in-Control.control in
     let got : ℕ = controls.word_found c.in-Control.control c.args.words.now.items in
     subst (λ (m : Machine). (c.step-in-Control.result ≡ took.Done) ↔ ((is_mutating (shown m) ≡ true) × (place_in (order_of m) (shown m) ≡ LV))) (sym c.in-Control.is)
     (λ done. absurd (goes_on (config_in c.in-Control.control) k.seen k.spot got (sym c.step-in-Control.ensures.says ∙ done)), λ both. absurd (false≢true both.0))
 
 pub returns-in-Control-clause-replied : goal.returns-in-Control-clause-replied
 returns-in-Control-clause-replied c = λ done.
-    let k : Controlling = hinted c.in-Control.control in
+    let k : Controlling = past_hint c.in-Control.control in
     let got : ℕ = controls.word_found c.in-Control.control c.args.words.now.items in
     absurd (goes_on (config_in c.in-Control.control) k.seen k.spot got (sym c.step-in-Control.ensures.says ∙ done))
