@@ -1,5 +1,5 @@
 -- The words of the image that a control keeps.
-use Rattle.std.specs.Prelude.{ℕ, ◌≡◌, ◌+◌, ◌||◌, if◌then◌else◌, Bool, true, false, nat_lt, List, [], take, drop, map, length, slice_index}
+use Rattle.std.specs.Prelude.{ℕ, ◌≡◌, ◌+◌, ◌-◌, ◌||◌, if◌then◌else◌, Bool, true, false, nat_lt, List, [], take, drop, map, length, slice_index}
 use Rattle.std.specs.List.{range_with_len}
 use Rattle.heap_words.specs.declared.config.Config.{Config}
 use Rattle.heap_words.specs.Words.{image_start}
@@ -8,7 +8,7 @@ use Rattle.heap_world.specs.Change.{image_words}
 use Rattle.image_graph.specs.declared.image.Image.{Image}
 use Rattle.image_graph.specs.State.{config_of, words_of}
 use Rattle.collector_rows.specs.declared.extent.Extent.{Extent}
-use Rattle.collector_rows.specs.declared.extent.Extent.TheVariants.{Whole, OffHeap, Ahead}
+use Rattle.collector_rows.specs.declared.extent.Extent.TheVariants.{Whole}
 use Rattle.collector_rows.specs.Extent.{is_of_extent}
 use Rattle.collector_rows.specs.declared.control_spot.ControlSpot.{ControlSpot}
 use Rattle.collector_rows.specs.declared.control_spot.ControlSpot.TheVariants.{LoadWord, StoreWord}
@@ -61,6 +61,15 @@ abbrev pub is_inside_image : Config → ControlSpot → Bool
 is_inside_image c (LoadWord index Whole) = nat_lt (index + 1) (image_words c)
 is_inside_image c (StoreWord index Whole) = nat_lt (index + 1) (image_words c)
 is_inside_image c _ = false
+
+-- how many words it loads, or stores, before the last one in a pause of all of the image
+abbrev pub loads_left : Config → ControlSpot → ℕ
+loads_left c (LoadWord index Whole) = image_words c - (index + 1)
+loads_left c _ = 0
+
+abbrev pub stores_left : Config → ControlSpot → ℕ
+stores_left c (StoreWord index Whole) = image_words c - (index + 1)
+stores_left c _ = 0
 
 -- the words of the image in a table
 abbrev pub image_from : Config → List ℕ → List ℕ

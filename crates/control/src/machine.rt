@@ -41,7 +41,7 @@ pub struct Control {
 }
 
 impl Control {
-    ghost use Rattle.std.specs.Prelude.{◌<◌, ◌≤◌, ◌↔◌, [], length, vec_len, slice_index, false, Some, None, IfSome};
+    ghost use Rattle.std.specs.Prelude.{ℕ, ◌<◌, ◌≤◌, ◌↔◌, [], length, vec_len, slice_index, false, Some, None, IfSome};
     ghost use Rattle.heap_words.specs.Access.{table_index};
     ghost use Rattle.heap_words.specs.Steps.{accessed};
     ghost use Rattle.heap_words.specs.Words.{Free, Phase, Cset, Heap, IsWord, table_words, heap_size};
@@ -53,7 +53,7 @@ impl Control {
     ghost use Rattle.collector_rows.specs.ControlWaits.{WaitsAt};
     ghost use Rattle.cycle_pauses.specs.Collect.{collect_image};
     ghost use Rattle.control.specs.Fit.{IsFit};
-    ghost use Rattle.control.specs.Image.{image_from, is_storing, is_inside_image, IsLoadedFrom};
+    ghost use Rattle.control.specs.Image.{image_from, is_storing, is_inside_image, loads_left, stores_left, IsLoadedFrom};
     ghost use Rattle.control.specs.Seen.{config_in, seen_control, hint_of, past_hint, access_of, word_found};
 
     /// The control of the image's heap. It has seen the image's phase, collection set and free word. Nothing else of the image
@@ -310,58 +310,110 @@ impl Control {
         }
     }
 
-    /// The access of its next step, which goes from a word of the image to the next one: what `plan` gives, with nothing looked up.
-    pub fn plan_inside_image(&self) -> Access
-        requires { is_inside_image (config_in self.now) (seen_control self.now).spot ≡ true }
-        ensures none { hint_of self.now ≡ None }
-        ensures row { result ≡ control_access (config_in self.now) (seen_control self.now) }
-        ensures inside { table_index result < table_words (config_in self.now) }
+    /// How many words of the image it loads before the last one, one after the other, in a pause of all of the image.
+    #[inline(always)]
+    pub fn words_to_load(&self) -> usize
+        ensures { result ≡ loads_left (config_in self.now) (seen_control self.now).spot }
     {
-        let start = self.image.config().image_start();
         match self.spot {
             ControlSpot::LoadWord {
                 index,
                 extent: Extent::Whole,
-            } => Access::Load { at: start + index },
+            } => self.last_word - index,
+            _ => 0,
+        }
+    }
+
+    /// How many words of the image it stores before the last one, one after the other, in a pause of all of the image.
+    #[inline(always)]
+    pub fn words_to_store(&self) -> usize
+        ensures { result ≡ stores_left (config_in self.now) (seen_control self.now).spot }
+    {
+        match self.spot {
             ControlSpot::StoreWord {
                 index,
                 extent: Extent::Whole,
-            } => Access::Store {
-                at: start + index,
-                value: self.image.word(start + index),
-            },
+            } => self.last_word - index,
+            _ => 0,
+        }
+    }
+
+    /// The index in the heap's table of the word that it loads next, where it loads one more before the last: what `plan` gives, with
+    /// nothing looked up.
+    #[inline(always)]
+    pub fn next_to_load(&self) -> usize
+        requires { 0 < loads_left (config_in self.now) (seen_control self.now).spot }
+        ensures none { hint_of self.now ≡ None }
+        ensures row { Access.Load result ≡ control_access (config_in self.now) (seen_control self.now) }
+        ensures inside { result < table_words (config_in self.now) }
+    {
+        match self.spot {
+            ControlSpot::LoadWord {
+                index,
+                extent: Extent::Whole,
+            } => self.image.config().image_start() + index,
             _ => unreachable!(),
         }
     }
 
-    /// Goes on from a word of the image to the next one, with the word that its access has found: what `took` does, with nothing looked up.
-    pub fn took_inside_image(&mut self, got: u64)
-        requires { is_inside_image (config_in self.old) (seen_control self.old).spot ≡ true }
+    /// Goes on with the word that it has loaded there, to the next one: what `took` does, with nothing looked up.
+    #[inline(always)]
+    pub fn loaded(&mut self, got: u64)
+        requires { 0 < loads_left (config_in self.old) (seen_control self.old).spot }
         ensures config { config_in self.new ≡ config_in self.old }
         ensures none { hint_of self.old ≡ None }
         ensures hint { hint_of self.new ≡ None }
         ensures row { seen_control self.new ≡ control_next collect_image (config_in self.old) (seen_control self.old) got }
+        ensures left { loads_left (config_in self.new) (seen_control self.new).spot + 1 ≡ loads_left (config_in self.old) (seen_control self.old).spot }
     {
-        match self.spot {
+        match &mut self.spot {
             ControlSpot::LoadWord {
                 index,
                 extent: Extent::Whole,
             } => {
-                put_word(&mut self.image, index, got);
-                self.spot = ControlSpot::LoadWord {
-                    index: index + 1,
-                    extent: Extent::Whole,
-                };
+                put_word(&mut self.image, *index, got);
+                *index += 1;
             }
+            _ => unreachable!(),
+        }
+    }
+
+    /// The index in the heap's table of the word that it stores next, and its value, where it stores one more before the last: what
+    /// `plan` gives, with nothing looked up.
+    #[inline(always)]
+    pub fn next_to_store(&self) -> (usize, u64)
+        requires { 0 < stores_left (config_in self.now) (seen_control self.now).spot }
+        ensures none { hint_of self.now ≡ None }
+        ensures row { Access.Store result.0 result.1 ≡ control_access (config_in self.now) (seen_control self.now) }
+        ensures inside { result.0 < table_words (config_in self.now) }
+    {
+        match self.spot {
             ControlSpot::StoreWord {
                 index,
                 extent: Extent::Whole,
             } => {
-                self.spot = ControlSpot::StoreWord {
-                    index: index + 1,
-                    extent: Extent::Whole,
-                };
+                let at = self.image.config().image_start() + index;
+                (at, self.image.word(at))
             }
+            _ => unreachable!(),
+        }
+    }
+
+    /// Goes on from the word that it has stored there to the next one: what `took` does, with nothing looked up.
+    #[inline(always)]
+    pub fn stored(&mut self)
+        requires { 0 < stores_left (config_in self.old) (seen_control self.old).spot }
+        ensures config { config_in self.new ≡ config_in self.old }
+        ensures none { hint_of self.old ≡ None }
+        ensures hint { hint_of self.new ≡ None }
+        ensures row { (got : ℕ) → seen_control self.new ≡ control_next collect_image (config_in self.old) (seen_control self.old) got }
+        ensures left { stores_left (config_in self.new) (seen_control self.new).spot + 1 ≡ stores_left (config_in self.old) (seen_control self.old).spot }
+    {
+        match &mut self.spot {
+            ControlSpot::StoreWord {
+                index,
+                extent: Extent::Whole,
+            } => *index += 1,
             _ => unreachable!(),
         }
     }

@@ -1,5 +1,5 @@
 -- Where the control goes from a word of the image to the next one.
-use Rattle.std.specs.Prelude.{Bool, false}
+use Rattle.std.specs.Prelude.{ℕ, Bool, false}
 use Rattle.heap_words.specs.declared.config.Config.{Config}
 use Rattle.control.specs.Image as controls
 use Rattle.step_core.specs.Actor.{Machine, controlling}
@@ -8,3 +8,12 @@ use Rattle.step_core.specs.Actor.{Machine, controlling}
 abbrev pub is_inside_image : Config → Machine → Bool
 is_inside_image c (controlling k) = controls.is_inside_image c k.spot
 is_inside_image c _ = false
+
+-- how many words of the image it loads, or stores, before the last one in a pause of all of the image: the control alone does any
+abbrev pub loads_left : Config → Machine → ℕ
+loads_left c (controlling k) = controls.loads_left c k.spot
+loads_left c _ = 0
+
+abbrev pub stores_left : Config → Machine → ℕ
+stores_left c (controlling k) = controls.stores_left c k.spot
+stores_left c _ = 0

@@ -27,7 +27,7 @@ pub enum Machine {
 }
 
 impl Machine {
-    ghost use Rattle.std.specs.Prelude.{◌≡◌, ◌<◌, ◌≤◌, ◌↔◌, ◌≢◌, length, vec_len, slice_index, true, false, not, Option, Some, None, IfOk, IfSome, is_some, if◌then◌else◌};
+    ghost use Rattle.std.specs.Prelude.{ℕ, ◌≡◌, ◌+◌, ◌<◌, ◌≤◌, ◌↔◌, ◌≢◌, length, vec_len, slice_index, true, false, not, Option, Some, None, IfOk, IfSome, is_some, if◌then◌else◌};
     ghost use Rattle.heap_words.specs.Access.{table_index};
     ghost use Rattle.heap_words.specs.Steps.{accessed};
     ghost use Rattle.heap_words.specs.Words.{Cset, Heap, IsWord, table_words, heap_size, view};
@@ -46,7 +46,7 @@ impl Machine {
     ghost use Rattle.heap_machines.specs.Settles.{command_in, reply_settled, refused_by};
     ghost use Rattle.heap_machines.specs.Turn.{order_for};
     ghost use Rattle.heap_machines.specs.Awaits.{Awaits};
-    ghost use Rattle.heap_machines.specs.Inside.{is_inside_image};
+    ghost use Rattle.heap_machines.specs.Inside.{is_inside_image, loads_left, stores_left};
 
     /// The machine of a number, as a heap begins with it. The error is that memory for the control's image was refused.
     pub fn open(alloc: Global, config: Config, number: usize) -> Result<Machine, NoMemory>
@@ -123,28 +123,85 @@ impl Machine {
         }
     }
 
-    /// The access of its next step, which goes from a word of the image to the next one. Of the control.
-    pub fn plan_inside_image(&self) -> Access
-        requires { is_inside_image (heap_of self.now) (shown self.now) ≡ true }
-        ensures none { order_of self.now ≡ Order.Nothing }
-        ensures row { result ≡ plan_of (heap_of self.now) (order_of self.now) (shown self.now) }
-        ensures inside { table_index result < table_words (heap_of self.now) }
+    /// How many words of the image it loads before the last one, one after the other, in a pause of all of the image; the control alone
+    /// loads any.
+    #[inline(always)]
+    pub fn words_to_load(&self) -> usize
+        ensures { result ≡ loads_left (heap_of self.now) (shown self.now) }
     {
         match self {
-            Machine::Control(control) => control.plan_inside_image(),
+            Machine::Control(control) => control.words_to_load(),
+            Machine::Mutator(_) | Machine::Helper(_) => 0,
+        }
+    }
+
+    /// How many words of the image it stores before the last one, one after the other, in a pause of all of the image; the control alone
+    /// stores any.
+    #[inline(always)]
+    pub fn words_to_store(&self) -> usize
+        ensures { result ≡ stores_left (heap_of self.now) (shown self.now) }
+    {
+        match self {
+            Machine::Control(control) => control.words_to_store(),
+            Machine::Mutator(_) | Machine::Helper(_) => 0,
+        }
+    }
+
+    /// The index in the heap's table of the word that its next step loads, where it loads one more before the last. Of the control.
+    #[inline(always)]
+    pub fn next_to_load(&self) -> usize
+        requires { 0 < loads_left (heap_of self.now) (shown self.now) }
+        ensures none { order_of self.now ≡ Order.Nothing }
+        ensures row { Access.Load result ≡ plan_of (heap_of self.now) (order_of self.now) (shown self.now) }
+        ensures inside { result < table_words (heap_of self.now) }
+    {
+        match self {
+            Machine::Control(control) => control.next_to_load(),
             Machine::Mutator(_) | Machine::Helper(_) => unreachable!(),
         }
     }
 
-    /// Goes on from a word of the image to the next one, with the word that its access has found. Of the control.
-    pub fn took_inside_image(&mut self, got: u64)
-        requires { is_inside_image (heap_of self.old) (shown self.old) ≡ true }
+    /// Goes on with the word that it has loaded there, to the next one. Of the control.
+    #[inline(always)]
+    pub fn loaded(&mut self, got: u64)
+        requires { 0 < loads_left (heap_of self.old) (shown self.old) }
         ensures shown { shown self.new ≡ machine_after pause_image (heap_of self.old) (order_of self.old) got (shown self.old) }
         ensures order { order_of self.new ≡ Order.Nothing }
         ensures heap { heap_of self.new ≡ heap_of self.old }
+        ensures left { loads_left (heap_of self.new) (shown self.new) + 1 ≡ loads_left (heap_of self.old) (shown self.old) }
     {
         match self {
-            Machine::Control(control) => control.took_inside_image(got),
+            Machine::Control(control) => control.loaded(got),
+            Machine::Mutator(_) | Machine::Helper(_) => unreachable!(),
+        }
+    }
+
+    /// The index in the heap's table of the word that its next step stores, and its value, where it stores one more before the last. Of
+    /// the control.
+    #[inline(always)]
+    pub fn next_to_store(&self) -> (usize, u64)
+        requires { 0 < stores_left (heap_of self.now) (shown self.now) }
+        ensures none { order_of self.now ≡ Order.Nothing }
+        ensures row { Access.Store result.0 result.1 ≡ plan_of (heap_of self.now) (order_of self.now) (shown self.now) }
+        ensures inside { result.0 < table_words (heap_of self.now) }
+    {
+        match self {
+            Machine::Control(control) => control.next_to_store(),
+            Machine::Mutator(_) | Machine::Helper(_) => unreachable!(),
+        }
+    }
+
+    /// Goes on from the word that it has stored there to the next one. Of the control.
+    #[inline(always)]
+    pub fn stored(&mut self)
+        requires { 0 < stores_left (heap_of self.old) (shown self.old) }
+        ensures shown { (got : ℕ) → shown self.new ≡ machine_after pause_image (heap_of self.old) (order_of self.old) got (shown self.old) }
+        ensures order { order_of self.new ≡ Order.Nothing }
+        ensures heap { heap_of self.new ≡ heap_of self.old }
+        ensures left { stores_left (heap_of self.new) (shown self.new) + 1 ≡ stores_left (heap_of self.old) (shown self.old) }
+    {
+        match self {
+            Machine::Control(control) => control.stored(),
             Machine::Mutator(_) | Machine::Helper(_) => unreachable!(),
         }
     }

@@ -1,5 +1,5 @@
 -- The turn of a machine of a bundle.
-use Rattle.std.specs.Prelude.{ℕ, ◌≡◌, ◌⊎◌, true, Option, Some, slice_set}
+use Rattle.std.specs.Prelude.{ℕ, zero, suc, ◌≡◌, ◌⊎◌, true, Option, Some, slice_set}
 use Rattle.heap_words.specs.declared.config.Config.{Config}
 use Rattle.heap_words.specs.Words.{Heap, IsWord}
 use Rattle.shen_graph.specs.declared.command.Command.{Command}
@@ -8,9 +8,10 @@ use Rattle.shen_graph.specs.declared.order.Order.TheVariants.{Hint}
 use Rattle.step_core.specs.Actor.{Machine}
 use Rattle.step_core.specs.Machines.{takes_hint}
 use Rattle.heap_machines.specs.declared.stepped.Stepped.{Stepped}
+use Rattle.heap_machines.specs.declared.stepped.Stepped.TheVariants.{More}
 use Rattle.heap_machines.specs.Turn.{order_for}
 use Rattle.table_heap.specs.declared.bundle.Bundle.{Bundle}
-use Rattle.table_heap.specs.State.{heap_of, orders_of, machine_at, order_at, IsUnmoved, IsBundleStep}
+use Rattle.table_heap.specs.State.{heap_of, orders_of, machine_at, order_at, IsSameBundle, IsUnmoved, IsBundleStep}
 
 -- What a machine may be ordered for its turn, where this command would follow: what it does then, or, where it takes hints, the hint of
 -- an address of the heap.
@@ -25,6 +26,11 @@ pub record IsTurn (old new : Bundle) (next : Option Command) (number : ℕ) (sai
   pub turn : IsOrderFor (heap_of old) next (machine_at old number) (order_at ordered number)
   pub orders : orders_of ordered ≡ slice_set (orders_of old) number (Some (order_at ordered number))
   pub step : IsBundleStep ordered new number said
+
+-- A machine has had so many turns, one after the other, in each of which it went on, whatever command would have followed.
+abbrev pub HasHadTurns : ℕ → (old new : Bundle) → ℕ → Type 0
+HasHadTurns zero old new number = new ≡ old
+HasHadTurns (suc count) old new number = (mid : Bundle) × HasHadTurns count old mid number × IsSameBundle mid new × ((next : Option Command) → IsTurn mid new next number More)
 
 -- Nothing but the hints of the bundle's own and of others has changed.
 pub record OnlyHintsDiffer (old new : Bundle) : Type 0 where

@@ -12,7 +12,7 @@ use crate::key::HeapKey;
 use crate::machines::{Acting, OfHeaps};
 use crate::{Hints, Thief};
 use heap_machines::{Machine, Stepped};
-use heap_words::{Config, NoMemory, Place};
+use heap_words::{Access, Config, NoMemory, Place};
 use shared_table::{ViewSeat, deal_bundle, deal_machines, join_bundle, join_machines, make_step};
 use shen_graph::{Command, Order, Reply};
 use std::alloc::Global;
@@ -44,14 +44,14 @@ pub struct Bundle {
 }
 
 impl Bundle {
-    ghost use Rattle.std.specs.Prelude.{◌<◌, ◌↔◌, ◌≢◌, true, false, not, Some, None, IfOk, IfSome, slice_set};
+    ghost use Rattle.std.specs.Prelude.{◌+◌, ◌<◌, ◌↔◌, ◌≢◌, true, false, not, Some, None, IfOk, IfSome, slice_set};
     ghost use Rattle.std.specs.Option.{is_some};
     ghost use Rattle.heap_words.specs.declared.place.Place.TheVariants as places;
     ghost use Rattle.heap_words.specs.Words as words;
     ghost use Rattle.shared_table.specs.Views.{machine_of, merged, dealt_to, machines_left, is_dealt_to};
     ghost use Rattle.shen_graph.specs.Valid.{IsValid};
     ghost use Rattle.heap_machines.specs.Roles.{is_mutating, phase_in};
-    ghost use Rattle.heap_machines.specs.Inside.{is_inside_image};
+    ghost use Rattle.heap_machines.specs.Inside.{loads_left, stores_left};
     ghost use Rattle.step_core.specs.Machines.{takes_of, takes_hint, reply_in, place_in, may_begin, made_of_machine};
     ghost use Rattle.table_heap.specs.State.{heap_of, view_of, machines_of, orders_of, steps_of, greyed_of, deques_of, IsBundleOf, HasMachine, machine_at, order_at, has_turn, IsSameBundle, IsUnmoved, IsUnchanged, IsBundleStep};
 
@@ -260,26 +260,80 @@ impl Bundle {
         Stepped::of(said)
     }
 
-    // The step of the control that goes from a word of the image to the next one, by the shortest way: one access of the heap's table,
-    // and exactly one event. Nothing of the machine is looked up but where it stands.
-    pub(crate) fn step_inside_image(&mut self, heap: &Heap, number: usize)
+    // How many words of the image the machine loads before the last one, one after the other, if it is the bundle's.
+    pub(crate) fn words_to_load(&self, number: usize) -> usize
+        requires { number < seat_count (heap_of self.now).mutators (heap_of self.now).helpers }
+        ensures here { 0 < result → HasMachine self.now number }
+        ensures left { 0 < result → result ≡ loads_left (heap_of self.now) (machine_at self.now number) }
+    {
+        let Some(machine) = &self.machines[number] else {
+            return 0;
+        };
+        machine.words_to_load()
+    }
+
+    // How many it stores.
+    pub(crate) fn words_to_store(&self, number: usize) -> usize
+        requires { number < seat_count (heap_of self.now).mutators (heap_of self.now).helpers }
+        ensures here { 0 < result → HasMachine self.now number }
+        ensures left { 0 < result → result ≡ stores_left (heap_of self.now) (machine_at self.now number) }
+    {
+        let Some(machine) = &self.machines[number] else {
+            return 0;
+        };
+        machine.words_to_store()
+    }
+
+    // The step of the control that loads a word of the image before the last one, by the shortest way: one access of the heap's table, and
+    // exactly one event. Nothing of the machine is looked up but where it stands.
+    #[inline(always)]
+    pub(crate) fn load_word(&mut self, heap: &Heap, number: usize)
         requires heap { IsBundleOf self.old heap.now }
         requires here { HasMachine self.old number }
-        requires inside { is_inside_image (heap_of self.old) (machine_at self.old number) ≡ true }
+        requires left { 0 < loads_left (heap_of self.old) (machine_at self.old number) }
         ensures event { IsBundleStep self.old self.new number Stepped.More }
         ensures same { IsSameBundle self.old self.new }
+        ensures here { HasMachine self.new number }
+        ensures left { loads_left (heap_of self.new) (machine_at self.new number) + 1 ≡ loads_left (heap_of self.old) (machine_at self.old number) }
     {
         let Some(machine) = self.machines[number].as_mut() else {
             unreachable!()
         };
+        let at = machine.next_to_load();
         let got = make_step::<Acting, Order, HeapKey, OfHeaps, Brand>(
             &heap.table.shared,
             &mut self.seat,
             number,
             &Order::Nothing,
-            machine.plan_inside_image(),
+            Access::Load { at },
         );
-        machine.took_inside_image(got);
+        machine.loaded(got);
+        self.greyed[number] = None;
+    }
+
+    // The same where it stores one.
+    #[inline(always)]
+    pub(crate) fn store_word(&mut self, heap: &Heap, number: usize)
+        requires heap { IsBundleOf self.old heap.now }
+        requires here { HasMachine self.old number }
+        requires left { 0 < stores_left (heap_of self.old) (machine_at self.old number) }
+        ensures event { IsBundleStep self.old self.new number Stepped.More }
+        ensures same { IsSameBundle self.old self.new }
+        ensures here { HasMachine self.new number }
+        ensures left { stores_left (heap_of self.new) (machine_at self.new number) + 1 ≡ stores_left (heap_of self.old) (machine_at self.old number) }
+    {
+        let Some(machine) = self.machines[number].as_mut() else {
+            unreachable!()
+        };
+        let (at, value) = machine.next_to_store();
+        let _ = make_step::<Acting, Order, HeapKey, OfHeaps, Brand>(
+            &heap.table.shared,
+            &mut self.seat,
+            number,
+            &Order::Nothing,
+            Access::Store { at, value },
+        );
+        machine.stored();
         self.greyed[number] = None;
     }
 

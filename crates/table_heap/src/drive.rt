@@ -99,22 +99,6 @@ impl Bundle {
         round
     }
 
-    // The turns of the control from word to word of its image, one after the other, as in `run`.
-    fn drive_through_image<D: Driver, G: Gate>(&mut self, heap: &Heap, gate: &G)
-        requires heap { IsBundleOf self.old heap.now }
-        requires orders { HasNoOrder self.old }
-        ensures driving { (firsts drivers : List D) → AreDriving D.next_of D.replied D.to_come self.old firsts drivers → AreDriving D.next_of D.replied D.to_come self.new firsts drivers }
-        ensures same { IsSameBundle self.old self.new }
-    {
-        let control = self.config.seats() - 1;
-        for _ in 0..self.config.table_words() {
-            if !self.is_inside_image(control) {
-                return;
-            }
-            self.go_on_inside_image(heap, gate, control);
-        }
-    }
-
     /// Runs the bundle's mutators by drivers, one for each in the order of their numbers, until all machines of the bundle are
     /// idle. It is as `run`, also in how the thread backs off and parks, where each mutator between two calls begins what its driver
     /// gives next, ends where that is `None`, and hands each reply to its driver.
@@ -145,7 +129,7 @@ impl Bundle {
                 heap.wake();
             }
             moving = self.back_off(rt, heap, &backoff, moving, said);
-            self.drive_through_image::<D, G>(heap, gate);
+            self.go_through_image(heap, gate);
         }
     }
 }

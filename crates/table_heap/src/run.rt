@@ -1,13 +1,11 @@
-ghost use Rattle.std.specs.Prelude.{◌≡◌, ◌≢◌, ◌↔◌, ◌<◌, true, false, Option, Some, None, IfSome, if◌then◌else◌, slice_set};
+ghost use Rattle.std.specs.Prelude.{ℕ, ◌≡◌, ◌≢◌, ◌↔◌, ◌<◌, true, false, Option, Some, None, IfSome, if◌then◌else◌, slice_set};
 ghost use Rattle.heap_words.specs.Ranges.{seat_count};
 ghost use Rattle.heap_machines.specs.Turn.{order_for};
-ghost use Rattle.heap_machines.specs.Inside.{is_inside_image};
-ghost use Rattle.shen_graph.specs.declared.command.Command.{Command as Commands};
 ghost use Rattle.shen_graph.specs.Valid.{IsValid};
 ghost use Rattle.step_core.specs.Machines.{reply_in, may_begin, made_of_machine};
 ghost use Rattle.table_heap.specs.State.{heap_of, view_of, orders_of, IsBundleOf, HasMachine, machine_at, order_at, has_turn, IsSameBundle, IsUnmoved, IsUnchanged};
-ghost use Rattle.table_heap.specs.Turning.{IsTurn};
-ghost use Rattle.table_heap.specs.Running.{Jobs, HasNoOrder, CanStart, AreAtWork, next_for, IsIdleForGood, AreIdleForGood, HaveDone, AreSameJobs};
+ghost use Rattle.table_heap.specs.Turning.{IsTurn, HasHadTurns};
+ghost use Rattle.table_heap.specs.Running.{HasNoOrder, CanStart, AreAtWork, next_for, IsIdleForGood, AreIdleForGood, HaveDone, AreSameJobs};
 
 use crate::bundle::Bundle;
 use crate::gate::Gate;
@@ -191,47 +189,49 @@ impl Bundle {
         round
     }
 
-    // Whether the machine is the bundle's, and the control in a pause that goes from a word of the image to the next one.
-    pub(crate) fn is_inside_image(&self, number: usize) -> bool
-        requires { number < seat_count (heap_of self.now).mutators (heap_of self.now).helpers }
-        ensures here { result ≡ true → HasMachine self.now number }
-        ensures inside { result ≡ true → is_inside_image (heap_of self.now) (machine_at self.now number) ≡ true }
-    {
-        let Some(machine) = &self.machines[number] else {
-            return false;
-        };
-        machine.is_inside_image()
-    }
-
-    // One turn of the control that goes from a word of the image to the next one, whatever command would follow.
-    pub(crate) fn go_on_inside_image<G: Gate>(&mut self, heap: &Heap, gate: &G, number: usize)
-        requires heap { IsBundleOf self.old heap.now }
-        requires here { HasMachine self.old number }
-        requires orders { HasNoOrder self.old }
-        requires inside { is_inside_image (heap_of self.old) (machine_at self.old number) ≡ true }
-        ensures same { IsSameBundle self.old self.new }
-        ensures turn { (next : Option Commands) → IsTurn self.old self.new next number Stepped.More }
-    {
-        gate.pass(number);
-        self.step_inside_image(heap, number);
-        gate.leave(number);
-    }
-
-    // The turns of the control from word to word of its image, one after the other, if the bundle has it: for each word it loads or
-    // stores, no more than there are words in a table. Nobody else of the heap can go on before the pause has ended.
-    fn go_through_image<G: Gate>(&mut self, heap: &Heap, gate: &G)
+    // The turns of the control in which it loads words of the image, one after the other, if the bundle has it.
+    fn load_words<G: Gate>(&mut self, heap: &Heap, gate: &G, number: usize)
         requires heap { IsBundleOf self.old heap.now }
         requires orders { HasNoOrder self.old }
+        requires number { number < seat_count (heap_of self.old).mutators (heap_of self.old).helpers }
+        ensures turns { (count : ℕ) × HasHadTurns count self.old self.new number }
+    {
+        let mut left = self.words_to_load(number);
+        while left > 0 {
+            gate.pass(number);
+            self.load_word(heap, number);
+            gate.leave(number);
+            left -= 1;
+        }
+    }
+
+    // Those in which it stores words of the new one.
+    fn store_words<G: Gate>(&mut self, heap: &Heap, gate: &G, number: usize)
+        requires heap { IsBundleOf self.old heap.now }
+        requires orders { HasNoOrder self.old }
+        requires number { number < seat_count (heap_of self.old).mutators (heap_of self.old).helpers }
+        ensures turns { (count : ℕ) × HasHadTurns count self.old self.new number }
+    {
+        let mut left = self.words_to_store(number);
+        while left > 0 {
+            gate.pass(number);
+            self.store_word(heap, number);
+            gate.leave(number);
+            left -= 1;
+        }
+    }
+
+    // The turns of the control from word to word of its image, one after the other, if the bundle has it. Nobody else of the heap can go
+    // on before the pause has ended.
+    pub(crate) fn go_through_image<G: Gate>(&mut self, heap: &Heap, gate: &G)
+        requires heap { IsBundleOf self.old heap.now }
+        requires orders { HasNoOrder self.old }
         ensures same { IsSameBundle self.old self.new }
-        ensures work { (jobs : Jobs) → AreAtWork self.old jobs → AreAtWork self.new jobs }
+        ensures turns { (number : ℕ) × (count : ℕ) × HasHadTurns count self.old self.new number }
     {
         let control = self.config.seats() - 1;
-        for _ in 0..self.config.table_words() {
-            if !self.is_inside_image(control) {
-                return;
-            }
-            self.go_on_inside_image(heap, gate, control);
-        }
+        self.load_words(heap, gate, control);
+        self.store_words(heap, gate, control);
     }
 
     /// Runs the scripts of the bundle's mutators, whose replies it notes in `work`, until all machines of the bundle are idle.

@@ -1,23 +1,39 @@
-use Rattle.std.proofs.Common.{None, refl, ◌-◌}
-use Rattle.table_heap.specs.Running.{next_for}
-use Rattle.table_heap.specs.State.{heap_of}
-use Rattle.table_heap.proofs.Running.{same_bundle, same_bundle_more, still_of}
-use Rattle.table_heap.proofs.Turning.{no_order, turned_on}
+use Rattle.std.proofs.Common.{◌-◌, ap, arith}
+use Rattle.heap_words.specs.declared.config.Config.{Config}
+use Rattle.heap_words.specs.Ranges.{seat_count}
+use Rattle.table_heap.proofs.Inside.{gone_same, gone_orders, gone_more}
+use Rattle.table_heap.proofs.Running.{same_bundle_more, still_of}
 use Rattle.table_heap.proofs.bundle.Bundle.go_through_image.Goals as goal
 
-pub loop-init : goal.loop-init
-loop-init g c = record { same = same_bundle c.args.self.now; orders = c.requires.orders; work = λ jobs before. before }
+pub store_words-requires-clause-heap : goal.store_words-requires-clause-heap
+store_words-requires-clause-heap g c = λ _ _.
+    let turns = c.load_words.ensures.turns in
+    still_of c.args.self.now c.load_words.new.self c.args.heap.now (gone_same (c.seats-control.result - 1) turns.0 c.args.self.now c.load_words.new.self turns.1) c.requires.heap
 
-pub go_on_inside_image-requires-clause-heap : goal.go_on_inside_image-requires-clause-heap
-go_on_inside_image-requires-clause-heap g c = λ _ _.
-    still_of c.args.self.now c.loop.self c.args.heap.now c.loop.invariant.same c.requires.heap
+pub store_words-requires-clause-orders : goal.store_words-requires-clause-orders
+store_words-requires-clause-orders g c = λ _ _.
+    let turns = c.load_words.ensures.turns in
+    gone_orders (c.seats-control.result - 1) turns.0 c.args.self.now c.load_words.new.self turns.1 c.requires.orders
 
-pub loop-preserved : goal.loop-preserved
-loop-preserved g c =
-    let l = c.loop in
-    let made = c.go_on_inside_image.ensures in
-    record {
-      same = same_bundle_more c.args.self.now l.self c.go_on_inside_image.new.self l.invariant.same made.same;
-      orders = no_order _ _ _ _ _ (made.turn None) l.invariant.orders;
-      work = λ jobs before. turned_on _ _ _ _ _ (made.turn (next_for (heap_of l.self) jobs (c.seats-control.result - 1))) jobs refl (l.invariant.work jobs before) (λ done. absurd cc);
-    }
+pub store_words-requires-clause-number : goal.store_words-requires-clause-number
+store_words-requires-clause-number g c = λ _ _.
+    let turns = c.load_words.ensures.turns in
+    let same = gone_same (c.seats-control.result - 1) turns.0 c.args.self.now c.load_words.new.self turns.1 in
+    let count = ap (λ (k : Config). seat_count k.mutators k.helpers) same.config in
+    let seats = c.seats-control.ensures in
+    omega (arith, count, seats)
+
+pub returns-clause-same : goal.returns-clause-same
+returns-clause-same g c =
+    let first = c.load_words.ensures.turns in
+    let then = c.store_words.ensures.turns in
+    same_bundle_more c.args.self.now c.load_words.new.self c.store_words.new.self
+    (gone_same (c.seats-control.result - 1) first.0 c.args.self.now c.load_words.new.self first.1) (gone_same (c.seats-control.result - 1) then.0 c.load_words.new.self c.store_words.new.self then.1)
+
+pub returns-clause-turns : goal.returns-clause-turns
+returns-clause-turns g c =
+    let first = c.load_words.ensures.turns in
+    let then = c.store_words.ensures.turns in
+    let control = c.seats-control.result - 1 in
+    let all = gone_more control then.0 first.0 c.args.self.now c.load_words.new.self c.store_words.new.self first.1 then.1 in
+    (control, all.0, all.1)

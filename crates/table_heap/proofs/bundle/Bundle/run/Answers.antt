@@ -1,3 +1,4 @@
+use Rattle.table_heap.proofs.Inside.{gone_work}
 use Rattle.table_heap.proofs.Running.{same_bundle, same_bundle_more, same_jobs, same_jobs_more, still_of}
 use Rattle.table_heap.proofs.Rounds.{at_start, have_done}
 use Rattle.table_heap.proofs.bundle.Bundle.run.Goals as goal
@@ -30,7 +31,7 @@ loop-preserved g c =
     let same = same_bundle_more c.args.self.now l.self mid.self l.invariant.same c.round-said.ensures.same in
     let jobs = same_jobs_more c.args.self.now l.self c.args.work.now l.work mid.work l.invariant.same l.invariant.jobs c.round-said.ensures.jobs in
     record {
-      work = c.go_through_image.ensures.work mid.work c.round-said.ensures.work;
+      work = gone_work c.go_through_image.ensures.turns.0 c.go_through_image.ensures.turns.1 mid.self c.go_through_image.new.self c.go_through_image.ensures.turns.2 mid.work c.round-said.ensures.work;
       same = same_bundle_more c.args.self.now mid.self c.go_through_image.new.self same c.go_through_image.ensures.same;
       jobs = jobs;
     }

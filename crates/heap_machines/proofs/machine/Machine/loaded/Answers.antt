@@ -4,18 +4,22 @@ use Rattle.control.specs.Seen.{config_in, seen_control}
 use Rattle.step_core.specs.Actor.{controlling}
 use Rattle.step_core.specs.Machines.{machine_after}
 use Rattle.heap_machines.specs.declared.machine.Machine.{Machine}
+use Rattle.heap_machines.specs.Inside.{loads_left}
 use Rattle.heap_machines.specs.Pause.{pause_image}
 use Rattle.heap_machines.specs.Shown.{shown, order_of, heap_of}
-use Rattle.heap_machines.proofs.machine.Machine.took_inside_image.Goals as goal
+use Rattle.heap_machines.proofs.machine.Machine.loaded.Goals as goal
 
 pub returns-clause-shown : goal.returns-clause-shown
 returns-clause-shown c =
-    ap controlling c.took_inside_image.ensures.row
-    ∙ ap (λ o. machine_after pause_image (config_in c.in-Control.control) (hinting o) c.args.got (controlling (seen_control c.in-Control.control))) (sym c.took_inside_image.ensures.none)
+    ap controlling c.loaded.ensures.row
+    ∙ ap (λ o. machine_after pause_image (config_in c.in-Control.control) (hinting o) c.args.got (controlling (seen_control c.in-Control.control))) (sym c.loaded.ensures.none)
     ∙ ap (λ (m : Machine). machine_after pause_image (heap_of m) (order_of m) c.args.got (shown m)) (sym c.in-Control.is)
 
 pub returns-clause-heap : goal.returns-clause-heap
-returns-clause-heap c = c.took_inside_image.ensures.config ∙ ap heap_of (sym c.in-Control.is)
+returns-clause-heap c = c.loaded.ensures.config ∙ ap heap_of (sym c.in-Control.is)
 
 pub returns-clause-order : goal.returns-clause-order
-returns-clause-order c = ap hinting c.took_inside_image.ensures.hint
+returns-clause-order c = ap hinting c.loaded.ensures.hint
+
+pub returns-clause-left : goal.returns-clause-left
+returns-clause-left c = c.loaded.ensures.left ∙ ap (λ (m : Machine). loads_left (heap_of m) (shown m)) (sym c.in-Control.is)

@@ -1,5 +1,4 @@
 use Rattle.std.proofs.Common.{◌<◌, sym, ap, ◌∙◌, subst}
-use Rattle.heap_words.specs.Access.{table_index}
 use Rattle.heap_words.specs.Words.{table_words}
 use Rattle.shen_graph.specs.Order.{hinting}
 use Rattle.control.specs.Seen.{config_in, seen_control}
@@ -7,16 +6,16 @@ use Rattle.step_core.specs.Actor.{controlling}
 use Rattle.step_core.specs.Machines.{plan_of}
 use Rattle.heap_machines.specs.declared.machine.Machine.{Machine}
 use Rattle.heap_machines.specs.Shown.{shown, order_of, heap_of}
-use Rattle.heap_machines.proofs.machine.Machine.plan_inside_image.Goals as goal
+use Rattle.heap_machines.proofs.machine.Machine.next_to_load.Goals as goal
 
 pub returns-clause-row : goal.returns-clause-row
 returns-clause-row c =
-    c.plan_inside_image.ensures.row
-    ∙ ap (λ o. plan_of (config_in c.in-Control.control) (hinting o) (controlling (seen_control c.in-Control.control))) (sym c.plan_inside_image.ensures.none)
+    c.next_to_load.ensures.row
+    ∙ ap (λ o. plan_of (config_in c.in-Control.control) (hinting o) (controlling (seen_control c.in-Control.control))) (sym c.next_to_load.ensures.none)
     ∙ ap (λ (m : Machine). plan_of (heap_of m) (order_of m) (shown m)) (sym c.in-Control.is)
 
 pub returns-clause-inside : goal.returns-clause-inside
-returns-clause-inside c = subst (λ (m : Machine). table_index c.plan_inside_image.result < table_words (heap_of m)) (sym c.in-Control.is) c.plan_inside_image.ensures.inside
+returns-clause-inside c = subst (λ (m : Machine). c.next_to_load.result < table_words (heap_of m)) (sym c.in-Control.is) c.next_to_load.ensures.inside
 
 pub returns-clause-none : goal.returns-clause-none
-returns-clause-none c = ap order_of c.in-Control.is ∙ ap hinting c.plan_inside_image.ensures.none
+returns-clause-none c = ap order_of c.in-Control.is ∙ ap hinting c.next_to_load.ensures.none

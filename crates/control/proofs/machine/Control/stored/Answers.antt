@@ -1,0 +1,24 @@
+use Rattle.std.proofs.Common.{◌≡◌, ◌+◌, ◌-◌, ◌<◌, ap, ◌∙◌, subst, arith}
+use Rattle.heap_world.specs.Change.{image_words}
+use Rattle.collector_rows.specs.declared.extent.Extent.{Extent}
+use Rattle.collector_rows.specs.declared.extent.Extent.TheVariants.{Whole}
+use Rattle.collector_rows.specs.declared.control_spot.ControlSpot.{ControlSpot}
+use Rattle.collector_rows.specs.declared.control_spot.ControlSpot.TheVariants.{StoreWord}
+use Rattle.cycle_pauses.specs.Collect.{collect_image}
+use Rattle.control.specs.Image.{image_in, words_seen, stores_left}
+use Rattle.control.specs.Seen.{config_in}
+use Rattle.control.proofs.Images.{length-image_in}
+use Rattle.control.proofs.Going.{stores_on}
+use Rattle.control.proofs.machine.Control.stored.Goals as goal
+
+pub returns-clause-row : goal.returns-clause-row
+returns-clause-row c = λ got.
+    let k = c.args.self.now in
+    let d = config_in k in
+    let index = c.in-StoreWord-default-Whole.index in
+    let extent : c.in-StoreWord-default-Whole.extent ≡ Whole = c.in-StoreWord-default-Whole.extent-is in
+    let spot : k.spot ≡ StoreWord index Whole = c.in-StoreWord-default-Whole.is ∙ ap (StoreWord index) extent in
+    let some : 0 < image_words d - (index + 1) = subst (λ (s : ControlSpot). 0 < stores_left d s) spot c.requires in
+    let more : index + 1 < image_words d = omega (arith, some) in
+    ap (λ (e : Extent). record { spot = StoreWord (index + 1) e; seen = k.last.seen; phase = k.last.phase; cset = k.last.cset; image = words_seen d (StoreWord (index + 1) e) k.starts (image_in k.image); hints = k.hints }) extent
+    ∙ stores_on collect_image d k.last.seen k.last.phase k.last.cset k.hints (image_in k.image) (length-image_in k.image) index got more k.starts k.spot spot
