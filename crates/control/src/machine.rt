@@ -283,28 +283,22 @@ impl Control {
         ensures words { words.new.items ≡ accessed (control_access (config_in self.old) (seen_control self.old)) words.old.items }
         ensures row { seen_control self.new ≡ control_next collect_image (config_in self.old) (seen_control self.old) (slice_index words.old.items (table_index (control_access (config_in self.old) (seen_control self.old)))) }
     {
-        match self.spot {
+        match &mut self.spot {
             ControlSpot::LoadWord {
                 index,
                 extent: Extent::Whole,
             } => {
-                let at = self.image.config().image_start() + index;
-                put_word(&mut self.image, index, words[at]);
-                self.spot = ControlSpot::LoadWord {
-                    index: index + 1,
-                    extent: Extent::Whole,
-                };
+                let at = self.image.config().image_start() + *index;
+                put_word(&mut self.image, *index, words[at]);
+                *index += 1;
             }
             ControlSpot::StoreWord {
                 index,
                 extent: Extent::Whole,
             } => {
-                let at = self.image.config().image_start() + index;
+                let at = self.image.config().image_start() + *index;
                 words[at] = self.image.word(at);
-                self.spot = ControlSpot::StoreWord {
-                    index: index + 1,
-                    extent: Extent::Whole,
-                };
+                *index += 1;
             }
             _ => unreachable!(),
         }
