@@ -1,6 +1,7 @@
 -- The control that goes from a word of the image to the next one.
-use Rattle.std.proofs.Common.{◌≡◌, ◌≢◌, ◌+◌, ◌-◌, ◌<◌, ℕ, true, List, Option, Some, None, refl, arith}
-use Rattle.std.proofs.lemmas.Bool.{false≢true, lt-ltb}
+use Rattle.std.proofs.Common.{◌≡◌, ◌≢◌, ◌+◌, ◌-◌, ◌<◌, ◌≤◌, ℕ, Bool, true, false, List, Option, Some, None, ⊎_elim, refl, sym, ap, ◌∙◌, subst, arith}
+use Rattle.std.specs.Prelude.{nat_lt, if◌then◌else◌}
+use Rattle.std.proofs.lemmas.Bool.{false≢true, lt-ltb, ltb-true, cond-true, cases_lt}
 use Rattle.heap_words.specs.declared.config.Config.{Config}
 use Rattle.heap_words.specs.declared.access.Took.TheVariants.{More}
 use Rattle.heap_words.specs.Access.{table_index}
@@ -9,11 +10,15 @@ use Rattle.heap_words.specs.Words.{Pause, word_at, image_start}
 use Rattle.shen_graph.specs.declared.command.Command.{Command}
 use Rattle.shen_graph.specs.declared.order.Order.TheVariants.{Nothing}
 use Rattle.collector_rows.specs.declared.extent.Extent.TheVariants.{Whole}
+use Rattle.collector_rows.specs.Extent.{extent_after, says_room, next_stored}
+use Rattle.collector_rows.specs.ControlRows.{after_load, after_store, next_spot, stored_next}
+use Rattle.collector_rows.proofs.Extents.{stored_next_is, stored_next_one}
 use Rattle.collector_rows.specs.declared.control_spot.ControlSpot.{ControlSpot}
-use Rattle.collector_rows.specs.declared.control_spot.ControlSpot.TheVariants.{LoadWord, StoreWord}
+use Rattle.collector_rows.specs.declared.control_spot.ControlSpot.TheVariants.{LoadWord, StoreWord, Go}
 use Rattle.control.specs.Image as controls
 use Rattle.step_core.specs.Actor.{Machine, controlling, mutating, helping}
-use Rattle.step_core.specs.Machines.{order_for, takes_of, plan_of, greys_of, answer_of}
+use Rattle.step_core.specs.Machines.{order_for, takes_of, plan_of, greys_of, answer_of, machine_after}
+use Rattle.heap_machines.specs.Pause.{pause_image}
 use Rattle.heap_machines.specs.Inside.{is_inside_image, loads_left, stores_left}
 
 -- it has a turn, under no order, says that there is more to do, makes its access beside the pause word, and no address grey
@@ -54,3 +59,51 @@ loads_inside c _ some = absurd (omega (arith, some))
 pub stores_inside : (c : Config) (machine : Machine) → 0 < stores_left c machine → is_inside_image c machine ≡ true
 stores_inside c (controlling k) some = stores_in c k.spot some
 stores_inside c _ some = absurd (omega (arith, some))
+
+-- A step inside the image leaves one word fewer.
+whole_after : (phase index got : ℕ) → extent_after phase index Whole got ≡ Whole
+whole_after phase index got = by_test (says_room phase index got)
+  where
+    by_test : (b : Bool) → (if b then Whole else Whole) ≡ Whole
+    by_test true = refl
+    by_test false = refl
+
+left_control : (c : Config) (seen phase cset got : ℕ) (image : List ℕ) (spot : ControlSpot) → controls.is_inside_image c spot ≡ true
+    → controls.loads_left c (next_spot c phase cset seen (stored_next c spot image) spot got) + controls.stores_left c (next_spot c phase cset seen (stored_next c spot image) spot got) + 1
+    ≡ controls.loads_left c spot + controls.stores_left c spot
+left_control c seen phase cset got image (LoadWord index Whole) inside =
+    let more : index + 1 < image_words c = ltb-true (index + 1) (image_words c) inside in
+    let next : LoadWord (index + 1) Whole ≡ after_load c (extent_after phase index Whole got) index =
+    sym (ap (λ e. after_load c e index) (whole_after phase index got) ∙ cond-true (nat_lt (index + 1) (image_words c)) (LoadWord (index + 1) Whole) (StoreWord 0 Whole) inside) in
+    subst (λ s. controls.loads_left c s + controls.stores_left c s + 1 ≡ image_words c - (index + 1) + 0) next (omega (arith, more))
+left_control c seen phase cset got image (StoreWord index Whole) inside =
+    let more : index + 1 < image_words c = ltb-true (index + 1) (image_words c) inside in
+    let here = next_stored c Whole image index in
+    let is : here ≡ index + 1 = stored_next_one c Whole image index here (index + 1) (stored_next_is c Whole image index (omega (arith, more)))
+    (record { above = omega arith; most = omega (arith, more); between = λ i above below. absurd (omega (arith, above, below)); here = λ below. refl }) in
+    let next : StoreWord (index + 1) Whole ≡ after_store c Whole here =
+    sym (ap (after_store c Whole) is ∙ cond-true (nat_lt (index + 1) (image_words c)) (StoreWord (index + 1) Whole) Go inside) in
+    subst (λ s. controls.loads_left c s + controls.stores_left c s + 1 ≡ 0 + (image_words c - (index + 1))) next (omega (arith, more))
+left_control c seen phase cset got image _ inside = absurd (false≢true inside)
+
+pub left_after : (c : Config) (m : Machine) (got : ℕ) → is_inside_image c m ≡ true
+    → loads_left c (machine_after pause_image c Nothing got m) + stores_left c (machine_after pause_image c Nothing got m) + 1 ≡ loads_left c m + stores_left c m
+left_after c (mutating m) got inside = absurd (false≢true inside)
+left_after c (helping h) got inside = absurd (false≢true inside)
+left_after c (controlling k) got inside = left_control c k.seen k.phase k.cset got k.image k.spot inside
+
+-- it loads words, or stores some, and does not do both
+alone_control : (c : Config) (spot : ControlSpot) → 0 < controls.loads_left c spot → controls.stores_left c spot ≡ 0
+alone_control c (LoadWord index Whole) some = refl
+alone_control c _ some = absurd (omega (arith, some))
+
+pub loads_alone : (c : Config) (m : Machine) → 0 < loads_left c m → stores_left c m ≡ 0
+loads_alone c (controlling k) some = alone_control c k.spot some
+loads_alone c _ some = absurd (omega (arith, some))
+
+-- so it is inside the image where it has words left
+pub left_inside : (c : Config) (m : Machine) → 0 < loads_left c m + stores_left c m → is_inside_image c m ≡ true
+left_inside c m some = ⊎_elim
+    (λ (loads : 0 < loads_left c m). loads_inside c m loads)
+    (λ (none : loads_left c m ≤ 0). stores_inside c m (omega (arith, some, none)))
+    (cases_lt 0 (loads_left c m))

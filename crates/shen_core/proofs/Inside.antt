@@ -1,22 +1,25 @@
 -- The turn of the control that goes from a word of the image to the next one.
-use Rattle.std.proofs.Common.{◌≡◌, ◌<◌, ℕ, true, length, get_or, Some, sym, ap, ◌∙◌, arith}
+use Rattle.std.proofs.Common.{◌≡◌, ◌<◌, ◌+◌, ℕ, true, List, length, get_or, Some, sym, ap, ◌∙◌, subst, arith}
 use Rattle.std.specs.Prelude.{slice_set, slice_index}
-use Rattle.std.proofs.lemmas.List.{set-get_or, get_or-set_other}
+use Rattle.std.proofs.lemmas.List.{set-get_or, get_or-set_same, get_or-set_other}
 use Rattle.heap_words.specs.Access.{table_index}
 use Rattle.heap_words.specs.Words.{Pause, word_at}
 use Rattle.heap_words.specs.Steps.{Stage, accessed}
 use Rattle.shen_graph.specs.declared.order.Order.TheVariants.{Nothing}
 use Rattle.heap_machines.specs.Answer.{stepped_by}
-use Rattle.heap_machines.specs.Inside.{is_inside_image}
+use Rattle.heap_machines.specs.Pause.{pause_image}
+use Rattle.heap_machines.specs.Inside.{is_inside_image, loads_left, stores_left}
 use Rattle.heap_machines.specs.Shown.{no_machine}
 use Rattle.heap_machines.specs.declared.stepped.Stepped.TheVariants as stepped
-use Rattle.heap_machines.proofs.Inside.{GoesInside, goes_inside}
+use Rattle.heap_machines.proofs.Inside.{GoesInside, goes_inside, left_after}
+use Rattle.step_core.specs.Actor as actors
 use Rattle.step_core.specs.Actor.{Actor}
 use Rattle.step_core.specs.History.{told}
-use Rattle.step_core.specs.Machines.{takes_of, plan_of, answer_of}
+use Rattle.step_core.specs.Machines.{takes_of, plan_of, answer_of, machine_after}
 use Rattle.shen_core.specs.declared.plain.Plain.{Plain}
 use Rattle.shen_core.specs.Runs.{event}
 use Rattle.shen_core.specs.State.{config_of, words_of, machines_of, orders_of, notes_of, machine_at, order_at, next_machine, word_found_by, Shows, IsStep}
+use Rattle.shen_core.specs.Halted.{words_left}
 use Rattle.shen_core.specs.Progress.{Jobs, CanRun, HasTurned, next_for}
 use Rattle.shen_core.specs.Noting.{NotesTurn, IsEnding, noted}
 use Rattle.shen_core.proofs.Noted.{IsStepped, can_run_on, turned_on, none_given}
@@ -106,3 +109,18 @@ module _ (p mid q : Plain) (number : ℕ) (within : number < length (machines_of
       ap (λ ms. get_or ms k no_machine) facts.machines
       ∙ get_or-set_other (machines_of mid) number k (next_machine mid number) no_machine (λ same. absurd (omega arith))
       ∙ ap (λ ms. get_or ms k no_machine) facts.mid_machines
+
+  -- one word fewer is left to it
+  pub inside_left : words_left q number + 1 ≡ words_left p number
+  inside_left =
+      let got = word_found_by mid number in
+      let there : number < length (machines_of mid) = subst (λ (ms : List actors.Machine). number < length ms) (sym facts.mid_machines) within in
+      let at : machine_at q number ≡ machine_after pause_image (config_of p) Nothing got (machine_at p number) =
+      ap (λ ms. get_or ms number no_machine) facts.machines
+      ∙ get_or-set_same (machines_of mid) number (next_machine mid number) no_machine there
+      ∙ ap (λ c. machine_after pause_image c (order_at mid number) got (machine_at mid number)) facts.mid_config
+      ∙ ap (λ o. machine_after pause_image (config_of p) o got (machine_at mid number)) order_mid
+      ∙ ap (machine_after pause_image (config_of p) Nothing got) machine_mid in
+      ap (λ c. loads_left c (machine_at q number) + stores_left c (machine_at q number) + 1) (facts.config ∙ facts.mid_config)
+      ∙ ap (λ m. loads_left (config_of p) m + stores_left (config_of p) m + 1) at
+      ∙ left_after (config_of p) (machine_at p number) got inside

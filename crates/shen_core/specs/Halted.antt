@@ -1,9 +1,10 @@
 -- Rounds of a pause in which nobody moves but the control.
-use Rattle.std.specs.Prelude.{ℕ, zero, suc, ◌≡◌, ◌<◌, ◌-◌, false, ◌⊎◌, Option, is_some}
+use Rattle.std.specs.Prelude.{ℕ, zero, suc, ◌≡◌, ◌<◌, ◌+◌, ◌-◌, false, ◌⊎◌, Option, is_some}
 use Rattle.shen_graph.specs.declared.command.Command.{Command}
 use Rattle.step_core.specs.Machines.{order_for}
+use Rattle.heap_machines.specs.Inside.{loads_left, stores_left}
 use Rattle.shen_core.specs.declared.plain.Plain.{Plain}
-use Rattle.shen_core.specs.State.{machine_at, IsHalted}
+use Rattle.shen_core.specs.State.{config_of, machine_at, IsHalted}
 
 -- the machine makes no step on its turn, whatever command would follow
 abbrev pub IsAtEnd : Plain → ℕ → Type 0
@@ -13,3 +14,7 @@ IsAtEnd p number = (next : Option Command) → is_some (order_for next (machine_
 abbrev pub AreHalted : Plain → ℕ → ℕ → Type 0
 AreHalted p zero waiting = waiting ≡ 0
 AreHalted p (suc k) waiting = ((0 < waiting) × IsHalted p k × AreHalted p k (waiting - 1)) ⊎ (IsAtEnd p k × AreHalted p k waiting)
+
+-- how many steps the machine makes from a word of the image to the next one, one after the other
+abbrev pub words_left : Plain → ℕ → ℕ
+words_left p number = loads_left (config_of p) (machine_at p number) + stores_left (config_of p) (machine_at p number)

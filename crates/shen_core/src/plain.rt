@@ -49,7 +49,7 @@ impl Plain {
     ghost use Rattle.step_core.specs.Actor.{Actor};
     ghost use Rattle.step_core.specs.History.{told};
     ghost use Rattle.shen_core.specs.Runs.{event};
-    ghost use Rattle.shen_core.specs.Halted.{IsAtEnd};
+    ghost use Rattle.shen_core.specs.Halted.{IsAtEnd, words_left};
     ghost use Rattle.shen_core.specs.Noting.{IsEnding, NotesTurn, Settles, noted};
     ghost use Rattle.shen_core.specs.Progress.{CanRun, IsTurn, IsNextTurn, HasNext, AllRest, next_for};
 
@@ -188,6 +188,20 @@ impl Plain {
         ensures { result ≡ true → is_inside_image (config_of self.now) (machine_at self.now number) ≡ true }
     {
         self.words[self.config.pause_at()] != 0 && self.machines[number].is_inside_image()
+    }
+
+    // How many steps the machine makes from a word of the image to the next one, one after the other.
+    pub(crate) fn words_left(&self, number: usize) -> usize
+        requires { number < seats_of self.now }
+        ensures { result ≡ words_left self.now number }
+    {
+        let machine = &self.machines[number];
+        let loads = machine.words_to_load();
+        if loads > 0 {
+            loads
+        } else {
+            machine.words_to_store()
+        }
     }
 
     // Makes such a step of the control.

@@ -1,10 +1,10 @@
-ghost use Rattle.std.specs.Prelude.{ℕ, ◌≡◌, ◌<◌, ◌≤◌, true, false, [], length, slice_set, All, IfSome};
+ghost use Rattle.std.specs.Prelude.{ℕ, ◌≡◌, ◌+◌, ◌<◌, ◌≤◌, true, false, [], length, slice_set, All, IfSome};
 ghost use Rattle.shen_graph.specs.Work.{replies_of, script_in};
 ghost use Rattle.shen_core.specs.State.{config_of, words_of, machines_of, orders_of, order_at, machine_at, seats_of, has_turn, IsUnchanged};
 ghost use Rattle.shen_graph.specs.declared.order.Order.TheVariants.{Nothing};
 ghost use Rattle.shen_core.specs.Progress.{Jobs, CanRun, IsTurn, HasTurned, AllIdle, SomeBusy, HasNext, IsInSeats, agenda};
 ghost use Rattle.heap_machines.specs.Inside.{is_inside_image};
-ghost use Rattle.shen_core.specs.Halted.{AreHalted};
+ghost use Rattle.shen_core.specs.Halted.{AreHalted, words_left};
 ghost use Rattle.shen_core.specs.Noting.{NotesTurn, RunsNoted, DoesNoted, EndsNoted, NotesSchedule, commands_in};
 ghost use Rattle.step_core.specs.Schedule.{steps, until, replies, control, task_of, agenda_of};
 
@@ -61,6 +61,7 @@ impl Plain {
         ensures turned { HasTurned self.old work.now number self.new work.now Stepped.More }
         ensures notes { NotesTurn self.old work.now number self.new }
         ensures halted { (waiting : ℕ) → AreHalted self.old number waiting → AreHalted self.new number waiting }
+        ensures left { words_left self.new number + 1 ≡ words_left self.old number }
     {
         self.note_next(number);
         self.step_inside_image(number);
@@ -237,16 +238,18 @@ impl Plain {
         ensures rounds { RunsNoted self.old work.now (agenda [] 0) limit self.new work.now (agenda [] 0) result }
     {
         let control = self.seats() - 1;
-        if !self.is_inside_image(control) {
+        let mut words = self.words_left(control);
+        if words == 0 {
             return limit;
         }
         let Some(waiting) = self.count_halted(control) else {
             return limit;
         };
         let mut left = limit;
-        while left > waiting && self.is_inside_image(control) {
+        while left > waiting && words > 0 {
             self.turn_inside_image(work, control);
             left -= waiting + 1;
+            words -= 1;
         }
         left
     }

@@ -1,19 +1,20 @@
-use Rattle.std.proofs.Common.{◌≡◌, ◌-◌, ◌+◌, ◌<◌, [], refl, ap, ◌∙◌, arith}
+use Rattle.std.proofs.Common.{◌≡◌, ◌-◌, ◌+◌, ◌<◌, [], refl, ap, ◌∙◌, subst, arith}
 use Rattle.heap_words.specs.Ranges.{seat_count}
-use Rattle.shen_core.specs.State.{seats_of}
+use Rattle.shen_core.specs.State.{config_of, machine_at, seats_of}
 use Rattle.shen_core.specs.Progress.{agenda}
+use Rattle.heap_machines.proofs.Inside.{left_inside}
 use Rattle.shen_core.proofs.Noting.{runs_none, runs_then}
 use Rattle.shen_core.proofs.PauseRounds.{pause_round}
 use Rattle.shen_core.proofs.plain.Plain.run_pause.Goals as goal
 
-pub returns-then-not-is_inside_image-clause-rounds : goal.returns-then-not-is_inside_image-clause-rounds
-returns-then-not-is_inside_image-clause-rounds c = runs_none _ _ _ _
+pub returns-then-words-eq0-clause-rounds : goal.returns-then-words-eq0-clause-rounds
+returns-then-words-eq0-clause-rounds c = runs_none _ _ _ _
 
 pub returns-in_default-clause-rounds : goal.returns-in_default-clause-rounds
 returns-in_default-clause-rounds c = runs_none _ _ _ _
 
 pub loop-left-init : goal.loop-left-init
-loop-left-init c = record { run = c.requires; config = refl; less = omega arith; halted = c.in-Some.ensures; runs = runs_none _ _ _ _ }
+loop-left-init c = record { run = c.requires; config = refl; less = omega arith; halted = c.in-Some.ensures; words = c.words_left-words.ensures; runs = runs_none _ _ _ _ }
 
 pub loop-left-preserved : goal.loop-left-preserved
 loop-left-preserved c =
@@ -29,6 +30,13 @@ loop-left-preserved c =
       config = c.turn_inside_image.ensures.config ∙ c.loop-left.invariant.config;
       less = (let l = c.loop-left.invariant.less in omega arith);
       halted = c.turn_inside_image.ensures.halted c.in-Some.waiting c.loop-left.invariant.halted;
+      words = (let before = c.loop-left.invariant.words in let then = c.turn_inside_image.ensures.left in omega (arith, before, then));
       runs = runs_then c.args.self.now p q jobs jobs jobs (agenda [] 0) (agenda [] 0) (agenda [] 0) c.args.limit c.loop-left.left (c.loop-left.left - (c.in-Some.waiting + 1)) c.loop-left.invariant.config c.loop-left.invariant.runs
           (pause_round p jobs c.loop-left.invariant.run q control c.in-Some.waiting c.loop-left.left last enough c.loop-left.invariant.halted c.turn_inside_image.ensures.config c.turn_inside_image.ensures.notes c.turn_inside_image.ensures.turned);
     }
+
+pub turn_inside_image-requires-clause-inside : goal.turn_inside_image-requires-clause-inside
+turn_inside_image-requires-clause-inside c =
+    let p = c.loop-left.self in
+    let control = c.seats-control.result - 1 in
+    left_inside (config_of p) (machine_at p control) (subst (λ n. 0 < n) c.loop-left.invariant.words c.if-words-gt0.true)

@@ -3,7 +3,7 @@ use Rattle.std.proofs.lemmas.List.{length-map}
 use Rattle.shen_graph.specs.declared.order.Order.TheVariants.{Nothing}
 use Rattle.heap_machines.specs.Shown.{shown, order_of}
 use Rattle.shen_core.specs.State.{machines_of, order_at}
-use Rattle.shen_core.proofs.Inside.{StepsInside, inside_turned, inside_runs, inside_notes, inside_pause, inside_others}
+use Rattle.shen_core.proofs.Inside.{StepsInside, inside_turned, inside_runs, inside_notes, inside_pause, inside_others, inside_left}
 use Rattle.shen_core.proofs.PauseRounds.{halted_kept}
 use Rattle.shen_core.proofs.plain.Plain.turn_inside_image.Goals as goal
 
@@ -72,6 +72,28 @@ returns-clause-notes c =
       notes = c.step_inside_image.ensures.notes;
     } in
     inside_notes p mid q c.args.number within none c.requires.inside facts c.args.work.now
+
+pub returns-clause-left : goal.returns-clause-left
+returns-clause-left c =
+    let p = c.args.self.now in
+    let mid = c.note_next.new.self in
+    let q = c.step_inside_image.new.self in
+    let within : c.args.number < length (machines_of p) = omega (arith, length-map p.machines.items shown, p.all_machines, c.requires.number) in
+    let none : order_at p c.args.number ≡ Nothing = c.requires.run.orders c.args.number Nothing (omega (arith, length-map p.machines.items order_of, p.all_machines, c.requires.number)) in
+    let facts : StepsInside p mid q c.args.number = record {
+      mid_words = c.note_next.ensures.words;
+      mid_machines = c.note_next.ensures.machines;
+      mid_orders = c.note_next.ensures.orders;
+      mid_config = c.note_next.ensures.config;
+      mid_notes = c.note_next.ensures.notes;
+      event = c.step_inside_image.ensures.event;
+      words = c.step_inside_image.ensures.words;
+      machines = c.step_inside_image.ensures.machines;
+      orders = c.step_inside_image.ensures.orders;
+      config = c.step_inside_image.ensures.config;
+      notes = c.step_inside_image.ensures.notes;
+    } in
+    inside_left p mid q c.args.number within none c.requires.inside facts
 
 pub returns-clause-halted : goal.returns-clause-halted
 returns-clause-halted c = λ waiting are.
