@@ -41,7 +41,7 @@ IsDoneAt has_unit next_spot spot_then numbers_fit begins_unit is_gone take_next 
 after_take after_first after_words after_updating after_word evacuating_says scanning_says updating_says AccessesAreInside StaysReady UnitGoesOn
 takes_hint hinted_by greys_at IsHintFor""".split()
 # What callers see of a type: its configuration, words, machines, spot, hint; that it is inside its image, and how far; its next access; and that nothing of it changes.
-READERS = """config_of config_in config_of_stop spot_of spot_of_enter spot_of_stop words_of machines_of machine_at order_of order_at orders_of heap_of hint_of has_turn
+READERS = """config_of config_in config_of_stop spot_of spot_of_enter spot_of_stop words_of machines_of machine_at order_of order_at orders_of hint_of has_turn
 IsUnchanged is_inside_image loads_left stores_left access_of""".split()
 # A part by itself, between the steps of others.
 ALONE = "Move IsMove AreMoves after_move after_moves word_found".split()

@@ -5,6 +5,7 @@ use Rattle.std.specs.Prelude.{false, unwrap_or}
 use Rattle.shen_graph.specs.declared.name.Name.{Name}
 use Rattle.shen_graph.specs.Graph.{Graph, Object, Reference, named, hub, same_name}
 use Rattle.shen_graph.specs.Reach.{size}
+use Rattle.churn.specs.Script.{own_box}
 
 abbrev pub IsThread : ℕ → Type 0
 IsThread t = (1 ≤ t) × (t ≤ 3)
@@ -50,7 +51,7 @@ pub record Same (t : ℕ) (g h : Graph) : Type 0 where
 -- what a thread has is below the hub and its own, and is small
 pub record IsTidyThread (g : Graph) (t : ℕ) : Type 0 where
   pub hub_root : g.root t 0 ≡ Some hub
-  pub box_root : IsBox t (g.root t 1)
+  pub box_root : IsBox t (g.root t own_box)
   pub leaf_root : (r : ℕ) → 2 ≤ r → IsLeaf t (g.root t r)
   pub slots : (f : ℕ) → IsLeaf t (field_of g (own t 1) f)
   pub slot_count : length (fields_of g (own t 1)) ≤ 16

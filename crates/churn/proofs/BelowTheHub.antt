@@ -12,6 +12,7 @@ use Rattle.shen_graph.specs.Graph.{Graph}
 use Rattle.shen_graph.specs.Step.{Outcome, IsLegal, IsPin, outcome, answers}
 use Rattle.shen_graph.specs.History.{Entry, is_full, after_entry, after, EachIsLegal, of_thread, commands_of}
 use Rattle.shen_graph.proofs.Outcomes.{pins_none, leaves_outcome, legal_plain}
+use Rattle.churn.specs.Script.{own_box}
 use Rattle.churn.proofs.Belongings.{IsThread, Same, Tidy, Same-itself, Same-flip, Same-join}
 use Rattle.churn.proofs.Moves.{Moved, eqb_itself, eqb_apart}
 use Rattle.churn.proofs.Commands.{IsLater, Stepped, first-step, later-step}
@@ -24,7 +25,7 @@ IsGiven e = (e.reply ≢ reply.Full) × (IsPin e.command → ⊥)
 -- what is ahead of a thread: its whole script, or only commands that come after the first
 abbrev pub Ahead : Graph → ℕ → List Command → Type 0
 Ahead g t cs =
-    ((g.count t ≡ 0) × ((ds : List Command) × (cs ≡ New 1 16 0 ∷ ds) × AllByRecursion (IsLater t) ds))
+    ((g.count t ≡ 0) × ((ds : List Command) × (cs ≡ New own_box 16 0 ∷ ds) × AllByRecursion (IsLater t) ds))
     ⊎ ((1 ≤ g.count t) × AllByRecursion (IsLater t) cs)
 
 -- entries that may come from a graph on, as far as their commands say
@@ -62,12 +63,12 @@ stepped : (g h : Graph) (t : ℕ) (c : Command) (cs : List Command) → IsThread
 stepped g h t c cs thread tidy other same ahead =
     elim ahead [
       | inl first ↦
-          let is : c ≡ New 1 16 0 = cc (first.1.1) in
+          let is : c ≡ New own_box 16 0 = cc (first.1.1) in
           subst (λ (d : Command). Stepped t g h (outcome g t d) (outcome h t d)) (sym is) (first-step t g h thread tidy other same first.0)
       | inr later ↦ later-step t g h c thread tidy other same later.0 later.1.0
     ]
 
-made : (g : Graph) (t : ℕ) → (outcome g t (New 1 16 0)).graph.count t ≡ g.count t + 1
+made : (g : Graph) (t : ℕ) → (outcome g t (New own_box 16 0)).graph.count t ≡ g.count t + 1
 made g t = rw (eqb_itself t) refl
 
 -- none of these is to pin an object
@@ -90,7 +91,7 @@ all_pin_none t (c ∷ cs) h = (later_pins_none t c h.0, all_pin_none t cs h.1)
 pub ahead_pins_none : (g : Graph) (t : ℕ) (c : Command) (cs : List Command) → Ahead g t (c ∷ cs) → IsPin c → ⊥
 ahead_pins_none g t c cs ahead is =
     elim ahead [
-      | inl first ↦ let same : c ≡ New 1 16 0 = cc (first.1.1) in subst IsPin same is
+      | inl first ↦ let same : c ≡ New own_box 16 0 = cc (first.1.1) in subst IsPin same is
       | inr later ↦ later_pins_none t c later.1.0 is
     ]
 
@@ -99,7 +100,7 @@ ahead-step : (g : Graph) (t : ℕ) (c : Command) (cs : List Command) → Ahead g
 ahead-step g t c cs ahead grows =
     elim ahead [
       | inl first ↦
-          let is : c ≡ New 1 16 0 = cc (first.1.1) in
+          let is : c ≡ New own_box 16 0 = cc (first.1.1) in
           let rest : first.1.0 ≡ cs = cc (first.1.1) in
           let count : (outcome g t c).graph.count t ≡ g.count t + 1 = subst (λ (d : Command). (outcome g t d).graph.count t ≡ g.count t + 1) (sym is) (made g t) in
           inr (omega arith, subst (AllByRecursion (IsLater t)) rest first.1.2)

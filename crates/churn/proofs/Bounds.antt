@@ -14,13 +14,14 @@ use Rattle.shen_graph.specs.Reach.IsReachable.{from_root, from_pin, from_field}
 use Rattle.shen_graph.proofs.Distinct.{distinct}
 use Rattle.shen_graph.proofs.PlainLemmas.{same_name-true}
 use Rattle.shen_graph.proofs.ReachLemmas.{same_name-laws, names_held, Contains-names_held, Contains-from_slice_get}
+use Rattle.churn.specs.Script.{new_leaf, old_leaf, last_leaf}
 use Rattle.churn.proofs.Belongings.{IsThread, own, fields_of, field_of, IsBox, IsLeaf, IsLink, Tidy, name_of}
 use Rattle.churn.proofs.BelowTheHub.{thread_or_not}
 use Rattle.churn.proofs.Opening.{thread_cases}
 
 -- what a thread has in its roots for leaves, and in its box
 abbrev pub held : Graph → ℕ → List Reference
-held g t = g.root t 2 ∷ g.root t 3 ∷ g.root t 4 ∷ fields_of g (own t 1)
+held g t = g.root t new_leaf ∷ g.root t old_leaf ∷ g.root t last_leaf ∷ fields_of g (own t 1)
 
 -- the hub, a box, or a leaf that a thread holds
 abbrev pub IsKnown : Graph → Name → Type 0
@@ -58,7 +59,7 @@ by_field g tidy m n f known is =
               w.1,
               inr (
                 subst (IsLeaf t) value ((tidy.threads t w.1).slots f),
-                Contains-append_right (g.root t 2 ∷ g.root t 3 ∷ g.root t 4 ∷ []) (fields_of g (own t 1)) (Some n) (Contains-from_slice_get (fields_of g (own t 1)) f (Some n) here),
+                Contains-append_right (g.root t new_leaf ∷ g.root t old_leaf ∷ g.root t last_leaf ∷ []) (fields_of g (own t 1)) (Some n) (Contains-from_slice_get (fields_of g (own t 1)) f (Some n) here),
               ),
             )
         | inr leaf ↦

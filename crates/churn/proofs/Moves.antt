@@ -8,16 +8,17 @@ use Rattle.shen_graph.specs.declared.name.Name.{Name}
 use Rattle.shen_graph.specs.Graph.{Graph, Object, Reference, named, hub, same_name, with_root, with_object, with_named, with_fresh, blank}
 use Rattle.shen_graph.specs.Reach.{size}
 use Rattle.shen_graph.proofs.PlainLemmas.{same_name-true}
+use Rattle.churn.specs.Script.{own_box}
 use Rattle.churn.proofs.Belongings.{IsThread, own, fields_of, field_of, IsBox, IsLeaf, IsLink, Same, Tidy, Fits, Same-itself, Same-join, name_of, named_same}
 
 -- Two graphs go on from two that are the same to a thread, by a change of what belongs to it.
-pub record Moved (t : ℕ) (g h g' h' : Graph) : Type 0 where
-  pub same : Same t g' h'
-  pub tidy : Tidy g'
-  pub other : Tidy h'
-  pub frame : (u : ℕ) → IsThread u → u ≢ t → Same u g g'
-  pub beside : (u : ℕ) → IsThread u → u ≢ t → Same u h h'
-  pub grows : g.count t ≤ g'.count t
+pub record Moved (t : ℕ) (g h g_then h_then : Graph) : Type 0 where
+  pub same : Same t g_then h_then
+  pub tidy : Tidy g_then
+  pub other : Tidy h_then
+  pub frame : (u : ℕ) → IsThread u → u ≢ t → Same u g g_then
+  pub beside : (u : ℕ) → IsThread u → u ≢ t → Same u h h_then
+  pub grows : g.count t ≤ g_then.count t
 
 pub stays : (t : ℕ) (g h : Graph) → Tidy g → Tidy h → Same t g h → Moved t g h g h
 stays t g h tidy other same = record { same = same; tidy = tidy; other = other; frame = λ u _ _. Same-itself u g; beside = λ u _ _. Same-itself u h; grows = omega arith }
@@ -38,7 +39,7 @@ with_root-tidy g t r v tidy thread low high box leaf = record {
   links = tidy.links;
   threads = λ u is. record {
     hub_root = root_case (λ x. x ≡ Some hub) u t 0 r v (g.root u 0) (λ _ e. absurd (omega arith)) (tidy.threads u is).hub_root;
-    box_root = root_case (IsBox u) u t 1 r v (g.root u 1) (λ a b. subst (λ (k : ℕ). IsBox k v) (sym a) (box (sym b))) (tidy.threads u is).box_root;
+    box_root = root_case (IsBox u) u t 1 r v (g.root u own_box) (λ a b. subst (λ (k : ℕ). IsBox k v) (sym a) (box (sym b))) (tidy.threads u is).box_root;
     leaf_root = λ s above. root_case (IsLeaf u) u t s r v (g.root u s) (λ a b. subst (λ (k : ℕ). IsLeaf k v) (sym a) (leaf (omega arith))) ((tidy.threads u is).leaf_root s above);
     slots = (tidy.threads u is).slots;
     slot_count = (tidy.threads u is).slot_count;
@@ -68,15 +69,15 @@ with_root-frame g t r u v apart = record {
   link = refl;
 }
 
-pub moved_root : (t : ℕ) (g h g' h' : Graph) (r : ℕ) (v w : Reference) → IsThread t → Moved t g h g' h' → v ≡ w → 1 ≤ r → r < 5 → (r ≡ 1 → IsBox t v) → (2 ≤ r → IsLeaf t v)
-    → Moved t g h (with_root g' t r v) (with_root h' t r w)
-moved_root t g h g' h' r v w thread m same low high box leaf =
-    subst (λ (x : Reference). Moved t g h (with_root g' t r v) (with_root h' t r x)) same (record {
-      same = with_root-same g' h' t r v m.same;
-      tidy = with_root-tidy g' t r v m.tidy thread low high box leaf;
-      other = with_root-tidy h' t r v m.other thread low high box leaf;
-      frame = λ u is apart. Same-join (m.frame u is apart) (with_root-frame g' t r u v apart);
-      beside = λ u is apart. Same-join (m.beside u is apart) (with_root-frame h' t r u v apart);
+pub moved_root : (t : ℕ) (g h g_then h_then : Graph) (r : ℕ) (v w : Reference) → IsThread t → Moved t g h g_then h_then → v ≡ w → 1 ≤ r → r < 5 → (r ≡ 1 → IsBox t v) → (2 ≤ r → IsLeaf t v)
+    → Moved t g h (with_root g_then t r v) (with_root h_then t r w)
+moved_root t g h g_then h_then r v w thread m same low high box leaf =
+    subst (λ (x : Reference). Moved t g h (with_root g_then t r v) (with_root h_then t r x)) same (record {
+      same = with_root-same g_then h_then t r v m.same;
+      tidy = with_root-tidy g_then t r v m.tidy thread low high box leaf;
+      other = with_root-tidy h_then t r v m.other thread low high box leaf;
+      frame = λ u is apart. Same-join (m.frame u is apart) (with_root-frame g_then t r u v apart);
+      beside = λ u is apart. Same-join (m.beside u is apart) (with_root-frame h_then t r u v apart);
       grows = m.grows;
     })
 
@@ -206,7 +207,7 @@ fresh-frame g t u o thread apart =
 pub moved_fresh : (t : ℕ) (g h : Graph) (o : Object) → IsThread t → Tidy g → Tidy h → Same t g h → Fits t (g.count t + 1) o
     → Moved t g h (with_fresh g t o) (with_fresh h t o)
 moved_fresh t g h o thread tidy other same fits =
-    let fits' : Fits t (h.count t + 1) o = subst (λ (k : ℕ). Fits t (k + 1) o) same.count fits in
+    let fits_there : Fits t (h.count t + 1) o = subst (λ (k : ℕ). Fits t (k + 1) o) same.count fits in
     let w = own_object-same g h t (g.count t + 1) o thread same in
     record {
       same = record {
@@ -216,7 +217,7 @@ moved_fresh t g h o thread tidy other same fits =
         link = subst (λ (k : ℕ). field_of (with_object g (own t (g.count t + 1)) o) hub t ≡ field_of (with_object h (own t (k + 1)) o) hub t) same.count w.link;
       };
       tidy = with_fresh-tidy g t o tidy thread fits;
-      other = with_fresh-tidy h t o other thread fits';
+      other = with_fresh-tidy h t o other thread fits_there;
       frame = λ u is apart. fresh-frame g t u o thread apart;
       beside = λ u is apart. fresh-frame h t u o thread apart;
       grows = rw (eqb_itself t) (omega arith);

@@ -156,18 +156,18 @@ turns es going legal given =
     let is_two : IsThread 2 = (omega arith, omega arith) in
     let is_three : IsThread 3 = (omega arith, omega arith) in
     let first = solo 1 is_one es g g tidy_opening tidy_opening (Same-itself 1 g) going legal given in
-    let g1 = after g (of_thread es 1) in
-    let second = solo 2 is_two es g g1 tidy_opening first.other (first.frame 2 is_two (λ e. omega arith)) going legal given in
-    let g2 = after g1 (of_thread es 2) in
-    let third = solo 3 is_three es g g2 tidy_opening second.other (Same-join (first.frame 3 is_three (λ e. omega arith)) (second.frame 3 is_three (λ e. omega arith))) going legal given in
-    let g3 = after g2 (of_thread es 3) in
-    let one : Same 1 (after g es) g3 = Same-join first.same (Same-join (second.frame 1 is_one (λ e. omega arith)) (third.frame 1 is_one (λ e. omega arith))) in
-    let two : Same 2 (after g es) g3 = Same-join second.same (third.frame 2 is_two (λ e. omega arith)) in
-    let three : Same 3 (after g es) g3 = third.same in
-    let whole : after g (in_turn es) ≡ g3 = after-append g (of_thread es 1) (of_thread es 2 ++ of_thread es 3) ∙ after-append g1 (of_thread es 2) (of_thread es 3) in
+    let after_first = after g (of_thread es 1) in
+    let second = solo 2 is_two es g after_first tidy_opening first.other (first.frame 2 is_two (λ e. omega arith)) going legal given in
+    let after_second = after after_first (of_thread es 2) in
+    let third = solo 3 is_three es g after_second tidy_opening second.other (Same-join (first.frame 3 is_three (λ e. omega arith)) (second.frame 3 is_three (λ e. omega arith))) going legal given in
+    let after_third = after after_second (of_thread es 3) in
+    let one : Same 1 (after g es) after_third = Same-join first.same (Same-join (second.frame 1 is_one (λ e. omega arith)) (third.frame 1 is_one (λ e. omega arith))) in
+    let two : Same 2 (after g es) after_third = Same-join second.same (third.frame 2 is_two (λ e. omega arith)) in
+    let three : Same 3 (after g es) after_third = third.same in
+    let whole : after g (in_turn es) ≡ after_third = after-append g (of_thread es 1) (of_thread es 2 ++ of_thread es 3) ∙ after-append after_first (of_thread es 2) (of_thread es 3) in
     record {
-      legal = legal-append g (of_thread es 1) (of_thread es 2 ++ of_thread es 3) first.legal (legal-append g1 (of_thread es 2) (of_thread es 3) second.legal third.legal);
-      graph = same_graph (after g es) g3 first.tidy third.other (each es g3 one two three) ∙ sym whole;
+      legal = legal-append g (of_thread es 1) (of_thread es 2 ++ of_thread es 3) first.legal (legal-append after_first (of_thread es 2) (of_thread es 3) second.legal third.legal);
+      graph = same_graph (after g es) after_third first.tidy third.other (each es after_third one two three) ∙ sym whole;
     }
   where
     each : (es : List Entry) (k : Graph) → Same 1 (after (opening 3) es) k → Same 2 (after (opening 3) es) k → Same 3 (after (opening 3) es) k → (t : ℕ) → IsThread t → Same t (after (opening 3) es) k

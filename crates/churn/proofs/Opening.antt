@@ -9,7 +9,7 @@ use Rattle.shen_graph.specs.declared.command.Command.TheVariants.{Set}
 use Rattle.shen_graph.specs.Graph.{Object, named, hub, opening}
 use Rattle.shen_graph.specs.Reach.{size}
 use Rattle.shen_graph.specs.History.{Entry, of_thread, commands_of, script_of, Follows}
-use Rattle.churn.specs.Script.{round, churn_script, churn_scripts}
+use Rattle.churn.specs.Script.{round, churn_script, churn_scripts, shared_hub, own_box}
 use Rattle.churn.proofs.Belongings.{IsThread, own, IsLeaf, IsLink, IsBox, field_of, Tidy}
 use Rattle.churn.proofs.Moves.{not_hub_too, none_in}
 use Rattle.churn.proofs.Commands.{IsLater}
@@ -95,7 +95,7 @@ rounds_later : (t seed : ℕ) (rounds : List ℕ) → AllByRecursion (IsLater t)
 rounds_later t seed [] = tt
 rounds_later t seed (i ∷ rounds) = all_append (IsLater t) (round seed i) (flat_map (round seed) rounds) (round_later t seed i) (rounds_later t seed rounds)
 
-pub script_later : (seed count t : ℕ) → AllByRecursion (IsLater t) (Set 0 t 1 ∷ flat_map (round seed) (range_with_len 0 count))
+pub script_later : (seed count t : ℕ) → AllByRecursion (IsLater t) (Set shared_hub t own_box ∷ flat_map (round seed) (range_with_len 0 count))
 script_later seed count t = (links, rounds_later t seed (range_with_len 0 count))
 
 pub script_is : (seed count t : ℕ) → IsThread t → script_of (churn_scripts seed count) t ≡ churn_script seed count t
@@ -120,6 +120,6 @@ nothing_of (e ∷ es) is = cc
 -- a history that follows the scripts begins with all of them ahead
 pub going_opening : (seed count : ℕ) (es : List Entry) → Follows (churn_scripts seed count) es → Going (opening 3) es
 going_opening seed count es follows = record {
-  ahead = λ t is. inl (refl, (Set 0 t 1 ∷ flat_map (round seed) (range_with_len 0 count), follows t ∙ script_is seed count t is, script_later seed count t));
+  ahead = λ t is. inl (refl, (Set shared_hub t own_box ∷ flat_map (round seed) (range_with_len 0 count), follows t ∙ script_is seed count t is, script_later seed count t));
   others = λ t out. nothing_of (of_thread es t) (follows t ∙ script_none seed count t out);
 }

@@ -10,7 +10,7 @@ use Rattle.shen_graph.specs.Graph.{Graph, opening}
 use Rattle.shen_graph.specs.Step.{IsLegal, IsPin, outcome}
 use Rattle.shen_graph.specs.History.{Entry, is_full, after_entry, after, EachIsLegal, of_thread, commands_of, script_of, Follows}
 use Rattle.shen_graph.proofs.Outcomes.{pins_none, leaves_outcome, outcome_given}
-use Rattle.churn.specs.Script.{round, churn_script, churn_scripts}
+use Rattle.churn.specs.Script.{round, churn_script, churn_scripts, shared_hub, own_box}
 use Rattle.churn.specs.Laws.{IsWorkloadRun, in_turn, ThereIsOneInTurn}
 use Rattle.churn.proofs.Belongings.{IsThread}
 use Rattle.churn.proofs.BelowTheHub.{IsGiven, thread_or_not, all_pin_none}
@@ -44,7 +44,7 @@ played_given g t (c ∷ cs) none =
     ((λ full. let e : true ≡ false = ap is_full (sym full) ∙ outcome_given g t c in cc, none.0), played_given (outcome g t c).graph t cs none.1)
 
 script_pins_none : (seed count t : ℕ) → PinNone (churn_script seed count t)
-script_pins_none seed count t = (λ is. is, all_pin_none t (Set 0 t 1 ∷ flat_map (round seed) (range_with_len 0 count)) (script_later seed count t))
+script_pins_none seed count t = (λ is. is, all_pin_none t (Set shared_hub t own_box ∷ flat_map (round seed) (range_with_len 0 count)) (script_later seed count t))
 
 played_of : (g : Graph) (t : ℕ) (cs : List Command) → AreOf t (played g t cs)
 played_of g t [] = tt

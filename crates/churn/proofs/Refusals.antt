@@ -15,7 +15,7 @@ use Rattle.shen_graph.specs.declared.command.Reply.TheVariants as reply
 use Rattle.shen_graph.specs.Graph.{Graph, opening}
 use Rattle.shen_graph.specs.History.{Entry, is_full, after_entry, after, EachIsLegal, of_thread, commands_of}
 use Rattle.shen_graph.specs.Crowd.{words_asked, next_command, words_open, PinnedRegions, IsCrowded, AreCrowded}
-use Rattle.churn.specs.Script.{round, churn_script, churn_scripts}
+use Rattle.churn.specs.Script.{round, churn_script, churn_scripts, shared_hub, own_box}
 use Rattle.churn.proofs.Belongings.{Tidy, Same-itself}
 use Rattle.churn.proofs.Commands.{IsLater}
 use Rattle.churn.proofs.Commands.IsLater.{makes, writes, links, stores, drops, loads, reads, swaps, exchanges}
@@ -50,7 +50,7 @@ ahead_few g t c cs ahead =
     ]
 
 script_few : (seed count t : ℕ) → AllByRecursion AsksFew (churn_script seed count t)
-script_few seed count t = (omega arith, all_few t (Set 0 t 1 ∷ flat_map (round seed) (range_with_len 0 count)) (script_later seed count t))
+script_few seed count t = (omega arith, all_few t (Set shared_hub t own_box ∷ flat_map (round seed) (range_with_len 0 count)) (script_later seed count t))
 
 scripts_few : (seed count j : ℕ) → AllByRecursion AsksFew (get_or (churn_scripts seed count) j [])
 scripts_few seed count zero = script_few seed count 1
@@ -66,7 +66,7 @@ few_at (c ∷ cs) (suc k) d h within = few_at cs k d h.1 (omega arith)
 asked_at : (cs : List Command) (k : ℕ) → AllByRecursion AsksFew cs → words_asked (slice_get cs k) ≤ 19
 asked_at cs k h =
     elim (cases_lt k (length cs)) [
-      | inl within ↦ subst (λ (c : Option Command). words_asked c ≤ 19) (sym (slice_get-get_or cs k (New 1 16 0) within)) (few_at cs k (New 1 16 0) h within)
+      | inl within ↦ subst (λ (c : Option Command). words_asked c ≤ 19) (sym (slice_get-get_or cs k (New own_box 16 0) within)) (few_at cs k (New own_box 16 0) h within)
       | inr past ↦ subst (λ (c : Option Command). words_asked c ≤ 19) (sym (slice_get_past cs k past)) (omega arith)
     ]
 

@@ -4,6 +4,17 @@ ghost use Rattle.churn.specs.Script.{making, loading, churn_script, churn_script
 use shen_graph::{Command, NoMemory, Script};
 use std::alloc::Global;
 
+// The roots that a thread uses: the hub, its box, a leaf that it has just made, one that it loaded, and one that it swapped out.
+const SHARED_HUB: u32 = 0;
+
+const OWN_BOX: u32 = 1;
+
+const NEW_LEAF: u32 = 2;
+
+const OLD_LEAF: u32 = 3;
+
+const LAST_LEAF: u32 = 4;
+
 // Adds the commands that make an object and put it into a slot.
 fn add_making(alloc: Global, script: &mut Script, seed: u64, i: u64) -> Result<(), NoMemory>
     requires { seed + i + 1 < 2 ^ 64 }
@@ -13,20 +24,27 @@ fn add_making(alloc: Global, script: &mut Script, seed: u64, i: u64) -> Result<(
     let refs = ((seed + i) % 4) as u32;
     let nums = 1 + (i % 8) as u32;
     let value = seed + i + 1;
-    script.push(alloc, Command::New { dst: 2, refs, nums })?;
+    script.push(
+        alloc,
+        Command::New {
+            dst: NEW_LEAF,
+            refs,
+            nums,
+        },
+    )?;
     let wr = Command::Wr {
-        obj: 2,
+        obj: NEW_LEAF,
         index: 0,
         value,
     };
     script.push(alloc, wr)?;
     let set = Command::Set {
-        obj: 1,
+        obj: OWN_BOX,
         field,
-        val: 2,
+        val: NEW_LEAF,
     };
     script.push(alloc, set)?;
-    script.push(alloc, Command::Drop { dst: 2 })
+    script.push(alloc, Command::Drop { dst: NEW_LEAF })
 }
 
 // Adds the commands that load it and exchange the slot with itself.
@@ -35,24 +53,30 @@ fn add_loading(alloc: Global, script: &mut Script, i: u64) -> Result<(), NoMemor
 {
     let field = (i % 16) as u32;
     let get = Command::Get {
-        dst: 3,
-        src: 1,
+        dst: OLD_LEAF,
+        src: OWN_BOX,
         field,
     };
     script.push(alloc, get)?;
-    script.push(alloc, Command::Rd { obj: 3, index: 0 })?;
+    script.push(
+        alloc,
+        Command::Rd {
+            obj: OLD_LEAF,
+            index: 0,
+        },
+    )?;
     let cas = Command::Cas {
-        obj: 1,
+        obj: OWN_BOX,
         field,
-        expect: 3,
-        val: 3,
+        expect: OLD_LEAF,
+        val: OLD_LEAF,
     };
     script.push(alloc, cas)?;
     let xchg = Command::Xchg {
-        dst: 4,
-        obj: 1,
+        dst: LAST_LEAF,
+        obj: OWN_BOX,
         field,
-        val: 3,
+        val: OLD_LEAF,
     };
     script.push(alloc, xchg)
 }
@@ -64,15 +88,15 @@ fn churn_script(alloc: Global, seed: u64, count: u64, thread: u32) -> Result<Scr
 {
     let mut script = Script::open(alloc)?;
     let new = Command::New {
-        dst: 1,
+        dst: OWN_BOX,
         refs: 16,
         nums: 0,
     };
     script.push(alloc, new)?;
     let set = Command::Set {
-        obj: 0,
+        obj: SHARED_HUB,
         field: thread,
-        val: 1,
+        val: OWN_BOX,
     };
     script.push(alloc, set)?;
     for i in 0..count {

@@ -102,11 +102,11 @@ module _ (c : Config) (extent : Extent) (phase index got : ℕ) (xs : List ℕ) 
 
     reads : (k : ℕ) → k < upto → slice_index after k ≡ slice_index (before ++ got ∷ []) k
     reads k less = ⊎_elim
-        (λ (less' : k < index).
+        (λ (lower : k < index).
         part_reads c then_of (set xs index got) k
-        ∙ ap (λ b. if b then slice_index (set xs index got) k else 0) (same_before k less')
-        ∙ ap (λ n. if is_of_extent c extent k then n else 0) (get_or-set_other xs index k got 0 (omega (arith, less')))
-        ∙ sym (get_or_append_left before (got ∷ []) 0 k (let long = before_long in omega (arith, long, less')) ∙ get_or-take index (part_in c extent xs) k 0 less' ∙ part_reads c extent xs k))
+        ∙ ap (λ b. if b then slice_index (set xs index got) k else 0) (same_before k lower)
+        ∙ ap (λ n. if is_of_extent c extent k then n else 0) (get_or-set_other xs index k got 0 (omega (arith, lower)))
+        ∙ sym (get_or_append_left before (got ∷ []) 0 k (let long = before_long in omega (arith, long, lower)) ∙ get_or-take index (part_in c extent xs) k 0 lower ∙ part_reads c extent xs k))
         (λ (from : index ≤ k). ⊎_elim
         (λ (same : k ≡ index).
         subst (λ i. slice_index after i ≡ slice_index (before ++ got ∷ []) i) (sym same)

@@ -4,6 +4,7 @@ use Rattle.heap_words.specs.declared.place.Place.{Place}
 use Rattle.heap_words.specs.Place.{code_of}
 use Rattle.shen_graph.specs.declared.command.Reply.{Reply}
 use Rattle.shen_graph.specs.declared.command.Reply.TheVariants as reply
+use Rattle.shen_graph.specs.Valid.{most_objects}
 use Rattle.heap_seats.specs.declared.progress.Progress.{Progress}
 use Rattle.heap_seats.specs.declared.progress.Progress.TheVariants as progress
 use Rattle.heap_seats.specs.declared.progress.State.{State}
@@ -43,7 +44,7 @@ told_of s = record {
   kind = kind_of s;
   state = state_number (state_in s);
   made = objects_made_by s;
-  left = if is_mutator s then 4294967295 - objects_made_by s else 0;
+  left = if is_mutator s then most_objects - objects_made_by s else 0;
   phase = unwrap_or (phase_of_seat s) 0;
   place = place_code (place_of_seat s);
   place_end = 0 ∷ 0 ∷ 0 ∷ 0 ∷ 0 ∷ 0 ∷ [];

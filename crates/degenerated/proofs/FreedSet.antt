@@ -65,10 +65,10 @@ module _ (c : Config) (m : Word → ℕ) where
         (cases_eq q r))
       where
         both_none : (a b d : Bool) → d ≡ false → (a && d) ≡ (b && d)
-        both_none true true d none' = refl
-        both_none false false d none' = refl
-        both_none true false d none' = none'
-        both_none false true d none' = sym none'
+        both_none true true d is_none = refl
+        both_none false false d is_none = refl
+        both_none true false d is_none = is_none
+        both_none false true d is_none = sym is_none
 
         others : (q : ℕ) → q ≢ r → nat_lt q r ≡ nat_lt q (r + 1)
         others q other = grind (arith, nat_tests, other)

@@ -21,21 +21,21 @@ own_region c a above =
 pub used_parts : (c : Config) (m : Word → ℕ) (a : ℕ) → is_in_use c m a ≡ true
     → (c.region_words ≤ a) × (region_with c a < c.regions) × (a - base_of c (region_with c a) < m (Top (region_with c a)))
 used_parts c m a is =
-    let q = region_with c a in
-    let low = and_parts (nat_le c.region_words a) (nat_lt q c.regions && nat_lt (a - base_of c q) (m (Top q))) is in
-    let rest = and_parts (nat_lt q c.regions) (nat_lt (a - base_of c q) (m (Top q))) low.1 in
-    (leb-true c.region_words a low.0, ltb-true q c.regions rest.0, ltb-true (a - base_of c q) (m (Top q)) rest.1)
+    let region = region_with c a in
+    let low = and_parts (nat_le c.region_words a) (nat_lt region c.regions && nat_lt (a - base_of c region) (m (Top region))) is in
+    let rest = and_parts (nat_lt region c.regions) (nat_lt (a - base_of c region) (m (Top region))) low.1 in
+    (leb-true c.region_words a low.0, ltb-true region c.regions rest.0, ltb-true (a - base_of c region) (m (Top region)) rest.1)
 
 -- a choice is the same where what it rests on is
-pub same_choice : (p q b1 b2 l1 l2 : Bool) (x1 x2 y1 y2 : ℕ) → p ≡ q → (q ≡ true → b1 ≡ b2) → (q ≡ true → b2 ≡ true → l1 ≡ l2) → (q ≡ true → b2 ≡ true → l2 ≡ true → x1 ≡ x2) → y1 ≡ y2
-    → cond (p && b1 && l1) x1 y1 ≡ cond (q && b2 && l2) x2 y2
-same_choice p false b1 b2 l1 l2 x1 x2 y1 y2 same begun left value rest = ap (λ b. cond (b && b1 && l1) x1 y1) same ∙ rest
-same_choice p true b1 false l1 l2 x1 x2 y1 y2 same begun left value rest =
-    ap (λ b. cond (b && b1 && l1) x1 y1) same ∙ ap (λ b. cond (true && b && l1) x1 y1) (begun refl) ∙ rest
-same_choice p true b1 true l1 false x1 x2 y1 y2 same begun left value rest =
-    ap (λ b. cond (b && b1 && l1) x1 y1) same ∙ ap (λ b. cond (true && b && l1) x1 y1) (begun refl) ∙ ap (λ b. cond (true && true && b) x1 y1) (left refl refl) ∙ rest
-same_choice p true b1 true l1 true x1 x2 y1 y2 same begun left value rest =
-    ap (λ b. cond (b && b1 && l1) x1 y1) same ∙ ap (λ b. cond (true && b && l1) x1 y1) (begun refl) ∙ ap (λ b. cond (true && true && b) x1 y1) (left refl refl) ∙ value refl refl refl
+pub same_choice : (new_test old_test new_begins old_begins new_left old_left : Bool) (new_value old_value new_rest old_rest : ℕ) → new_test ≡ old_test → (old_test ≡ true → new_begins ≡ old_begins) → (old_test ≡ true → old_begins ≡ true → new_left ≡ old_left) → (old_test ≡ true → old_begins ≡ true → old_left ≡ true → new_value ≡ old_value) → new_rest ≡ old_rest
+    → cond (new_test && new_begins && new_left) new_value new_rest ≡ cond (old_test && old_begins && old_left) old_value old_rest
+same_choice new_test false new_begins old_begins new_left old_left new_value old_value new_rest old_rest same begun left value rest = ap (λ b. cond (b && new_begins && new_left) new_value new_rest) same ∙ rest
+same_choice new_test true new_begins false new_left old_left new_value old_value new_rest old_rest same begun left value rest =
+    ap (λ b. cond (b && new_begins && new_left) new_value new_rest) same ∙ ap (λ b. cond (true && b && new_left) new_value new_rest) (begun refl) ∙ rest
+same_choice new_test true new_begins true new_left false new_value old_value new_rest old_rest same begun left value rest =
+    ap (λ b. cond (b && new_begins && new_left) new_value new_rest) same ∙ ap (λ b. cond (true && b && new_left) new_value new_rest) (begun refl) ∙ ap (λ b. cond (true && true && b) new_value new_rest) (left refl refl) ∙ rest
+same_choice new_test true new_begins true new_left true new_value old_value new_rest old_rest same begun left value rest =
+    ap (λ b. cond (b && new_begins && new_left) new_value new_rest) same ∙ ap (λ b. cond (true && b && new_left) new_value new_rest) (begun refl) ∙ ap (λ b. cond (true && true && b) new_value new_rest) (left refl refl) ∙ value refl refl refl
 
 -- Two memories with the same words in a region.
 module _ (c : Config) (m n : Word → ℕ) (r : ℕ) (fills : CanFill c m r) (top : n (Top r) ≡ m (Top r))

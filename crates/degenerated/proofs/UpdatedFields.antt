@@ -314,12 +314,12 @@ module _ (c : Config) (now : ℕ → ℕ) (m : Word → ℕ) (can : CanUpdateAll
 pub object_inside : (c : Config) (m : Word → ℕ) → CanUpdateAll c m → (x : ℕ) → is_staying c m x ≡ true → CanRead c m (object_of c m x)
 object_inside c m can x is =
     let lies = lies_there c m x is in
-    let r = region_with c x in
-    let k = x - base_of c r in
+    let region = region_with c x in
+    let k = x - base_of c region in
     let heap : ℕ → ℕ = λ a. m (Heap a) in
-    let s = start_of heap (base_of c r) k in
-    let some : s < m (Top r) = omega (arith, from heap (base_of c r) k, lies.below) in
-    can_read c m r s lies.of_region lies.staying some (begins heap (base_of c r) k) can
+    let s = start_of heap (base_of c region) k in
+    let some : s < m (Top region) = omega (arith, from heap (base_of c region) k, lies.below) in
+    can_read c m region s lies.of_region lies.staying some (begins heap (base_of c region) k) can
 
 pub address_inside : (c : Config) (m : Word → ℕ) (x : ℕ) → is_staying c m x ≡ true → IsWord c (Heap x)
 address_inside c m x is = (let lies = lies_there c m x is in in_heap_by_region c x lies.above lies.of_region)

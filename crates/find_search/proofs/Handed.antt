@@ -9,7 +9,7 @@ use Rattle.std.proofs.lemmas.List.FromFn.{get_or-map-range_with_len}
 use Rattle.std.proofs.lemmas.Option.{slice_get-get_or}
 use Rattle.shen_graph.specs.declared.command.Command.{Command}
 use Rattle.shen_graph.specs.declared.command.Command.TheVariants.{Gc}
-use Rattle.shen_graph.specs.Valid.{IsValid}
+use Rattle.shen_graph.specs.Valid.{IsValid, most_objects}
 use Rattle.shen_graph.specs.Work.{Progress, HasScript, progress_of, script_in, replies_of, next_of, begun, opened, is_in_part, picked, parted, left_over, one_of, joined}
 use Rattle.shen_graph.proofs.Parts.{progress_of-opened}
 use Rattle.step_core.specs.Machines.{made_of_machine, at_hand_of, is_resting, takes_of}
@@ -118,7 +118,7 @@ rests p jobs t can below none busy =
 
 -- what can run can run with another script of a mutator whose last command was answered
 pub can_run_on : (p : Plain) (m : ℕ) (script : List Command) (old new : Jobs) → CanRun p old → (config_of p).mutators ≤ 8 → m < (config_of p).mutators → next_of old m ≡ None → IsHandedOver m script old new → All IsValid script
-    → made_of_machine (machine_at p m) + length script < 4294967295 → CanRun p new
+    → made_of_machine (machine_at p m) + length script < most_objects → CanRun p new
 can_run_on p m script old new can few below none is valid names = record {
   orders = can.orders;
   jobs_are = λ t within. by_number (λ n. n < (config_of p).mutators → HasScript new n) m t
@@ -133,9 +133,9 @@ can_run_on p m script old new can few below none is valid names = record {
       (λ _ is_busy. absurd (rests p old m can below none is_busy))
       (λ differ here. subst (λ o. is_resting (machine_at p t) ≡ false → length (unwrap_or o (begun [])).replies < length (unwrap_or o (begun [])).script) (sym (is.others t (omega (arith, few, here)) differ)) (can.busy t here))
       within;
-  made = λ t within. by_number (λ n. n < (config_of p).mutators → made_of_machine (machine_at p n) + length (script_in new n) < 4294967295 + (length (replies_of new n) + at_hand_of (machine_at p n))) m t
+  made = λ t within. by_number (λ n. n < (config_of p).mutators → made_of_machine (machine_at p n) + length (script_in new n) < most_objects + (length (replies_of new n) + at_hand_of (machine_at p n))) m t
       (λ _. let own = ap (λ o. length (unwrap_or o (begun [])).script) is.own in omega (arith, own, names))
-      (λ differ here. subst (λ o. made_of_machine (machine_at p t) + length (unwrap_or o (begun [])).script < 4294967295 + (length (unwrap_or o (begun [])).replies + at_hand_of (machine_at p t))) (sym (is.others t (omega (arith, few, here)) differ)) (can.made t here))
+      (λ differ here. subst (λ o. made_of_machine (machine_at p t) + length (unwrap_or o (begun [])).script < most_objects + (length (unwrap_or o (begun [])).replies + at_hand_of (machine_at p t))) (sym (is.others t (omega (arith, few, here)) differ)) (can.made t here))
       within;
 }
 

@@ -131,17 +131,17 @@ module _ (c : Config) (m after : Word → ℕ) (walked : HoldsWalked c (let_go c
 
   object_stays : (a : ℕ) → 0 < kept_in c gone a → is_row_pinned c gone (a / c.region_words) ≡ true → Stays a
   object_stays a some shut_row =
-      let q = region_with c a in
+      let region = region_with c a in
       let own = own_region c a (can.apart.above a some) in
-      let closed : is_row_pinned c gone (q + 1) ≡ true = ap (is_row_pinned c gone) (sym (row_is c.region_words q a own.0 own.1)) ∙ shut_row in
-      let at = shut_pinned c gone q closed in
+      let closed : is_row_pinned c gone (region + 1) ≡ true = ap (is_row_pinned c gone) (sym (row_is c.region_words region a own.0 own.1)) ∙ shut_row in
+      let at = shut_pinned c gone region closed in
       let object = (reachable_kept c gone left.plot owner p g left.left.holds).only a some in
       let here : block a ≡ Some (thing object.0 object.1 object.2) = left.left.loosened.same.came a (thing object.0 object.1 object.2) refl object.3 in
       let word : (k : ℕ) → k < 3 → gone (Heap (a + k)) ≡ m (Heap (a + k)) =
       λ k few. left.left.loosened.words a k (thing object.0 object.1 object.2) refl here (omega (arith, few)) in (
-        ap (λ k. k (Heap a)) is ∙ header_stays c gone can begin q at.0 at.1 a own.0 own.1 some,
-        ap (λ k. k (Heap (a + 1))) is ∙ shape_stays c gone can begin q at.0 at.1 a own.0 own.1 some ∙ word 1 (omega arith),
-        ap (λ k. k (Heap (a + 2))) is ∙ name_stays c gone can begin q at.0 at.1 a own.0 own.1 some ∙ word 2 (omega arith),
+        ap (λ k. k (Heap a)) is ∙ header_stays c gone can begin region at.0 at.1 a own.0 own.1 some,
+        ap (λ k. k (Heap (a + 1))) is ∙ shape_stays c gone can begin region at.0 at.1 a own.0 own.1 some ∙ word 1 (omega arith),
+        ap (λ k. k (Heap (a + 2))) is ∙ name_stays c gone can begin region at.0 at.1 a own.0 own.1 some ∙ word 2 (omega arith),
       )
 
   pinned_stay : PinnedStay c m after

@@ -27,7 +27,7 @@ left_wait : (t u wait : ℕ) → cond (t == u) 0 (cond (nat_lt u t) 0 wait) ≡ 
 left_wait t u wait = grind (arith, nat_tests)
 
 left_at : (m : Word → ℕ) (t : ℕ) → m (Wait t) ≢ 0 → (w : Word) → write (write (refused_below t m) (Answer t) 1) (Wait t) 0 w ≡ refused_below (t + 1) m w
-left_at m t some (Answer u) = left_one t u (m (Wait u)) (m (Answer u)) (λ same zero'. some (ap (λ v. m (Wait v)) same ∙ zero'))
+left_at m t some (Answer u) = left_one t u (m (Wait u)) (m (Answer u)) (λ same is_zero. some (ap (λ v. m (Wait v)) same ∙ is_zero))
 left_at m t some (Wait u) = left_wait t u (m (Wait u))
 left_at m t some _ = refl
 

@@ -46,10 +46,10 @@ own_region c a above =
 pub used_parts : (c : Config) (m : Word → ℕ) (a : ℕ) → is_in_use c m a ≡ true
     → (c.region_words ≤ a) × (region_with c a < c.regions) × (a - base_of c (region_with c a) < m (Top (region_with c a)))
 used_parts c m a is =
-    let q = region_with c a in
-    let low = and_parts (nat_le c.region_words a) (nat_lt q c.regions && nat_lt (a - base_of c q) (m (Top q))) is in
-    let rest = and_parts (nat_lt q c.regions) (nat_lt (a - base_of c q) (m (Top q))) low.1 in
-    (leb-true c.region_words a low.0, ltb-true q c.regions rest.0, ltb-true (a - base_of c q) (m (Top q)) rest.1)
+    let region = region_with c a in
+    let low = and_parts (nat_le c.region_words a) (nat_lt region c.regions && nat_lt (a - base_of c region) (m (Top region))) is in
+    let rest = and_parts (nat_lt region c.regions) (nat_lt (a - base_of c region) (m (Top region))) low.1 in
+    (leb-true c.region_words a low.0, ltb-true region c.regions rest.0, ltb-true (a - base_of c region) (m (Top region)) rest.1)
 
 pub begins_there : (c : Config) (m : Word → ℕ) (r a : ℕ) → base_of c r ≤ a → a < base_of c r + c.region_words → begins c m a ≡ true → m (Heap a) ≡ plain_header → BeginsThere c m r a
 begins_there c m r a low high is header =
@@ -271,9 +271,9 @@ module _ (c : Config) (m : Word → ℕ) (can : CanCollect c m) (begin : KeptBeg
           and_right (not (is_filler (moved (Heap a)))) (not (has found a)) (ap (λ xs. not (has xs a)) held ∙ ap not kept_here)
           ∙ sym (and_right (not (is_filler (m (Heap a)))) (kept a == 0) (ne_eqb (kept a) 0 (λ none. omega (arith, none, some)))))
           (λ (none : has (held_in c m) a ≡ false).
-          let zero' : kept a ≡ 0 = cond-false (has (held_in c m) a) (object_words (m (Heap (a + 1)))) 0 none in
-          ap (λ h. not (is_filler h) && not (has found a)) (unkept_same zero')
-          ∙ ap (λ b. not (is_filler (m (Heap a))) && b) (ap (λ xs. not (has xs a)) held ∙ ap not none ∙ sym (eq-eqb (kept a) 0 zero')))
+          let kept_none : kept a ≡ 0 = cond-false (has (held_in c m) a) (object_words (m (Heap (a + 1)))) 0 none in
+          ap (λ h. not (is_filler h) && not (has found a)) (unkept_same kept_none)
+          ∙ ap (λ b. not (is_filler (m (Heap a))) && b) (ap (λ xs. not (has xs a)) held ∙ ap not none ∙ sym (eq-eqb (kept a) 0 kept_none)))
           (cases_Bool (has (held_in c m) a))
 
       shape_same : is_unkept kept m a ≡ true → moved (Heap (a + 1)) ≡ m (Heap (a + 1))
@@ -284,14 +284,14 @@ module _ (c : Config) (m : Word → ℕ) (can : CanCollect c m) (begin : KeptBeg
           ap (λ x. moved (Heap (x + 1))) (sym at) ∙ unkept_shape q inside pinned offset is used.2 none object ∙ ap (λ x. m (Heap (x + 1))) at
 
 -- of two choices, whose tests say the same
-chosen : (p q b1 b2 l1 l2 : Bool) (x1 x2 y : ℕ) → p ≡ q → (q ≡ true → b1 ≡ b2) → (q ≡ true → b2 ≡ true → l1 ≡ l2) → (q ≡ true → b2 ≡ true → l2 ≡ true → x1 ≡ x2)
-    → cond (p && b1 && l1) x1 y ≡ cond (q && (b2 && l2)) x2 y
-chosen p false b1 b2 l1 l2 x1 x2 y same begun left shape = ap (λ b. cond (b && b1 && l1) x1 y) same
-chosen p true b1 false l1 l2 x1 x2 y same begun left shape = ap (λ b. cond (b && b1 && l1) x1 y) same ∙ ap (λ b. cond (true && b && l1) x1 y) (begun refl)
-chosen p true b1 true l1 false x1 x2 y same begun left shape =
-    ap (λ b. cond (b && b1 && l1) x1 y) same ∙ ap (λ b. cond (true && b && l1) x1 y) (begun refl) ∙ ap (λ b. cond (true && true && b) x1 y) (left refl refl)
-chosen p true b1 true l1 true x1 x2 y same begun left shape =
-    ap (λ b. cond (b && b1 && l1) x1 y) same ∙ ap (λ b. cond (true && b && l1) x1 y) (begun refl) ∙ ap (λ b. cond (true && true && b) x1 y) (left refl refl) ∙ shape refl refl refl
+chosen : (new_test old_test new_begins old_begins new_left old_left : Bool) (new_value old_value y : ℕ) → new_test ≡ old_test → (old_test ≡ true → new_begins ≡ old_begins) → (old_test ≡ true → old_begins ≡ true → new_left ≡ old_left) → (old_test ≡ true → old_begins ≡ true → old_left ≡ true → new_value ≡ old_value)
+    → cond (new_test && new_begins && new_left) new_value y ≡ cond (old_test && (old_begins && old_left)) old_value y
+chosen new_test false new_begins old_begins new_left old_left new_value old_value y same begun left shape = ap (λ b. cond (b && new_begins && new_left) new_value y) same
+chosen new_test true new_begins false new_left old_left new_value old_value y same begun left shape = ap (λ b. cond (b && new_begins && new_left) new_value y) same ∙ ap (λ b. cond (true && b && new_left) new_value y) (begun refl)
+chosen new_test true new_begins true new_left false new_value old_value y same begun left shape =
+    ap (λ b. cond (b && new_begins && new_left) new_value y) same ∙ ap (λ b. cond (true && b && new_left) new_value y) (begun refl) ∙ ap (λ b. cond (true && true && b) new_value y) (left refl refl)
+chosen new_test true new_begins true new_left true new_value old_value y same begun left shape =
+    ap (λ b. cond (b && new_begins && new_left) new_value y) same ∙ ap (λ b. cond (true && b && new_left) new_value y) (begun refl) ∙ ap (λ b. cond (true && true && b) new_value y) (left refl refl) ∙ shape refl refl refl
 
 -- So filling what is left over makes of the heap what packing makes of it.
 module _ (c : Config) (m : Word → ℕ) (can : CanCollect c m) (begin : KeptBegin c m) where
@@ -301,13 +301,13 @@ module _ (c : Config) (m : Word → ℕ) (can : CanCollect c m) (begin : KeptBeg
   pub filled_is : (a : ℕ) → filled (Heap a) ≡ packed c (is_row_pinned c m) (now_in m) (kept_in c m) m (Heap a)
   unfolding packed
   filled_is a =
-      let q = region_with c a in
-      let inside : (nat_lt q c.regions && is_pinned c m q) ≡ true → (q < c.regions) × (is_pinned c m q ≡ true) =
-      λ is. (let both = and_parts (nat_lt q c.regions) (is_pinned c m q) is in (ltb-true q c.regions both.0, both.1)) in
-      chosen (is_pinned_below c (moved c m can begin) c.regions q) (is_row_pinned c m (q + 1)) (begins c (moved c m can begin) a) (begins c m a)
+      let region = region_with c a in
+      let inside : (nat_lt region c.regions && is_pinned c m region) ≡ true → (region < c.regions) × (is_pinned c m region ≡ true) =
+      λ is. (let both = and_parts (nat_lt region c.regions) (is_pinned c m region) is in (ltb-true region c.regions both.0, both.1)) in
+      chosen (is_pinned_below c (moved c m can begin) c.regions region) (is_row_pinned c m (region + 1)) (begins c (moved c m can begin) a) (begins c m a)
       (is_left_over (moved c m can begin) (held_in c m) NotFound a) (is_unkept (kept_in c m) m a)
       (filler_header (object_words (moved c m can begin (Heap (a + 1))))) (filler_header (object_words (m (Heap (a + 1))))) (moved c m can begin (Heap a))
-      (sym (row_is_pinned c m q))
-      (λ shut_row. (let is = inside (sym (row_is_pinned c m q) ∙ shut_row) in begins_same c m can begin a is.0 is.1))
-      (λ shut_row begun. (let is = inside (sym (row_is_pinned c m q) ∙ shut_row) in left_same c m can begin a is.0 is.1 begun (held_in c m) refl))
-      (λ shut_row begun left. (let is = inside (sym (row_is_pinned c m q) ∙ shut_row) in ap (λ s. filler_header (object_words s)) (shape_same c m can begin a is.0 is.1 begun left)))
+      (sym (row_is_pinned c m region))
+      (λ shut_row. (let is = inside (sym (row_is_pinned c m region) ∙ shut_row) in begins_same c m can begin a is.0 is.1))
+      (λ shut_row begun. (let is = inside (sym (row_is_pinned c m region) ∙ shut_row) in left_same c m can begin a is.0 is.1 begun (held_in c m) refl))
+      (λ shut_row begun left. (let is = inside (sym (row_is_pinned c m region) ∙ shut_row) in ap (λ s. filler_header (object_words s)) (shape_same c m can begin a is.0 is.1 begun left)))

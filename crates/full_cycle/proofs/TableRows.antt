@@ -6,88 +6,88 @@ use Rattle.heap_words.specs.Words.{Word, Pause, Left, End, State, Phase, Cset, F
 use Rattle.full_cycle.specs.Steps.{renewed_by, roots_renewed, calm, IsChanged}
 use Rattle.full_cycle.proofs.Rows.{hit, miss}
 
-module _ (c : Config) (w0 w1 w2 w3 w4 w5 : List ℕ)
-    (s1 : IsChanged (word_at c Phase) (word_at c Free) (λ word. 0) w0 w1)
-    (s2 : IsChanged (word_at c Evac) (word_at c (Top 0)) (λ word. 0) w1 w2)
-    (s3 : IsChanged (word_at c (Tams 0)) (word_at c (Root 0 0)) (λ word. 0) w2 w3)
-    (s4 : IsChanged (word_at c (Count 0)) (word_at c (Buffer 0 0)) (λ word. 0) w3 w4)
-    (s5 : IsChanged (word_at c (Grey 0)) (heap_start c) (λ word. 0) w4 w5) where
-  hit1 : (w : Word) → (IsWord c w → (word_at c Phase ≤ word_at c w) × (word_at c w < word_at c Free)) → view c w1 w ≡ 0
-  hit1 w inside = hit c (word_at c Phase) (word_at c Free) (λ word. 0) w0 w1 s1 w refl inside
+module _ (c : Config) (old first_done second_done third_done fourth_done all_done : List ℕ)
+    (first_cleared : IsChanged (word_at c Phase) (word_at c Free) (λ word. 0) old first_done)
+    (second_cleared : IsChanged (word_at c Evac) (word_at c (Top 0)) (λ word. 0) first_done second_done)
+    (third_cleared : IsChanged (word_at c (Tams 0)) (word_at c (Root 0 0)) (λ word. 0) second_done third_done)
+    (fourth_cleared : IsChanged (word_at c (Count 0)) (word_at c (Buffer 0 0)) (λ word. 0) third_done fourth_done)
+    (fifth_cleared : IsChanged (word_at c (Grey 0)) (heap_start c) (λ word. 0) fourth_done all_done) where
+  phase_hit : (w : Word) → (IsWord c w → (word_at c Phase ≤ word_at c w) × (word_at c w < word_at c Free)) → view c first_done w ≡ 0
+  phase_hit w inside = hit c (word_at c Phase) (word_at c Free) (λ word. 0) old first_done first_cleared w refl inside
 
-  miss1 : (w : Word) → (IsWord c w → word_at c Phase ≤ word_at c w → word_at c w < word_at c Free → ⊥) → view c w1 w ≡ view c w0 w
-  miss1 w outside = miss c (word_at c Phase) (word_at c Free) (λ word. 0) w0 w1 s1 w outside
+  phase_miss : (w : Word) → (IsWord c w → word_at c Phase ≤ word_at c w → word_at c w < word_at c Free → ⊥) → view c first_done w ≡ view c old w
+  phase_miss w outside = miss c (word_at c Phase) (word_at c Free) (λ word. 0) old first_done first_cleared w outside
 
-  hit2 : (w : Word) → (IsWord c w → (word_at c Evac ≤ word_at c w) × (word_at c w < word_at c (Top 0))) → view c w2 w ≡ 0
-  hit2 w inside = hit c (word_at c Evac) (word_at c (Top 0)) (λ word. 0) w1 w2 s2 w refl inside
+  evac_hit : (w : Word) → (IsWord c w → (word_at c Evac ≤ word_at c w) × (word_at c w < word_at c (Top 0))) → view c second_done w ≡ 0
+  evac_hit w inside = hit c (word_at c Evac) (word_at c (Top 0)) (λ word. 0) first_done second_done second_cleared w refl inside
 
-  miss2 : (w : Word) → (IsWord c w → word_at c Evac ≤ word_at c w → word_at c w < word_at c (Top 0) → ⊥) → view c w2 w ≡ view c w1 w
-  miss2 w outside = miss c (word_at c Evac) (word_at c (Top 0)) (λ word. 0) w1 w2 s2 w outside
+  evac_miss : (w : Word) → (IsWord c w → word_at c Evac ≤ word_at c w → word_at c w < word_at c (Top 0) → ⊥) → view c second_done w ≡ view c first_done w
+  evac_miss w outside = miss c (word_at c Evac) (word_at c (Top 0)) (λ word. 0) first_done second_done second_cleared w outside
 
-  hit3 : (w : Word) → (IsWord c w → (word_at c (Tams 0) ≤ word_at c w) × (word_at c w < word_at c (Root 0 0))) → view c w3 w ≡ 0
-  hit3 w inside = hit c (word_at c (Tams 0)) (word_at c (Root 0 0)) (λ word. 0) w2 w3 s3 w refl inside
+  tams_hit : (w : Word) → (IsWord c w → (word_at c (Tams 0) ≤ word_at c w) × (word_at c w < word_at c (Root 0 0))) → view c third_done w ≡ 0
+  tams_hit w inside = hit c (word_at c (Tams 0)) (word_at c (Root 0 0)) (λ word. 0) second_done third_done third_cleared w refl inside
 
-  miss3 : (w : Word) → (IsWord c w → word_at c (Tams 0) ≤ word_at c w → word_at c w < word_at c (Root 0 0) → ⊥) → view c w3 w ≡ view c w2 w
-  miss3 w outside = miss c (word_at c (Tams 0)) (word_at c (Root 0 0)) (λ word. 0) w2 w3 s3 w outside
+  tams_miss : (w : Word) → (IsWord c w → word_at c (Tams 0) ≤ word_at c w → word_at c w < word_at c (Root 0 0) → ⊥) → view c third_done w ≡ view c second_done w
+  tams_miss w outside = miss c (word_at c (Tams 0)) (word_at c (Root 0 0)) (λ word. 0) second_done third_done third_cleared w outside
 
-  hit4 : (w : Word) → (IsWord c w → (word_at c (Count 0) ≤ word_at c w) × (word_at c w < word_at c (Buffer 0 0))) → view c w4 w ≡ 0
-  hit4 w inside = hit c (word_at c (Count 0)) (word_at c (Buffer 0 0)) (λ word. 0) w3 w4 s4 w refl inside
+  count_hit : (w : Word) → (IsWord c w → (word_at c (Count 0) ≤ word_at c w) × (word_at c w < word_at c (Buffer 0 0))) → view c fourth_done w ≡ 0
+  count_hit w inside = hit c (word_at c (Count 0)) (word_at c (Buffer 0 0)) (λ word. 0) third_done fourth_done fourth_cleared w refl inside
 
-  miss4 : (w : Word) → (IsWord c w → word_at c (Count 0) ≤ word_at c w → word_at c w < word_at c (Buffer 0 0) → ⊥) → view c w4 w ≡ view c w3 w
-  miss4 w outside = miss c (word_at c (Count 0)) (word_at c (Buffer 0 0)) (λ word. 0) w3 w4 s4 w outside
+  count_miss : (w : Word) → (IsWord c w → word_at c (Count 0) ≤ word_at c w → word_at c w < word_at c (Buffer 0 0) → ⊥) → view c fourth_done w ≡ view c third_done w
+  count_miss w outside = miss c (word_at c (Count 0)) (word_at c (Buffer 0 0)) (λ word. 0) third_done fourth_done fourth_cleared w outside
 
-  hit5 : (w : Word) → (IsWord c w → (word_at c (Grey 0) ≤ word_at c w) × (word_at c w < heap_start c)) → view c w5 w ≡ 0
-  hit5 w inside = hit c (word_at c (Grey 0)) (heap_start c) (λ word. 0) w4 w5 s5 w refl inside
+  bits_hit : (w : Word) → (IsWord c w → (word_at c (Grey 0) ≤ word_at c w) × (word_at c w < heap_start c)) → view c all_done w ≡ 0
+  bits_hit w inside = hit c (word_at c (Grey 0)) (heap_start c) (λ word. 0) fourth_done all_done fifth_cleared w refl inside
 
-  miss5 : (w : Word) → (IsWord c w → word_at c (Grey 0) ≤ word_at c w → word_at c w < heap_start c → ⊥) → view c w5 w ≡ view c w4 w
-  miss5 w outside = miss c (word_at c (Grey 0)) (heap_start c) (λ word. 0) w4 w5 s5 w outside
+  bits_miss : (w : Word) → (IsWord c w → word_at c (Grey 0) ≤ word_at c w → word_at c w < heap_start c → ⊥) → view c all_done w ≡ view c fourth_done w
+  bits_miss w outside = miss c (word_at c (Grey 0)) (heap_start c) (λ word. 0) fourth_done all_done fifth_cleared w outside
 
-  calm_at : (w : Word) → write (view c w5) Share 0 w ≡ calm (view c w0) w
+  calm_at : (w : Word) → write (view c all_done) Share 0 w ≡ calm (view c old) w
   calm_at Share = refl
-  calm_at Pause = miss5 Pause (λ is low high. omega (arith, is, low, high)) ∙ miss4 Pause (λ is low high. omega (arith, is, low, high)) ∙ miss3 Pause (λ is low high. omega (arith, is, low, high)) ∙ miss2 Pause (λ is low high. omega (arith, is, low, high)) ∙ miss1 Pause (λ is low high. omega (arith, is, low, high))
-  calm_at Left = miss5 Left (λ is low high. omega (arith, is, low, high)) ∙ miss4 Left (λ is low high. omega (arith, is, low, high)) ∙ miss3 Left (λ is low high. omega (arith, is, low, high)) ∙ miss2 Left (λ is low high. omega (arith, is, low, high)) ∙ miss1 Left (λ is low high. omega (arith, is, low, high))
-  calm_at End = miss5 End (λ is low high. omega (arith, is, low, high)) ∙ miss4 End (λ is low high. omega (arith, is, low, high)) ∙ miss3 End (λ is low high. omega (arith, is, low, high)) ∙ miss2 End (λ is low high. omega (arith, is, low, high)) ∙ miss1 End (λ is low high. omega (arith, is, low, high))
-  calm_at (State s) = miss5 (State s) (λ is low high. omega (arith, is, low, high)) ∙ miss4 (State s) (λ is low high. omega (arith, is, low, high)) ∙ miss3 (State s) (λ is low high. omega (arith, is, low, high)) ∙ miss2 (State s) (λ is low high. omega (arith, is, low, high)) ∙ miss1 (State s) (λ is low high. omega (arith, is, low, high))
-  calm_at Phase = miss5 Phase (λ is low high. omega (arith, is, low, high)) ∙ miss4 Phase (λ is low high. omega (arith, is, low, high)) ∙ miss3 Phase (λ is low high. omega (arith, is, low, high)) ∙ miss2 Phase (λ is low high. omega (arith, is, low, high)) ∙ hit1 Phase (λ is. (omega (arith, is), omega (arith, is)))
-  calm_at Cset = miss5 Cset (λ is low high. omega (arith, is, low, high)) ∙ miss4 Cset (λ is low high. omega (arith, is, low, high)) ∙ miss3 Cset (λ is low high. omega (arith, is, low, high)) ∙ miss2 Cset (λ is low high. omega (arith, is, low, high)) ∙ hit1 Cset (λ is. (omega (arith, is), omega (arith, is)))
-  calm_at Free = miss5 Free (λ is low high. omega (arith, is, low, high)) ∙ miss4 Free (λ is low high. omega (arith, is, low, high)) ∙ miss3 Free (λ is low high. omega (arith, is, low, high)) ∙ miss2 Free (λ is low high. omega (arith, is, low, high)) ∙ miss1 Free (λ is low high. omega (arith, is, low, high))
-  calm_at Evac = miss5 Evac (λ is low high. omega (arith, is, low, high)) ∙ miss4 Evac (λ is low high. omega (arith, is, low, high)) ∙ miss3 Evac (λ is low high. omega (arith, is, low, high)) ∙ hit2 Evac (λ is. (omega (arith, is), omega (arith, is)))
-  calm_at Claim = miss5 Claim (λ is low high. omega (arith, is, low, high)) ∙ miss4 Claim (λ is low high. omega (arith, is, low, high)) ∙ miss3 Claim (λ is low high. omega (arith, is, low, high)) ∙ hit2 Claim (λ is. (omega (arith, is), omega (arith, is)))
-  calm_at Ask = miss5 Ask (λ is low high. omega (arith, is, low, high)) ∙ miss4 Ask (λ is low high. omega (arith, is, low, high)) ∙ miss3 Ask (λ is low high. omega (arith, is, low, high)) ∙ hit2 Ask (λ is. (omega (arith, is), omega (arith, is)))
-  calm_at (Top r) = miss5 (Top r) (λ is low high. omega (arith, is, low, high)) ∙ miss4 (Top r) (λ is low high. omega (arith, is, low, high)) ∙ miss3 (Top r) (λ is low high. omega (arith, is, low, high)) ∙ miss2 (Top r) (λ is low high. omega (arith, is, low, high)) ∙ miss1 (Top r) (λ is low high. omega (arith, is, low, high))
-  calm_at (Tams r) = miss5 (Tams r) (λ is low high. omega (arith, is, low, high)) ∙ miss4 (Tams r) (λ is low high. omega (arith, is, low, high)) ∙ hit3 (Tams r) (λ is. (omega (arith, is), omega (arith, is)))
-  calm_at (Limit r) = miss5 (Limit r) (λ is low high. omega (arith, is, low, high)) ∙ miss4 (Limit r) (λ is low high. omega (arith, is, low, high)) ∙ hit3 (Limit r) (λ is. (omega (arith, is), omega (arith, is)))
-  calm_at (Current s) = miss5 (Current s) (λ is low high. omega (arith, is, low, high)) ∙ miss4 (Current s) (λ is low high. omega (arith, is, low, high)) ∙ hit3 (Current s) (λ is. (omega (arith, is), omega (arith, is)))
-  calm_at (Root t i) = miss5 (Root t i) (λ is low high. omega (arith, is, low, high)) ∙ miss4 (Root t i) (λ is low high. omega (arith, is, low, high)) ∙ miss3 (Root t i) (λ is low high. omega (arith, is, low, high)) ∙ miss2 (Root t i) (λ is low high. omega (arith, is, low, high)) ∙ miss1 (Root t i) (λ is low high. omega (arith, is, low, high))
-  calm_at (Count t) = miss5 (Count t) (λ is low high. omega (arith, is, low, high)) ∙ hit4 (Count t) (λ is. (omega (arith, is), omega (arith, is)))
-  calm_at (Buffer t i) = miss5 (Buffer t i) (λ is low high. omega (arith, is, low, high)) ∙ miss4 (Buffer t i) (λ is low high. omega (arith, is, low, high)) ∙ miss3 (Buffer t i) (λ is low high. omega (arith, is, low, high)) ∙ miss2 (Buffer t i) (λ is low high. omega (arith, is, low, high)) ∙ miss1 (Buffer t i) (λ is low high. omega (arith, is, low, high))
-  calm_at (Wait t) = miss5 (Wait t) (λ is low high. omega (arith, is, low, high)) ∙ miss4 (Wait t) (λ is low high. omega (arith, is, low, high)) ∙ miss3 (Wait t) (λ is low high. omega (arith, is, low, high)) ∙ miss2 (Wait t) (λ is low high. omega (arith, is, low, high)) ∙ miss1 (Wait t) (λ is low high. omega (arith, is, low, high))
-  calm_at (Answer t) = miss5 (Answer t) (λ is low high. omega (arith, is, low, high)) ∙ miss4 (Answer t) (λ is low high. omega (arith, is, low, high)) ∙ miss3 (Answer t) (λ is low high. omega (arith, is, low, high)) ∙ miss2 (Answer t) (λ is low high. omega (arith, is, low, high)) ∙ miss1 (Answer t) (λ is low high. omega (arith, is, low, high))
-  calm_at (Grey n) = hit5 (Grey n) (λ is. (omega (arith, is), omega (arith, is)))
-  calm_at (Black n) = hit5 (Black n) (λ is. (omega (arith, is), omega (arith, is)))
-  calm_at (Heap a) = miss5 (Heap a) (λ is low high. omega (arith, is, low, high)) ∙ miss4 (Heap a) (λ is low high. omega (arith, is, low, high)) ∙ miss3 (Heap a) (λ is low high. omega (arith, is, low, high)) ∙ miss2 (Heap a) (λ is low high. omega (arith, is, low, high)) ∙ miss1 (Heap a) (λ is low high. omega (arith, is, low, high))
-  calm_at (Pin t i) = miss5 (Pin t i) (λ is low high. omega (arith, is, low, high)) ∙ miss4 (Pin t i) (λ is low high. omega (arith, is, low, high)) ∙ miss3 (Pin t i) (λ is low high. omega (arith, is, low, high)) ∙ miss2 (Pin t i) (λ is low high. omega (arith, is, low, high)) ∙ miss1 (Pin t i) (λ is low high. omega (arith, is, low, high))
+  calm_at Pause = bits_miss Pause (λ is low high. omega (arith, is, low, high)) ∙ count_miss Pause (λ is low high. omega (arith, is, low, high)) ∙ tams_miss Pause (λ is low high. omega (arith, is, low, high)) ∙ evac_miss Pause (λ is low high. omega (arith, is, low, high)) ∙ phase_miss Pause (λ is low high. omega (arith, is, low, high))
+  calm_at Left = bits_miss Left (λ is low high. omega (arith, is, low, high)) ∙ count_miss Left (λ is low high. omega (arith, is, low, high)) ∙ tams_miss Left (λ is low high. omega (arith, is, low, high)) ∙ evac_miss Left (λ is low high. omega (arith, is, low, high)) ∙ phase_miss Left (λ is low high. omega (arith, is, low, high))
+  calm_at End = bits_miss End (λ is low high. omega (arith, is, low, high)) ∙ count_miss End (λ is low high. omega (arith, is, low, high)) ∙ tams_miss End (λ is low high. omega (arith, is, low, high)) ∙ evac_miss End (λ is low high. omega (arith, is, low, high)) ∙ phase_miss End (λ is low high. omega (arith, is, low, high))
+  calm_at (State s) = bits_miss (State s) (λ is low high. omega (arith, is, low, high)) ∙ count_miss (State s) (λ is low high. omega (arith, is, low, high)) ∙ tams_miss (State s) (λ is low high. omega (arith, is, low, high)) ∙ evac_miss (State s) (λ is low high. omega (arith, is, low, high)) ∙ phase_miss (State s) (λ is low high. omega (arith, is, low, high))
+  calm_at Phase = bits_miss Phase (λ is low high. omega (arith, is, low, high)) ∙ count_miss Phase (λ is low high. omega (arith, is, low, high)) ∙ tams_miss Phase (λ is low high. omega (arith, is, low, high)) ∙ evac_miss Phase (λ is low high. omega (arith, is, low, high)) ∙ phase_hit Phase (λ is. (omega (arith, is), omega (arith, is)))
+  calm_at Cset = bits_miss Cset (λ is low high. omega (arith, is, low, high)) ∙ count_miss Cset (λ is low high. omega (arith, is, low, high)) ∙ tams_miss Cset (λ is low high. omega (arith, is, low, high)) ∙ evac_miss Cset (λ is low high. omega (arith, is, low, high)) ∙ phase_hit Cset (λ is. (omega (arith, is), omega (arith, is)))
+  calm_at Free = bits_miss Free (λ is low high. omega (arith, is, low, high)) ∙ count_miss Free (λ is low high. omega (arith, is, low, high)) ∙ tams_miss Free (λ is low high. omega (arith, is, low, high)) ∙ evac_miss Free (λ is low high. omega (arith, is, low, high)) ∙ phase_miss Free (λ is low high. omega (arith, is, low, high))
+  calm_at Evac = bits_miss Evac (λ is low high. omega (arith, is, low, high)) ∙ count_miss Evac (λ is low high. omega (arith, is, low, high)) ∙ tams_miss Evac (λ is low high. omega (arith, is, low, high)) ∙ evac_hit Evac (λ is. (omega (arith, is), omega (arith, is)))
+  calm_at Claim = bits_miss Claim (λ is low high. omega (arith, is, low, high)) ∙ count_miss Claim (λ is low high. omega (arith, is, low, high)) ∙ tams_miss Claim (λ is low high. omega (arith, is, low, high)) ∙ evac_hit Claim (λ is. (omega (arith, is), omega (arith, is)))
+  calm_at Ask = bits_miss Ask (λ is low high. omega (arith, is, low, high)) ∙ count_miss Ask (λ is low high. omega (arith, is, low, high)) ∙ tams_miss Ask (λ is low high. omega (arith, is, low, high)) ∙ evac_hit Ask (λ is. (omega (arith, is), omega (arith, is)))
+  calm_at (Top r) = bits_miss (Top r) (λ is low high. omega (arith, is, low, high)) ∙ count_miss (Top r) (λ is low high. omega (arith, is, low, high)) ∙ tams_miss (Top r) (λ is low high. omega (arith, is, low, high)) ∙ evac_miss (Top r) (λ is low high. omega (arith, is, low, high)) ∙ phase_miss (Top r) (λ is low high. omega (arith, is, low, high))
+  calm_at (Tams r) = bits_miss (Tams r) (λ is low high. omega (arith, is, low, high)) ∙ count_miss (Tams r) (λ is low high. omega (arith, is, low, high)) ∙ tams_hit (Tams r) (λ is. (omega (arith, is), omega (arith, is)))
+  calm_at (Limit r) = bits_miss (Limit r) (λ is low high. omega (arith, is, low, high)) ∙ count_miss (Limit r) (λ is low high. omega (arith, is, low, high)) ∙ tams_hit (Limit r) (λ is. (omega (arith, is), omega (arith, is)))
+  calm_at (Current s) = bits_miss (Current s) (λ is low high. omega (arith, is, low, high)) ∙ count_miss (Current s) (λ is low high. omega (arith, is, low, high)) ∙ tams_hit (Current s) (λ is. (omega (arith, is), omega (arith, is)))
+  calm_at (Root t i) = bits_miss (Root t i) (λ is low high. omega (arith, is, low, high)) ∙ count_miss (Root t i) (λ is low high. omega (arith, is, low, high)) ∙ tams_miss (Root t i) (λ is low high. omega (arith, is, low, high)) ∙ evac_miss (Root t i) (λ is low high. omega (arith, is, low, high)) ∙ phase_miss (Root t i) (λ is low high. omega (arith, is, low, high))
+  calm_at (Count t) = bits_miss (Count t) (λ is low high. omega (arith, is, low, high)) ∙ count_hit (Count t) (λ is. (omega (arith, is), omega (arith, is)))
+  calm_at (Buffer t i) = bits_miss (Buffer t i) (λ is low high. omega (arith, is, low, high)) ∙ count_miss (Buffer t i) (λ is low high. omega (arith, is, low, high)) ∙ tams_miss (Buffer t i) (λ is low high. omega (arith, is, low, high)) ∙ evac_miss (Buffer t i) (λ is low high. omega (arith, is, low, high)) ∙ phase_miss (Buffer t i) (λ is low high. omega (arith, is, low, high))
+  calm_at (Wait t) = bits_miss (Wait t) (λ is low high. omega (arith, is, low, high)) ∙ count_miss (Wait t) (λ is low high. omega (arith, is, low, high)) ∙ tams_miss (Wait t) (λ is low high. omega (arith, is, low, high)) ∙ evac_miss (Wait t) (λ is low high. omega (arith, is, low, high)) ∙ phase_miss (Wait t) (λ is low high. omega (arith, is, low, high))
+  calm_at (Answer t) = bits_miss (Answer t) (λ is low high. omega (arith, is, low, high)) ∙ count_miss (Answer t) (λ is low high. omega (arith, is, low, high)) ∙ tams_miss (Answer t) (λ is low high. omega (arith, is, low, high)) ∙ evac_miss (Answer t) (λ is low high. omega (arith, is, low, high)) ∙ phase_miss (Answer t) (λ is low high. omega (arith, is, low, high))
+  calm_at (Grey n) = bits_hit (Grey n) (λ is. (omega (arith, is), omega (arith, is)))
+  calm_at (Black n) = bits_hit (Black n) (λ is. (omega (arith, is), omega (arith, is)))
+  calm_at (Heap a) = bits_miss (Heap a) (λ is low high. omega (arith, is, low, high)) ∙ count_miss (Heap a) (λ is low high. omega (arith, is, low, high)) ∙ tams_miss (Heap a) (λ is low high. omega (arith, is, low, high)) ∙ evac_miss (Heap a) (λ is low high. omega (arith, is, low, high)) ∙ phase_miss (Heap a) (λ is low high. omega (arith, is, low, high))
+  calm_at (Pin t i) = bits_miss (Pin t i) (λ is low high. omega (arith, is, low, high)) ∙ count_miss (Pin t i) (λ is low high. omega (arith, is, low, high)) ∙ tams_miss (Pin t i) (λ is low high. omega (arith, is, low, high)) ∙ evac_miss (Pin t i) (λ is low high. omega (arith, is, low, high)) ∙ phase_miss (Pin t i) (λ is low high. omega (arith, is, low, high))
 
   -- once five ranges are cleared, and no region is shared, nothing is left of a collection in progress
-  pub calmed : write (view c w5) Share 0 ≡ calm (view c w0)
+  pub calmed : write (view c all_done) Share 0 ≡ calm (view c old)
   calmed = fun_ext calm_at
 
-module _ (c : Config) (places w0 w1 w2 : List ℕ)
-    (s1 : IsChanged (word_at c (Root 0 0)) (word_at c (Count 0)) (renewed_by c.region_words places) w0 w1)
-    (s2 : IsChanged (word_at c (Answer 0)) (word_at c (Grey 0)) (renewed_by c.region_words places) w1 w2) where
-  root_hit : (w : Word) → (IsWord c w → (word_at c (Root 0 0) ≤ word_at c w) × (word_at c w < word_at c (Count 0))) → view c w1 w ≡ renewed_by c.region_words places (view c w0 w)
-  root_hit w inside = hit c (word_at c (Root 0 0)) (word_at c (Count 0)) (renewed_by c.region_words places) w0 w1 s1 w refl inside
+module _ (c : Config) (places old first_done second_done : List ℕ)
+    (first_cleared : IsChanged (word_at c (Root 0 0)) (word_at c (Count 0)) (renewed_by c.region_words places) old first_done)
+    (second_cleared : IsChanged (word_at c (Answer 0)) (word_at c (Grey 0)) (renewed_by c.region_words places) first_done second_done) where
+  root_hit : (w : Word) → (IsWord c w → (word_at c (Root 0 0) ≤ word_at c w) × (word_at c w < word_at c (Count 0))) → view c first_done w ≡ renewed_by c.region_words places (view c old w)
+  root_hit w inside = hit c (word_at c (Root 0 0)) (word_at c (Count 0)) (renewed_by c.region_words places) old first_done first_cleared w refl inside
 
-  root_miss : (w : Word) → (IsWord c w → word_at c (Root 0 0) ≤ word_at c w → word_at c w < word_at c (Count 0) → ⊥) → view c w1 w ≡ view c w0 w
-  root_miss w outside = miss c (word_at c (Root 0 0)) (word_at c (Count 0)) (renewed_by c.region_words places) w0 w1 s1 w outside
+  root_miss : (w : Word) → (IsWord c w → word_at c (Root 0 0) ≤ word_at c w → word_at c w < word_at c (Count 0) → ⊥) → view c first_done w ≡ view c old w
+  root_miss w outside = miss c (word_at c (Root 0 0)) (word_at c (Count 0)) (renewed_by c.region_words places) old first_done first_cleared w outside
 
-  answer_hit : (w : Word) → (IsWord c w → (word_at c (Answer 0) ≤ word_at c w) × (word_at c w < word_at c (Grey 0))) → view c w2 w ≡ renewed_by c.region_words places (view c w1 w)
-  answer_hit w inside = hit c (word_at c (Answer 0)) (word_at c (Grey 0)) (renewed_by c.region_words places) w1 w2 s2 w refl inside
+  answer_hit : (w : Word) → (IsWord c w → (word_at c (Answer 0) ≤ word_at c w) × (word_at c w < word_at c (Grey 0))) → view c second_done w ≡ renewed_by c.region_words places (view c first_done w)
+  answer_hit w inside = hit c (word_at c (Answer 0)) (word_at c (Grey 0)) (renewed_by c.region_words places) first_done second_done second_cleared w refl inside
 
-  answer_miss : (w : Word) → (IsWord c w → word_at c (Answer 0) ≤ word_at c w → word_at c w < word_at c (Grey 0) → ⊥) → view c w2 w ≡ view c w1 w
-  answer_miss w outside = miss c (word_at c (Answer 0)) (word_at c (Grey 0)) (renewed_by c.region_words places) w1 w2 s2 w outside
+  answer_miss : (w : Word) → (IsWord c w → word_at c (Answer 0) ≤ word_at c w → word_at c w < word_at c (Grey 0) → ⊥) → view c second_done w ≡ view c first_done w
+  answer_miss w outside = miss c (word_at c (Answer 0)) (word_at c (Grey 0)) (renewed_by c.region_words places) first_done second_done second_cleared w outside
 
-  renewed_at : (w : Word) → view c w2 w ≡ roots_renewed c places (view c w0) w
+  renewed_at : (w : Word) → view c second_done w ≡ roots_renewed c places (view c old) w
   renewed_at Share = answer_miss Share (λ is low high. omega (arith, is, low, high)) ∙ root_miss Share (λ is low high. omega (arith, is, low, high))
   renewed_at Pause = answer_miss Pause (λ is low high. omega (arith, is, low, high)) ∙ root_miss Pause (λ is low high. omega (arith, is, low, high))
   renewed_at Left = answer_miss Left (λ is low high. omega (arith, is, low, high)) ∙ root_miss Left (λ is low high. omega (arith, is, low, high))
@@ -114,5 +114,5 @@ module _ (c : Config) (places w0 w1 w2 : List ℕ)
   renewed_at (Pin t i) = answer_miss (Pin t i) (λ is low high. omega (arith, is, low, high)) ∙ root_miss (Pin t i) (λ is low high. omega (arith, is, low, high))
 
   -- once two ranges are renewed, roots and answers are
-  pub roots_are_renewed : view c w2 ≡ roots_renewed c places (view c w0)
+  pub roots_are_renewed : view c second_done ≡ roots_renewed c places (view c old)
   roots_are_renewed = fun_ext renewed_at

@@ -95,17 +95,17 @@ module _ (old one two : Image) (can : CanCollect (config_of old) (memory_of old)
       (cases_lt 1 word)
 
   -- The words after what is left over was filled.
-  module _ (three : Image) (found : found_of two ≡ held_in g m) (c3 : config_of three ≡ config_of two) (p3 : places_of three ≡ places_of two)
-      (m3 : memory_of three ≡ filled_in (config_of two) (is_pinned_below (config_of two) (memory_of two) (config_of two).regions) (is_left_over (memory_of two) (found_of two) NotFound) (memory_of two)) where
+  module _ (three : Image) (found : found_of two ≡ held_in g m) (three_same : config_of three ≡ config_of two) (three_places : places_of three ≡ places_of two)
+      (three_is : memory_of three ≡ filled_in (config_of two) (is_pinned_below (config_of two) (memory_of two) (config_of two).regions) (is_left_over (memory_of two) (found_of two) NotFound) (memory_of two)) where
     abbrev filled : Word → ℕ
     filled = filled_in g (is_pinned_below g moved g.regions) (is_left_over moved (held_in g m) NotFound) moved
 
     pub three_config : config_of three ≡ g
-    three_config = c3 ∙ two_config
+    three_config = three_same ∙ two_config
 
     three_words : memory_of three ≡ filled
     three_words =
-        m3
+        three_is
         ∙ ap (λ (k : Config). filled_in k (is_pinned_below k (memory_of two) k.regions) (is_left_over (memory_of two) (found_of two) NotFound) (memory_of two)) two_config
         ∙ ap (λ (n : Word → ℕ). filled_in g (is_pinned_below g n g.regions) (is_left_over n (found_of two) NotFound) n) two_words
         ∙ ap (λ (xs : List ℕ). filled_in g (is_pinned_below g moved g.regions) (is_left_over moved xs NotFound) moved) found
@@ -113,7 +113,7 @@ module _ (old one two : Image) (can : CanCollect (config_of old) (memory_of old)
     in_table : (v : Word) → memory_of three v ≡ m v → LeadsToHeld g m (m v) → IsInTable (config_of three).region_words (places_of three) (memory_of three v)
     in_table v is leads =
         subst (λ (k : Config). IsInTable k.region_words (places_of three) (memory_of three v)) (sym three_config)
-        (subst (λ (ps : List ℕ). IsInTable g.region_words ps (memory_of three v)) (sym p3)
+        (subst (λ (ps : List ℕ). IsInTable g.region_words ps (memory_of three v)) (sym three_places)
         (subst (IsInTable g.region_words (places_of two)) (sym is) (renewed_as (m v) leads).in_table))
 
     pub roots_in_table : (t i : ℕ) → t < (config_of three).mutators → i < 16 → IsInTable (config_of three).region_words (places_of three) (memory_of three (Root t i))
@@ -170,20 +170,20 @@ module _ (old one two : Image) (can : CanCollect (config_of old) (memory_of old)
       freed_at (Black n) = refl
       freed_at (Heap a) = filled_is g m can begin a
 
-      module _ (four five six : Image) (c4 : config_of four ≡ config_of three) (c5 : config_of five ≡ config_of four) (c6 : config_of six ≡ config_of five)
-          (m4 : memory_of four ≡ roots_renewed (config_of three) (places_of three) (memory_of three)) (m5 : memory_of five ≡ calm (memory_of four))
-          (m6 : memory_of six ≡ write (memory_of five) Free (empty_regions (λ r. memory_of five (Top r)) (config_of five).regions)) where
+      module _ (four five six : Image) (four_same : config_of four ≡ config_of three) (five_same : config_of five ≡ config_of four) (six_same : config_of six ≡ config_of five)
+          (four_renewed : memory_of four ≡ roots_renewed (config_of three) (places_of three) (memory_of three)) (five_calm : memory_of five ≡ calm (memory_of four))
+          (six_freed : memory_of six ≡ write (memory_of five) Free (empty_regions (λ r. memory_of five (Top r)) (config_of five).regions)) where
         pub six_config : config_of six ≡ g
-        six_config = c6 ∙ c5 ∙ c4 ∙ three_config
+        six_config = six_same ∙ five_same ∙ four_same ∙ three_config
 
         pub six_words : memory_of six ≡ packed g (is_row_pinned g m) now kept m
         six_words =
             let four_is : memory_of four ≡ roots_renewed g (places_of two) filled =
-            m4 ∙ ap (λ (k : Config). roots_renewed k (places_of three) (memory_of three)) three_config
-            ∙ ap (λ (ps : List ℕ). roots_renewed g ps (memory_of three)) p3 ∙ ap (roots_renewed g (places_of two)) three_words in
-            let five_is : memory_of five ≡ ended = m5 ∙ ap calm four_is in
-            let five_config : config_of five ≡ g = c5 ∙ c4 ∙ three_config in
-            m6
+            four_renewed ∙ ap (λ (k : Config). roots_renewed k (places_of three) (memory_of three)) three_config
+            ∙ ap (λ (ps : List ℕ). roots_renewed g ps (memory_of three)) three_places ∙ ap (roots_renewed g (places_of two)) three_words in
+            let five_is : memory_of five ≡ ended = five_calm ∙ ap calm four_is in
+            let five_config : config_of five ≡ g = five_same ∙ four_same ∙ three_config in
+            six_freed
             ∙ ap (λ (k : Config). write (memory_of five) Free (empty_regions (λ r. memory_of five (Top r)) k.regions)) five_config
             ∙ ap (λ (k : Word → ℕ). write k Free (empty_regions (λ r. k (Top r)) g.regions)) five_is
             ∙ fun_ext freed_at

@@ -42,7 +42,7 @@ module _ (threads : ℕ) (ns : List Name) (are : AreOfThreads threads ns) where
     -- one object more is the next of its thread
     pub next_is : InOrder ns → (count : ℕ) → (name.thread ≡ 0 → count ≡ 1) → (1 ≤ name.thread → count ≡ get_or old (name.thread - 1) 0 + 1) → count ≡ earlier_names ns name + 1
     next_is order count of_hub of_thread = ⊎_elim
-        (λ (none : name.thread < 1). let zero' : name.thread ≡ 0 = omega (arith, none) in omega (arith, of_hub zero', hub_first name zero' name_there))
+        (λ (none : name.thread < 1). let is_zero : name.thread ≡ 0 = omega (arith, none) in omega (arith, of_hub is_zero, hub_first name is_zero name_there))
         (λ (some : 1 ≤ name.thread).
         let before : earlier_names ns name ≡ names_by (take k ns) name.thread = subst (λ (m : Name). earlier_names ns m ≡ names_by (take k ns) m.thread) is (earlier_is ns order k hub below) in
         omega (arith, of_thread some, kept some, before))

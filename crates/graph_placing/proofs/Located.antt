@@ -83,7 +83,7 @@ module _ (c : Config) (t : Text) (whole : IsPlaceable c t) where
   base_and_rest a low =
       let rows : a / w * w + a % w ≡ a = div-add-mod' a w in
       let least : 1 ≤ a / w = (⊎_elim
-      (λ (none : a / w < 1). let zero' : a / w ≡ 0 = omega (arith, none) in let row : a / w * w ≡ 0 * w = ap (λ i. i * w) zero' in absurd (omega (arith, row, rows, mod_below a w some, low)))
+      (λ (none : a / w < 1). let is_zero : a / w ≡ 0 = omega (arith, none) in let row : a / w * w ≡ 0 * w = ap (λ i. i * w) is_zero in absurd (omega (arith, row, rows, mod_below a w some, low)))
       (λ (one : 1 ≤ a / w). one)
       (cases_lt (a / w) 1)) in
       let back : a / w - 1 + 1 ≡ a / w = omega (arith, least) in

@@ -81,10 +81,10 @@ module _ (c : Config) (t : Text) (whole : IsPlaceable c t) (are : AreOfThreads c
   new_name : (n : Name) → Contains names n → IsOfThreads c.mutators (Some (f n))
   new_name n there = ⊎_elim
       (λ (none : n.thread < 1).
-      let zero' : n.thread ≡ 0 = omega (arith, none) in
-      let first = hub_first c.mutators names are n zero' there in
+      let is_zero : n.thread ≡ 0 = omega (arith, none) in
+      let first = hub_first c.mutators names are n is_zero there in
       let count : earlier_names names n + 1 ≡ 1 = omega (arith, first) in
-      inl (one_name (f n) hub zero' count))
+      inl (one_name (f n) hub is_zero count))
       (λ (some : 1 ≤ n.thread). inr (some, are.within n there))
       (cases_lt n.thread 1)
 

@@ -1,12 +1,13 @@
 //! Counts the objects of each thread.
 
 ghost use Rattle.std.specs.Prelude.{◌≡◌, ◌<◌, ◌≤◌, ◌+◌, ◌-◌, length, slice_index, slice_set};
+ghost use Rattle.shen_graph.specs.Valid.{most_objects};
 
 /// Counts one object more of a thread, and says which of its objects it is, counted from 1. Of thread 0, which has the hub alone, no count
 /// is kept.
 pub(crate) fn count_one(counts: &mut [u32], thread: u32) -> u32
     requires thread { thread ≤ length counts.old }
-    requires few { 1 ≤ thread → slice_index counts.old (thread - 1) < 4294967295 }
+    requires few { 1 ≤ thread → slice_index counts.old (thread - 1) < most_objects }
     ensures hub { thread ≡ 0 → result ≡ 1 }
     ensures hub_counts { thread ≡ 0 → counts.new ≡ counts.old }
     ensures count { 1 ≤ thread → result ≡ slice_index counts.old (thread - 1) + 1 }

@@ -2,6 +2,7 @@
 
 ghost use Rattle.std.specs.Prelude.{◌≡◌, ◌<◌, ◌≤◌, ◌↔◌, ℕ, IsTrue, None, length};
 ghost use Rattle.shen_graph.specs.GraphText.{pin_of};
+ghost use Rattle.shen_graph.specs.Valid.{most_objects};
 ghost use Rattle.graph_placing.specs.Renewed.{PinsNothing};
 
 use shen_graph::GraphText;
@@ -21,7 +22,7 @@ fn is_thread_unpinned(text: &GraphText, thread: u32) -> bool
 
 /// Whether all pin slots are empty.
 pub(crate) fn is_unpinned(text: &GraphText) -> bool
-    requires { length text.now.roots < 4294967295 }
+    requires { length text.now.roots < most_objects }
     ensures { IsTrue result ↔ PinsNothing text.now }
 {
     for mutator in 0..text.mutators() {

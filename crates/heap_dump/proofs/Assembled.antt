@@ -67,16 +67,16 @@ shorter a b bytes rest n led = omega (arith, ap length (leads_bytes a b bytes re
 pub line_shorter : (bytes text rest : List ℕ) → parts 10 bytes ≡ text ∷ parts 10 rest → length rest + 1 ≤ length bytes
 line_shorter bytes text rest cut = omega (arith, ap length (bytes_of_line bytes text rest cut), length-append text (10 ∷ rest))
 
-pub to_counts : (config : Config) (counts b0 b1 b2 : List ℕ) → Leads Version b0 b1 3 (Counts config) → Leads (Counts config) b1 b2 1 (Listed (listed config counts [] [])) → Leads Version b0 b2 4 (Listed (listed config counts [] []))
-to_counts config counts b0 b1 b2 head counted = leads_both Version (Counts config) (Listed (listed config counts [] [])) b0 b1 b2 3 1 head counted
+pub to_counts : (config : Config) (counts dump_bytes behind_head behind_counts : List ℕ) → Leads Version dump_bytes behind_head 3 (Counts config) → Leads (Counts config) behind_head behind_counts 1 (Listed (listed config counts [] [])) → Leads Version dump_bytes behind_counts 4 (Listed (listed config counts [] []))
+to_counts config counts dump_bytes behind_head behind_counts head counted = leads_both Version (Counts config) (Listed (listed config counts [] [])) dump_bytes behind_head behind_counts 3 1 head counted
 
-pub to_rows : (config : Config) (counts b0 b1 b2 b3 : List ℕ) (lines : ℕ) (g0 g1 : Text) → Leads Version b0 b1 3 (Counts config) → Leads (Counts config) b1 b2 1 (Listed (listed config counts [] []))
-    → (rowed : HasTakenRows counts b2 b3 lines g0 g1) → Leads Version b0 b3 (4 + lines) (Listed (listed config counts rowed.rows []))
-to_rows config counts b0 b1 b2 b3 lines g0 g1 head counted rowed =
-    leads_both Version (Listed (listed config counts [] [])) (Listed (listed config counts rowed.rows [])) b0 b2 b3 4 lines (to_counts config counts b0 b1 b2 head counted) (rowed.led config)
+pub to_rows : (config : Config) (counts dump_bytes behind_head behind_counts behind_objects : List ℕ) (lines : ℕ) (opened_text objects_text : Text) → Leads Version dump_bytes behind_head 3 (Counts config) → Leads (Counts config) behind_head behind_counts 1 (Listed (listed config counts [] []))
+    → (rowed : HasTakenRows counts behind_counts behind_objects lines opened_text objects_text) → Leads Version dump_bytes behind_objects (4 + lines) (Listed (listed config counts rowed.rows []))
+to_rows config counts dump_bytes behind_head behind_counts behind_objects lines opened_text objects_text head counted rowed =
+    leads_both Version (Listed (listed config counts [] [])) (Listed (listed config counts rowed.rows [])) dump_bytes behind_counts behind_objects 4 lines (to_counts config counts dump_bytes behind_head behind_counts head counted) (rowed.led config)
 
-pub threads_now : (config : Config) (counts b2 b3 : List ℕ) (lines : ℕ) (g0 g1 : Text) (words m : ℕ) → HasTakenRows counts b2 b3 lines g0 g1 → g0 ≡ empty words m → m ≡ config.mutators → config.mutators ≡ length g1.roots
-threads_now config counts b2 b3 lines g0 g1 words m rowed opened is =
+pub threads_now : (config : Config) (counts behind_counts behind_objects : List ℕ) (lines : ℕ) (opened_text objects_text : Text) (words m : ℕ) → HasTakenRows counts behind_counts behind_objects lines opened_text objects_text → opened_text ≡ empty words m → m ≡ config.mutators → config.mutators ≡ length objects_text.roots
+threads_now config counts behind_counts behind_objects lines opened_text objects_text words m rowed opened is =
     sym (ap length rowed.roots ∙ ap (λ (t : Text). length t.roots) opened ∙ length-replicate m (replicate 16 None) ∙ is)
 
 pub counts_fault : (e : TraceFault) (threads : ℕ) (bytes : List ℕ) (c : Config) → (e ≡ NoMemory) ⊎ ((d : Config) → d.mutators ≡ threads → IsStop (Counts d) 4 bytes e) → c.mutators ≡ threads → (e ≡ NoMemory) ⊎ IsStop (Counts c) 4 bytes e
@@ -88,75 +88,75 @@ pub mark_fault : (e : TraceFault) (first : ℕ) (bytes : List ℕ) (t : Text) (d
 mark_fault e first bytes t d (inl none) held some = inl none
 mark_fault e first bytes t d (inr stop) held some = inr (stop d held some)
 
-module _ (config : Config) (counts b0 b1 b2 b3 b4 : List ℕ) (lines : ℕ) (g0 g1 g2 : Text) (all : List (List Reference))
-    (head : Leads Version b0 b1 3 (Counts config)) (counted : Leads (Counts config) b1 b2 1 (Listed (listed config counts [] [])))
-    (rowed : HasTakenRows counts b2 b3 lines g0 g1) (rooted : HasTakenRoots b3 b4 (length g1.roots) g1 g2 all) (threads : config.mutators ≡ length g1.roots) (few : length g1.roots ≤ 8) (some : 1 ≤ length g1.roots) where
+module _ (config : Config) (counts dump_bytes behind_head behind_counts behind_objects behind_roots : List ℕ) (lines : ℕ) (opened_text objects_text rooted_text : Text) (all : List (List Reference))
+    (head : Leads Version dump_bytes behind_head 3 (Counts config)) (counted : Leads (Counts config) behind_head behind_counts 1 (Listed (listed config counts [] [])))
+    (rowed : HasTakenRows counts behind_counts behind_objects lines opened_text objects_text) (rooted : HasTakenRoots behind_objects behind_roots (length objects_text.roots) objects_text rooted_text all) (threads : config.mutators ≡ length objects_text.roots) (few : length objects_text.roots ≤ 8) (some : 1 ≤ length objects_text.roots) where
   abbrev pub whole : Dumped
   whole = listed config counts rowed.rows all
 
-  rows_now : g2.rows ≡ map held_row rowed.rows
+  rows_now : rooted_text.rows ≡ map held_row rowed.rows
   rows_now = ap (λ (t : Text). t.rows) rooted.text ∙ rowed.held
 
-  roots_now : g2.roots ≡ map (map held) all
-  roots_now = ap (λ (t : Text). t.roots) rooted.text ∙ ap (λ (rs : List (List Reference)). map (map held) all ++ rs) (drop_all (length g1.roots) g1.roots (omega arith)) ∙ append-nil (map (map held) all)
+  roots_now : rooted_text.roots ≡ map (map held) all
+  roots_now = ap (λ (t : Text). t.roots) rooted.text ∙ ap (λ (rs : List (List Reference)). map (map held) all ++ rs) (drop_all (length objects_text.roots) objects_text.roots (omega arith)) ∙ append-nil (map (map held) all)
 
   sizes : (length counts ≡ config.mutators) × All (λ n. n ≤ most_made) counts
-  sizes = counts_size b1 b2 config (listed config counts [] []) counted
+  sizes = counts_size behind_head behind_counts config (listed config counts [] []) counted
 
-  pub held_now : IsHeldDump whole g2
+  pub held_now : IsHeldDump whole rooted_text
   held_now = record {
-    form = (record { narrow = head_narrow b0 b1 config head; threads = sizes.0; counts = sizes.1; rows = rowed.all; order = rowed.order; each = rooted.count ∙ sym threads; roots = rooted.each });
+    form = (record { narrow = head_narrow dump_bytes behind_head config head; threads = sizes.0; counts = sizes.1; rows = rowed.all; order = rowed.order; each = rooted.count ∙ sym threads; roots = rooted.each });
     rows = rows_now;
     roots = roots_now;
   }
 
-  pub order_now : InOrder (names_of g2)
-  order_now = subst InOrder (sym (ap (λ (t : Text). names_of t) rooted.text ∙ names_now counts b2 b3 lines g0 g1 rowed)) rowed.order
+  pub order_now : InOrder (names_of rooted_text)
+  order_now = subst InOrder (sym (ap (λ (t : Text). names_of t) rooted.text ∙ names_now counts behind_counts behind_objects lines opened_text objects_text rowed)) rowed.order
 
-  pub few_now : length g2.roots ≤ 8
+  pub few_now : length rooted_text.roots ≤ 8
   few_now = omega (arith, ap length roots_now, len_map (map held) all, rooted.count, few)
 
   pub some_roots : whole.roots ≢ []
   some_roots = λ none. omega (arith, ap length none, rooted.count, some)
 
-  pub listing : Leads (Listed (listed config counts [] [])) b2 b4 (lines + length g1.roots) (Listed whole)
+  pub listing : Leads (Listed (listed config counts [] [])) behind_counts behind_roots (lines + length objects_text.roots) (Listed whole)
   listing =
-      leads_both (Listed (listed config counts [] [])) (Listed (listed config counts rowed.rows [])) (Listed whole) b2 b3 b4 lines (length g1.roots) (rowed.led config)
+      leads_both (Listed (listed config counts [] [])) (Listed (listed config counts rowed.rows [])) (Listed whole) behind_counts behind_objects behind_roots lines (length objects_text.roots) (rowed.led config)
       (rooted.led (listed config counts rowed.rows []) refl threads)
 
-  pub to_roots : Leads Version b0 b4 (4 + (lines + length g1.roots)) (Listed whole)
-  to_roots = leads_both Version (Listed (listed config counts [] [])) (Listed whole) b0 b2 b4 4 (lines + length g1.roots) (to_counts config counts b0 b1 b2 head counted) listing
+  pub to_roots : Leads Version dump_bytes behind_roots (4 + (lines + length objects_text.roots)) (Listed whole)
+  to_roots = leads_both Version (Listed (listed config counts [] [])) (Listed whole) dump_bytes behind_counts behind_roots 4 (lines + length objects_text.roots) (to_counts config counts dump_bytes behind_head behind_counts head counted) listing
 
-  module _ (b5 text : List ℕ) (cut : parts 10 b4 ≡ text ∷ parts 10 b5) (mark : Spells text mark_line) (reach : IsReach (graph_from g2) (names_of g2)) where
-    is_dump : IsDump whole × (g2.rows ≡ rowed.rows) × (g2.roots ≡ all)
-    is_dump = held_is_dump whole g2 held_now few_now reach
+  module _ (behind_mark text : List ℕ) (cut : parts 10 behind_roots ≡ text ∷ parts 10 behind_mark) (mark : Spells text mark_line) (reach : IsReach (graph_from rooted_text) (names_of rooted_text)) where
+    is_dump : IsDump whole × (rooted_text.rows ≡ rowed.rows) × (rooted_text.roots ≡ all)
+    is_dump = held_is_dump whole rooted_text held_now few_now reach
 
-    pub to_mark : Leads Version b0 b5 (4 + (lines + length g1.roots) + 1) (Behind (Commands run_version config))
+    pub to_mark : Leads Version dump_bytes behind_mark (4 + (lines + length objects_text.roots) + 1) (Behind (Commands run_version config))
     to_mark =
-        leads_both Version (Listed whole) (Behind (Commands run_version config)) b0 b4 b5 (4 + (lines + length g1.roots)) 1 to_roots
-        (leads_one (Listed whole) (Behind (Commands run_version config)) b4 text b5 cut (inr (inr (is_dump.0, mark, refl))))
+        leads_both Version (Listed whole) (Behind (Commands run_version config)) dump_bytes behind_roots behind_mark (4 + (lines + length objects_text.roots)) 1 to_roots
+        (leads_one (Listed whole) (Behind (Commands run_version config)) behind_roots text behind_mark cut (inr (inr (is_dump.0, mark, refl))))
 
-    pub bad_trace : (first n : ℕ) (why : Why) → first ≡ 5 + lines + length g1.roots + 1 → length b0 ≤ most_bytes → StopsBody run_version config first b5 n why → DumpRefused b0 n why
+    pub bad_trace : (first n : ℕ) (why : Why) → first ≡ 5 + lines + length objects_text.roots + 1 → length dump_bytes ≤ most_bytes → StopsBody run_version config first behind_mark n why → DumpRefused dump_bytes n why
     bad_trace first n why number short stops =
-        refused b0 n why short
-        (stops_behind Version (Behind (Commands run_version config)) 1 first b0 b5 (4 + (lines + length g1.roots) + 1) n why to_mark (omega (arith, number)) (body_stops config first b5 n why stops))
+        refused dump_bytes n why short
+        (stops_behind Version (Behind (Commands run_version config)) 1 first dump_bytes behind_mark (4 + (lines + length objects_text.roots) + 1) n why to_mark (omega (arith, number)) (body_stops config first behind_mark n why stops))
 
-    pub resumes : (scripts : List (List Command)) (items : List Item) → length b0 ≤ most_bytes → HasReadBody run_version config b5 scripts items → Resumes b0 (dumped config counts g2) scripts items
+    pub resumes : (scripts : List (List Command)) (items : List Item) → length dump_bytes ≤ most_bytes → HasReadBody run_version config behind_mark scripts items → Resumes dump_bytes (dumped config counts rooted_text) scripts items
     resumes scripts items short body =
         let smalls = dump_small whole is_dump.0 (omega (arith, sizes.0, threads, few)) in
-        let same : whole ≡ dumped config counts g2 =
+        let same : whole ≡ dumped config counts rooted_text =
         ap (λ (rs : List Row). record { config = config; counts = counts; rows = rs; roots = all }) (sym is_dump.1)
-        ∙ ap (λ (rs : List (List Reference)). record { config = config; counts = counts; rows = g2.rows; roots = rs }) (sym is_dump.2) in
-        let marked : b4 ≡ mark_line ++ b5 = bytes_of_line b4 text b5 cut ∙ sym (append_assoc text (newline ∷ []) b5) ∙ ap (λ (bs : List ℕ). bs ++ b5) mark in
-        let list = listed_spelled b2 b4 (lines + length g1.roots) (listed config counts [] []) whole listing refl refl (rooted.count ∙ sym threads) rooted.each smalls.0 smalls.1 in
-        subst (λ (d : Dumped). Resumes b0 d scripts items) same
+        ∙ ap (λ (rs : List (List Reference)). record { config = config; counts = counts; rows = rooted_text.rows; roots = rs }) (sym is_dump.2) in
+        let marked : behind_roots ≡ mark_line ++ behind_mark = bytes_of_line behind_roots text behind_mark cut ∙ sym (append_assoc text (newline ∷ []) behind_mark) ∙ ap (λ (bs : List ℕ). bs ++ behind_mark) mark in
+        let list = listed_spelled behind_counts behind_roots (lines + length objects_text.roots) (listed config counts [] []) whole listing refl refl (rooted.count ∙ sym threads) rooted.each smalls.0 smalls.1 in
+        subst (λ (d : Dumped). Resumes dump_bytes d scripts items) same
         (record {
           dump = is_dump.0;
           lines = body.lines;
           in_range = body.in_range;
           turns = body.turns;
           turns_in_range = body.turns_in_range;
-          spelled = all_spelled b0 b1 b2 b4 b5 mark_line (flat_map line body.lines ++ flat_map schedule_line body.turns) whole (head_spelled b0 b1 config head) (counts_spelled b1 b2 config (listed config counts [] []) counted) list marked body.spelled;
+          spelled = all_spelled dump_bytes behind_head behind_counts behind_roots behind_mark mark_line (flat_map line body.lines ++ flat_map schedule_line body.turns) whole (head_spelled dump_bytes behind_head config head) (counts_spelled behind_head behind_counts config (listed config counts [] []) counted) list marked body.spelled;
           by_thread = body.by_thread;
           in_order = body.in_order;
           short = short;

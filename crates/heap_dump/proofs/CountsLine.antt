@@ -114,8 +114,8 @@ counts_missing text bytes rest count threads counts first taken low none ns size
     by_left (taken.only ns (rest_is counts_title ns text bytes first e) fit)
   where
     by_ms : (ms : List ℕ) → ns ≡ counts ++ ms → rest ≡ numbers ms → All (λ n. n ≤ most_made) ms → ⊥
-    by_ms [] split left fit' = let sizes = ap length split in omega (arith, sizes, length-append counts [], size, taken.size, low)
-    by_ms (m ∷ ms) split left fit' = let again = ap (numbers_at count_limits) left ∙ first_read m ms (All-head (λ n. n ≤ most_made) m ms fit') in absurd cc
+    by_ms [] split left all_fit = let sizes = ap length split in omega (arith, sizes, length-append counts [], size, taken.size, low)
+    by_ms (m ∷ ms) split left all_fit = let again = ap (numbers_at count_limits) left ∙ first_read m ms (All-head (λ n. n ≤ most_made) m ms all_fit) in absurd cc
 
     by_left : LeftOver counts ns rest → ⊥
     by_left w = by_ms w.ms w.split w.left w.fit

@@ -41,9 +41,9 @@ dotted_word a b one other = record {
 pub name_is_word : (n : Name) → n.thread < 2 ^ 64 → n.count < 2 ^ 64 → IsWord (name_word n)
 name_is_word n thread count = dotted_word (decimal n.thread) (decimal n.count) (decimal_word n.thread thread) (decimal_word n.count count)
 
-reference_word' : (w : List ℕ) (r : Reference) → IsDumpReference w r → IsWord w
-reference_word' w None h = subst IsWord (sym h) dash_word
-reference_word' w (Some n) h =
+dump_reference_word : (w : List ℕ) (r : Reference) → IsDumpReference w r → IsWord w
+dump_reference_word w None h = subst IsWord (sym h) dash_word
+dump_reference_word w (Some n) h =
     let first : IsWord h.0 = record { no_space = free_digits 32 h.0 (omega arith) (number_digits h.0 h.2); no_end = free_digits 10 h.0 (omega arith) (number_digits h.0 h.2) } in
     let second : IsWord h.1 = record { no_space = free_digits 32 h.1 (omega arith) (number_digits h.1 h.3); no_end = free_digits 10 h.1 (omega arith) (number_digits h.1 h.3) } in
     subst IsWord (sym h.4) (dotted_word h.0 h.1 first second)
@@ -52,7 +52,7 @@ pub references_are_words : (ws : List (List ℕ)) (rs : List Reference) → AreR
 references_are_words [] [] a = tt
 references_are_words [] (r ∷ rs) a = absurd a
 references_are_words (w ∷ ws) [] a = absurd a
-references_are_words (w ∷ ws) (r ∷ rs) a = (reference_word' w r a.0, references_are_words ws rs a.1)
+references_are_words (w ∷ ws) (r ∷ rs) a = (dump_reference_word w r a.0, references_are_words ws rs a.1)
 
 pub words_both : (xs ys : List (List ℕ)) → AllByRecursion IsWord xs → AllByRecursion IsWord ys → AllByRecursion IsWord (xs ++ ys)
 words_both [] ys a b = b

@@ -93,12 +93,12 @@ nothing_left (Turns c) (b ∷ text) e = absurd cc
 
 -- ---- bytes that are neither
 
-module _ (b0 : List ℕ) (short : length b0 ≤ most_bytes) (none : (d : Dumped) (scripts : List (List Command)) (items : List Item) → Resumes b0 d scripts items → ⊥) (fine : (n : ℕ) (why : Why) → DumpRefused b0 n why → ⊥) where
-  fine_at : (stage : DumpStage) (b : List ℕ) (lines : ℕ) → Leads Version b0 b lines stage → (why : Why) → StopsFor stage (parts 10 b) why → ⊥
-  fine_at stage b lines led why stops = fine (1 + lines) why (refused b0 (1 + lines) why short (record { rest = b; lines = lines; at = stage; led = led; number = refl; cause = stops }))
+module _ (dump_bytes : List ℕ) (short : length dump_bytes ≤ most_bytes) (none : (d : Dumped) (scripts : List (List Command)) (items : List Item) → Resumes dump_bytes d scripts items → ⊥) (fine : (n : ℕ) (why : Why) → DumpRefused dump_bytes n why → ⊥) where
+  fine_at : (stage : DumpStage) (b : List ℕ) (lines : ℕ) → Leads Version dump_bytes b lines stage → (why : Why) → StopsFor stage (parts 10 b) why → ⊥
+  fine_at stage b lines led why stops = fine (1 + lines) why (refused dump_bytes (1 + lines) why short (record { rest = b; lines = lines; at = stage; led = led; number = refl; cause = stops }))
 
   -- the next line follows, and there is one behind it
-  step : (stage : DumpStage) → IsDumping stage → (b : List ℕ) (lines : ℕ) → Leads Version b0 b lines stage
+  step : (stage : DumpStage) → IsDumping stage → (b : List ℕ) (lines : ℕ) → Leads Version dump_bytes b lines stage
       → ((text rest : List ℕ) (next : DumpStage) → parts 10 b ≡ text ∷ parts 10 rest → DumpFollows stage text next → ⊥) → ⊥
   step stage is b lines led go = by_first (first_line b).0 (first_line b).1 (first_line b).2
     where
@@ -108,19 +108,19 @@ module _ (b0 : List ℕ) (short : length b0 ≤ most_bytes) (none : (d : Dumped)
 
   -- ---- behind the line `trace`
 
-  module _ (c : Config) (b1 b2 b4 b5 mark : List ℕ) (d0 d : Dumped) (listed : ℕ) (is : IsDump d) (config : d.config ≡ c) (counts : d.counts ≡ d0.counts) (no_rows : d0.rows ≡ []) (no_roots : d0.roots ≡ [])
-      (head : Leads Version b0 b1 3 (Counts c)) (counted : Leads (Counts c) b1 b2 1 (Listed d0)) (rowed : Leads (Listed d0) b2 b4 listed (Listed d)) (cut : parts 10 b4 ≡ mark ∷ parts 10 b5) (marked : Spells mark mark_line) where
-    to_mark : Leads Version b0 b5 (3 + 1 + listed + 1) (Behind (Commands run_version c))
+  module _ (c : Config) (behind_head behind_counts behind_roots behind_mark mark : List ℕ) (bare_dump d : Dumped) (listed : ℕ) (is : IsDump d) (config : d.config ≡ c) (counts : d.counts ≡ bare_dump.counts) (no_rows : bare_dump.rows ≡ []) (no_roots : bare_dump.roots ≡ [])
+      (head : Leads Version dump_bytes behind_head 3 (Counts c)) (counted : Leads (Counts c) behind_head behind_counts 1 (Listed bare_dump)) (rowed : Leads (Listed bare_dump) behind_counts behind_roots listed (Listed d)) (cut : parts 10 behind_roots ≡ mark ∷ parts 10 behind_mark) (marked : Spells mark mark_line) where
+    to_mark : Leads Version dump_bytes behind_mark (3 + 1 + listed + 1) (Behind (Commands run_version c))
     to_mark =
-        leads_both Version (Listed d) (Behind (Commands run_version c)) b0 b4 b5 (3 + 1 + listed) 1
-        (leads_both Version (Listed d0) (Listed d) b0 b2 b4 (3 + 1) listed (leads_both Version (Counts c) (Listed d0) b0 b1 b2 3 1 head counted) rowed)
-        (leads_one (Listed d) (Behind (Commands run_version c)) b4 mark b5 cut (inr (inr (is, marked, ap (λ (k : Config). Behind (Commands run_version k)) (sym config)))))
+        leads_both Version (Listed d) (Behind (Commands run_version c)) dump_bytes behind_roots behind_mark (3 + 1 + listed) 1
+        (leads_both Version (Listed bare_dump) (Listed d) dump_bytes behind_counts behind_roots (3 + 1) listed (leads_both Version (Counts c) (Listed bare_dump) dump_bytes behind_head behind_counts 3 1 head counted) rowed)
+        (leads_one (Listed d) (Behind (Commands run_version c)) behind_roots mark behind_mark cut (inr (inr (is, marked, ap (λ (k : Config). Behind (Commands run_version k)) (sym config)))))
 
     few_counts : length d.counts ≤ 8
     few_counts = omega (arith, is.form.threads, d.config.in_range.most_mutators)
 
     -- nothing is left
-    complete : (l : LineStage) (n : ℕ) → Leads (Behind (Commands run_version c)) b5 [] n (Behind l) → ⊥
+    complete : (l : LineStage) (n : ℕ) → Leads (Behind (Commands run_version c)) behind_mark [] n (Behind l) → ⊥
     complete l n led =
         let lead = behind_lead led.texts (Commands run_version c) (Behind l) led.lead in
         let body = of_commands c led.texts lead.0 lead.2 in
@@ -131,27 +131,27 @@ module _ (b0 : List ℕ) (short : length b0 ≤ most_bytes) (none : (d : Dumped)
           in_range = subst (λ (k : Config). AllByRecursion (IsLine run_version k.mutators) body.lines) (sym config) body.in_range;
           turns = body.turns;
           turns_in_range = subst (λ (k : Config). AllByRecursion (IsScheduleLine k) body.turns) (sym config) body.turns_in_range;
-          spelled = all_spelled b0 b1 b2 b4 b5 mark_line (flat_map line body.lines ++ flat_map schedule_line body.turns) d
-              (head_spelled b0 b1 d.config (subst (λ (k : Config). Leads Version b0 b1 3 (Counts k)) (sym config) head))
-              (counts_spelled b1 b2 c d0 counted ∙ ap (λ (ns : List ℕ). titled (codes "counts") ns ++ b2) (sym counts))
-              (listed_spelled b2 b4 listed d0 d rowed no_rows no_roots is.form.each is.form.roots smalls.0 smalls.1)
-              (bytes_of_line b4 mark b5 cut ∙ sym (append_assoc mark (newline ∷ []) b5) ∙ ap (λ (bs : List ℕ). bs ++ b5) marked)
-              (leads_bytes (Behind (Commands run_version c)) (Behind l) b5 [] n led ∙ append-nil (flat_map ended led.texts) ∙ body.spelled);
+          spelled = all_spelled dump_bytes behind_head behind_counts behind_roots behind_mark mark_line (flat_map line body.lines ++ flat_map schedule_line body.turns) d
+              (head_spelled dump_bytes behind_head d.config (subst (λ (k : Config). Leads Version dump_bytes behind_head 3 (Counts k)) (sym config) head))
+              (counts_spelled behind_head behind_counts c bare_dump counted ∙ ap (λ (ns : List ℕ). titled (codes "counts") ns ++ behind_counts) (sym counts))
+              (listed_spelled behind_counts behind_roots listed bare_dump d rowed no_rows no_roots is.form.each is.form.roots smalls.0 smalls.1)
+              (bytes_of_line behind_roots mark behind_mark cut ∙ sym (append_assoc mark (newline ∷ []) behind_mark) ∙ ap (λ (bs : List ℕ). bs ++ behind_mark) marked)
+              (leads_bytes (Behind (Commands run_version c)) (Behind l) behind_mark [] n led ∙ append-nil (flat_map ended led.texts) ∙ body.spelled);
           by_thread = refl;
           in_order = refl;
           short = short;
         })
 
-    from_there : (l : LineStage) (b : List ℕ) (n : ℕ) → Leads (Behind (Commands run_version c)) b5 b n (Behind l) → Leads Version b0 b (3 + 1 + listed + 1 + n) (Behind l)
-    from_there l b n led = leads_both Version (Behind (Commands run_version c)) (Behind l) b0 b5 b (3 + 1 + listed + 1) n to_mark led
+    from_there : (l : LineStage) (b : List ℕ) (n : ℕ) → Leads (Behind (Commands run_version c)) behind_mark b n (Behind l) → Leads Version dump_bytes b (3 + 1 + listed + 1 + n) (Behind l)
+    from_there l b n led = leads_both Version (Behind (Commands run_version c)) (Behind l) dump_bytes behind_mark b (3 + 1 + listed + 1) n to_mark led
 
-    at_last : (l : LineStage) (b text : List ℕ) (n : ℕ) → Leads (Behind (Commands run_version c)) b5 b n (Behind l) → parts 10 b ≡ text ∷ [] → (cause : Option Why) → end_cause l text ≡ cause → ⊥
+    at_last : (l : LineStage) (b text : List ℕ) (n : ℕ) → Leads (Behind (Commands run_version c)) behind_mark b n (Behind l) → parts 10 b ≡ text ∷ [] → (cause : Option Why) → end_cause l text ≡ cause → ⊥
     at_last l b text n led e (Some why) at = fine_at (Behind l) b (3 + 1 + listed + 1 + n) (from_there l b n led) why (cut_line l b text e ∙ at)
     at_last l b text n led e None at =
         let empty : b ≡ [] = bytes_of_last b text e ∙ nothing_left l text at in
-        complete l n (subst (λ (bs : List ℕ). Leads (Behind (Commands run_version c)) b5 bs n (Behind l)) empty led)
+        complete l n (subst (λ (bs : List ℕ). Leads (Behind (Commands run_version c)) behind_mark bs n (Behind l)) empty led)
 
-    body_walk : (k : ℕ) (l : LineStage) (b : List ℕ) (n : ℕ) → Fits l → length b ≤ k → Leads (Behind (Commands run_version c)) b5 b n (Behind l) → ⊥
+    body_walk : (k : ℕ) (l : LineStage) (b : List ℕ) (n : ℕ) → Fits l → length b ≤ k → Leads (Behind (Commands run_version c)) behind_mark b n (Behind l) → ⊥
     body_walk zero l b n fits le led = by_first (first_line b).0 (first_line b).1 (first_line b).2
       where
         by_first : (text rest : List ℕ) → (parts 10 b ≡ text ∷ []) ⊎ (parts 10 b ≡ text ∷ parts 10 rest) → ⊥
@@ -159,35 +159,35 @@ module _ (b0 : List ℕ) (short : length b0 ≤ most_bytes) (none : (d : Dumped)
         by_first text rest (inr e) = some_byte b text rest (bytes_of_line b text rest e) le
     body_walk (suc k) l b n fits le led = by_first (λ s bs m f low leads. body_walk k s bs m f low leads) (first_line b).0 (first_line b).1 (first_line b).2
       where
-        by_cause : ((s : LineStage) (bs : List ℕ) (m : ℕ) → Fits s → length bs ≤ k → Leads (Behind (Commands run_version c)) b5 bs m (Behind s) → ⊥) → (text rest : List ℕ) → parts 10 b ≡ text ∷ parts 10 rest
+        by_cause : ((s : LineStage) (bs : List ℕ) (m : ℕ) → Fits s → length bs ≤ k → Leads (Behind (Commands run_version c)) behind_mark bs m (Behind s) → ⊥) → (text rest : List ℕ) → parts 10 b ≡ text ∷ parts 10 rest
             → (cause : Option Why) → words_cause l (parts 32 text) ≡ cause → ⊥
         by_cause go text rest e (Some why) at = fine_at (Behind l) b (3 + 1 + listed + 1 + n) (from_there l b n led) why (whole_line l b text rest e ∙ at)
         by_cause go text rest e None at =
             let next = follows l text fits at in
             go next.0 rest (n + 1) next.2 (fewer b text rest k (bytes_of_line b text rest e) le)
-            (leads_both (Behind (Commands run_version c)) (Behind l) (Behind next.0) b5 b rest n 1 led (leads_one (Behind l) (Behind next.0) b text rest e (next.0, next.1, refl)))
+            (leads_both (Behind (Commands run_version c)) (Behind l) (Behind next.0) behind_mark b rest n 1 led (leads_one (Behind l) (Behind next.0) b text rest e (next.0, next.1, refl)))
 
-        by_first : ((s : LineStage) (bs : List ℕ) (m : ℕ) → Fits s → length bs ≤ k → Leads (Behind (Commands run_version c)) b5 bs m (Behind s) → ⊥) → (text rest : List ℕ) → (parts 10 b ≡ text ∷ []) ⊎ (parts 10 b ≡ text ∷ parts 10 rest) → ⊥
+        by_first : ((s : LineStage) (bs : List ℕ) (m : ℕ) → Fits s → length bs ≤ k → Leads (Behind (Commands run_version c)) behind_mark bs m (Behind s) → ⊥) → (text rest : List ℕ) → (parts 10 b ≡ text ∷ []) ⊎ (parts 10 b ≡ text ∷ parts 10 rest) → ⊥
         by_first go text rest (inl e) = at_last l b text n led e (end_cause l text) refl
         by_first go text rest (inr e) = by_cause go text rest e (words_cause l (parts 32 text)) refl
 
     from_mark : ⊥
-    from_mark = body_walk (length b5) (Commands run_version c) b5 0 tt (omega arith) (leads_none (Behind (Commands run_version c)) b5)
+    from_mark = body_walk (length behind_mark) (Commands run_version c) behind_mark 0 tt (omega arith) (leads_none (Behind (Commands run_version c)) behind_mark)
 
   -- ---- objects and roots
 
-  module _ (c : Config) (b1 b2 : List ℕ) (d0 : Dumped) (same : d0.config ≡ c) (no_rows : d0.rows ≡ []) (no_roots : d0.roots ≡ []) (head : Leads Version b0 b1 3 (Counts c)) (counted : Leads (Counts c) b1 b2 1 (Listed d0)) where
-    to_here : (d : Dumped) (b : List ℕ) (n : ℕ) → Leads (Listed d0) b2 b n (Listed d) → Leads Version b0 b (3 + 1 + n) (Listed d)
-    to_here d b n led = leads_both Version (Listed d0) (Listed d) b0 b2 b (3 + 1) n (leads_both Version (Counts c) (Listed d0) b0 b1 b2 3 1 head counted) led
+  module _ (c : Config) (behind_head behind_counts : List ℕ) (bare_dump : Dumped) (same : bare_dump.config ≡ c) (no_rows : bare_dump.rows ≡ []) (no_roots : bare_dump.roots ≡ []) (head : Leads Version dump_bytes behind_head 3 (Counts c)) (counted : Leads (Counts c) behind_head behind_counts 1 (Listed bare_dump)) where
+    to_here : (d : Dumped) (b : List ℕ) (n : ℕ) → Leads (Listed bare_dump) behind_counts b n (Listed d) → Leads Version dump_bytes b (3 + 1 + n) (Listed d)
+    to_here d b n led = leads_both Version (Listed bare_dump) (Listed d) dump_bytes behind_counts b (3 + 1) n (leads_both Version (Counts c) (Listed bare_dump) dump_bytes behind_head behind_counts 3 1 head counted) led
 
-    one_line : (d e : Dumped) (b text rest : List ℕ) (n : ℕ) → Leads (Listed d0) b2 b n (Listed d) → parts 10 b ≡ text ∷ parts 10 rest → DumpFollows (Listed d) text (Listed e) → Leads (Listed d0) b2 rest (n + 1) (Listed e)
-    one_line d e b text rest n led cut f = leads_both (Listed d0) (Listed d) (Listed e) b2 b rest n 1 led (leads_one (Listed d) (Listed e) b text rest cut f)
+    one_line : (d e : Dumped) (b text rest : List ℕ) (n : ℕ) → Leads (Listed bare_dump) behind_counts b n (Listed d) → parts 10 b ≡ text ∷ parts 10 rest → DumpFollows (Listed d) text (Listed e) → Leads (Listed bare_dump) behind_counts rest (n + 1) (Listed e)
+    one_line d e b text rest n led cut f = leads_both (Listed bare_dump) (Listed d) (Listed e) behind_counts b rest n 1 led (leads_one (Listed d) (Listed e) b text rest cut f)
 
-    from_listed : (k : ℕ) (d : Dumped) (b : List ℕ) (n : ℕ) → length b ≤ k → d.config ≡ c → d.counts ≡ d0.counts → Leads (Listed d0) b2 b n (Listed d) → ⊥
+    from_listed : (k : ℕ) (d : Dumped) (b : List ℕ) (n : ℕ) → length b ≤ k → d.config ≡ c → d.counts ≡ bare_dump.counts → Leads (Listed bare_dump) behind_counts b n (Listed d) → ⊥
     from_listed zero d b n le config counts led = step (Listed d) tt b (3 + 1 + n) (to_here d b n led) (λ text rest next cut f. some_byte b text rest (bytes_of_line b text rest cut) le)
     from_listed (suc k) d b n le config counts led = step (Listed d) tt b (3 + 1 + n) (to_here d b n led) (λ text rest next cut f. by_kind (λ e bs m low one other leads. from_listed k e bs m low one other leads) text rest next cut f)
       where
-        by_kind : ((e : Dumped) (bs : List ℕ) (m : ℕ) → length bs ≤ k → e.config ≡ c → e.counts ≡ d0.counts → Leads (Listed d0) b2 bs m (Listed e) → ⊥) → (text rest : List ℕ) (next : DumpStage) → parts 10 b ≡ text ∷ parts 10 rest
+        by_kind : ((e : Dumped) (bs : List ℕ) (m : ℕ) → length bs ≤ k → e.config ≡ c → e.counts ≡ bare_dump.counts → Leads (Listed bare_dump) behind_counts bs m (Listed e) → ⊥) → (text rest : List ℕ) (next : DumpStage) → parts 10 b ≡ text ∷ parts 10 rest
             → DumpFollows (Listed d) text next → ⊥
         by_kind go text rest next cut (inl f) =
             go (with_row d f.0) rest (n + 1) (fewer b text rest k (bytes_of_line b text rest cut) le) config counts
@@ -195,22 +195,22 @@ module _ (b0 : List ℕ) (short : length b0 ≤ most_bytes) (none : (d : Dumped)
         by_kind go text rest next cut (inr (inl f)) =
             go (with_roots d f.0) rest (n + 1) (fewer b text rest k (bytes_of_line b text rest cut) le) config counts
             (one_line d (with_roots d f.0) b text rest n led cut (inr (inl (f.0, f.1, f.2, f.3, f.4, f.5, refl))))
-        by_kind go text rest next cut (inr (inr f)) = from_mark c b1 b2 b rest text d0 d n f.0 config counts no_rows no_roots head counted led cut f.1
+        by_kind go text rest next cut (inr (inr f)) = from_mark c behind_head behind_counts b rest text bare_dump d n f.0 config counts no_rows no_roots head counted led cut f.1
 
   -- ---- the head
 
-  from_counts : (c : Config) (b : List ℕ) → Leads Version b0 b 3 (Counts c) → ⊥
+  from_counts : (c : Config) (b : List ℕ) → Leads Version dump_bytes b 3 (Counts c) → ⊥
   from_counts c b led = step (Counts c) tt b 3 led (λ text rest next cut f.
-      let d0 : Dumped = record { config = c; counts = f.0; rows = []; roots = [] } in
-      from_listed c b rest d0 refl refl refl led (subst (λ (s : DumpStage). Leads (Counts c) b rest 1 s) f.4 (leads_one (Counts c) next b text rest cut f)) (length rest) d0 rest 0 (omega arith) refl refl (leads_none (Listed d0) rest))
+      let bare_dump : Dumped = record { config = c; counts = f.0; rows = []; roots = [] } in
+      from_listed c b rest bare_dump refl refl refl led (subst (λ (s : DumpStage). Leads (Counts c) b rest 1 s) f.4 (leads_one (Counts c) next b text rest cut f)) (length rest) bare_dump rest 0 (omega arith) refl refl (leads_none (Listed bare_dump) rest))
 
-  from_threads : (h : Config) (b : List ℕ) → Leads Version b0 b 2 (Threads h) → ⊥
+  from_threads : (h : Config) (b : List ℕ) → Leads Version dump_bytes b 2 (Threads h) → ⊥
   from_threads h b led = step (Threads h) tt b 2 led (λ text rest next cut f.
-      from_counts f.0 rest (subst (λ (s : DumpStage). Leads Version b0 rest 3 s) f.3 (leads_both Version (Threads h) next b0 b rest 2 1 led (leads_one (Threads h) next b text rest cut f))))
+      from_counts f.0 rest (subst (λ (s : DumpStage). Leads Version dump_bytes rest 3 s) f.3 (leads_both Version (Threads h) next dump_bytes b rest 2 1 led (leads_one (Threads h) next b text rest cut f))))
 
-  from_heap : (b : List ℕ) → Leads Version b0 b 1 Heap → ⊥
+  from_heap : (b : List ℕ) → Leads Version dump_bytes b 1 Heap → ⊥
   from_heap b led = step Heap tt b 1 led (λ text rest next cut f.
-      from_threads f.0 rest (subst (λ (s : DumpStage). Leads Version b0 rest 2 s) f.3 (leads_both Version Heap next b0 b rest 1 1 led (leads_one Heap next b text rest cut f))))
+      from_threads f.0 rest (subst (λ (s : DumpStage). Leads Version dump_bytes rest 2 s) f.3 (leads_both Version Heap next dump_bytes b rest 1 1 led (leads_one Heap next b text rest cut f))))
 
   pub not_neither : ⊥
-  not_neither = step Version tt b0 0 (leads_none Version b0) (λ text rest next cut f. from_heap rest (subst (λ (s : DumpStage). Leads Version b0 rest 1 s) f.1 (leads_one Version next b0 text rest cut f)))
+  not_neither = step Version tt dump_bytes 0 (leads_none Version dump_bytes) (λ text rest next cut f. from_heap rest (subst (λ (s : DumpStage). Leads Version dump_bytes rest 1 s) f.1 (leads_one Version next dump_bytes text rest cut f)))

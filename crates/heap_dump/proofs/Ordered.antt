@@ -51,11 +51,11 @@ pub between_down : (ns : List Name) (n : Name) (low high middle : ℕ) → InOrd
 between_down ns n low high middle order b to more = record { within = omega (arith, b.within, to); below = b.below; above = from }
   where
     from : (k : ℕ) → middle ≤ k → k < length ns → IsBefore n (get_or ns k hub)
-    from k h low' = by_case (eq-or-lt_of_le h)
+    from k h is_above = by_case (eq-or-lt_of_le h)
       where
         by_case : (middle ≡ k) ⊎ (middle < k) → IsBefore n (get_or ns k hub)
         by_case (inl is) = subst (λ (j : ℕ). IsBefore n (get_or ns j hub)) is more
-        by_case (inr later) = before_join n (get_or ns middle hub) (get_or ns k hub) more (earlier ns middle k hub order later low')
+        by_case (inr later) = before_join n (get_or ns middle hub) (get_or ns k hub) more (earlier ns middle k hub order later is_above)
 
 pub between_none : (ns : List Name) (n : Name) (low high : ℕ) → Between ns n low high → high ≤ low → Contains ns n → ⊥
 between_none ns n low high b met there = by_case (lt_or_ge there.0 low)
@@ -68,24 +68,24 @@ between_none ns n low high b met there = by_case (lt_or_ge there.0 low)
     by_case (inr later) = not_itself n (subst (IsBefore n) same (b.above there.0 (omega (arith, met, later)) there.1))
 
 pub other_way : (a b : Name) → false ≡ same_name a b → (IsBefore a b → ⊥) → IsBefore b a
-other_way a b apart no' = by_thread (lt_or_ge b.thread a.thread)
+other_way a b apart not_before = by_thread (lt_or_ge b.thread a.thread)
   where
     by_count : a.thread ≤ b.thread → (b.count < a.count) ⊎ (a.count ≤ b.count) → IsBefore b a
     by_count le (inl less) = by_same (lt_or_ge a.thread b.thread)
       where
         by_same : (a.thread < b.thread) ⊎ (b.thread ≤ a.thread) → IsBefore b a
-        by_same (inl low) = absurd (no' (inl low))
+        by_same (inl low) = absurd (not_before (inl low))
         by_same (inr ge) = inr (omega (arith, le, ge), less)
     by_count le (inr more) = by_same (lt_or_ge a.thread b.thread)
       where
         by_equal : a.thread ≡ b.thread → (a.count < b.count) ⊎ (b.count ≤ a.count) → IsBefore b a
-        by_equal e (inl low) = absurd (no' (inr (e, low)))
+        by_equal e (inl low) = absurd (not_before (inr (e, low)))
         by_equal e (inr ge) =
             let counts : a.count ≡ b.count = omega (arith, more, ge) in
             absurd (false≢true (apart ∙ (same_name-Decides a b).1 (e, counts)))
 
         by_same : (a.thread < b.thread) ⊎ (b.thread ≤ a.thread) → IsBefore b a
-        by_same (inl low) = absurd (no' (inl low))
+        by_same (inl low) = absurd (not_before (inl low))
         by_same (inr ge) = by_equal (omega (arith, le, ge)) (lt_or_ge a.count b.count)
 
     by_thread : (b.thread < a.thread) ⊎ (a.thread ≤ b.thread) → IsBefore b a

@@ -127,8 +127,8 @@ no_named counts w few each none n named is =
     none (Some n) (subst (λ (v : List ℕ). IsDumpReference v (Some n)) (sym is) (word_of_name n (omega (arith, small.0)) (omega (arith, small.1))))
 
 pub taken_name : (counts w : List ℕ) (r : Reference) (name : Name) → length counts ≤ 8 → ((k : ℕ) → slice_index counts k < 2 ^ 32) → IsDumpReference w r → Some name ≡ held r → IsNamed counts name → w ≡ name_word name
-taken_name counts w None name few each is held' named = absurd cc
-taken_name counts w (Some n) name few each is held' named =
+taken_name counts w None name few each is is_held named = absurd cc
+taken_name counts w (Some n) name few each is is_held named =
     let e : name ≡ held_name n = cc in
     let same : name ≡ n = e ∙ held_named counts n few (subst (IsNamed counts) e named) in
     let small = named_small counts name few each named in
@@ -136,7 +136,7 @@ taken_name counts w (Some n) name few each is held' named =
 
 pub other_name : (counts w : List ℕ) (r : Reference) (x : Reference) → length counts ≤ 8 → ((k : ℕ) → slice_index counts k < 2 ^ 32) → IsDumpReference w r → x ≡ held r → ((name : Name) → x ≡ Some name → IsNamed counts name → ⊥)
     → (n : Name) → IsNamed counts n → w ≡ name_word n → ⊥
-other_name counts w r x few each is held' none n named e =
+other_name counts w r x few each is is_held none n named e =
     let small = named_small counts n few each named in
     let same : r ≡ Some n = reference_once w r (Some n) is (subst (λ (v : List ℕ). IsDumpReference v (Some n)) (sym e) (word_of_name n (omega (arith, small.0)) (omega (arith, small.1)))) in
-    none n (held' ∙ ap held same ∙ ap Some (held_small n small.0 small.1)) named
+    none n (is_held ∙ ap held same ∙ ap Some (held_small n small.0 small.1)) named

@@ -68,19 +68,19 @@ head_leads : (c : Config) (counts rest : List ℕ) → IsNarrow c → length cou
 head_leads c counts rest narrow size all =
     let version = titled (codes "dump") (1 ∷ []) in
     let last = Listed (listed c counts [] []) in
-    let b3 = titled (codes "counts") counts ++ rest in
-    let b2 = threads_line c ++ b3 in
-    let b1 = heap_line c ++ b2 in
-    let one = titled_lead Version Heap (codes "dump") (1 ∷ []) b1 (record { no_space = refl; no_end = refl }) (all_one 1 (lit< tt)) (λ text e. (e, refl)) in
-    let two = titled_lead Heap (Threads c) (codes "heap") (c.regions ∷ c.region_words ∷ c.reserve ∷ []) b2 (record { no_space = refl; no_end = refl })
+    let behind_threads = titled (codes "counts") counts ++ rest in
+    let behind_heap = threads_line c ++ behind_threads in
+    let behind_version = heap_line c ++ behind_heap in
+    let one = titled_lead Version Heap (codes "dump") (1 ∷ []) behind_version (record { no_space = refl; no_end = refl }) (all_one 1 (lit< tt)) (λ text e. (e, refl)) in
+    let two = titled_lead Heap (Threads c) (codes "heap") (c.regions ∷ c.region_words ∷ c.reserve ∷ []) behind_heap (record { no_space = refl; no_end = refl })
     (all_three c.regions c.region_words c.reserve (omega (arith, c.in_range.most_regions)) (omega (arith, c.in_range.most_words)) (omega (arith, c.in_range.some_left, c.in_range.most_regions))) (λ text e. (c, narrow, e, refl)) in
-    let three = titled_lead (Threads c) (Counts c) (codes "threads") (c.mutators ∷ c.helpers ∷ []) b3 (record { no_space = refl; no_end = refl })
+    let three = titled_lead (Threads c) (Counts c) (codes "threads") (c.mutators ∷ c.helpers ∷ []) behind_threads (record { no_space = refl; no_end = refl })
     (all_two c.mutators c.helpers (omega (arith, c.in_range.most_mutators)) (omega (arith, c.in_range.most_helpers))) (λ text e. (c, record { regions = refl; region_words = refl; reserve = refl }, e, refl)) in
     let four = titled_lead (Counts c) last (codes "counts") counts rest (record { no_space = refl; no_end = refl }) (small_counts counts all) (λ text e. (counts, size, all, e, refl)) in
-    let whole : version ++ b1 ≡ sizes_head c ++ b3 =
-    ap (λ (bs : List ℕ). version ++ bs) (sym (append_assoc (heap_line c) (threads_line c) b3)) ∙ sym (append_assoc version (heap_line c ++ threads_line c) b3) in
+    let whole : version ++ behind_version ≡ sizes_head c ++ behind_threads =
+    ap (λ (bs : List ℕ). version ++ bs) (sym (append_assoc (heap_line c) (threads_line c) behind_threads)) ∙ sym (append_assoc version (heap_line c ++ threads_line c) behind_threads) in
     subst (λ (bs : List ℕ). Leads Version bs rest 4 last) whole
-    (leads_both Version Heap last (version ++ b1) b1 rest 1 3 one (leads_both Heap (Threads c) last b1 b2 rest 1 2 two (leads_both (Threads c) (Counts c) last b2 b3 rest 1 1 three four)))
+    (leads_both Version Heap last (version ++ behind_version) behind_version rest 1 3 one (leads_both Heap (Threads c) last behind_version behind_heap rest 1 2 two (leads_both (Threads c) (Counts c) last behind_heap behind_threads rest 1 1 three four)))
 
 -- ---- objects and roots
 
@@ -179,20 +179,20 @@ dump_leads d rest is =
     let counts = titled (codes "counts") d.counts in
     let rows = flat_map object_line d.rows in
     let roots = flat_map (roots_line_in d.roots) (thread_numbers d.config.mutators) in
-    let b1 = rows ++ (roots ++ rest) in
-    let b2 = roots ++ rest in
-    let s1 = Listed (listed d.config d.counts [] []) in
-    let s2 = Listed (listed d.config d.counts d.rows []) in
-    let one = head_leads d.config d.counts b1 form.narrow form.threads form.counts in
-    let two = objects_lead d.config d.counts [] d.rows b2 (few_counts d form) (each_small d.counts form.counts) form.rows form.order small.0 in
+    let from_rows = rows ++ (roots ++ rest) in
+    let from_roots = roots ++ rest in
+    let none_listed = Listed (listed d.config d.counts [] []) in
+    let rows_listed = Listed (listed d.config d.counts d.rows []) in
+    let one = head_leads d.config d.counts from_rows form.narrow form.threads form.counts in
+    let two = objects_lead d.config d.counts [] d.rows from_roots (few_counts d form) (each_small d.counts form.counts) form.rows form.order small.0 in
     let lines : roots_lines 0 d.roots ≡ roots =
     all_roots d.roots d.roots 0 (λ k. let none : 0 + k ≡ k = omega arith in ap (λ j. get_or d.roots j []) none) form.roots ∙ ap (λ k. flat_map (roots_line_in d.roots) (thread_numbers k)) form.each in
-    let three : Leads s2 b2 rest (length d.roots) (Listed d) =
-    subst (λ (bs : List ℕ). Leads s2 (bs ++ rest) rest (length d.roots) (Listed d)) lines (all_roots_lead (listed d.config d.counts d.rows []) [] d.roots rest (omega (arith, form.each)) form.roots small.1) in
-    let whole : head ++ (counts ++ b1) ≡ dump_text d ++ rest =
+    let three : Leads rows_listed from_roots rest (length d.roots) (Listed d) =
+    subst (λ (bs : List ℕ). Leads rows_listed (bs ++ rest) rest (length d.roots) (Listed d)) lines (all_roots_lead (listed d.config d.counts d.rows []) [] d.roots rest (omega (arith, form.each)) form.roots small.1) in
+    let whole : head ++ (counts ++ from_rows) ≡ dump_text d ++ rest =
     ap (λ (bs : List ℕ). head ++ bs) (ap (λ (bs : List ℕ). counts ++ bs) (sym (append_assoc rows roots rest)) ∙ sym (append_assoc counts (rows ++ roots) rest)) ∙ sym (append_assoc head (counts ++ (rows ++ roots)) rest) in
     subst (λ (bs : List ℕ). Leads Version bs rest (lines_of d) (Listed d)) whole
-    (leads_both Version s1 (Listed d) (head ++ (counts ++ b1)) b1 rest 4 (length d.rows + length d.roots) one (leads_both s1 s2 (Listed d) b1 b2 rest (length d.rows) (length d.roots) two three))
+    (leads_both Version none_listed (Listed d) (head ++ (counts ++ from_rows)) from_rows rest 4 (length d.rows + length d.roots) one (leads_both none_listed rows_listed (Listed d) from_rows from_roots rest (length d.rows) (length d.roots) two three))
 
 -- the line `trace` behind it
 pub mark_leads : (d : Dumped) (rest : List ℕ) → IsDump d → Leads (Listed d) (mark_line ++ rest) rest 1 (Behind (Commands run_version d.config))

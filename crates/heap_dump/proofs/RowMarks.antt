@@ -56,14 +56,14 @@ reached_more t marks order row n r low unset is led = record { size = length-set
     once = IsDistinct-push nat_eq_equiv order row r.once (not_there (list_any (nat_eq row) order) refl)
 
     here : (k : ℕ) → is_marked (set marks row true) k ≡ true → (k ≡ row) ⊎ (is_marked marks k ≡ true)
-    here k set' = by_case (same_or_not k row)
+    here k is_set = by_case (same_or_not k row)
       where
         by_case : (k ≡ row) ⊎ (k ≢ row) → (k ≡ row) ⊎ (is_marked marks k ≡ true)
         by_case (inl same) = inl same
-        by_case (inr apart) = inr (sym (get_or-set_other marks row k true false apart) ∙ set')
+        by_case (inr apart) = inr (sym (get_or-set_other marks row k true false apart) ∙ is_set)
 
     listed : (k : ℕ) → is_marked (set marks row true) k ≡ true → Contains (order ++ row ∷ []) k
-    listed k set' = by_case (here k set')
+    listed k is_set = by_case (here k is_set)
       where
         by_case : (k ≡ row) ⊎ (is_marked marks k ≡ true) → Contains (order ++ row ∷ []) k
         by_case (inl same) = Contains-append_right order (row ∷ []) k (0, omega arith, sym same)
@@ -77,14 +77,14 @@ reached_more t marks order row n r low unset is led = record { size = length-set
           where
             by_cons : (row ≡ k) ⊎ Contains [] k → row ≡ k
             by_cons (inl e) = e
-            by_cons (inr c') = absurd (Contains-nil k c')
+            by_cons (inr contained) = absurd (Contains-nil k contained)
 
         by_case : Contains order k ⊎ Contains (row ∷ []) k → (k < length t.rows) × (is_marked (set marks row true) k ≡ true)
         by_case (inl first) = let was = r.marked k first in (was.0, more_marks marks row inside k was.1)
         by_case (inr last) = let e = at_end last in (subst (λ (j : ℕ). j < length t.rows) e low, subst (λ (j : ℕ). is_marked (set marks row true) j ≡ true) e (marked_now marks row inside))
 
     leads : (k : ℕ) → is_marked (set marks row true) k ≡ true → IsReachable (graph_from t) (row_of t k).name
-    leads k set' = by_case (here k set')
+    leads k is_set = by_case (here k is_set)
       where
         by_case : (k ≡ row) ⊎ (is_marked marks k ≡ true) → IsReachable (graph_from t) (row_of t k).name
         by_case (inl same) = subst (λ (j : ℕ). IsReachable (graph_from t) (row_of t j).name) (sym same) (subst (IsReachable (graph_from t)) (sym is) led)

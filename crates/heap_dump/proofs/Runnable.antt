@@ -4,6 +4,7 @@ use Rattle.std.specs.List.{flat_map}
 use Rattle.std.proofs.lemmas.List.{length-append}
 use Rattle.std.proofs.lemmas.List.Elements.{All-from_get_or}
 use Rattle.shen_graph.specs.declared.command.Command.{Command}
+use Rattle.shen_graph.specs.Valid.{most_objects}
 use Rattle.heap_words.specs.declared.schedule.Item.{Item}
 use Rattle.shen_core.specs.Progress.{IsInSeats}
 use Rattle.trace_reading.specs.Spelling.{line, schedule_line}
@@ -18,7 +19,7 @@ module _ (bytes : List ℕ) (d : Dumped) (scripts : List (List Command)) (items 
   pub count_read : length scripts ≡ d.config.mutators
   count_read = ap length reads.by_thread ∙ count_scripts d.config.mutators reads.lines
 
-  few_commands : (t : ℕ) → t < d.config.mutators → length (get_or (scripts_of d.config.mutators reads.lines) t []) + most_made < 4294967295
+  few_commands : (t : ℕ) → t < d.config.mutators → length (get_or (scripts_of d.config.mutators reads.lines) t []) + most_made < most_objects
   few_commands t below =
       let lines = flat_map line reads.lines in
       let turns = flat_map schedule_line reads.turns in

@@ -50,32 +50,32 @@ leads_bytes a b bytes rest n led = sym (join_with_byte-slice_split 10 bytes) ∙
 
 -- ---- the head
 
-third_spelled : (n : DumpStage) (h c : Config) (t1 t2 t3 : List ℕ) → Spells t1 (titled (codes "dump") (1 ∷ [])) → Spells t2 (heap_line h) → DumpFollows (Threads h) t3 n → n ≡ Counts c
-    → flat_map ended (t1 ∷ t2 ∷ t3 ∷ []) ≡ sizes_head c
-third_spelled n h c t1 t2 t3 e1 e2 f is =
-    let same : f.0 ≡ c = let x = f.3 in cc in
-    let of : IsHeapOf h c = subst (IsHeapOf h) same f.1 in
-    let e3 : Spells t3 (threads_line c) = f.2 ∙ ap threads_line same in
-    let heaps : heap_line h ≡ heap_line c =
-    ap (λ (r : ℕ). titled (codes "heap") (r ∷ h.region_words ∷ h.reserve ∷ [])) (sym of.regions)
-    ∙ ap (λ (w : ℕ). titled (codes "heap") (c.regions ∷ w ∷ h.reserve ∷ [])) (sym of.region_words)
+third_spelled : (n : DumpStage) (given c : Config) (version_text heap_text threads_text : List ℕ) → Spells version_text (titled (codes "dump") (1 ∷ [])) → Spells heap_text (heap_line given) → DumpFollows (Threads given) threads_text n → n ≡ Counts c
+    → flat_map ended (version_text ∷ heap_text ∷ threads_text ∷ []) ≡ sizes_head c
+third_spelled n given c version_text heap_text threads_text version_is heap_is follows is =
+    let same : follows.0 ≡ c = let x = follows.3 in cc in
+    let of : IsHeapOf given c = subst (IsHeapOf given) same follows.1 in
+    let threads_are : Spells threads_text (threads_line c) = follows.2 ∙ ap threads_line same in
+    let heaps : heap_line given ≡ heap_line c =
+    ap (λ (r : ℕ). titled (codes "heap") (r ∷ given.region_words ∷ given.reserve ∷ [])) (sym of.regions)
+    ∙ ap (λ (w : ℕ). titled (codes "heap") (c.regions ∷ w ∷ given.reserve ∷ [])) (sym of.region_words)
     ∙ ap (λ (e : ℕ). titled (codes "heap") (c.regions ∷ c.region_words ∷ e ∷ [])) (sym of.reserve) in
-    flat_map-cons ended t1 (t2 ∷ t3 ∷ [])
-    ∙ ap (λ (bs : List ℕ). bs ++ flat_map ended (t2 ∷ t3 ∷ [])) e1
+    flat_map-cons ended version_text (heap_text ∷ threads_text ∷ [])
+    ∙ ap (λ (bs : List ℕ). bs ++ flat_map ended (heap_text ∷ threads_text ∷ [])) version_is
     ∙ ap (λ (bs : List ℕ). titled (codes "dump") (1 ∷ []) ++ bs)
-    (flat_map-cons ended t2 (t3 ∷ []) ∙ ap (λ (bs : List ℕ). bs ++ flat_map ended (t3 ∷ [])) (e2 ∙ heaps)
-    ∙ ap (λ (bs : List ℕ). heap_line c ++ bs) (flat_map-cons ended t3 [] ∙ append-nil (ended t3) ∙ e3))
+    (flat_map-cons ended heap_text (threads_text ∷ []) ∙ ap (λ (bs : List ℕ). bs ++ flat_map ended (threads_text ∷ [])) (heap_is ∙ heaps)
+    ∙ ap (λ (bs : List ℕ). heap_line c ++ bs) (flat_map-cons ended threads_text [] ∙ append-nil (ended threads_text) ∙ threads_are))
 
-second_spelled : (n m : DumpStage) (c : Config) (t1 t2 t3 : List ℕ) → Spells t1 (titled (codes "dump") (1 ∷ [])) → DumpFollows Heap t2 n → DumpFollows n t3 m → m ≡ Counts c → flat_map ended (t1 ∷ t2 ∷ t3 ∷ []) ≡ sizes_head c
-second_spelled n m c t1 t2 t3 e1 f g is = third_spelled m f.0 c t1 t2 t3 e1 f.2 (subst (λ (s : DumpStage). DumpFollows s t3 m) f.3 g) is
+second_spelled : (n m : DumpStage) (c : Config) (version_text heap_text threads_text : List ℕ) → Spells version_text (titled (codes "dump") (1 ∷ [])) → DumpFollows Heap heap_text n → DumpFollows n threads_text m → m ≡ Counts c → flat_map ended (version_text ∷ heap_text ∷ threads_text ∷ []) ≡ sizes_head c
+second_spelled n m c version_text heap_text threads_text version_is f g is = third_spelled m f.0 c version_text heap_text threads_text version_is f.2 (subst (λ (s : DumpStage). DumpFollows s threads_text m) f.3 g) is
 
 head_lines : (texts : List (List ℕ)) (c : Config) → length texts ≡ 3 → DumpLead Version texts (Counts c) → flat_map ended texts ≡ sizes_head c
 head_lines [] c size lead = absurd (omega (arith, size))
-head_lines (t1 ∷ []) c size lead = absurd (omega (arith, size))
-head_lines (t1 ∷ t2 ∷ []) c size lead = absurd (omega (arith, size))
-head_lines (t1 ∷ t2 ∷ t3 ∷ t4 ∷ ts) c size lead = absurd (omega (arith, size))
-head_lines (t1 ∷ t2 ∷ t3 ∷ []) c size lead =
-    second_spelled lead.2.0 lead.2.2.0 c t1 t2 t3 lead.1.0 (subst (λ (s : DumpStage). DumpFollows s t2 lead.2.0) lead.1.1 lead.2.1) lead.2.2.1 lead.2.2.2
+head_lines (version_text ∷ []) c size lead = absurd (omega (arith, size))
+head_lines (version_text ∷ heap_text ∷ []) c size lead = absurd (omega (arith, size))
+head_lines (version_text ∷ heap_text ∷ threads_text ∷ text ∷ ts) c size lead = absurd (omega (arith, size))
+head_lines (version_text ∷ heap_text ∷ threads_text ∷ []) c size lead =
+    second_spelled lead.2.0 lead.2.2.0 c version_text heap_text threads_text lead.1.0 (subst (λ (s : DumpStage). DumpFollows s heap_text lead.2.0) lead.1.1 lead.2.1) lead.2.2.1 lead.2.2.2
 
 pub head_spelled : (bytes rest : List ℕ) (c : Config) → Leads Version bytes rest 3 (Counts c) → bytes ≡ sizes_head c ++ rest
 head_spelled bytes rest c led = leads_bytes Version (Counts c) bytes rest 3 led ∙ ap (λ (bs : List ℕ). bs ++ rest) (head_lines led.texts c led.count led.lead)
@@ -88,12 +88,12 @@ third_narrow n h c text narrow f is =
 
 narrow_lines : (texts : List (List ℕ)) (c : Config) → length texts ≡ 3 → DumpLead Version texts (Counts c) → IsNarrow c
 narrow_lines [] c size lead = absurd (omega (arith, size))
-narrow_lines (t1 ∷ []) c size lead = absurd (omega (arith, size))
-narrow_lines (t1 ∷ t2 ∷ []) c size lead = absurd (omega (arith, size))
-narrow_lines (t1 ∷ t2 ∷ t3 ∷ t4 ∷ ts) c size lead = absurd (omega (arith, size))
-narrow_lines (t1 ∷ t2 ∷ t3 ∷ []) c size lead =
-    let heap = subst (λ (s : DumpStage). DumpFollows s t2 lead.2.0) lead.1.1 lead.2.1 in
-    third_narrow lead.2.2.0 heap.0 c t3 heap.1 (subst (λ (s : DumpStage). DumpFollows s t3 lead.2.2.0) heap.3 lead.2.2.1) lead.2.2.2
+narrow_lines (version_text ∷ []) c size lead = absurd (omega (arith, size))
+narrow_lines (version_text ∷ heap_text ∷ []) c size lead = absurd (omega (arith, size))
+narrow_lines (version_text ∷ heap_text ∷ threads_text ∷ text ∷ ts) c size lead = absurd (omega (arith, size))
+narrow_lines (version_text ∷ heap_text ∷ threads_text ∷ []) c size lead =
+    let heap = subst (λ (s : DumpStage). DumpFollows s heap_text lead.2.0) lead.1.1 lead.2.1 in
+    third_narrow lead.2.2.0 heap.0 c threads_text heap.1 (subst (λ (s : DumpStage). DumpFollows s threads_text lead.2.2.0) heap.3 lead.2.2.1) lead.2.2.2
 
 pub head_narrow : (bytes rest : List ℕ) (c : Config) → Leads Version bytes rest 3 (Counts c) → IsNarrow c
 head_narrow bytes rest c led = narrow_lines led.texts c led.count led.lead
@@ -242,13 +242,13 @@ listed_spelled bytes rest n d e led rows_none roots_none size full small roots_s
     ∙ ap (λ (bs : List ℕ). flat_map object_line e.rows ++ bs)
     (ap (λ k. roots_lines k a.roots) from ∙ ap (roots_lines 0) roots ∙ all_roots e.roots e.roots 0 (λ k. let none : 0 + k ≡ k = omega arith in ap (λ j. get_or e.roots j []) none) full ∙ ap (λ k. flat_map (roots_line_in e.roots) (range_with_len 1 k)) size))
 
-pub all_spelled : (bytes rest1 rest2 rest3 rest4 mark more : List ℕ) (d : Dumped) → bytes ≡ sizes_head d.config ++ rest1 → rest1 ≡ titled (codes "counts") d.counts ++ rest2
-    → rest2 ≡ (flat_map object_line d.rows ++ flat_map (roots_line_in d.roots) (thread_numbers d.config.mutators)) ++ rest3 → rest3 ≡ mark ++ rest4 → rest4 ≡ more → bytes ≡ dump_text d ++ (mark ++ more)
-all_spelled bytes rest1 rest2 rest3 rest4 mark more d e1 e2 e3 e4 e5 =
+pub all_spelled : (bytes behind_head behind_counts behind_roots behind_mark mark more : List ℕ) (d : Dumped) → bytes ≡ sizes_head d.config ++ behind_head → behind_head ≡ titled (codes "counts") d.counts ++ behind_counts
+    → behind_counts ≡ (flat_map object_line d.rows ++ flat_map (roots_line_in d.roots) (thread_numbers d.config.mutators)) ++ behind_roots → behind_roots ≡ mark ++ behind_mark → behind_mark ≡ more → bytes ≡ dump_text d ++ (mark ++ more)
+all_spelled bytes behind_head behind_counts behind_roots behind_mark mark more d head_is counts_are list_is mark_is more_is =
     let head = sizes_head d.config in
     let counts = titled (codes "counts") d.counts in
     let list = flat_map object_line d.rows ++ flat_map (roots_line_in d.roots) (thread_numbers d.config.mutators) in
     let tail = mark ++ more in
-    e1 ∙ ap (λ (bs : List ℕ). head ++ bs)
-    (e2 ∙ ap (λ (bs : List ℕ). counts ++ bs) (e3 ∙ ap (λ (bs : List ℕ). list ++ bs) (e4 ∙ ap (λ (bs : List ℕ). mark ++ bs) e5)) ∙ sym (append_assoc counts list tail))
+    head_is ∙ ap (λ (bs : List ℕ). head ++ bs)
+    (counts_are ∙ ap (λ (bs : List ℕ). counts ++ bs) (list_is ∙ ap (λ (bs : List ℕ). list ++ bs) (mark_is ∙ ap (λ (bs : List ℕ). mark ++ bs) more_is)) ∙ sym (append_assoc counts list tail))
     ∙ sym (append_assoc head (counts ++ list) tail)

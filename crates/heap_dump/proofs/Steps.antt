@@ -77,12 +77,12 @@ refused_here stage bytes text rest is cut none =
     subst (λ (ts : List (List ℕ)). StopsFor stage ts DumpWanted) (sym whole) (by_stage stage is none some.0 some.1)
   where
     by_stage : (s : DumpStage) → IsDumping s → ((next : DumpStage) → DumpFollows s text next → ⊥) → (t : List ℕ) (more : List (List ℕ)) → StopsFor s (text ∷ t ∷ more) DumpWanted
-    by_stage Version is' no' t more = (refl, no')
-    by_stage Heap is' no' t more = (refl, no')
-    by_stage (Threads c) is' no' t more = (refl, no')
-    by_stage (Counts c) is' no' t more = (refl, no')
-    by_stage (Listed d) is' no' t more = (refl, no')
-    by_stage (Behind s) is' no' t more = absurd is'
+    by_stage Version dumping no_more t more = (refl, no_more)
+    by_stage Heap dumping no_more t more = (refl, no_more)
+    by_stage (Threads c) dumping no_more t more = (refl, no_more)
+    by_stage (Counts c) dumping no_more t more = (refl, no_more)
+    by_stage (Listed d) dumping no_more t more = (refl, no_more)
+    by_stage (Behind s) dumping no_more t more = absurd dumping
 
 -- ---- lines by their words
 

@@ -7,7 +7,7 @@ use Rattle.heap_words.specs.Steps.{Stage, Event, go}
 use Rattle.shen_graph.specs.declared.command.Command.{Command}
 use Rattle.shen_graph.specs.declared.name.Name.{Name}
 use Rattle.shen_graph.specs.declared.order.Order.{Order}
-use Rattle.shen_graph.specs.Valid.{IsValid}
+use Rattle.shen_graph.specs.Valid.{IsValid, most_objects}
 use Rattle.shen_graph.specs.Graph.{Graph}
 use Rattle.shen_graph.specs.GraphText.{Text, row_in}
 use Rattle.shen_graph.specs.History.{Entry, after, of_thread, replies_of, Follows, EachIsLegal}
@@ -49,7 +49,7 @@ pub record IsAnswerFrom (g : Graph) (threads : ℕ) (entries : List Entry) (out 
 
 -- a script of commands in range, that are no more than there are names left for a thread of a dump
 abbrev pub IsRunnableAfter : List Command → Type 0
-IsRunnableAfter script = All IsValid script × (length script + most_made < 4294967295)
+IsRunnableAfter script = All IsValid script × (length script + most_made < most_objects)
 
 -- so many events of a schedule from a stage on leave a machine that is not idle
 pub record IsLeftBusy (c : Config) (start : Stage Actor) (scripts : Scripts) (items : List Item) (limit : ℕ) : Type 0 where

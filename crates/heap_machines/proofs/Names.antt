@@ -6,7 +6,7 @@ use Rattle.heap_words.specs.declared.config.Config.{Config}
 use Rattle.shen_graph.specs.declared.command.Command.{Command}
 use Rattle.shen_graph.specs.declared.command.Reply.{Reply}
 use Rattle.shen_graph.specs.declared.order.Order.{Order}
-use Rattle.shen_graph.specs.Valid.{IsValid}
+use Rattle.shen_graph.specs.Valid.{IsValid, most_objects}
 use Rattle.heap_world.specs.Change.{Change}
 use Rattle.step_core.specs.Actor.{Machine}
 use Rattle.step_core.specs.Machines.{machine_after, may_begin, made_of_machine, at_hand_of}
@@ -17,7 +17,7 @@ use Rattle.heap_machines.proofs.Turns.{begins_at_rest}
 -- What it has made and the commands that are not answered are fewer than there are names, where a reply that is at hand counts as
 -- given.
 abbrev pub HasNames : Machine → (script replies : ℕ) → Type 0
-HasNames machine script replies = made_of_machine machine + script < 4294967295 + (replies + at_hand_of machine)
+HasNames machine script replies = made_of_machine machine + script < most_objects + (replies + at_hand_of machine)
 
 module _ (change : Change) (c : Config) (order : Order) (got : ℕ) (machine : Machine) (script replies : ℕ) (names : HasNames machine script replies) where
   -- after a step that gives no reply
@@ -38,10 +38,10 @@ one_of_these P xs k x all here = subst P (get_or_from_slice_get xs k x x here) (
 
 -- the command that follows in its script can be given
 pub command_fits : (machine : Machine) (script : List Command) (replies : ℕ) → All IsValid script → HasNames machine (length script) replies → may_begin machine ≡ true
-    → IfSome (slice_get script replies) (λ command. IsValid command × (made_of_machine machine < 4294967295))
+    → IfSome (slice_get script replies) (λ command. IsValid command × (made_of_machine machine < most_objects))
 command_fits machine script replies commands names may = by_next (slice_get script replies) refl
   where
-    by_next : (o : Option Command) → slice_get script replies ≡ o → IfSome o (λ command. IsValid command × (made_of_machine machine < 4294967295))
+    by_next : (o : Option Command) → slice_get script replies ≡ o → IfSome o (λ command. IsValid command × (made_of_machine machine < most_objects))
     by_next None here = tt
     by_next (Some command) here = (
       one_of_these IsValid script replies command commands here,

@@ -30,10 +30,10 @@ order_of (Helper h) = hinting (helpers.hint_of h)
 order_of (Control k) = hinting (controls.hint_of k)
 
 -- the heap that it is of
-abbrev pub heap_of : Machine → Config
-heap_of (Mutator m) = seen.config_of m
-heap_of (Helper h) = helpers.config_of h
-heap_of (Control k) = controls.config_in k
+abbrev pub config_of : Machine → Config
+config_of (Mutator m) = seen.config_of m
+config_of (Helper h) = helpers.config_of h
+config_of (Control k) = controls.config_in k
 
 -- whether it makes a step: it takes the order that it was given
 abbrev pub has_turn : Machine → Bool
@@ -41,7 +41,7 @@ has_turn m = takes_of (shown m) (order_of m)
 
 -- its next access
 abbrev pub access_of : Machine → Access
-access_of m = plan_of (heap_of m) (order_of m) (shown m)
+access_of m = plan_of (config_of m) (order_of m) (shown m)
 
 -- the word that this finds in a table
 abbrev pub word_found : Machine → List ℕ → ℕ

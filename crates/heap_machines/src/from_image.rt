@@ -6,7 +6,7 @@ ghost use Rattle.heap_words.specs.Ranges.{seat_count};
 ghost use Rattle.heap_words.specs.Words.{Word};
 ghost use Rattle.shen_graph.specs.declared.order.Order.TheVariants.{Nothing};
 ghost use Rattle.image_graph.specs.State.{config_of, words_of, memory_of};
-ghost use Rattle.heap_machines.specs.Shown.{shown, order_of, heap_of};
+ghost use Rattle.heap_machines.specs.Shown.{shown, order_of, config_of as machine_config};
 ghost use Rattle.heap_machines.specs.FromImage.{machine_from};
 
 use crate::machine::Machine;
@@ -35,7 +35,7 @@ fn machine_at(config: Config, counts: &[u32], number: usize) -> Machine
     requires counts { length counts.now ≡ config.mutators }
     requires number { number < config.mutators + config.helpers }
     ensures shown { (memory : Word → ℕ) → shown result ≡ machine_from config counts.now memory number }
-    ensures heap { heap_of result ≡ config }
+    ensures heap { machine_config result ≡ config }
     ensures order { order_of result ≡ Nothing }
 {
     if number < config.mutators() {
@@ -50,7 +50,7 @@ fn machine_at(config: Config, counts: &[u32], number: usize) -> Machine
 pub fn machines_from(alloc: Global, image: Image, counts: &[u32]) -> Result<Vec<Machine>, NoMemory>
     requires { length counts.now ≡ (config_of image).mutators }
     ensures machines { IfOk result (λ machines. map shown machines.items ≡ map (machine_from (config_of image) counts.now (memory_of image)) (range_with_len 0 (seat_count (config_of image).mutators (config_of image).helpers))) }
-    ensures heap { IfOk result (λ machines. All (λ m. heap_of m ≡ config_of image) machines.items) }
+    ensures heap { IfOk result (λ machines. All (λ m. machine_config m ≡ config_of image) machines.items) }
     ensures orders { IfOk result (λ machines. All (λ m. order_of m ≡ Nothing) machines.items) }
 {
     let config = image.config();

@@ -3,6 +3,7 @@ ghost use Rattle.control.specs.Seen.{config_in, seen_control, hint_of};
 ghost use Rattle.step_core.specs.Actor.{controlling, fresh_control};
 ghost use Rattle.step_core.specs.Opening.{first_free};
 ghost use Rattle.shen_graph.specs.Order.{hinting};
+ghost use Rattle.shen_graph.specs.Valid.{most_objects};
 ghost use Rattle.heap_machines.specs.Turn.{first_place_of};
 
 use crate::refusal::refused;
@@ -41,7 +42,7 @@ impl Machine {
     ghost use Rattle.heap_machines.specs.Pause.{pause_image};
     ghost use Rattle.step_core.specs.Opening.{opening_machine};
     ghost use Rattle.step_core.specs.Machines.{control_in, takes_of, takes_hint, greys_of, hints_of, plan_of, place_in, machine_after, answer_of, is_machine_at, reply_in, may_begin, made_of_machine, WaitsIn, IsFitFor, is_resting};
-    ghost use Rattle.heap_machines.specs.Shown.{shown, order_of, heap_of, has_turn, access_of, word_found};
+    ghost use Rattle.heap_machines.specs.Shown.{shown, order_of, config_of, has_turn, access_of, word_found};
     ghost use Rattle.heap_machines.specs.Roles.{is_mutating, phase_in, CanShow};
     ghost use Rattle.heap_machines.specs.Settles.{command_in, reply_settled, refused_by};
     ghost use Rattle.heap_machines.specs.Turn.{order_for};
@@ -51,7 +52,7 @@ impl Machine {
     /// The machine of a number, as a heap begins with it. The error is that memory for the control's image was refused.
     pub fn open(alloc: Global, config: Config, number: usize) -> Result<Machine, NoMemory>
         ensures shown { IfOk result (λ m. shown m ≡ opening_machine config number) }
-        ensures heap { IfOk result (λ m. heap_of m ≡ config) }
+        ensures heap { IfOk result (λ m. config_of m ≡ config) }
         ensures order { IfOk result (λ m. order_of m ≡ Order.Nothing) }
     {
         if number < config.mutators() {
@@ -91,7 +92,7 @@ impl Machine {
     /// Whether it waits outside the heap until no pause is wanted. As long as one is, its steps change nothing.
     pub fn awaits(&self) -> bool
         requires { order_of self.now ≡ Order.Nothing }
-        ensures waits { result ≡ true → Awaits (heap_of self.now) (shown self.now) }
+        ensures waits { result ≡ true → Awaits (config_of self.now) (shown self.now) }
         ensures there { result ≡ is_machine_at Place.E4 (shown self.now) (order_for None (shown self.now)) }
     {
         self.is_at_place(None, Place::E4)
@@ -99,7 +100,7 @@ impl Machine {
 
     /// Whether it is the control, and its next step goes from a word of the image to the next one.
     pub fn is_inside_image(&self) -> bool
-        ensures { result ≡ is_inside_image (heap_of self.now) (shown self.now) }
+        ensures { result ≡ is_inside_image (config_of self.now) (shown self.now) }
     {
         match self {
             Machine::Control(control) => control.is_inside_image(),
@@ -109,13 +110,13 @@ impl Machine {
 
     /// Makes its next step, which goes from a word of the image to the next one, on the words of the heap's table. Of the control.
     pub fn step_inside_image(&mut self, words: &mut Vec<u64>)
-        requires inside { is_inside_image (heap_of self.old) (shown self.old) ≡ true }
-        requires words { vec_len words.old ≡ table_words (heap_of self.old) }
-        ensures words { words.new.items ≡ accessed (plan_of (heap_of self.old) (order_of self.old) (shown self.old)) words.old.items }
+        requires inside { is_inside_image (config_of self.old) (shown self.old) ≡ true }
+        requires words { vec_len words.old ≡ table_words (config_of self.old) }
+        ensures words { words.new.items ≡ accessed (plan_of (config_of self.old) (order_of self.old) (shown self.old)) words.old.items }
         ensures none { order_of self.old ≡ Order.Nothing }
-        ensures shown { shown self.new ≡ machine_after pause_image (heap_of self.old) (order_of self.old) (slice_index words.old.items (table_index (plan_of (heap_of self.old) (order_of self.old) (shown self.old)))) (shown self.old) }
+        ensures shown { shown self.new ≡ machine_after pause_image (config_of self.old) (order_of self.old) (slice_index words.old.items (table_index (plan_of (config_of self.old) (order_of self.old) (shown self.old)))) (shown self.old) }
         ensures order { order_of self.new ≡ Order.Nothing }
-        ensures heap { heap_of self.new ≡ heap_of self.old }
+        ensures heap { config_of self.new ≡ config_of self.old }
     {
         match self {
             Machine::Control(control) => control.step_inside_image(words),
@@ -127,7 +128,7 @@ impl Machine {
     /// loads any.
     #[inline(always)]
     pub fn words_to_load(&self) -> usize
-        ensures { result ≡ loads_left (heap_of self.now) (shown self.now) }
+        ensures { result ≡ loads_left (config_of self.now) (shown self.now) }
     {
         match self {
             Machine::Control(control) => control.words_to_load(),
@@ -139,7 +140,7 @@ impl Machine {
     /// stores any.
     #[inline(always)]
     pub fn words_to_store(&self) -> usize
-        ensures { result ≡ stores_left (heap_of self.now) (shown self.now) }
+        ensures { result ≡ stores_left (config_of self.now) (shown self.now) }
     {
         match self {
             Machine::Control(control) => control.words_to_store(),
@@ -150,10 +151,10 @@ impl Machine {
     /// The index in the heap's table of the word that its next step loads, where it loads one more before the last. Of the control.
     #[inline(always)]
     pub fn next_to_load(&self) -> usize
-        requires { 0 < loads_left (heap_of self.now) (shown self.now) }
+        requires { 0 < loads_left (config_of self.now) (shown self.now) }
         ensures none { order_of self.now ≡ Order.Nothing }
-        ensures row { Access.Load result ≡ plan_of (heap_of self.now) (order_of self.now) (shown self.now) }
-        ensures inside { result < table_words (heap_of self.now) }
+        ensures row { Access.Load result ≡ plan_of (config_of self.now) (order_of self.now) (shown self.now) }
+        ensures inside { result < table_words (config_of self.now) }
     {
         match self {
             Machine::Control(control) => control.next_to_load(),
@@ -164,11 +165,11 @@ impl Machine {
     /// Goes on with the word that it has loaded there, to the next one. Of the control.
     #[inline(always)]
     pub fn loaded(&mut self, got: u64)
-        requires { 0 < loads_left (heap_of self.old) (shown self.old) }
-        ensures shown { shown self.new ≡ machine_after pause_image (heap_of self.old) (order_of self.old) got (shown self.old) }
+        requires { 0 < loads_left (config_of self.old) (shown self.old) }
+        ensures shown { shown self.new ≡ machine_after pause_image (config_of self.old) (order_of self.old) got (shown self.old) }
         ensures order { order_of self.new ≡ Order.Nothing }
-        ensures heap { heap_of self.new ≡ heap_of self.old }
-        ensures left { loads_left (heap_of self.new) (shown self.new) + 1 ≡ loads_left (heap_of self.old) (shown self.old) }
+        ensures heap { config_of self.new ≡ config_of self.old }
+        ensures left { loads_left (config_of self.new) (shown self.new) + 1 ≡ loads_left (config_of self.old) (shown self.old) }
     {
         match self {
             Machine::Control(control) => control.loaded(got),
@@ -180,10 +181,10 @@ impl Machine {
     /// the control.
     #[inline(always)]
     pub fn next_to_store(&self) -> (usize, u64)
-        requires { 0 < stores_left (heap_of self.now) (shown self.now) }
+        requires { 0 < stores_left (config_of self.now) (shown self.now) }
         ensures none { order_of self.now ≡ Order.Nothing }
-        ensures row { Access.Store result.0 result.1 ≡ plan_of (heap_of self.now) (order_of self.now) (shown self.now) }
-        ensures inside { result.0 < table_words (heap_of self.now) }
+        ensures row { Access.Store result.0 result.1 ≡ plan_of (config_of self.now) (order_of self.now) (shown self.now) }
+        ensures inside { result.0 < table_words (config_of self.now) }
     {
         match self {
             Machine::Control(control) => control.next_to_store(),
@@ -194,11 +195,11 @@ impl Machine {
     /// Goes on from the word that it has stored there to the next one. Of the control.
     #[inline(always)]
     pub fn stored(&mut self)
-        requires { 0 < stores_left (heap_of self.old) (shown self.old) }
-        ensures shown { (got : ℕ) → shown self.new ≡ machine_after pause_image (heap_of self.old) (order_of self.old) got (shown self.old) }
+        requires { 0 < stores_left (config_of self.old) (shown self.old) }
+        ensures shown { (got : ℕ) → shown self.new ≡ machine_after pause_image (config_of self.old) (order_of self.old) got (shown self.old) }
         ensures order { order_of self.new ≡ Order.Nothing }
-        ensures heap { heap_of self.new ≡ heap_of self.old }
-        ensures left { stores_left (heap_of self.new) (shown self.new) + 1 ≡ stores_left (heap_of self.old) (shown self.old) }
+        ensures heap { config_of self.new ≡ config_of self.old }
+        ensures left { stores_left (config_of self.new) (shown self.new) + 1 ≡ stores_left (config_of self.old) (shown self.old) }
     {
         match self {
             Machine::Control(control) => control.stored(),
@@ -242,8 +243,8 @@ impl Machine {
     #[inline(always)]
     pub fn plan(&self) -> Access
         requires { has_turn self.now ≡ true }
-        ensures row { result ≡ plan_of (heap_of self.now) (order_of self.now) (shown self.now) }
-        ensures inside { table_index result < table_words (heap_of self.now) }
+        ensures row { result ≡ plan_of (config_of self.now) (order_of self.now) (shown self.now) }
+        ensures inside { table_index result < table_words (config_of self.now) }
     {
         match self {
             Machine::Mutator(mutator) => mutator.plan(),
@@ -257,16 +258,16 @@ impl Machine {
     #[inline(always)]
     pub fn took(&mut self, got: u64) -> Took
         requires busy { has_turn self.old ≡ true }
-        requires fit { IsFitFor (heap_of self.old) (order_of self.old) got (shown self.old) }
-        ensures shown { shown self.new ≡ machine_after pause_image (heap_of self.old) (order_of self.old) got (shown self.old) }
+        requires fit { IsFitFor (config_of self.old) (order_of self.old) got (shown self.old) }
+        ensures shown { shown self.new ≡ machine_after pause_image (config_of self.old) (order_of self.old) got (shown self.old) }
         ensures order { order_of self.new ≡ Order.Nothing }
-        ensures heap { heap_of self.new ≡ heap_of self.old }
-        ensures answer { answer_of (heap_of self.old) (order_of self.old) (shown self.old) got ≡ Some result }
+        ensures heap { config_of self.new ≡ config_of self.old }
+        ensures answer { answer_of (config_of self.old) (order_of self.old) (shown self.old) got ≡ Some result }
 
         // A call ends exactly where its mutator leaves the heap, and its reply is at hand then.
         ensures done { (result ≡ Took.Done) ↔ ((is_mutating (shown self.old) ≡ true) × (place_in (order_of self.old) (shown self.old) ≡ Place.LV)) }
         ensures replied { result ≡ Took.Done → reply_in (shown self.new) ≢ None }
-        ensures again { (result ≡ Took.Again) ↔ WaitsIn (heap_of self.old) (order_of self.old) (shown self.old) got }
+        ensures again { (result ≡ Took.Again) ↔ WaitsIn (config_of self.old) (order_of self.old) (shown self.old) got }
     {
         match self {
             Machine::Mutator(mutator) => mutator.took(got),
@@ -279,16 +280,16 @@ impl Machine {
     #[inline(always)]
     pub fn step(&mut self, words: &mut Vec<u64>) -> Took
         requires busy { has_turn self.old ≡ true }
-        requires words { vec_len words.old ≡ table_words (heap_of self.old) }
-        requires fit { IsFitFor (heap_of self.old) (order_of self.old) (word_found self.old words.old.items) (shown self.old) }
+        requires words { vec_len words.old ≡ table_words (config_of self.old) }
+        requires fit { IsFitFor (config_of self.old) (order_of self.old) (word_found self.old words.old.items) (shown self.old) }
         ensures words { words.new.items ≡ accessed (access_of self.old) words.old.items }
-        ensures shown { shown self.new ≡ machine_after pause_image (heap_of self.old) (order_of self.old) (word_found self.old words.old.items) (shown self.old) }
+        ensures shown { shown self.new ≡ machine_after pause_image (config_of self.old) (order_of self.old) (word_found self.old words.old.items) (shown self.old) }
         ensures order { order_of self.new ≡ Order.Nothing }
-        ensures heap { heap_of self.new ≡ heap_of self.old }
-        ensures answer { answer_of (heap_of self.old) (order_of self.old) (shown self.old) (word_found self.old words.old.items) ≡ Some result }
+        ensures heap { config_of self.new ≡ config_of self.old }
+        ensures answer { answer_of (config_of self.old) (order_of self.old) (shown self.old) (word_found self.old words.old.items) ≡ Some result }
         ensures done { (result ≡ Took.Done) ↔ ((is_mutating (shown self.old) ≡ true) × (place_in (order_of self.old) (shown self.old) ≡ Place.LV)) }
         ensures replied { result ≡ Took.Done → reply_in (shown self.new) ≢ None }
-        ensures again { (result ≡ Took.Again) ↔ WaitsIn (heap_of self.old) (order_of self.old) (shown self.old) (word_found self.old words.old.items) }
+        ensures again { (result ≡ Took.Again) ↔ WaitsIn (config_of self.old) (order_of self.old) (shown self.old) (word_found self.old words.old.items) }
     {
         match self {
             Machine::Mutator(mutator) => mutator.step(words),
@@ -300,16 +301,16 @@ impl Machine {
     // The same of any machine.
     fn step_apart(&mut self, words: &mut Vec<u64>) -> Took
         requires busy { has_turn self.old ≡ true }
-        requires words { vec_len words.old ≡ table_words (heap_of self.old) }
-        requires fit { IsFitFor (heap_of self.old) (order_of self.old) (word_found self.old words.old.items) (shown self.old) }
+        requires words { vec_len words.old ≡ table_words (config_of self.old) }
+        requires fit { IsFitFor (config_of self.old) (order_of self.old) (word_found self.old words.old.items) (shown self.old) }
         ensures words { words.new.items ≡ accessed (access_of self.old) words.old.items }
-        ensures shown { shown self.new ≡ machine_after pause_image (heap_of self.old) (order_of self.old) (word_found self.old words.old.items) (shown self.old) }
+        ensures shown { shown self.new ≡ machine_after pause_image (config_of self.old) (order_of self.old) (word_found self.old words.old.items) (shown self.old) }
         ensures order { order_of self.new ≡ Order.Nothing }
-        ensures heap { heap_of self.new ≡ heap_of self.old }
-        ensures answer { answer_of (heap_of self.old) (order_of self.old) (shown self.old) (word_found self.old words.old.items) ≡ Some result }
+        ensures heap { config_of self.new ≡ config_of self.old }
+        ensures answer { answer_of (config_of self.old) (order_of self.old) (shown self.old) (word_found self.old words.old.items) ≡ Some result }
         ensures done { (result ≡ Took.Done) ↔ ((is_mutating (shown self.old) ≡ true) × (place_in (order_of self.old) (shown self.old) ≡ Place.LV)) }
         ensures replied { result ≡ Took.Done → reply_in (shown self.new) ≢ None }
-        ensures again { (result ≡ Took.Again) ↔ WaitsIn (heap_of self.old) (order_of self.old) (shown self.old) (word_found self.old words.old.items) }
+        ensures again { (result ≡ Took.Again) ↔ WaitsIn (config_of self.old) (order_of self.old) (shown self.old) (word_found self.old words.old.items) }
     {
         let got = make_access(words, self.plan());
         self.took(got)
@@ -319,11 +320,11 @@ impl Machine {
     pub fn begin(&mut self, command: Command)
         requires rest { may_begin (shown self.old) ≡ true }
         requires valid { IsValid command }
-        requires made { made_of_machine (shown self.old) < 4294967295 }
+        requires made { made_of_machine (shown self.old) < most_objects }
         ensures order { order_of self.new ≡ Order.Begin command }
         ensures takes { takes_of (shown self.old) (Order.Begin command) ≡ true }
         ensures shown { shown self.new ≡ shown self.old }
-        ensures heap { heap_of self.new ≡ heap_of self.old }
+        ensures heap { config_of self.new ≡ config_of self.old }
     {
         match self {
             Machine::Mutator(mutator) => mutator.begin(command),
@@ -337,7 +338,7 @@ impl Machine {
         ensures order { order_of self.new ≡ Order.End }
         ensures takes { takes_of (shown self.old) Order.End ≡ true }
         ensures shown { shown self.new ≡ shown self.old }
-        ensures heap { heap_of self.new ≡ heap_of self.old }
+        ensures heap { config_of self.new ≡ config_of self.old }
     {
         match self {
             Machine::Mutator(mutator) => mutator.finish(),
@@ -360,11 +361,11 @@ impl Machine {
     /// address's mark, and claims no unit. Of one that takes hints.
     pub fn give_hint(&mut self, address: u64)
         requires takes { takes_hint (shown self.old) ≡ true }
-        requires heap { IsWord (heap_of self.old) (Heap address) }
+        requires heap { IsWord (config_of self.old) (Heap address) }
         ensures order { order_of self.new ≡ Order.Hint address }
         ensures takes { takes_of (shown self.old) (Order.Hint address) ≡ true }
         ensures shown { shown self.new ≡ shown self.old }
-        ensures heap { heap_of self.new ≡ heap_of self.old }
+        ensures heap { config_of self.new ≡ config_of self.old }
     {
         match self {
             Machine::Helper(helper) => helper.give_hint(address),
@@ -376,7 +377,7 @@ impl Machine {
     /// The address that its next access makes grey, if it does so: one of the heap.
     pub fn greys(&self) -> Option<u64>
         ensures row { result ≡ greys_of (shown self.now) }
-        ensures heap { IfSome result (λ address. IsWord (heap_of self.now) (Heap address)) }
+        ensures heap { IfSome result (λ address. IsWord (config_of self.now) (Heap address)) }
     {
         match self {
             Machine::Mutator(mutator) => mutator.greys(),
@@ -422,12 +423,12 @@ impl Machine {
     #[inline(always)]
     pub fn order_next(&mut self, next: Option<Command>) -> bool
         requires none { order_of self.old ≡ Order.Nothing }
-        requires next { may_begin (shown self.old) ≡ true → IfSome next (λ command. IsValid command × (made_of_machine (shown self.old) < 4294967295)) }
+        requires next { may_begin (shown self.old) ≡ true → IfSome next (λ command. IsValid command × (made_of_machine (shown self.old) < most_objects)) }
         ensures turn { order_for next (shown self.old) ≡ (if result then Some (order_of self.new) else None) }
         ensures takes { takes_of (shown self.old) (order_of self.new) ≡ result }
         ensures idle { result ≡ false → order_of self.new ≡ Order.Nothing }
         ensures shown { shown self.new ≡ shown self.old }
-        ensures heap { heap_of self.new ≡ heap_of self.old }
+        ensures heap { config_of self.new ≡ config_of self.old }
     {
         if !self.may_begin() {
             return !self.is_idle();
@@ -473,8 +474,8 @@ impl Machine {
     /// The reply of its call in progress, if it is a mutator whose next access settles that, by the words of the heap's table as
     /// they are before it.
     pub fn settles(&self, words: &[u64]) -> Option<Reply>
-        requires { length words.now ≡ table_words (heap_of self.now) }
-        ensures { result ≡ reply_settled (view (heap_of self.now) words.now) (shown self.now) }
+        requires { length words.now ≡ table_words (config_of self.now) }
+        ensures { result ≡ reply_settled (view (config_of self.now) words.now) (shown self.now) }
     {
         match self {
             Machine::Mutator(mutator) => mutator.settles(words),
@@ -485,7 +486,7 @@ impl Machine {
     /// The mutator, counted from 0, to which its next access says that the heap is full, if it is the control and does so, by the
     /// words of the heap's table as they are before it.
     pub fn refuses(&self, config: Config, words: &[u64]) -> Option<usize>
-        requires heap { heap_of self.now ≡ config }
+        requires heap { config_of self.now ≡ config }
         requires words { length words.now ≡ table_words config }
         ensures { result ≡ refused_by config words.now (shown self.now) }
     {
@@ -500,15 +501,15 @@ impl Machine {
     /// Writes the graph that the words of the heap's table stand for. Of the control, while it is not storing a new image; what
     /// it has loaded in a pause so far are words of this table. As events see it, it stays as it is. No memory is taken.
     pub fn answer_graph(&mut self, words: &[u64], text: &mut GraphText)
-        requires control { CanShow (heap_of self.old) (image_from (heap_of self.old) words.now) (shown self.old) }
-        requires words { length words.now ≡ table_words (heap_of self.old) }
-        requires room { heap_size (heap_of self.old) ≤ text.old.room }
-        requires threads { length text.old.roots ≡ (heap_of self.old).mutators }
-        requires stand { StandsForSome (heap_of self.old) words.now }
+        requires control { CanShow (config_of self.old) (image_from (config_of self.old) words.now) (shown self.old) }
+        requires words { length words.now ≡ table_words (config_of self.old) }
+        requires room { heap_size (config_of self.old) ≤ text.old.room }
+        requires threads { length text.old.roots ≡ (config_of self.old).mutators }
+        requires stand { StandsForSome (config_of self.old) words.now }
         ensures shown { shown self.new ≡ shown self.old }
         ensures order { order_of self.new ≡ order_of self.old }
-        ensures heap { heap_of self.new ≡ heap_of self.old }
-        ensures shows { ShowsTheGraph (heap_of self.old) words.now text.new }
+        ensures heap { config_of self.new ≡ config_of self.old }
+        ensures shows { ShowsTheGraph (config_of self.old) words.now text.new }
         ensures same_room { text.new.room ≡ text.old.room }
         ensures same_threads { length text.new.roots ≡ length text.old.roots }
     {
@@ -521,7 +522,7 @@ impl Machine {
     /// The image of the control, where a heap that has come to its end is read. Of its words nothing is told.
     pub fn into_image(self) -> Image
         requires control { is_some (control_in (shown self)) ≡ true }
-        ensures heap { images.config_of result ≡ heap_of self }
+        ensures heap { images.config_of result ≡ config_of self }
     {
         match self {
             Machine::Control(control) => control.into_image(),

@@ -3,7 +3,7 @@ ghost use Rattle.std.specs.List.{range_with_len};
 ghost use Rattle.heap_words.specs.Ranges.{seat_count};
 ghost use Rattle.shen_graph.specs.declared.order.Order.TheVariants.{Nothing};
 ghost use Rattle.step_core.specs.Opening.{opening_machine};
-ghost use Rattle.heap_machines.specs.Shown.{shown, order_of, heap_of};
+ghost use Rattle.heap_machines.specs.Shown.{shown, order_of, config_of};
 
 use crate::machine::Machine;
 use heap_words::{Config, NoMemory};
@@ -12,7 +12,7 @@ use std::alloc::Global;
 /// The machines of a heap before the first event, by their numbers. The error is that memory for them was refused.
 pub fn open_machines(alloc: Global, config: Config) -> Result<Vec<Machine>, NoMemory>
     ensures machines { IfOk result (λ machines. map shown machines.items ≡ map (opening_machine config) (range_with_len 0 (seat_count config.mutators config.helpers))) }
-    ensures heap { IfOk result (λ machines. All (λ m. heap_of m ≡ config) machines.items) }
+    ensures heap { IfOk result (λ machines. All (λ m. config_of m ≡ config) machines.items) }
     ensures orders { IfOk result (λ machines. All (λ m. order_of m ≡ Nothing) machines.items) }
 {
     let mut machines = Vec::new(alloc);

@@ -18,7 +18,7 @@ use Rattle.heap_machines.specs.declared.stepped.Stepped.{Stepped}
 use Rattle.table_heap.specs.declared.heap.Heap.{Heap}
 use Rattle.table_heap.specs.declared.bundle.Bundle.{Bundle}
 use Rattle.table_heap.specs.Core.{heap_kind, start_of_key, machine_in}
-use Rattle.table_heap.specs.State.{heap_of, start_in, view_of, machines_of, orders_of, machine_at, order_at, has_turn, IsBundleOf, HasMachine, IsSameBundle, IsUnmoved, IsUnchanged, IsBundleStep}
+use Rattle.table_heap.specs.State.{config_in, start_in, view_of, machines_of, orders_of, machine_at, order_at, has_turn, IsBundleOf, HasMachine, IsSameBundle, IsUnmoved, IsUnchanged, IsBundleStep}
 use Rattle.heap_seats.specs.Histories.{BeginsRenewable}
 use Rattle.heap_seats.specs.Known.{HaveRun, HasOnly}
 
@@ -42,9 +42,9 @@ same_start old new same = ap (λ k. start_of_key k.value) same.key
 pub stays_renewable : (c : Config) (old new : Bundle) → IsSameBundle old new → ∥ BeginsRenewable c (start_in old) ∥₁ → ∥ BeginsRenewable c (start_in new) ∥₁
 stays_renewable c old new same some = subst (λ (s : Stage Actor). ∥ BeginsRenewable c s ∥₁) (sym (same_start old new same)) some
 
-moved_run : (old new : Bundle) → IsSameBundle old new → AreReached (heap_kind (heap_of old)) (start_in old) (view_of new) → HaveRun new
+moved_run : (old new : Bundle) → IsSameBundle old new → AreReached (heap_kind (config_in old)) (start_in old) (view_of new) → HaveRun new
 moved_run old new same run =
-    subst (λ (s : Stage Actor). AreReached (heap_kind (heap_of new)) s (view_of new)) (sym (same_start old new same))
+    subst (λ (s : Stage Actor). AreReached (heap_kind (config_in new)) s (view_of new)) (sym (same_start old new same))
     (subst (λ (c : Config). AreReached (heap_kind c) (start_in old) (view_of new)) (sym same.config) run)
 
 pub unmoved_run : (old new : Bundle) → IsUnmoved old new → HaveRun old → HaveRun new
@@ -52,7 +52,7 @@ unmoved_run old new unmoved run = moved_run old new unmoved.same (λ number a th
 
 stepped_run : (old new : Bundle) (number : ℕ) (said : Stepped) → IsSameBundle old new → IsBundleStep old new number said → HaveRun old → HaveRun new
 stepped_run old new number said same step run =
-    moved_run old new same (reached_step (heap_kind (heap_of old)) (start_in old) number (order_at old number) (uncounted_seat old.seat.me) (uncounted_seat new.seat.me) step.got step.took run)
+    moved_run old new same (reached_step (heap_kind (config_in old)) (start_in old) number (order_at old number) (uncounted_seat old.seat.me) (uncounted_seat new.seat.me) step.got step.took run)
 
 -- so they do after what `Bundle::step` promises
 pub goes_run : (old new : Bundle) (number : ℕ) (said : Stepped) → IsSameBundle old new → (has_turn old number ≡ false → IsUnchanged old new) → (has_turn old number ≡ true → IsBundleStep old new number said) → HaveRun old → HaveRun new

@@ -56,7 +56,7 @@ pub record Went (first now : Seat) (made : ℕ) (said : List Stepped) : Type 0 w
 
 pub went_more : (first now new : Seat) (made : ℕ) (before : List Stepped) (said : Stepped) → IsSameSeat first now → Went first now made before → HasStepped now new said → Went first new (made + 1) (before ++ said ∷ [])
 went_more first now new made before said same went step =
-    let c = config_of first in
+    let config = config_of first in
     let order = order_in first in
     let start = machine_of_seat first in
     record {
@@ -64,15 +64,15 @@ went_more first now new made before said same went step =
       count = let long = length-append went.words (step.got ∷ []) in let count = went.count in omega (arith, long, count);
       machine =
           step.machine ∙ ap (λ (k : Config). machine_after pause_image k (order_in now) step.got (machine_of_seat now)) same.config
-          ∙ ap (λ (o : Order). machine_after pause_image c o step.got (machine_of_seat now)) went.order
-          ∙ ap (λ (m : Machine). machine_after pause_image c (order_left order went.words) step.got m) went.machine ∙ sym (machine_more c order went.words step.got start);
+          ∙ ap (λ (o : Order). machine_after pause_image config o step.got (machine_of_seat now)) went.order
+          ∙ ap (λ (m : Machine). machine_after pause_image config (order_left order went.words) step.got m) went.machine ∙ sym (machine_more config order went.words step.got start);
       order = step.order ∙ sym (left_more order went.words step.got);
       each =
-          said_more c order went.words step.got start
-          ∙ ap (λ (m : Machine). said_through c order went.words start ++ said_of_step c (order_left order went.words) m step.got ∷ []) (sym went.machine)
-          ∙ ap (λ (o : Order). said_through c order went.words start ++ said_of_step c o (machine_of_seat now) step.got ∷ []) (sym went.order)
-          ∙ ap (λ (k : Config). said_through c order went.words start ++ said_of_step k (order_in now) (machine_of_seat now) step.got ∷ []) (sym same.config)
-          ∙ ap (λ (x : Stepped). said_through c order went.words start ++ x ∷ []) (sym step.answers) ∙ ap (λ (xs : List Stepped). xs ++ said ∷ []) went.each;
+          said_more config order went.words step.got start
+          ∙ ap (λ (m : Machine). said_through config order went.words start ++ said_of_step config (order_left order went.words) m step.got ∷ []) (sym went.machine)
+          ∙ ap (λ (o : Order). said_through config order went.words start ++ said_of_step config o (machine_of_seat now) step.got ∷ []) (sym went.order)
+          ∙ ap (λ (k : Config). said_through config order went.words start ++ said_of_step k (order_in now) (machine_of_seat now) step.got ∷ []) (sym same.config)
+          ∙ ap (λ (x : Stepped). said_through config order went.words start ++ x ∷ []) (sym step.answers) ∙ ap (λ (xs : List Stepped). xs ++ said ∷ []) went.each;
     }
 
 -- ---- who has made a step and has more to do may be given no order

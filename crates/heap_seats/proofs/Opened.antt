@@ -19,7 +19,7 @@ use Rattle.shen_graph.specs.declared.order.Order.TheVariants.{Nothing}
 use Rattle.table_heap.specs.declared.heap.Heap.{Heap}
 use Rattle.table_heap.specs.declared.bundle.Bundle.{Bundle}
 use Rattle.table_heap.specs.Core.{heap_kind, start_of_key, nobody}
-use Rattle.table_heap.specs.State.{heap_of, start_of_heap, start_in, view_of, machine_at, order_at, steps_at, orders_of, steps_of, HasMachine, IsFresh}
+use Rattle.table_heap.specs.State.{config_in, start_of_heap, start_in, view_of, machine_at, order_at, steps_at, orders_of, steps_of, HasMachine, IsFresh}
 use Rattle.table_heap.proofs.Running.{at_number}
 use Rattle.heap_seats.specs.declared.seat.Seat.{Seat}
 use Rattle.heap_seats.specs.FreshSeats.{first_machine, IsFreshSeat}
@@ -111,7 +111,7 @@ module _ (c : Config) (start : Stage Actor) (begins : ∥ BeginsRenewable c star
 -- its machines stand as in a run of no event
 pub fresh_run : (c : Config) (h : Heap) (b : Bundle) (number : ℕ) → IsFresh h b (dealt_in c (start_of_heap h) number) → HaveRun b
 fresh_run c h b number fresh k a here =
-    let kind = heap_kind (heap_of b) in
+    let kind = heap_kind (config_in b) in
     let start : start_in b ≡ start_of_heap h = ap start_of_key fresh.of.key in
     subst (λ (s : Stage Actor). ∥ HasReached kind s k a ∥₁) (sym start)
     (reached_picked kind (start_of_heap h) (is_dealt_to (seats_in c) number) (whole (start_of_heap h).machines) (reached_opens kind (start_of_heap h)) k a (ap (λ v. machine_of v k) (sym fresh.machines) ∙ here))

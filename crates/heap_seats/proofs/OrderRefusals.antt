@@ -2,6 +2,7 @@
 use Rattle.std.proofs.Common.{◌≡◌, ◌≢◌, ℕ, Bool, true, false, Some, None, refl, sym, ap, ◌∙◌, arith}
 use Rattle.std.specs.Prelude.{◌==◌, if◌then◌else◌}
 use Rattle.std.proofs.lemmas.Bool.Decides.{nat_tests}
+use Rattle.shen_graph.specs.Valid.{most_objects}
 use Rattle.heap_seats.specs.declared.progress.State.{State}
 use Rattle.heap_seats.specs.declared.progress.State.TheVariants.{Free, AtWork, Ended}
 use Rattle.heap_seats.specs.declared.progress.Refused.{Refused}
@@ -21,7 +22,7 @@ free_is Ended is = absurd cc
 pub refused_range : (valid : Bool) (made : ℕ) (state : State) → state ≡ Free → valid ≡ false → Some refused.OutOfRange ≡ refused_command valid made state
 refused_range valid made state free is = sym (ap (refused_command valid made) free ∙ ap (λ (v : Bool). refused_command v made Free) is)
 
-pub refused_none : (valid : Bool) (made : ℕ) (state : State) → state ≡ Free → valid ≡ true → made ≢ 4294967295 → None ≡ refused_command valid made state
+pub refused_none : (valid : Bool) (made : ℕ) (state : State) → state ≡ Free → valid ≡ true → made ≢ most_objects → None ≡ refused_command valid made state
 refused_none valid made state free is few =
-    let test : (made == 4294967295) ≡ false = grind (arith, nat_tests, few) in
+    let test : (made == most_objects) ≡ false = grind (arith, nat_tests, few) in
     sym (ap (refused_command valid made) free ∙ ap (λ (v : Bool). refused_command v made Free) is ∙ ap (λ (t : Bool). if t then Some refused.Spent else None) test)

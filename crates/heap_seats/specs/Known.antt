@@ -3,10 +3,10 @@ use Rattle.std.specs.Prelude.{ℕ, ◌≡◌}
 use Rattle.shared_table.specs.Rule.{AreReached}
 use Rattle.table_heap.specs.declared.bundle.Bundle.{Bundle}
 use Rattle.table_heap.specs.Core.{heap_kind}
-use Rattle.table_heap.specs.State.{heap_of, start_in, view_of, HasMachine}
+use Rattle.table_heap.specs.State.{config_in, start_in, view_of, HasMachine}
 
 abbrev pub HaveRun : Bundle → Type 0
-HaveRun b = AreReached (heap_kind (heap_of b)) (start_in b) (view_of b)
+HaveRun b = AreReached (heap_kind (config_in b)) (start_in b) (view_of b)
 
 -- it has no machine but the one of this number
 abbrev pub HasOnly : Bundle → ℕ → Type 0

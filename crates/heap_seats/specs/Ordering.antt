@@ -1,6 +1,7 @@
 -- Orders that a seat is given, and why it takes none.
 use Rattle.std.specs.Prelude.{ℕ, ◌≡◌, ◌==◌, Bool, Option, Some, None, if◌then◌else◌}
 use Rattle.shen_graph.specs.declared.order.Order.{Order}
+use Rattle.shen_graph.specs.Valid.{most_objects}
 use Rattle.heap_seats.specs.declared.progress.State.{State}
 use Rattle.heap_seats.specs.declared.progress.State.TheVariants.{Free, AtWork, Ended}
 use Rattle.heap_seats.specs.declared.progress.Refused.{Refused}
@@ -16,7 +17,7 @@ refused_in Ended = Some refused.Ended
 
 -- and no command that is out of range, or after as many objects as there are names
 abbrev pub refused_command : (valid : Bool) (made : ℕ) → State → Option Refused
-refused_command valid made Free = if valid then (if made == 4294967295 then Some refused.Spent else None) else Some refused.OutOfRange
+refused_command valid made Free = if valid then (if made == most_objects then Some refused.Spent else None) else Some refused.OutOfRange
 refused_command valid made other = refused_in other
 
 -- it has been given this order, and has not moved

@@ -1,6 +1,7 @@
 ghost use Rattle.std.specs.Prelude.{◌≡◌};
 ghost use Rattle.std.specs.Arc.{arc_value};
-ghost use Rattle.table_heap.specs.State.{IsBundleOf, HasMachine, heap_of, start_in};
+ghost use Rattle.shen_graph.specs.Valid.{most_objects};
+ghost use Rattle.table_heap.specs.State.{IsBundleOf, HasMachine, config_in, start_in};
 ghost use Rattle.heap_seats.specs.Histories.{BeginsRenewable};
 ghost use Rattle.heap_seats.specs.Known.{HaveRun, HasOnly};
 
@@ -21,7 +22,7 @@ pub struct Seat {
     ghost fits: { IsBundleOf bundle (arc_value heap) },
     ghost here: { HasMachine bundle number },
     ghost only: { HasOnly bundle number },
-    ghost same_config: { heap_of bundle ≡ config },
+    ghost same_config: { config_in bundle ≡ config },
     ghost reached: { HaveRun bundle },
     ghost renewable: { ∥ BeginsRenewable config (start_in bundle) ∥₁ },
 }
@@ -163,7 +164,7 @@ impl Seat {
     fn order_begin(&mut self, command: Command)
         requires free { state_in self.old ≡ State.Free }
         requires valid { is_valid command ≡ true }
-        requires made { objects_made_by self.old < 4294967295 }
+        requires made { objects_made_by self.old < most_objects }
         ensures { HasOrder self.old self.new (orders.Begin command) }
     {
         self.bundle.begin(self.number, command);

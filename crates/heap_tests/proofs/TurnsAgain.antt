@@ -10,7 +10,7 @@ use Rattle.shen_graph.specs.declared.command.Command.{Command}
 use Rattle.shen_graph.specs.declared.order.Order.{Order}
 use Rattle.shen_graph.specs.declared.order.Order.TheVariants.{Nothing}
 use Rattle.shen_graph.specs.declared.command.Reply.{Reply}
-use Rattle.shen_graph.specs.Valid.{IsValid}
+use Rattle.shen_graph.specs.Valid.{IsValid, most_objects}
 use Rattle.shen_graph.specs.Work.{HasScript, next_of, script_in, replies_of, with_reply}
 use Rattle.mutator.specs.declared.spot.Spot.{Spot}
 use Rattle.mutator.specs.declared.spot.Spot.TheVariants.{Ended}
@@ -117,9 +117,9 @@ script_between b jobs number work has may =
 
 -- whose next command can be given
 pub command_between : (b : Bundle) (jobs : Jobs) (number : ℕ) (command : Command) → AreAtWork b jobs → HasMachine b number → may_begin (machine_at b number) ≡ true → next_of jobs number ≡ Some command
-    → IsValid command × (made_of_machine (machine_at b number) < 4294967295)
+    → IsValid command × (made_of_machine (machine_at b number) < most_objects)
 command_between b jobs number command work has may next =
-    subst (λ o. IfSome o (λ command. IsValid command × (made_of_machine (machine_at b number) < 4294967295))) (next_between b jobs number has may ∙ next) (command_fits b jobs number work has may)
+    subst (λ o. IfSome o (λ command. IsValid command × (made_of_machine (machine_at b number) < most_objects))) (next_between b jobs number has may ∙ next) (command_fits b jobs number work has may)
 
 -- a machine whose reply is at hand stands between two calls
 pub replied_may : (machine : Machine) → reply_in machine ≢ None → may_begin machine ≡ true

@@ -8,7 +8,7 @@ use Rattle.heap_words.specs.declared.config.Config.{Config}
 use Rattle.heap_words.specs.Ranges.{seat_count}
 use Rattle.table_heap.specs.declared.heap.Heap.{Heap}
 use Rattle.table_heap.specs.Running.{Jobs, AreAtWork}
-use Rattle.table_heap.specs.State.{orders_of, heap_of, machine_at, order_at, has_turn, HasMachine, IsBundleOf, IsUnmoved}
+use Rattle.table_heap.specs.State.{orders_of, config_in, machine_at, order_at, has_turn, HasMachine, IsBundleOf, IsUnmoved}
 
 -- The machine has the order that its turn makes of this command, if it makes a step.
 pub record IsOrdered (old new : Bundle) (next : Option Command) (number : ℕ) : Type 0 where
@@ -25,7 +25,7 @@ MayAt mutators between b = (k : ℕ) → k < mutators → slice_get between k �
 pub record IsPlaying (heap : Heap) (b : Bundle) (jobs : Jobs) (c : Config) (between : List Bool) : Type 0 where
   pub of : IsBundleOf b heap
   pub works : AreAtWork b jobs
-  pub same : heap_of b ≡ c
+  pub same : config_in b ≡ c
   pub here : (k : ℕ) → k < seat_count c.mutators c.helpers → HasMachine b k
   pub rests : MayAt c.mutators between b
   pub long : length between ≡ 8

@@ -1,5 +1,6 @@
 ghost use Rattle.std.specs.Prelude.{◌≡◌, ◌≢◌, ◌+◌, ◌<◌, ◌≤◌, ℕ, true, Some, IfOk, IfSome, [], ◌∷◌};
 ghost use Rattle.shen_graph.specs.Graph.{Graph};
+ghost use Rattle.shen_graph.specs.Valid.{most_objects};
 ghost use Rattle.shen_core.specs.State.{config_of, seats_of, machine_at};
 ghost use Rattle.heap_world.specs.Asking.{nothing};
 ghost use Rattle.heap_world.specs.Represents.{Represents};
@@ -27,7 +28,7 @@ pub(crate) fn call(
 ) -> Option<Reply>
     requires number { number < seats_of plain.old }
     requires rest { may_begin (machine_at plain.old number) ≡ true }
-    requires made { made_of_machine (machine_at plain.old number) < 4294967295 }
+    requires made { made_of_machine (machine_at plain.old number) < most_objects }
     ensures replied { IfSome result (λ reply. reply_in (machine_at plain.new number) ≡ Some reply) }
     ensures config { config_of plain.new ≡ config_of plain.old }
     ensures others { (other : ℕ) → other ≢ number → machine_at plain.new other ≡ machine_at plain.old other }

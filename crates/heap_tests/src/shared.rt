@@ -1,7 +1,7 @@
 //! The steps of a case again, on a heap that threads could share: each by `Bundle::step`.
 ghost use Rattle.std.specs.Prelude.{◌≡◌, ◌≢◌, ◌<◌, ℕ, true, Some, IfOk};
 ghost use Rattle.step_core.specs.Machines.{may_begin};
-ghost use Rattle.table_heap.specs.State.{heap_of, HasMachine, machine_at, IsBundleOf, IsSameBundle};
+ghost use Rattle.table_heap.specs.State.{config_in, HasMachine, machine_at, IsBundleOf, IsSameBundle};
 ghost use Rattle.table_heap.specs.Running.{AreAtWork, next_for};
 ghost use Rattle.heap_tests.specs.Ordered.{IsOrdered, IsPlaying};
 
@@ -17,7 +17,7 @@ fn order(bundle: &mut Bundle, work: &Work, number: usize, between: bool)
     requires here { HasMachine bundle.old number }
     requires work { AreAtWork bundle.old work.now }
     requires between { between ≡ true → may_begin (machine_at bundle.old number) ≡ true }
-    ensures { IsOrdered bundle.old bundle.new (next_for (heap_of bundle.old) work.now number) number }
+    ensures { IsOrdered bundle.old bundle.new (next_for (config_in bundle.old) work.now number) number }
 {
     if !between {
         return;

@@ -1,6 +1,6 @@
 //! Heaps whose machines lie in a bundle, which one thread steps.
 ghost use Rattle.std.specs.Prelude.{◌≡◌, ◌<◌, ◌≤◌, true, length, All, IfOk};
-ghost use Rattle.shen_graph.specs.Valid.{IsValid};
+ghost use Rattle.shen_graph.specs.Valid.{IsValid, most_objects};
 ghost use Rattle.shen_graph.specs.Work.{HasScript};
 ghost use Rattle.step_core.specs.Machines.{may_begin, made_of_machine};
 ghost use Rattle.shared_table.specs.Views.{whole, dealt_to};
@@ -76,7 +76,7 @@ const ROWS: &[Row] = &[
 // A script of those of these commands that are in range, ten thousand at most.
 pub(crate) fn script(alloc: Global, commands: &[Command]) -> Result<Script, Fail>
     ensures valid { IfOk result (λ script. All IsValid script) }
-    ensures few { IfOk result (λ script. length script < 4294967295) }
+    ensures few { IfOk result (λ script. length script < most_objects) }
 {
     let mut script = Script::open(alloc)?;
     for number in 0..commands.len().min(10_000) {

@@ -1,6 +1,6 @@
 //! A heap with larger regions than a trace can have: 64 of 65,536 words.
 ghost use Rattle.std.specs.Prelude.{◌<◌, length, All, IfOk};
-ghost use Rattle.shen_graph.specs.Valid.{IsValid};
+ghost use Rattle.shen_graph.specs.Valid.{IsValid, most_objects};
 ghost use Rattle.shen_graph.specs.Work.{HasScript};
 ghost use Rattle.table_heap.specs.State.{IsBundleOf};
 ghost use Rattle.table_heap.specs.Running.{CanStart};
@@ -46,9 +46,9 @@ const HEAP: u64 = 64 * 65_536;
 
 // A script of those of these commands that are in range, and then, up to so many in all, of some that only take time.
 fn script(alloc: Global, commands: &[Command], long: u32) -> Result<Script, Fail>
-    requires { long < 4294967295 }
+    requires { long < most_objects }
     ensures valid { IfOk result (λ script. All IsValid script) }
-    ensures few { IfOk result (λ script. length script < 4294967295) }
+    ensures few { IfOk result (λ script. length script < most_objects) }
 {
     let mut script = Script::open(alloc)?;
     for number in 0..long as usize {

@@ -73,7 +73,7 @@ flags_push first marks order a m low high k h =
 pub few : (first : ℕ) (marks : List Bool) (order : List ℕ) → IsMarked first marks order → length order ≤ length marks
 few first marks order m =
     let all = range_with_len first (length marks) in
-    let few' : length order ≤ length all =
+    let few_in_order : length order ≤ length all =
     length-le_from_is_member nat_eq_equiv order all m.once
     (λ q h. has-range first (length marks) q (m.among q h).0 (m.among q h).1) in
     omega (arith, length-range_with_len first (length marks))
@@ -160,7 +160,7 @@ kept order (a ∷ words) q h = kept (with_address order a) words q (kept_one ord
 new_one : (order : List ℕ) (a : ℕ) → a ≢ 0 → has (with_address order a) a ≡ true
 new_one order a ne =
     cond_both ((a == 0) || has order a) order (order ++ a ∷ []) (λ xs. has xs a ≡ true)
-    (λ e. elim (or_cases (a == 0) (has order a) e) [ inl zero' ↦ absurd (ne (eqb-true a 0 zero')) | inr old ↦ old ])
+    (λ e. elim (or_cases (a == 0) (has order a) e) [ inl is_zero ↦ absurd (ne (eqb-true a 0 is_zero)) | inr old ↦ old ])
     (λ _. has-push order a a ∙ or_right (has order a) (nat_eq a a) (eq-eqb a a refl))
 
 pub new : (order words : List ℕ) (q : ℕ) → q ≢ 0 → has words q ≡ true → has (with_addresses order words) q ≡ true
@@ -181,7 +181,7 @@ only_one order a q =
     (λ e h. elim (or_cases (has order q) (nat_eq q a) (sym (has-push order a q) ∙ h)) [
       | inl old ↦ inl old
       | inr is ↦ (let same : q ≡ a = eqb-true q a is in
-          inr ((λ zero'. eqb-false a 0 (or_parts (a == 0) (has order a) e).0 (sym same ∙ zero'), same)))
+          inr ((λ is_zero. eqb-false a 0 (or_parts (a == 0) (has order a) e).0 (sym same ∙ is_zero), same)))
     ])
 
 pub only : (order words : List ℕ) (q : ℕ) → has (with_addresses order words) q ≡ true

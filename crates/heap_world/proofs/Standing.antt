@@ -54,7 +54,7 @@ has-cell_word cells words t i ne =
             | inl low ↦ list_any_at (nat_eq (cell_word cells words t i)) words k 0 low (eq-eqb (cell_word cells words t i) (get_or words k 0) e)
             | inr past ↦ absurd (ne (e ∙ get_or_past words k 0 past))
           ])
-      | inr not' ↦ absurd (ne (cond-false (leb 1 t && ltb i cells) (get_or words k 0) 0 not'))
+      | inr reads_none ↦ absurd (ne (cond-false (leb 1 t && ltb i cells) (get_or words k 0) 0 reads_none))
     ]
 
 -- where a word that a list has stands in it
@@ -76,7 +76,7 @@ shift_number first a n r i h e = omega arith
 module _ (first : ℕ) (heap roots pins : List ℕ) (at : ℕ → Option Name) (g : Graph) (one : 1 ≤ first) (s : WordsStand first heap roots pins at g) where
   -- no object stands at 0
   never_null : (w : ℕ) (n : Name) → at w ≡ Some n → w ≢ 0
-  never_null w n here zero' = omega (arith, (s.each w n here).above)
+  never_null w n here is_zero = omega (arith, (s.each w n here).above)
 
   abbrev pub words : ℕ → ℕ
   words a = get_or heap (a - first) 0
@@ -197,11 +197,11 @@ module _ (first : ℕ) (heap roots pins : List ℕ) (at : ℕ → Option Name) (
 
   -- an address that roots lead to is where the current copy of an object is that can be reached
   pub led_name : (a : ℕ) → Leads first heap (roots ++ pins) a → (n : Name) × IsHere a n × IsReachable g n
-  led_name a (from_root a' ne h) =
+  led_name a (from_root from ne h) =
       let c = copied_from (roots ++ pins) a ne h in
       let r = start_name c.0 (get_or (roots ++ pins) c.0 0) refl c.2 in
       (r.0, subst (λ k. IsHere k r.0) c.3 (current_is (get_or (roots ++ pins) c.0 0) r.0 r.1), r.2)
-  led_name a (from_field m a' led ne h) =
+  led_name a (from_field m from led ne h) =
       let u = led_name m led in
       let c = copied_from (refs_at heap (m - first)) a ne h in
       let r = field_name m (get_or (refs_at heap (m - first)) c.0 0) c.0 u.0 u.1 u.2 c.1 refl c.2 in
@@ -215,7 +215,7 @@ module _ (first : ℕ) (heap roots pins : List ℕ) (at : ℕ → Option Name) (
 
   -- and each object that can be reached has its current copy at such an address
   pub name_led : (n : Name) → IsReachable g n → (a : ℕ) × IsHere a n × Leads first heap (roots ++ pins) a
-  name_led n (reach_root t i n' e) =
+  name_led n (reach_root t i its_name e) =
       let w = root_word roots t i in
       let here : at w ≡ Some n = subst (λ (r : Reference). Refers at w r) e (s.roots t i) in
       start_led w n here (has-left roots pins w (has-cell_word 16 roots t i (never_null w n here)))
@@ -223,7 +223,7 @@ module _ (first : ℕ) (heap roots pins : List ℕ) (at : ℕ → Option Name) (
       let w = pin_word pins t i in
       let here : at w ≡ Some held.name = (subst (λ (o : Option Pinned). HoldsPin words at w o) e (s.pins t i)).1 in
       start_led w held.name here (has-right roots pins w (has-cell_word 4 pins t i (never_null w held.name here)))
-  name_led n (reach_field m n' f r e) =
+  name_led n (reach_field m its_name f r e) =
       let u = name_led m r in
       let o = (object_at u.0 m u.1).0 in
       let fa = facts u.0 m u.1 in

@@ -74,8 +74,8 @@ pub all_found : (first : ℕ) (heap roots order : List ℕ)
     → ((a : ℕ) → a ≢ 0 → has (currents first heap roots) a ≡ true → has order a ≡ true)
     → IsClosed first heap order (length order)
     → (a : ℕ) → Leads first heap roots a → has order a ≡ true
-all_found first heap roots order rooted closed a (from_root a' ne h) = rooted a ne h
-all_found first heap roots order rooted closed a (from_field m a' led ne h) =
+all_found first heap roots order rooted closed a (from_root from ne h) = rooted a ne h
+all_found first heap roots order rooted closed a (from_field m from led ne h) =
     let at = Contains-from_any exact_unsigned_eq m order (all_found first heap roots order rooted closed m led) in
     let is : get_or order at.0 0 ≡ m = get_or_default order at.0 0 m at.1 ∙ at.2 in
     closed at.0 a at.1 ne (subst (λ (x : ℕ). has (currents first heap (refs_at heap (x - first))) a ≡ true) (sym is) h)

@@ -1,5 +1,6 @@
 -- What a mutator that waits, or has no call in progress, has asked for: its request, its answer, and what a pause made for it.
 use Rattle.std.specs.Prelude.{ℕ, ◌≡◌, ◌+◌, ◌<◌, ◌≤◌, Some}
+use Rattle.shen_graph.specs.Valid.{most_objects}
 use Rattle.heap_words.specs.declared.config.Config.{Config}
 use Rattle.heap_words.specs.Encoding.{shape_word, fresh_word, request_code}
 use Rattle.heap_words.specs.Words.{Word, Wait, Answer, Heap}
@@ -26,7 +27,7 @@ pub record IsRequest (memory : Word → ℕ) (count : ℕ → ℕ) (t refs nums 
   pub wait_is : memory (Wait t) ≡ request_code (count (t + 1) + 1) (shape_word refs nums)
   pub few_refs : refs ≤ 16
   pub few_nums : nums ≤ 16
-  pub few : count (t + 1) < 4294967295
+  pub few : count (t + 1) < most_objects
 
 -- its next object stands at an address, with the words of a new one, and no other is promised to it
 pub record IsPromise (memory : Word → ℕ) (block : Plot) (count : ℕ → ℕ) (t refs nums address : ℕ) : Type 0 where
@@ -35,7 +36,7 @@ pub record IsPromise (memory : Word → ℕ) (block : Plot) (count : ℕ → ℕ
   pub only : (b more : ℕ) → block b ≡ Some (promised t more) → b ≡ address
   pub few_refs : refs ≤ 16
   pub few_nums : nums ≤ 16
-  pub few : count (t + 1) < 4294967295
+  pub few : count (t + 1) < most_objects
 
 -- what words, pieces and counts say of a mutator that has asked so
 abbrev pub IsAsked : (Word → ℕ) → Plot → (ℕ → ℕ) → ℕ → Asking → Type 0

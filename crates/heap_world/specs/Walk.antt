@@ -70,7 +70,7 @@ with_address order a = if (a == 0) || has order a then order else order ++ a ∷
 -- the list with each of these addresses
 abbrev pub with_addresses : List ℕ → List ℕ → List ℕ
 with_addresses order [] = order
-with_addresses order (a ∷ as') = with_addresses (with_address order a) as'
+with_addresses order (a ∷ others) = with_addresses (with_address order a) others
 
 -- the addresses that the roots lead to, each once
 pub record IsWalk (first : ℕ) (heap roots order : List ℕ) : Type 0 where

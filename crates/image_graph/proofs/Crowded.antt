@@ -144,7 +144,7 @@ full_is_crowded c m block g p names held pinned holds rooted fresh reach is_held
     let live = open_kept_are_fewer c shut (λ r. m (Top r)) (λ a. m (Heap a)) block now kept (IsAmong (held_words c m)) g p names held holds are fresh reach is_held
     (pinned_there c m block g p holds rooted) (heap_end c) in
     let same = same_asked c m shut now kept t in
-    let answered = (requests_are_answered c after).answered t inside (λ zero'. waits (sym same.0 ∙ zero')) in
+    let answered = (requests_are_answered c after).answered t inside (λ is_zero. waits (sym same.0 ∙ is_zero)) in
     ⊎_elim
     (λ (given : (r : ℕ) × IsLowestRoom c.region_words (tops_at_turn c after t) (asked_in after t) c.regions r).
     let answer = answered.given given.0 given.1 in

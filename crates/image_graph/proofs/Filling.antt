@@ -121,19 +121,19 @@ module _ (c : Config) (m : Word → ℕ) (r : ℕ) (below : r < c.regions) (with
   -- what begins in the region lies below its top
   pub begun_below : (x : ℕ) → begins c m x ≡ true → is_below c r (m (Top r)) x ≡ (region_with c x == r)
   begun_below x is =
-      let q = region_with c x in
-      let used = and_parts (nat_le c.region_words x) (nat_lt q c.regions && nat_lt (x - base_of c q) (m (Top q))) (and_parts (is_in_use c m x) (object_of c m x == x) is).0 in
-      let lies = and_parts (nat_lt q c.regions) (nat_lt (x - base_of c q) (m (Top q))) used.1 in
-      let again = regions_tile.of_one c x (in_heap_by_region c x (leb-true c.region_words x used.0) (ltb-true q c.regions lies.0)) in
-      let low : x - base_of c q < m (Top q) = ltb-true (x - base_of c q) (m (Top q)) lies.1 in
+      let region = region_with c x in
+      let used = and_parts (nat_le c.region_words x) (nat_lt region c.regions && nat_lt (x - base_of c region) (m (Top region))) (and_parts (is_in_use c m x) (object_of c m x == x) is).0 in
+      let lies = and_parts (nat_lt region c.regions) (nat_lt (x - base_of c region) (m (Top region))) used.1 in
+      let again = regions_tile.of_one c x (in_heap_by_region c x (leb-true c.region_words x used.0) (ltb-true region c.regions lies.0)) in
+      let low : x - base_of c region < m (Top region) = ltb-true (x - base_of c region) (m (Top region)) lies.1 in
       ⊎_elim
-      (λ (same : q ≡ r).
-      let its_base : base_of c q ≡ base = ap (base_of c) same in
-      let its_top : m (Top q) ≡ m (Top r) = ap (λ k. m (Top k)) same in
-      told x (omega (arith, again.from, its_base)) (omega (arith, low, its_base, its_top, again.from)) ∙ sym (eq-eqb q r same))
-      (λ (other : q ≢ r).
-      untold x (λ from_base inside. other (regions_tile.of_no_other c r x (record { from = from_base; before = omega (arith, inside, within) }))) ∙ sym (ne_eqb q r other))
-      (cases_eq q r)
+      (λ (same : region ≡ r).
+      let its_base : base_of c region ≡ base = ap (base_of c) same in
+      let its_top : m (Top region) ≡ m (Top r) = ap (λ k. m (Top k)) same in
+      told x (omega (arith, again.from, its_base)) (omega (arith, low, its_base, its_top, again.from)) ∙ sym (eq-eqb region r same))
+      (λ (other : region ≢ r).
+      untold x (λ from_base inside. other (regions_tile.of_no_other c r x (record { from = from_base; before = omega (arith, inside, within) }))) ∙ sym (ne_eqb region r other))
+      (cases_eq region r)
 
 -- Tests of a set, of one address more, and of what begins there and is left over.
 none_at : (here low b l : Bool) (v u : ℕ) → (here ≡ true → (b && l) ≡ false) → cond (low && b && l) v u ≡ cond ((low || here) && b && l) v u
@@ -267,10 +267,10 @@ module _ (c : Config) (m : Word → ℕ) (r : ℕ) (below : r < c.regions) (can 
         ap (λ h. stride h (now (Heap (first + s + 1)))) (fills (first + s) yes)
         ∙ filler_stride (object_words (m (Heap (first + s + 1)))) (now (Heap (first + s + 1)))
         ∙ sym (object_stride (λ a. m (Heap a)) (first + s) (was_object (first + s) yes)))
-        (λ (no' : filled (first + s) ≡ false). ⊎_elim
-        (λ (fill : is_filler (m (Heap (first + s))) ≡ true). filler_same (λ a. m (Heap a)) (λ a. now (Heap a)) (first + s) (first + s) fill (stays (first + s) no'))
+        (λ (unfilled : filled (first + s) ≡ false). ⊎_elim
+        (λ (fill : is_filler (m (Heap (first + s))) ≡ true). filler_same (λ a. m (Heap a)) (λ a. now (Heap a)) (first + s) (first + s) fill (stays (first + s) unfilled))
         (λ (object : is_filler (m (Heap (first + s))) ≡ false).
-        ap (λ h. stride h (now (Heap (first + s + 1)))) (stays (first + s) no')
+        ap (λ h. stride h (now (Heap (first + s + 1)))) (stays (first + s) unfilled)
         ∙ ap (stride (m (Heap (first + s)))) (same_shape s is some object))
         (cases_Bool (is_filler (m (Heap (first + s))))))
         (cases_Bool (filled (first + s)))
@@ -283,8 +283,8 @@ module _ (c : Config) (m : Word → ℕ) (r : ℕ) (below : r < c.regions) (can 
           λ object_now. ⊎_elim
               (λ (yes : filled (first + s) ≡ true).
               absurd (true≢false (sym (ap is_filler (fills (first + s) yes) ∙ filler_is (object_words (m (Heap (first + s + 1))))) ∙ object_now)))
-              (λ (no' : filled (first + s) ≡ false).
-              let object : is_filler (m (Heap (first + s))) ≡ false = ap is_filler (sym (stays (first + s) no')) ∙ object_now in
+              (λ (unfilled : filled (first + s) ≡ false).
+              let object : is_filler (m (Heap (first + s))) ≡ false = ap is_filler (sym (stays (first + s) unfilled)) ∙ object_now in
               let both = room_in_heap c r s 2 below (omega (arith, shape_within s is some object, can.within)) in
               (omega (arith, both.from), omega (arith, both.to)))
               (cases_Bool (filled (first + s))),

@@ -197,7 +197,7 @@ module _ (c : Config) (m : Word → ℕ) (block : Plot) (g : Graph) (p : Promise
       let shape = asked_shape m t in
       let name = name_code (t + 1) (request_count_in (m (Wait t))) in
       let null : Reference = None in
-      let zero' : ℕ = 0 in
+      let blank_number : ℕ = 0 in
       record {
         header = fresh_header address shape name (heap address);
         shape = fresh_shape address shape name (heap (address + 1)) ∙ asking.shape;
@@ -205,14 +205,14 @@ module _ (c : Config) (m : Word → ℕ) (block : Plot) (g : Graph) (p : Promise
         few_refs = asking.few_refs;
         few_nums = asking.few_nums;
         refs_are = length-replicate (refs_in shape) null;
-        nums_are = length-replicate (nums_in shape) zero';
+        nums_are = length-replicate (nums_in shape) blank_number;
         references = λ i reference there.
             let below : i < refs_in shape = (let less = slice_get_within (replicate (refs_in shape) null) i reference there in let long = length-replicate (refs_in shape) null in omega (arith, less, long)) in
             let word : made_word address shape name (heap (address + 3 + i)) (address + 3 + i) ≡ 0 = fresh_field address shape name (heap (address + 3 + i)) (address + 3 + i) (omega arith) (omega (arith, below)) in
             subst (Points new_block (made_word address shape name (heap (address + 3 + i)) (address + 3 + i))) (blank_element (refs_in shape) i null reference there) word;
         numbers = λ i n there.
-            let below : i < nums_in shape = (let less = slice_get_within (replicate (nums_in shape) zero') i n there in let long = length-replicate (nums_in shape) zero' in omega (arith, less, long)) in
-            fresh_field address shape name (heap (address + 3 + refs_in shape + i)) (address + 3 + refs_in shape + i) (omega arith) (omega (arith, below)) ∙ blank_element (nums_in shape) i zero' n there;
+            let below : i < nums_in shape = (let less = slice_get_within (replicate (nums_in shape) blank_number) i n there in let long = length-replicate (nums_in shape) blank_number in omega (arith, less, long)) in
+            fresh_field address shape name (heap (address + 3 + refs_in shape + i)) (address + 3 + refs_in shape + i) (omega arith) (omega (arith, below)) ∙ blank_element (nums_in shape) i blank_number n there;
       }
 
   -- a piece is the new one or an old one

@@ -112,7 +112,7 @@ module _ (c : Config) (m : Word → ℕ) (block : Plot) (owner : ℕ → Option 
   now_stays a refs nums name is = ap (λ header. cond (is_forwarded header) (forwardee_in header) a) (header_stays a refs nums name is)
 
   now_named : (word : ℕ) (name : Name) → name_at (block word) ≡ Some name → now_in n word ≡ now_in m word
-  now_named word name named = let piece' = holds.pieces.named word name named in now_stays word piece'.0 piece'.1 name piece'.2
+  now_named word name named = let its_piece = holds.pieces.named word name named in now_stays word its_piece.0 its_piece.1 name its_piece.2
 
   -- the new object has not moved
   new_header : after address ≡ plain_header

@@ -111,9 +111,9 @@ module _ (c : Config) (top heap : ℕ → ℕ) (block : Plot) (now kept : ℕ �
       let new : size (named (with_promised g p) (Some n)) ≡ size (blank (p.refs n.thread) (p.nums n.thread)) = ap size blank_is in
       let made : Object = blank (p.refs n.thread) (p.nums n.thread) in
       let null : Reference = None in
-      let zero' : ℕ = 0 in
+      let blank_number : ℕ = 0 in
       let refs : length made.refs ≡ p.refs t = length-replicate (p.refs n.thread) null ∙ ap p.refs own in
-      let nums : length made.nums ≡ p.nums t = length-replicate (p.nums n.thread) zero' ∙ ap p.nums own in
+      let nums : length made.nums ≡ p.nums t = length-replicate (p.nums n.thread) blank_number ∙ ap p.nums own in
       (count + t, (omega (arith, fresh.few t n is), omega (arith, weight, given, new, refs, nums), inr (omega arith, ap p.ref back ∙ is)))
 
   placed : (n : Name) → IsReachable (with_promised g p) n → (k : ℕ) × IsPlaced n k

@@ -22,10 +22,10 @@ words_read refs nums few less = omega (arith, few, less)
 
 -- no piece is at 0
 pub none_at_0 : (c : Config) (top : ℕ → ℕ) (block : Plot) → IsPlotted c top block → (word : ℕ) (name : Name) → name_at (block word) ≡ Some name → word ≢ 0
-none_at_0 c top block plotted word name is zero' =
+none_at_0 c top block plotted word name is is_zero =
     let piece = named_piece (block word) name is in
     let inside = piece_inside c top block plotted word piece.0 piece.1 in
-    omega (arith, inside.0, zero', c.in_range.least_words)
+    omega (arith, inside.0, is_zero, c.in_range.least_words)
 
 -- the object that a name names
 pub named_object : (g : Graph) (name : Name) (o : Object) → g.object name ≡ Some o → named g (Some name) ≡ o

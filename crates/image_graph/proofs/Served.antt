@@ -125,7 +125,7 @@ module _ (c : Config) (m : Word → ℕ) where
       ∙ ap (λ n. taken_in (tops t) n (room_at_turn c.region_words c.regions asked top t) q) (asks_nothing t none)
       ∙ taken_none (tops t) (room_at_turn c.region_words c.regions asked top t) q))
       (λ (some : m (Wait t) ≢ 0).
-      turn_waits c m t (Top q) (λ zero'. some (sym wait ∙ zero'))
+      turn_waits c m t (Top q) (λ is_zero. some (sym wait ∙ is_zero))
       ∙ turn_top c (served c m t) t q (room_for c (served c m t) t)
       ∙ ap (λ n. taken_in (λ r. served c m t (Top r)) n (room_for c (served c m t) t) q) (sym (asks t some))
       ∙ taken_same (λ r. served c m t (Top r)) (tops t) (asked t) (room_for c (served c m t) t) q (λ r. tops_are_served t r)
@@ -190,7 +190,7 @@ module _ (c : Config) (m : Word → ℕ) where
           let left : served c m c.mutators (Wait t) ≡ m (Wait t) =
           after.0 ∙ turn_waits c m t (Wait t) waits ∙ ap (λ o. served_in c (served c m t) t o (Wait t)) room ∙ (before_turn c m t t (omega arith)).0 in
           final_answer t ∙ cond-false (served c m c.mutators (Wait t) == 0) (served c m c.mutators (Answer t)) 1
-          (ne_eqb (served c m c.mutators (Wait t)) 0 (λ zero'. some (sym left ∙ zero')))
+          (ne_eqb (served c m c.mutators (Wait t)) 0 (λ is_zero. some (sym left ∙ is_zero)))
 
       -- it finds one or none
       one_or_none : (o : Option ℕ) → lowest_room c.region_words (tops_at_turn c m t) (asked t) c.regions ≡ o

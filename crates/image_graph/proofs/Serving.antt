@@ -47,7 +47,7 @@ one_turn c g m block p n (Some r) below stands is =
       λ t later inside some.
           let other : n ≢ t = λ same. omega (arith, same, later) in
           let words = other_words c m block g p (can_make c m block g p stands.0) n r below asking room.1 room.2 t other in
-          other_asks c m block g p (can_make c m block g p stands.0) n r below asking room.1 room.2 t other (stands.1 t (omega (arith, later)) inside (λ zero'. some (words.0 ∙ zero'))),
+          other_asks c m block g p (can_make c m block g p stands.0) n r below asking room.1 room.2 t other (stands.1 t (omega (arith, later)) inside (λ is_zero. some (words.0 ∙ is_zero))),
     )
 
 -- the words after a turn, by the region that was found
@@ -87,7 +87,7 @@ module _ (c : Config) (g : Graph) (m : Word → ℕ) (block : Plot) (p : Promise
       by_room None is =
           let same : (word : Word) → served c m (suc t) word ≡ served c m t word = λ word. ap (λ f. f word) (turn_is c m t) ∙ ap (λ o. served_in c (served c m t) t o word) is in
           let before = before_turn c m t t (omega arith) in
-          let waits : m (Wait t) ≢ 0 = λ zero'. some (end.0 ∙ same (Wait t) ∙ before.0 ∙ zero') in
+          let waits : m (Wait t) ≢ 0 = λ is_zero. some (end.0 ∙ same (Wait t) ∙ before.0 ∙ is_zero) in
           end.1 ∙ same (Answer t) ∙ before.1 ∙ (asking t (omega arith) inside waits).unanswered
       by_room (Some r) is =
           absurd (some (end.0 ∙ ap (λ f. f (Wait t)) (turn_is c m t) ∙ ap (λ o. served_in c (served c m t) t o (Wait t)) is ∙ own_wait c (served c m t) t r))
@@ -109,10 +109,10 @@ refused_stands c m block g p stands unanswered = record {
         (λ (none : m (Wait t) ≡ 0). subst (λ k. AnswerStands block k (p.ref (t + 1))) (sym (cond-true (m (Wait t) == 0) (m (Answer t)) 1 (eq-eqb (m (Wait t)) 0 none))) (stands.rooted.answers t inside))
         (λ (some : m (Wait t) ≢ 0).
         let one : cond (m (Wait t) == 0) (m (Answer t)) 1 ≡ 1 = cond-false (m (Wait t) == 0) (m (Answer t)) 1 (ne_eqb (m (Wait t)) 0 some) in
-        let zero' = unanswered t inside some in
+        let is_zero = unanswered t inside some in
         let nothing : p.ref (t + 1) ≡ None = ⊎_elim
         (λ (none : (m (Answer t) ≤ 1) × (p.ref (t + 1) ≡ None)). none.1)
-        (λ (given : (1 < m (Answer t)) × (name : Name) × (p.ref (t + 1) ≡ Some name) × (name_at (block (m (Answer t))) ≡ Some name)). absurd (omega (arith, given.0, zero')))
+        (λ (given : (1 < m (Answer t)) × (name : Name) × (p.ref (t + 1) ≡ Some name) × (name_at (block (m (Answer t))) ≡ Some name)). absurd (omega (arith, given.0, is_zero)))
         (stands.rooted.answers t inside) in
         inl (omega (arith, one), nothing))
         (cases_eq (m (Wait t)) 0);

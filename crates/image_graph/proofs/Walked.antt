@@ -94,6 +94,6 @@ module _ (c : Config) (memory : Word → ℕ) (block : Plot) (g : Graph)
     only = λ a some. ⊎_elim
         (λ (is : has (held_in c memory) a ≡ true). found_is_held a is)
         (λ (none : has (held_in c memory) a ≡ false).
-        absurd (let zero' : kept_in c memory a ≡ 0 = cond-false (has (held_in c memory) a) (object_words (heap (a + 1))) 0 none in omega (arith, zero', some)))
+        absurd (let is_zero : kept_in c memory a ≡ 0 = cond-false (has (held_in c memory) a) (object_words (heap (a + 1))) 0 none in omega (arith, is_zero, some)))
         (cases_Bool (has (held_in c memory) a));
   }

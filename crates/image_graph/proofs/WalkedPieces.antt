@@ -84,11 +84,11 @@ module _ (c : Config) (shut : ℕ → Bool) (memory : Word → ℕ) (block : Plo
       (λ (least : x ≤ base_of c r + start r k). omega (arith, least, found.2, used.from_base))
       (cases_lt (base_of c r + start r k) x) in
       let object : object_of c memory x ≡ x = ap (λ q. base_of c q + start_of heap (base_of c q) (x - base_of c q)) of ∙ same in
-      let q = region_with c x in
+      let region = region_with c x in
       and_from (is_in_use c memory x) (object_of c memory x == x)
-      (and_from (nat_le c.region_words x) (nat_lt q c.regions && nat_lt (x - base_of c q) (memory (Top q)))
+      (and_from (nat_le c.region_words x) (nat_lt region c.regions && nat_lt (x - base_of c region) (memory (Top region)))
       (le-leb c.region_words x (piece_inside c top block plotted x b is).0)
-      (and_from (nat_lt q c.regions) (nat_lt (x - base_of c q) (memory (Top q)))
-      (lt-ltb q c.regions (omega (arith, of, used.within)))
-      (lt-ltb (x - base_of c q) (memory (Top q)) (subst (λ j. x - base_of c j < memory (Top j)) (sym of) below))))
+      (and_from (nat_lt region c.regions) (nat_lt (x - base_of c region) (memory (Top region)))
+      (lt-ltb region c.regions (omega (arith, of, used.within)))
+      (lt-ltb (x - base_of c region) (memory (Top region)) (subst (λ j. x - base_of c j < memory (Top j)) (sym of) below))))
       (eq-eqb (object_of c memory x) x object)

@@ -151,21 +151,21 @@ InTake _ left = ⊥
 
 -- what one reply makes of it
 record TakeStep (s : Spot) (left : ℕ) (have : Gotten) (r : Reply) : Type 0 where
-  left' : ℕ
-  have' : Gotten
-  plan : plan_after (Takes left) (answer_told (operation_ended s r)) ≡ Takes left'
-  count : left ≡ left' + length (gots_of (operation_ended s r))
-  counted : got_after (Takes left) have (answer_told (operation_ended s r)) ≡ have'
-  items : have'.items ≡ have.items + length (gots_of (operation_ended s r))
-  total : have'.sum ≡ have.sum + sum (gots_of (operation_ended s r))
+  left_then : ℕ
+  have_then : Gotten
+  plan : plan_after (Takes left) (answer_told (operation_ended s r)) ≡ Takes left_then
+  count : left ≡ left_then + length (gots_of (operation_ended s r))
+  counted : got_after (Takes left) have (answer_told (operation_ended s r)) ≡ have_then
+  items : have_then.items ≡ have.items + length (gots_of (operation_ended s r))
+  total : have_then.sum ≡ have.sum + sum (gots_of (operation_ended s r))
   no_put : puts_of (operation_ended s r) ≡ []
-  inside : InTake (next_spot s (command_coming choice.Take s) r) left'
+  inside : InTake (next_spot s (command_coming choice.Take s) r) left_then
 
 -- the reply ends nothing that counts
 idle : (s : Spot) (left : ℕ) (have : Gotten) (r : Reply) → operation_ended s r ≡ [] → InTake (next_spot s (command_coming choice.Take s) r) left → TakeStep s left have r
 idle s left have r none inside = record {
-  left' = left;
-  have' = have;
+  left_then = left;
+  have_then = have;
   plan = ap (λ o. plan_after (Takes left) (answer_told o)) none;
   count = let e = ap (λ o. length (gots_of o)) none in omega (arith, e);
   counted = ap (λ o. got_after (Takes left) have (answer_told o)) none;
@@ -204,7 +204,7 @@ take_step Turns left have r inside more given = idle Turns left have r refl insi
 take_step TookHead left have r inside more given = idle TookHead left have r refl inside
 take_step TookTail left have r inside more given = idle TookTail left have r refl inside
 take_step (Compares true) left have reply.Yes inside more given =
-    record { left' = left; have' = have; plan = refl; count = omega arith; counted = refl; items = omega arith; total = omega arith; no_put = refl; inside = tt }
+    record { left_then = left; have_then = have; plan = refl; count = omega arith; counted = refl; items = omega arith; total = omega arith; no_put = refl; inside = tt }
 take_step (Compares true) left have (reply.Ref n) inside more given = idle (Compares true) left have (reply.Ref n) refl inside
 take_step (Compares true) left have reply.Null inside more given = idle (Compares true) left have reply.Null refl inside
 take_step (Compares true) left have reply.Ok inside more given = idle (Compares true) left have reply.Ok refl inside
@@ -227,8 +227,8 @@ take_step Reads left have r inside more given = idle Reads left have r refl insi
 take_step (Unlinks value) left have reply.Yes inside more given =
     let some = lt-ltb 0 left inside in
     record {
-      left' = left - 1;
-      have' = record { items = have.items + 1; sum = have.sum + value };
+      left_then = left - 1;
+      have_then = record { items = have.items + 1; sum = have.sum + value };
       plan = refl;
       count = omega (arith, inside);
       counted = ap (λ b. if b then record { items = have.items + 1; sum = have.sum + value } else have) some;
@@ -276,10 +276,10 @@ take_all (e ∷ es) s left have inside given driven =
     let goes = going (taking s left have) e.command driven.0 in
     let first = given_first e es given in
     let step = take_step s left have e.reply inside (more_left s left goes.on) first in
-    let here : used (taking s left have) e.reply ≡ taking (next_spot s e.command e.reply) step.left' step.have' =
+    let here : used (taking s left have) e.reply ≡ taking (next_spot s e.command e.reply) step.left_then step.have_then =
     used_is (taking s left have) e.reply goes.on ∙ same step goes.command (not_refused (command_coming choice.Take s) e.reply first) in
-    let later = take_all es (next_spot s e.command e.reply) step.left' step.have'
-    (subst (λ (c : Command). InTake (next_spot s c e.reply) step.left') goes.command step.inside) (given_later e es given) (subst (λ (u : Use). IsDriven u es) here driven.1) in
+    let later = take_all es (next_spot s e.command e.reply) step.left_then step.have_then
+    (subst (λ (c : Command). InTake (next_spot s c e.reply) step.left_then) goes.command step.inside) (given_later e es given) (subst (λ (u : Use). IsDriven u es) here driven.1) in
     let gots = gots-append (operation_ended s e.reply) (ended_in (next_spot s e.command e.reply) es) in
     let long = ap (length {A = ℕ}) gots ∙ length-append (gots_of (operation_ended s e.reply)) (gots_of (ended_in (next_spot s e.command e.reply) es)) in
     let whole = ap sum gots ∙ sum_by-append (λ x. x) (gots_of (operation_ended s e.reply)) (gots_of (ended_in (next_spot s e.command e.reply) es)) in
@@ -291,7 +291,7 @@ take_all (e ∷ es) s left have inside given driven =
     }
   where
     same : (step : TakeStep s left have e.reply) → command_coming choice.Take s ≡ e.command → is_refused (command_coming choice.Take s) e.reply ≡ false
-        → onward (taking s left have) e.reply ≡ taking (next_spot s e.command e.reply) step.left' step.have'
+        → onward (taking s left have) e.reply ≡ taking (next_spot s e.command e.reply) step.left_then step.have_then
     same step command fine = λ i. record { spot = next_spot s (command i) e.reply; plan = step.plan i; got = step.counted i; refused = fine i }
 
 pub takers_take : TakersTake
@@ -323,16 +323,16 @@ InPut _ next left = ⊥
 
 -- what one reply makes of it
 record PutStep (s : Spot) (next left : ℕ) (r : Reply) : Type 0 where
-  next' : ℕ
-  left' : ℕ
-  plan : plan_after (Puts next left) (answer_told (operation_ended s r)) ≡ Puts next' left'
-  puts : puts_of (operation_ended s r) ++ range_with_len next' left' ≡ range_with_len next left
-  inside : InPut (next_spot s (command_coming (choice.Put next) s) r) next' left'
+  next_then : ℕ
+  left_then : ℕ
+  plan : plan_after (Puts next left) (answer_told (operation_ended s r)) ≡ Puts next_then left_then
+  puts : puts_of (operation_ended s r) ++ range_with_len next_then left_then ≡ range_with_len next left
+  inside : InPut (next_spot s (command_coming (choice.Put next) s) r) next_then left_then
 
 waits : (s : Spot) (next left : ℕ) (r : Reply) → operation_ended s r ≡ [] → InPut (next_spot s (command_coming (choice.Put next) s) r) next left → PutStep s next left r
 waits s next left r none inside = record {
-  next' = next;
-  left' = left;
+  next_then = next;
+  left_then = left;
   plan = ap (λ o. plan_after (Puts next left) (answer_told o)) none;
   puts = ap (λ o. puts_of o ++ range_with_len next left) none;
   inside = inside;
@@ -388,8 +388,8 @@ swings_in value next zero r is some = absurd (omega (arith, some))
 swings_in value next (suc n) r is some =
     let less : suc n - 1 ≡ n = omega arith in
     record {
-      next' = next + 1;
-      left' = n;
+      next_then = next + 1;
+      left_then = n;
       plan = ap (λ b. if b then Puts (next + 1) (suc n - 1) else Puts next (suc n)) (lt-ltb 0 (suc n) some) ∙ ap (Puts (next + 1)) less;
       puts = ap (λ v. v ∷ range_with_len (next + 1) n) is;
       inside = tt;
@@ -436,10 +436,10 @@ put_all (e ∷ es) s next left inside given driven =
     let goes = going (putting s next left) e.command driven.0 in
     let first = given_first e es given in
     let step = put_step s next left e.reply inside (more_left s left goes.on) first in
-    let here : used (putting s next left) e.reply ≡ putting (next_spot s e.command e.reply) step.next' step.left' =
+    let here : used (putting s next left) e.reply ≡ putting (next_spot s e.command e.reply) step.next_then step.left_then =
     used_is (putting s next left) e.reply goes.on ∙ same step goes.command (not_refused (command_coming (choice.Put next) s) e.reply first) in
-    let later = put_all es (next_spot s e.command e.reply) step.next' step.left'
-    (subst (λ (c : Command). InPut (next_spot s c e.reply) step.next' step.left') goes.command step.inside) (given_later e es given) (subst (λ (u : Use). IsDriven u es) here driven.1) in
+    let later = put_all es (next_spot s e.command e.reply) step.next_then step.left_then
+    (subst (λ (c : Command). InPut (next_spot s c e.reply) step.next_then step.left_then) goes.command step.inside) (given_later e es given) (subst (λ (u : Use). IsDriven u es) here driven.1) in
     let now = operation_ended s e.reply in
     let behind = ended_in (next_spot s e.command e.reply) es in
     record {
@@ -449,7 +449,7 @@ put_all (e ∷ es) s next left inside given driven =
     }
   where
     same : (step : PutStep s next left e.reply) → command_coming (choice.Put next) s ≡ e.command → is_refused (command_coming (choice.Put next) s) e.reply ≡ false
-        → onward (putting s next left) e.reply ≡ putting (next_spot s e.command e.reply) step.next' step.left'
+        → onward (putting s next left) e.reply ≡ putting (next_spot s e.command e.reply) step.next_then step.left_then
     same step command fine = λ i. record { spot = next_spot s (command i) e.reply; plan = step.plan i; got = nothing_got; refused = fine i }
 
 pub putters_put : PuttersPut

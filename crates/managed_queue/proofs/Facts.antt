@@ -127,11 +127,11 @@ Facts t object w root (Unlinks value) = IsUser t root × (edge : IsEdge object w
 Facts t object w root _ = ⊥
 
 -- What a user relies on while another makes a step.
-pub record Rely (u : ℕ) (object : Objects) (w : Chain) (object' : Objects) (w' : Chain) : Type 0 where
-  pub places : (n : Name) (i : ℕ) → w.place n ≡ Some i → w'.place n ≡ Some i
-  pub numbers : (i value : ℕ) → slice_get w.numbers i ≡ Some value → slice_get w'.numbers i ≡ Some value
-  pub inner : (n next : Name) (i value : ℕ) → w.place n ≡ Some i → object n ≡ Some (cell (Some next) value) → object' n ≡ Some (cell (Some next) value)
-  pub own : (n : Name) (value : ℕ) → n.thread ≡ u → w.place n ≡ None → object n ≡ Some (cell None value) → object' n ≡ Some (cell None value)
-  pub apart : (n : Name) (value : ℕ) → n.thread ≡ u → w.place n ≡ None → object n ≡ Some (cell None value) → w'.place n ≡ None
-  pub heads : w.head ≤ w'.head
-  pub tails : w.tail ≤ w'.tail
+pub record Rely (u : ℕ) (object : Objects) (chain : Chain) (new_object : Objects) (new_chain : Chain) : Type 0 where
+  pub places : (n : Name) (i : ℕ) → chain.place n ≡ Some i → new_chain.place n ≡ Some i
+  pub numbers : (i value : ℕ) → slice_get chain.numbers i ≡ Some value → slice_get new_chain.numbers i ≡ Some value
+  pub inner : (n next : Name) (i value : ℕ) → chain.place n ≡ Some i → object n ≡ Some (cell (Some next) value) → new_object n ≡ Some (cell (Some next) value)
+  pub own : (n : Name) (value : ℕ) → n.thread ≡ u → chain.place n ≡ None → object n ≡ Some (cell None value) → new_object n ≡ Some (cell None value)
+  pub apart : (n : Name) (value : ℕ) → n.thread ≡ u → chain.place n ≡ None → object n ≡ Some (cell None value) → new_chain.place n ≡ None
+  pub heads : chain.head ≤ new_chain.head
+  pub tails : chain.tail ≤ new_chain.tail

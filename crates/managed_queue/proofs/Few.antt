@@ -73,15 +73,15 @@ weigh g names small (n ∷ ns) =
 
 -- all entries
 all_stay : (es : List Entry) (g : Graph) (names : List Name) (spots : ℕ → Spot) → AreSmall g names → ((t : ℕ) → IsPlayed (spots t) (of_thread es t)) → Stays (after g es) names (makings es)
-all_stay [] g names spots small played = record { names' = names; small = small; count = omega arith }
+all_stay [] g names spots small played = record { new_names = names; small = small; count = omega arith }
 all_stay (e ∷ es) g names spots small played =
     let mine : IsPlayed (spots e.thread) (e ∷ of_thread es e.thread) = subst (IsPlayed (spots e.thread)) (of_here e es) (played e.thread) in
     let step = entry_stays g names e (next_small (spots e.thread) e.command mine.0) small in
-    let later = all_stay es (after_entry g e) step.names' (spot_moved spots e) step.small (λ t. elim (cases_eq t e.thread) [
+    let later = all_stay es (after_entry g e) step.new_names (spot_moved spots e) step.small (λ t. elim (cases_eq t e.thread) [
       | inl same ↦ subst (λ (k : ℕ). IsPlayed (spot_moved spots e k) (of_thread es k)) (sym same) (subst (λ (s : Spot). IsPlayed s (of_thread es e.thread)) (sym (on_here spots e.thread e.command e.reply)) mine.2)
       | inr other ↦ subst (λ (s : Spot). IsPlayed s (of_thread es t)) (sym (on_there spots e.thread e.command e.reply t other)) (subst (IsPlayed (spots t)) (of_there e es t other) (played t))
     ]) in
-    record { names' = later.names'; small = later.small; count = later.count ∙ omega (arith, step.count) }
+    record { new_names = later.new_names; small = later.small; count = later.count ∙ omega (arith, step.count) }
 
 -- no region has a pinned object
 pub none_pinned : (threads region_words pinned : ℕ) (history : List Entry) → ArePlayed history → PinnedRegions region_words (after (opening threads) history) pinned → pinned ≡ 0
@@ -96,8 +96,8 @@ few_are_live threads words history played live =
     let g = after (opening threads) history in
     let all = all_stay history (opening threads) (hub ∷ []) entry_spot (small_opening threads) played in
     let ns = live.0 in
-    let fewer = length-le_from_is_member same_name-laws ns all.names' (distinct ns live.1.in_order)
-    (λ q there. list_any-from_Contains same_name-laws q all.names' (reached g all.names' all.small q (live.1.only q (Contains-from_any same_name-true q ns there)))) in
-    let weight = weigh g all.names' all.small ns in
+    let fewer = length-le_from_is_member same_name-laws ns all.new_names (distinct ns live.1.in_order)
+    (λ q there. list_any-from_Contains same_name-laws q all.new_names (reached g all.new_names all.small q (live.1.only q (Contains-from_any same_name-true q ns there)))) in
+    let weight = weigh g all.new_names all.small ns in
     let hubs = once ns live.1.in_order in
     omega (arith, fewer, weight, hubs, all.count, live.2)

@@ -74,9 +74,9 @@ linked_but : (object : Objects) (w : Chain) (name : Name) (o : Object) (n : Name
 linked_but object w name o n i other (inner next value is at number) = inner next value (but_there object name o n _ other is) at number
 linked_but object w name o n i other (end value is at number) = end value (but_there object name o n _ other is) at number
 
-pub chain_but : (object : Objects) (count count' : ℕ → ℕ) (w : Chain) (name : Name) (o : Object) → IsChain object count w → w.place name ≡ None → hub ≢ name → anchor ≢ name → AreMade (but object name o) count'
-    → IsChain (but object name o) count' w
-chain_but object count count' w name o chain none not_hub not_anchor made = record {
+pub chain_but : (object : Objects) (count new_count : ℕ → ℕ) (w : Chain) (name : Name) (o : Object) → IsChain object count w → w.place name ≡ None → hub ≢ name → anchor ≢ name → AreMade (but object name o) new_count
+    → IsChain (but object name o) new_count w
+chain_but object count new_count w name o chain none not_hub not_anchor made = record {
   hub_is = but_there object name o hub _ not_hub chain.hub_is;
   anchor_is = but_there object name o anchor _ not_anchor chain.anchor_is;
   front_at = chain.front_at;

@@ -23,9 +23,9 @@ use Rattle.managed_queue.proofs.Rising.State.{rising, shown}
 
 -- one step of one thread
 pub record Steps (g : Graph) (spots : ℕ → Spot) (queue : List ℕ) (t : ℕ) (c : Command) (o : Outcome) : Type 0 where
-  pub queue' : List ℕ
-  pub state : State o.graph (goes_on spots t c o.reply) queue'
-  pub run : Leads queue (fixed_at (spots t) o.reply) queue'
+  pub new_queue : List ℕ
+  pub state : State o.graph (goes_on spots t c o.reply) new_queue
+  pub run : Leads queue (fixed_at (spots t) o.reply) new_queue
   pub replies : open_at (spots t) ++ fixed_at (spots t) o.reply ≡ operation_ended (spots t) o.reply ++ open_at (next_spot (spots t) c o.reply)
 
 -- all users after one's step
@@ -43,11 +43,11 @@ stands g spots w t c o users step u =
 stepped : (g : Graph) (spots : ℕ → Spot) (queue : List ℕ) (t : ℕ) (c : Command) (r : Reply) (h : Graph) → State g spots queue → MayCome (spots t) c → IsGranted (spots t) r → IsPlain g t c r h → Steps g spots queue t c (answers r h)
 stepped g spots queue t c r h (rising is none) next given legal =
     let step = rises g spots t c r h is next given legal in
-    record { queue' = []; state = step.0; run = subst (λ (ops : List Operation). Leads queue ops []) (sym step.1) none; replies = step.2 }
+    record { new_queue = []; state = step.0; run = subst (λ (ops : List Operation). Leads queue ops []) (sym step.1) none; replies = step.2 }
 stepped g spots queue t c r h (shown w chain users is) next given legal =
     let step = goes t g w (spots t) c r h chain (users t) next legal in
     record {
-      queue' = waiting step.after;
+      new_queue = waiting step.after;
       state = shown step.after step.chain (stands g spots w t c (answers r h) users step) refl;
       run = subst (λ (q : List ℕ). Leads q (fixed_at (spots t) r) (waiting step.after)) (sym is) step.run;
       replies = step.replies;
@@ -98,10 +98,10 @@ plays regions region_words (e ∷ es) g spots queue state legal played =
       | inl same ↦ subst (λ (k : ℕ). IsPlayed (spot_moved spots e k) (of_thread es k)) (sym same) (subst (λ (s : Spot). IsPlayed s (of_thread es e.thread)) (sym (on_here spots e.thread e.command e.reply)) mine.2)
       | inr other ↦ subst (λ (s : Spot). IsPlayed s (of_thread es t)) (sym (on_there spots e.thread e.command e.reply t other)) (subst (IsPlayed (spots t)) (of_there e es t other) (played t))
     ] in
-    let later = plays regions region_words es (after_entry g e) (spot_moved spots e) step.queue' step.state legal.1 ahead in
+    let later = plays regions region_words es (after_entry g e) (spot_moved spots e) step.new_queue step.state legal.1 ahead in
     record {
       left = later.left;
-      run = leads_join queue step.queue' later.left (fixed_at (spots e.thread) e.reply) (fixed (spot_moved spots e) es) step.run later.run;
+      run = leads_join queue step.new_queue later.left (fixed_at (spots e.thread) e.reply) (fixed (spot_moved spots e) es) step.run later.run;
       replies = λ t. elim (cases_eq t e.thread) [
         | inl same ↦ subst (λ (k : ℕ). Answers (spots k) (of_thread (e ∷ es) k)) (sym same)
             (subst (Answers (spots e.thread)) (sym (of_here e es))

@@ -157,16 +157,16 @@ made_by_four (e ∷ es) of =
       | inl is ↦
           let a = made_here e es 1 is in let b = made_there e es 2 (λ x. omega (arith, x, is)) in let c = made_there e es 3 (λ x. omega (arith, x, is)) in let d = made_there e es 4 (λ x. omega (arith, x, is)) in
           omega (arith, later, a, b, c, d)
-      | inr not1 ↦ elim (cases_eq e.thread 2) [
+      | inr not_first ↦ elim (cases_eq e.thread 2) [
         | inl is ↦
             let a = made_there e es 1 (λ x. omega (arith, x, is)) in let b = made_here e es 2 is in let c = made_there e es 3 (λ x. omega (arith, x, is)) in let d = made_there e es 4 (λ x. omega (arith, x, is)) in
             omega (arith, later, a, b, c, d)
-        | inr not2 ↦ elim (cases_eq e.thread 3) [
+        | inr not_second ↦ elim (cases_eq e.thread 3) [
           | inl is ↦
               let a = made_there e es 1 (λ x. omega (arith, x, is)) in let b = made_there e es 2 (λ x. omega (arith, x, is)) in let c = made_here e es 3 is in let d = made_there e es 4 (λ x. omega (arith, x, is)) in
               omega (arith, later, a, b, c, d)
-          | inr not3 ↦
-              let is : e.thread ≡ 4 = omega (arith, least, most, not1, not2, not3) in
+          | inr not_third ↦
+              let is : e.thread ≡ 4 = omega (arith, least, most, not_first, not_second, not_third) in
               let a = made_there e es 1 (λ x. omega (arith, x, is)) in let b = made_there e es 2 (λ x. omega (arith, x, is)) in let c = made_there e es 3 (λ x. omega (arith, x, is)) in let d = made_here e es 4 is in
               omega (arith, later, a, b, c, d)
         ]

@@ -172,14 +172,14 @@ makes_first g spots is at raised =
     })
 
 -- the anchor names other nodes
-sets_ends : (g : Graph) (spots : ℕ → Spot) (front back front' back' : Reference) → IsRising g spots → Raised g.object (g.root 1) front back
-    → (raised : Raised (but g.object anchor (ends front' back')) (g.root 1) front' back')
-    × (but g.object anchor (ends front' back') hub ≡ Some (blank 16 0))
-    × AreMade (but g.object anchor (ends front' back')) g.count
-sets_ends g spots front back front' back' is raised = (
+sets_ends : (g : Graph) (spots : ℕ → Spot) (front back new_front new_back : Reference) → IsRising g spots → Raised g.object (g.root 1) front back
+    → (raised : Raised (but g.object anchor (ends new_front new_back)) (g.root 1) new_front new_back)
+    × (but g.object anchor (ends new_front new_back) hub ≡ Some (blank 16 0))
+    × AreMade (but g.object anchor (ends new_front new_back)) g.count
+sets_ends g spots front back new_front new_back is raised = (
   record { anchor_root = raised.anchor_root; first_root = raised.first_root; anchor_is = refl; first_is = raised.first_is },
   is.hub_is,
-  made_but g.object g.count anchor (ends front' back') _ is.made raised.anchor_is,
+  made_but g.object g.count anchor (ends new_front new_back) _ is.made raised.anchor_is,
 )
 
 sets_head : (g : Graph) (spots : ℕ → Spot) → IsRising g spots → spots 1 ≡ SetsHead → Raised g.object (g.root 1) None None → Rises g spots 1 (Set 1 0 2) (outcome g 1 (Set 1 0 2))

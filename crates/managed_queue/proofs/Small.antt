@@ -169,15 +169,15 @@ loaded g names (Some m) k v small is n held = small.fields m k n (is ∙ ap Some
 
 -- What is given and held after an outcome.
 pub record Stays (g : Graph) (names : List Name) (made : ℕ) : Type 0 where
-  pub names' : List Name
-  pub small : AreSmall g names'
-  pub count : length names' ≡ length names + made
+  pub new_names : List Name
+  pub small : AreSmall g new_names
+  pub count : length new_names ≡ length names + made
 
 same_names : (g : Graph) (names : List Name) → AreSmall g names → Stays g names 0
-same_names g names small = record { names' = names; small = small; count = omega arith }
+same_names g names small = record { new_names = names; small = small; count = omega arith }
 
 small_stays : (g : Graph) (names : List Name) (t : ℕ) (c : Command) → IsSmall c → AreSmall g names → Stays (outcome g t c).graph names (made_by c)
-small_stays g names t (New dst refs nums) few small = record { names' = fresh g t ∷ names; small = small_fresh g names t dst refs nums small few; count = omega arith }
+small_stays g names t (New dst refs nums) few small = record { new_names = fresh g t ∷ names; small = small_fresh g names t dst refs nums small few; count = omega arith }
 small_stays g names t (Get dst src field) few small = same_names _ names (
     on_small g names (field_at g t src field) (λ v. answers (shown v) (with_root g t dst v)) small (λ v is. small_root g names t dst v small (loaded g names (g.root t src) field v small is))
     )

@@ -226,24 +226,24 @@ module _ (count : ℕ) (history : List Entry) (small : count ≤ 390) (run : IsQ
       let gots = gots_count fixed_all in
       let puts_are = shared (put_weight (λ x. 1)) in
       let gots_are = shared (got_weight (λ x. 1)) in
-      let p0 = puts_count (ended_in MakesAnchor (entries 0)) in
-      let p1 = puts_count (ended_in Joins (entries 1)) in
-      let p2 = puts_count (ended_in Joins (entries 2)) in
-      let p3 = puts_count (ended_in Joins (entries 3)) in
-      let g0 = gots_count (ended_in MakesAnchor (entries 0)) in
-      let g1 = gots_count (ended_in Joins (entries 1)) in
-      let g2 = gots_count (ended_in Joins (entries 2)) in
-      let g3 = gots_count (ended_in Joins (entries 3)) in
-      let n0 = ap (length {A = ℕ}) puts_first ∙ length-range_with_len 1000001 count in
-      let n1 = ap (length {A = ℕ}) puts_second ∙ length-range_with_len 2000001 count in
-      let n2 : length (puts_of (ended_in Joins (entries 2))) ≡ 0 = ap (length {A = ℕ}) third_took.no_put in
-      let n3 : length (puts_of (ended_in Joins (entries 3))) ≡ 0 = ap (length {A = ℕ}) fourth_took.no_put in
-      let t2 = third_all in
-      let t3 = fourth_all in
+      let first_puts = puts_count (ended_in MakesAnchor (entries 0)) in
+      let second_puts = puts_count (ended_in Joins (entries 1)) in
+      let third_puts = puts_count (ended_in Joins (entries 2)) in
+      let fourth_puts = puts_count (ended_in Joins (entries 3)) in
+      let first_gots = gots_count (ended_in MakesAnchor (entries 0)) in
+      let second_gots = gots_count (ended_in Joins (entries 1)) in
+      let third_gots = gots_count (ended_in Joins (entries 2)) in
+      let fourth_gots = gots_count (ended_in Joins (entries 3)) in
+      let first_numbers = ap (length {A = ℕ}) puts_first ∙ length-range_with_len 1000001 count in
+      let second_numbers = ap (length {A = ℕ}) puts_second ∙ length-range_with_len 2000001 count in
+      let third_none : length (puts_of (ended_in Joins (entries 2))) ≡ 0 = ap (length {A = ℕ}) third_took.no_put in
+      let fourth_none : length (puts_of (ended_in Joins (entries 3))) ≡ 0 = ap (length {A = ℕ}) fourth_took.no_put in
+      let third_got = third_all in
+      let fourth_got = fourth_all in
       record {
-        left = none_long of_queue.left (omega (arith, order, puts, gots, puts_are, gots_are, p0, p1, p2, p3, g0, g1, g2, g3, n0, n1, n2, n3, t2, t3));
-        first = none_long (gots_of (ended_in MakesAnchor (entries 0))) (omega (arith, order, puts, gots, puts_are, gots_are, p0, p1, p2, p3, g0, g1, g2, g3, n0, n1, n2, n3, t2, t3));
-        second = none_long (gots_of (ended_in Joins (entries 1))) (omega (arith, order, puts, gots, puts_are, gots_are, p0, p1, p2, p3, g0, g1, g2, g3, n0, n1, n2, n3, t2, t3));
+        left = none_long of_queue.left (omega (arith, order, puts, gots, puts_are, gots_are, first_puts, second_puts, third_puts, fourth_puts, first_gots, second_gots, third_gots, fourth_gots, first_numbers, second_numbers, third_none, fourth_none, third_got, fourth_got));
+        first = none_long (gots_of (ended_in MakesAnchor (entries 0))) (omega (arith, order, puts, gots, puts_are, gots_are, first_puts, second_puts, third_puts, fourth_puts, first_gots, second_gots, third_gots, fourth_gots, first_numbers, second_numbers, third_none, fourth_none, third_got, fourth_got));
+        second = none_long (gots_of (ended_in Joins (entries 1))) (omega (arith, order, puts, gots, puts_are, gots_are, first_puts, second_puts, third_puts, fourth_puts, first_gots, second_gots, third_gots, fourth_gots, first_numbers, second_numbers, third_none, fourth_none, third_got, fourth_got));
       }
 
   -- what the takers got weighs what was put, by any weight of numbers
@@ -257,21 +257,21 @@ module _ (count : ℕ) (history : List Entry) (small : count ≤ 390) (run : IsQ
       let gots = gots_weigh weight fixed_all in
       let puts_are = shared (put_weight weight) in
       let gots_are = shared (got_weight weight) in
-      let p0 = puts_weigh weight (ended_in MakesAnchor (entries 0)) in
-      let p1 = puts_weigh weight (ended_in Joins (entries 1)) in
-      let p2 = puts_weigh weight (ended_in Joins (entries 2)) in
-      let p3 = puts_weigh weight (ended_in Joins (entries 3)) in
-      let g0 = gots_weigh weight (ended_in MakesAnchor (entries 0)) in
-      let g1 = gots_weigh weight (ended_in Joins (entries 1)) in
-      let g2 = gots_weigh weight (ended_in Joins (entries 2)) in
-      let g3 = gots_weigh weight (ended_in Joins (entries 3)) in
-      let n0 = ap (sum_by weight) puts_first in
-      let n1 = ap (sum_by weight) puts_second in
-      let n2 : sum_by weight (puts_of (ended_in Joins (entries 2))) ≡ 0 = ap (sum_by weight) third_took.no_put in
-      let n3 : sum_by weight (puts_of (ended_in Joins (entries 3))) ≡ 0 = ap (sum_by weight) fourth_took.no_put in
-      let z0 : sum_by weight (gots_of (ended_in MakesAnchor (entries 0))) ≡ 0 = ap (sum_by weight) all_got.first in
-      let z1 : sum_by weight (gots_of (ended_in Joins (entries 1))) ≡ 0 = ap (sum_by weight) all_got.second in
-      omega (arith, order, left, puts, gots, puts_are, gots_are, p0, p1, p2, p3, g0, g1, g2, g3, n0, n1, n2, n3, z0, z1)
+      let first_puts = puts_weigh weight (ended_in MakesAnchor (entries 0)) in
+      let second_puts = puts_weigh weight (ended_in Joins (entries 1)) in
+      let third_puts = puts_weigh weight (ended_in Joins (entries 2)) in
+      let fourth_puts = puts_weigh weight (ended_in Joins (entries 3)) in
+      let first_gots = gots_weigh weight (ended_in MakesAnchor (entries 0)) in
+      let second_gots = gots_weigh weight (ended_in Joins (entries 1)) in
+      let third_gots = gots_weigh weight (ended_in Joins (entries 2)) in
+      let fourth_gots = gots_weigh weight (ended_in Joins (entries 3)) in
+      let first_numbers = ap (sum_by weight) puts_first in
+      let second_numbers = ap (sum_by weight) puts_second in
+      let third_none : sum_by weight (puts_of (ended_in Joins (entries 2))) ≡ 0 = ap (sum_by weight) third_took.no_put in
+      let fourth_none : sum_by weight (puts_of (ended_in Joins (entries 3))) ≡ 0 = ap (sum_by weight) fourth_took.no_put in
+      let first_got_none : sum_by weight (gots_of (ended_in MakesAnchor (entries 0))) ≡ 0 = ap (sum_by weight) all_got.first in
+      let second_got_none : sum_by weight (gots_of (ended_in Joins (entries 1))) ≡ 0 = ap (sum_by weight) all_got.second in
+      omega (arith, order, left, puts, gots, puts_are, gots_are, first_puts, second_puts, third_puts, fourth_puts, first_gots, second_gots, third_gots, fourth_gots, first_numbers, second_numbers, third_none, fourth_none, first_got_none, second_got_none)
 
   pub tells_queue : TellsQueue count history
   tells_queue = record {
@@ -283,13 +283,13 @@ module _ (count : ℕ) (history : List Entry) (small : count ≤ 390) (run : IsQ
         let weight : ℕ → ℕ = λ n. if n == value then 1 else 0 in
         sum_by-append weight (gots_of (ended_in Joins (entries 2))) (gots_of (ended_in Joins (entries 3))) ∙ all_weigh weight
         ∙ sym (sum_by-append weight (range_with_len 1000001 count) (range_with_len 2000001 count));
-    items = let a : (got_in count history 2).items ≡ length (gots_of (ended_in Joins (entries 2))) = third_took.items in let b : (got_in count history 3).items ≡ length (gots_of (ended_in Joins (entries 3))) = fourth_took.items in let t2 = third_all in let t3 = fourth_all in omega (arith, a, b, t2, t3);
+    items = let a : (got_in count history 2).items ≡ length (gots_of (ended_in Joins (entries 2))) = third_took.items in let b : (got_in count history 3).items ≡ length (gots_of (ended_in Joins (entries 3))) = fourth_took.items in let third_got = third_all in let fourth_got = fourth_all in omega (arith, a, b, third_got, fourth_got);
     sum =
-        let s2 : (got_in count history 2).sum ≡ sum (gots_of (ended_in Joins (entries 2))) = third_took.sum in
-        let s3 : (got_in count history 3).sum ≡ sum (gots_of (ended_in Joins (entries 3))) = fourth_took.sum in
+        let third_sum : (got_in count history 2).sum ≡ sum (gots_of (ended_in Joins (entries 2))) = third_took.sum in
+        let fourth_sum : (got_in count history 3).sum ≡ sum (gots_of (ended_in Joins (entries 3))) = fourth_took.sum in
         let all : sum (gots_of (ended_in Joins (entries 2))) + sum (gots_of (ended_in Joins (entries 3))) ≡ sum (range_with_len 1000001 count) + sum (range_with_len 2000001 count) = all_weigh (λ x. x) in
         let rows = both_rows count in
-        omega (arith, s2, s3, all, rows);
+        omega (arith, third_sum, fourth_sum, all, rows);
   }
 
 pub queue_runs_tell : QueueRunsTell

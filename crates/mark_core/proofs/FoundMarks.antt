@@ -72,7 +72,7 @@ module _ (c : Config) (set more : ℕ → Bool) (a : ℕ) (above : c.region_word
       ∙ sym (cond-true (nat_lt n words) (g n) (before n) (lt-ltb n words inside))
       ∙ ap (λ k. cond (nat_lt k words) (g k) (before k)) same)
       (λ (other : n ≢ j).
-      cond-false (n == j) _ _ (ne_eqb n j other) ∙ ap (λ x. cond (nat_lt j words) x (before j)) (rest j (λ is'. other (sym is'))))
+      cond-false (n == j) _ _ (ne_eqb n j other) ∙ ap (λ x. cond (nat_lt j words) x (before j)) (rest j (λ same_index. other (sym same_index))))
       (cases_eq n j)
 
   module _ (m : Word → ℕ) (words : ℕ) (inside : mark_word c a < words) where

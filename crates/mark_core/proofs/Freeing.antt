@@ -132,9 +132,9 @@ module _ (c : Config) (words : List ℕ) (out : ℕ → Bool) where
   below_all r x none = by_test (nat_lt r c.regions) (out r) x none
     where
       by_test : (a b : Bool) (y : ℕ) → (a ≡ false → y ≡ 0) → cond (a && b) 0 y ≡ cond b 0 y
-      by_test true b y none' = refl
-      by_test false true y none' = none' refl
-      by_test false false y none' = refl
+      by_test true b y is_none = refl
+      by_test false true y is_none = is_none refl
+      by_test false false y is_none = refl
 
   freed_all_at : (w : Word) → freed_below out c.regions m w ≡ freed c out m w
   freed_all_at (Top r) = below_all r (m (Top r)) (λ no. view_none c words (Top r) no)

@@ -12,16 +12,17 @@ use Rattle.alloc_buffers.specs.declared.spot.TakeSpot.TheVariants.{Ended}
 use Rattle.alloc_buffers.specs.declared.spot.Taken.TheVariants.{At, NoRoom}
 use Rattle.alloc_buffers.specs.Rows as takes
 use Rattle.shen_graph.specs.declared.order.Order.TheVariants.{Nothing}
+use Rattle.shen_graph.specs.Valid.{most_objects}
 use Rattle.mutator.specs.Rows.{Mutating, words_made, after_take, take_next, next_at}
 use Rattle.heap_words.specs.Fits.{touch_fits}
 use Rattle.std.specs.Prelude.{◌&&◌}
 use Rattle.mutator.specs.Fit.{is_ready, can_make, is_going, IsReady, make_goes}
 
 -- where it can make its next access
-makes_more : (c : Config) (seat made : ℕ) (kept : Kept) (at : MakeSpot) → is_ready c seat made kept (Making at) ≡ true → made < 4294967295
+makes_more : (c : Config) (seat made : ℕ) (kept : Kept) (at : MakeSpot) → is_ready c seat made kept (Making at) ≡ true → made < most_objects
 makes_more c seat made kept at ready = ltb-true _ _ (and_parts _ _ (and_parts _ _ (and_parts _ _ ready).1).0).0
 
-pub can_make_more : (c : Config) (seat made : ℕ) (kept : Kept) (spot : Spot) (at : MakeSpot) → spot ≡ Making at → is_ready c seat made kept spot ≡ true → made < 4294967295
+pub can_make_more : (c : Config) (seat made : ℕ) (kept : Kept) (spot : Spot) (at : MakeSpot) → spot ≡ Making at → is_ready c seat made kept spot ≡ true → made < most_objects
 can_make_more c seat made kept spot at is ready = makes_more c seat made kept at (subst (λ s. is_ready c seat made kept s ≡ true) is ready)
 
 -- where it goes on with a taking of room, the taking can make its next access

@@ -24,13 +24,13 @@ use Rattle.mutator.specs.declared.makes.MakeSpot.{MakeSpot}
 use Rattle.mutator.specs.declared.makes.MakeSpot.TheVariants.{Taking, StoreWord, StoreRoot}
 use Rattle.mutator.specs.declared.waits.WaitSpot.{WaitSpot}
 use Rattle.mutator.specs.declared.waits.WaitSpot.TheVariants as wait
-use Rattle.shen_graph.specs.Valid.{is_size}
+use Rattle.shen_graph.specs.Valid.{is_size, most_objects}
 use Rattle.mutator.specs.Commands.{refs_of, nums_of}
 use Rattle.mutator.specs.Rows.{Mutating, words_made, take_next, touch_at, next_of}
 
 -- whether a mutator that has made so many objects can make one more, of so many fields
 abbrev pub is_next_object : ℕ → ℕ → ℕ → Bool
-is_next_object made refs nums = nat_lt made 4294967295 && (is_size refs && is_size nums)
+is_next_object made refs nums = nat_lt made most_objects && (is_size refs && is_size nums)
 
 -- and that of a command
 abbrev pub can_make : ℕ → Command → Bool
@@ -52,7 +52,7 @@ make_fits c command (StoreRoot address) = true
 
 -- whether a mutator that has made so many objects can count one more, where its step counts one
 abbrev pub can_count : ℕ → WaitSpot → Bool
-can_count made (wait.StoreRoot address) = nat_lt made 4294967295
+can_count made (wait.StoreRoot address) = nat_lt made most_objects
 can_count made _ = true
 
 -- and whether those of a spot of the waiting for an object are

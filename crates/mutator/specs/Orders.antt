@@ -1,7 +1,7 @@
 -- Which orders a mutator takes.
 use Rattle.std.specs.Prelude.{ℕ, Bool, true, false, ◌&&◌, nat_lt}
 use Rattle.shen_graph.specs.Valid as ranges
-use Rattle.shen_graph.specs.Valid.{fits_value}
+use Rattle.shen_graph.specs.Valid.{fits_value, most_objects}
 use Rattle.shen_graph.specs.declared.command.Command.{Command}
 use Rattle.mutator.specs.declared.spot.Spot.{Spot}
 use Rattle.mutator.specs.declared.spot.Spot.TheVariants.{Rest, Ended, Entering, Waiting, Gone}
@@ -34,7 +34,7 @@ is_waiting _ = false
 
 -- whether a mutator that has made so many objects may be given the command
 abbrev pub is_next : ℕ → Command → Bool
-is_next made command = is_valid command && nat_lt made 4294967295
+is_next made command = is_valid command && nat_lt made most_objects
 
 -- whether it makes a step under the order: where it takes commands under a command or to end, and in a call under none
 abbrev pub takes_at : Spot → ℕ → Order → Bool

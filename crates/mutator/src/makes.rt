@@ -1,4 +1,5 @@
 ghost use Rattle.std.specs.Prelude.{◌≡◌, ◌<◌, true};
+ghost use Rattle.shen_graph.specs.Valid.{most_objects};
 ghost use Rattle.heap_words.specs.Touch.{placed};
 ghost use Rattle.heap_words.specs.Fits.{touch_fits};
 ghost use Rattle.heap_words.specs.Encoding as encoding;
@@ -109,7 +110,7 @@ impl MakeSpot {
 
     /// How many objects the mutator has made after the step.
     pub(crate) fn made_after(self, made: u32) -> u32
-        requires { made < 4294967295 }
+        requires { made < most_objects }
         ensures { result ≡ rows.made_after made self }
     {
         match self {
@@ -171,7 +172,7 @@ fn fresh_word(seat: usize, made: u32, refs: u32, nums: u32, place: u64) -> u64
 /// The name of the next object of a mutator, which is counted from 0 and has made so many objects.
 pub(crate) fn next_name(seat: usize, made: u32) -> Name
     requires seat { seat < 8 }
-    requires made { made < 4294967295 }
+    requires made { made < most_objects }
     ensures { result ≡ next_name seat made }
 {
     Name {

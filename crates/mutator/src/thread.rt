@@ -1,4 +1,5 @@
 ghost use Rattle.std.specs.Prelude.{◌≡◌, ◌<◌, true, length};
+ghost use Rattle.shen_graph.specs.Valid.{most_objects};
 ghost use Rattle.heap_words.specs.Touch.{placed};
 ghost use Rattle.mutator.specs.Orders.{is_pending};
 ghost use Rattle.mutator.specs.Rows.{first_touch};
@@ -83,7 +84,7 @@ impl Mutator {
     pub fn begin(&mut self, command: Command)
         requires rest { takes_commands (seen self.old).spot ≡ true }
         requires valid { IsValid command }
-        requires made { (seen self.old).made < 4294967295 }
+        requires made { (seen self.old).made < most_objects }
         ensures order { order_of self.new ≡ Order.Begin command }
         ensures takes { takes_at (seen self.new).spot (seen self.new).made (Order.Begin command) ≡ true }
         ensures seen { seen self.new ≡ seen self.old }

@@ -177,8 +177,8 @@ module _ (w : ℕ) (shut : ℕ → Bool) (kept : ℕ → ℕ) (lie : LieApart w 
         let end = end_before w shut kept a in
         let low : 1 ≤ end / w = ⊎_elim
         (λ (none : end / w < 1).
-        let none' : end / w ≡ 0 = omega (arith, none) in
-        let row : end / w * w ≡ 0 * w = ap (λ k. k * w) none' in
+        let is_zero : end / w ≡ 0 = omega (arith, none) in
+        let row : end / w * w ≡ 0 * w = ap (λ k. k * w) is_zero in
         absurd (omega (arith, row, end_from_first a, div-add-mod' end w, mod_below end w lie.some)))
         (λ (one : 1 ≤ end / w). one)
         (cases_lt (end / w) 1) in

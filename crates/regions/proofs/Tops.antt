@@ -88,8 +88,8 @@ module _ (w : ℕ) (shut : ℕ → Bool) (kept : ℕ → ℕ) (lie : LieApart w 
   pub in_region : (a : ℕ) → 0 < kept a → new_place w shut kept a / w ≡ region_of_place w shut kept a + 1
   in_region a some = ⊎_elim
       (λ (none : new_place w shut kept a / w < 1).
-      let zero' : new_place w shut kept a / w ≡ 0 = omega (arith, none) in
-      let row : new_place w shut kept a / w * w ≡ 0 * w = ap (λ k. k * w) zero' in
+      let in_none : new_place w shut kept a / w ≡ 0 = omega (arith, none) in
+      let row : new_place w shut kept a / w * w ≡ 0 * w = ap (λ k. k * w) in_none in
       absurd (omega (arith, row, stays_above w shut kept lie a some, lie.some, div-add-mod' (new_place w shut kept a) w, mod_below (new_place w shut kept a) w lie.some)))
       (λ (one : 1 ≤ new_place w shut kept a / w). omega (arith, one))
       (cases_lt (new_place w shut kept a / w) 1)

@@ -14,7 +14,7 @@ module _ {T : Type 0} where
   machine_of-put (y ∷ ys) zero x within zero = grind (arith, nat_tests)
   machine_of-put (y ∷ ys) zero x within (suc k) = grind (arith, nat_tests)
   machine_of-put (y ∷ ys) (suc number) x within zero = grind (arith, nat_tests)
-  machine_of-put (y ∷ ys) (suc number) x within (suc k) = let within' : number < length ys = omega arith in grind (arith, nat_tests, machine_of-put ys number x within' k)
+  machine_of-put (y ∷ ys) (suc number) x within (suc k) = let within_rest : number < length ys = omega arith in grind (arith, nat_tests, machine_of-put ys number x within_rest k)
 
   pub machine_of-index : (v : View T) (k : ℕ) (d : Option T) → k < length v → machine_of v k ≡ get_or v k d
   machine_of-index [] k d within = absurd (omega arith)
@@ -36,17 +36,17 @@ module _ {T : Type 0} where
   none_either false = refl
 
   -- the machines below a number have been taken in
-  pub record Joining (m0 o0 : View T) (number : ℕ) (m o : View T) : Type 0 where
-    pub long : length m ≡ length m0
-    pub other_long : length o ≡ length o0
-    pub here : (k : ℕ) → machine_of m k ≡ (if nat_lt k number then whichever_is_there (machine_of m0 k) (machine_of o0 k) else machine_of m0 k)
-    pub there : (k : ℕ) → number ≤ k → machine_of o k ≡ machine_of o0 k
+  pub record Joining (machines others : View T) (number : ℕ) (m o : View T) : Type 0 where
+    pub long : length m ≡ length machines
+    pub other_long : length o ≡ length others
+    pub here : (k : ℕ) → machine_of m k ≡ (if nat_lt k number then whichever_is_there (machine_of machines k) (machine_of others k) else machine_of machines k)
+    pub there : (k : ℕ) → number ≤ k → machine_of o k ≡ machine_of others k
 
-  pub joining_begins : (m0 o0 : View T) → Joining m0 o0 0 m0 o0
-  joining_begins m0 o0 = record { long = refl; other_long = refl; here = λ k. grind (arith, nat_tests); there = λ k above. refl }
+  pub joining_begins : (machines others : View T) → Joining machines others 0 machines others
+  joining_begins machines others = record { long = refl; other_long = refl; here = λ k. grind (arith, nat_tests); there = λ k above. refl }
 
-  here_at : (m0 o0 : View T) (number : ℕ) (m o : View T) → Joining m0 o0 number m o → machine_of m number ≡ machine_of m0 number
-  here_at m0 o0 number m o j = let a = j.here number in grind (arith, nat_tests)
+  here_at : (machines others : View T) (number : ℕ) (m o : View T) → Joining machines others number m o → machine_of m number ≡ machine_of machines number
+  here_at machines others number m o j = let a = j.here number in grind (arith, nat_tests)
 
   -- one number more
   taken : (k number : ℕ) (now new was : Option T) (both old : ℕ → Option T) → now ≡ (if k == number then new else was) → was ≡ (if nat_lt k number then both k else old k) → both number ≡ new
@@ -56,131 +56,131 @@ module _ {T : Type 0} where
   itself : (k number : ℕ) (f : ℕ → Option T) → f k ≡ (if k == number then f number else f k)
   itself k number f = grind (arith, nat_tests)
 
-  pub joining_take : (m0 o0 : View T) (number : ℕ) (m o : View T) → Joining m0 o0 number m o → number < length m → number < length o → machine_of m number ≡ None
-      → Joining m0 o0 (number + 1) (slice_set m number (machine_of o number)) (slice_set o number None)
-  joining_take m0 o0 number m o j within other_within none = record {
+  pub joining_take : (machines others : View T) (number : ℕ) (m o : View T) → Joining machines others number m o → number < length m → number < length o → machine_of m number ≡ None
+      → Joining machines others (number + 1) (slice_set m number (machine_of o number)) (slice_set o number None)
+  joining_take machines others number m o j within other_within none = record {
     long = length-set _ _ _ ∙ j.long;
     other_long = length-set _ _ _ ∙ j.other_long;
     here = λ k.
         let a = machine_of-put m number (machine_of o number) within k in
         let b = j.here k in
-        let old : machine_of m0 number ≡ None = sym (here_at m0 o0 number m o j) ∙ none in
-        let new : whichever_is_there (machine_of m0 number) (machine_of o0 number) ≡ machine_of o number = rw old (sym (j.there number (omega arith))) in
-        taken k number (machine_of (slice_set m number (machine_of o number)) k) (machine_of o number) (machine_of m k) (λ n. whichever_is_there (machine_of m0 n) (machine_of o0 n)) (λ n. machine_of m0 n) a b new;
+        let old : machine_of machines number ≡ None = sym (here_at machines others number m o j) ∙ none in
+        let new : whichever_is_there (machine_of machines number) (machine_of others number) ≡ machine_of o number = rw old (sym (j.there number (omega arith))) in
+        taken k number (machine_of (slice_set m number (machine_of o number)) k) (machine_of o number) (machine_of m k) (λ n. whichever_is_there (machine_of machines n) (machine_of others n)) (λ n. machine_of machines n) a b new;
     there = λ k above. let a = machine_of-put o number None other_within k in let b = j.there k (omega arith) in grind (arith, nat_tests);
   }
 
-  pub joining_skip : (m0 o0 : View T) (number : ℕ) (m o : View T) (r : T) → Joining m0 o0 number m o → machine_of m number ≡ Some r → Joining m0 o0 (number + 1) m o
-  joining_skip m0 o0 number m o r j some = record {
+  pub joining_skip : (machines others : View T) (number : ℕ) (m o : View T) (r : T) → Joining machines others number m o → machine_of m number ≡ Some r → Joining machines others (number + 1) m o
+  joining_skip machines others number m o r j some = record {
     long = j.long;
     other_long = j.other_long;
     here = λ k.
-        let old : machine_of m0 number ≡ Some r = sym (here_at m0 o0 number m o j) ∙ some in
-        let new : whichever_is_there (machine_of m0 number) (machine_of o0 number) ≡ machine_of m number = rw old (sym some) in
-        taken k number (machine_of m k) (machine_of m number) (machine_of m k) (λ n. whichever_is_there (machine_of m0 n) (machine_of o0 n)) (λ n. machine_of m0 n) (same k) (j.here k) new;
+        let old : machine_of machines number ≡ Some r = sym (here_at machines others number m o j) ∙ some in
+        let new : whichever_is_there (machine_of machines number) (machine_of others number) ≡ machine_of m number = rw old (sym some) in
+        taken k number (machine_of m k) (machine_of m number) (machine_of m k) (λ n. whichever_is_there (machine_of machines n) (machine_of others n)) (λ n. machine_of machines n) (same k) (j.here k) new;
     there = λ k above. j.there k (omega arith);
   }
     where
       same : (k : ℕ) → machine_of m k ≡ (if k == number then machine_of m number else machine_of m k)
       same k = itself k number (λ n. machine_of m n)
 
-  pub joining_ends : (m0 o0 : View T) (m o : View T) (end : ℕ) → length m0 ≡ length o0 → Joining m0 o0 end m o → length m0 ≤ end → m ≡ merged m0 o0
-  joining_ends m0 o0 m o end same j all = same_view m (merged m0 o0) (j.long ∙ sym (length-merged m0 o0 same))
-      (λ k. at_end k (nat_lt k end) refl ∙ sym (machine_of-merged m0 o0 k))
+  pub joining_ends : (machines others : View T) (m o : View T) (end : ℕ) → length machines ≡ length others → Joining machines others end m o → length machines ≤ end → m ≡ merged machines others
+  joining_ends machines others m o end same j all = same_view m (merged machines others) (j.long ∙ sym (length-merged machines others same))
+      (λ k. at_end k (nat_lt k end) refl ∙ sym (machine_of-merged machines others k))
     where
-      at_end : (k : ℕ) (b : Bool) → nat_lt k end ≡ b → machine_of m k ≡ whichever_is_there (machine_of m0 k) (machine_of o0 k)
+      at_end : (k : ℕ) (b : Bool) → nat_lt k end ≡ b → machine_of m k ≡ whichever_is_there (machine_of machines k) (machine_of others k)
       at_end k true is = j.here k ∙ rw is refl
       at_end k false is =
-          let past : length m0 ≤ k = grind (arith, nat_tests) in
-          let past_others : length o0 ≤ k = omega arith in
-          let a : machine_of m0 k ≡ None = machine_of-past m0 k past in
-          let b : machine_of o0 k ≡ None = machine_of-past o0 k past_others in
+          let past : length machines ≤ k = grind (arith, nat_tests) in
+          let past_others : length others ≤ k = omega arith in
+          let a : machine_of machines k ≡ None = machine_of-past machines k past in
+          let b : machine_of others k ≡ None = machine_of-past others k past_others in
           j.here k ∙ rw (is, a, b) refl
 
   -- the machines below a number that pass a test have been taken out
-  pub record TakingOut (test : ℕ → Bool) (m0 : View T) (number : ℕ) (m out : View T) : Type 0 where
-    pub long : length m ≡ length m0
-    pub out_long : length out ≡ length m0
-    pub left : (k : ℕ) → machine_of m k ≡ (if nat_lt k number then (if test k then None else machine_of m0 k) else machine_of m0 k)
-    pub taken_out : (k : ℕ) → machine_of out k ≡ (if nat_lt k number then (if test k then machine_of m0 k else None) else None)
+  pub record TakingOut (test : ℕ → Bool) (machines : View T) (number : ℕ) (m out : View T) : Type 0 where
+    pub long : length m ≡ length machines
+    pub out_long : length out ≡ length machines
+    pub left : (k : ℕ) → machine_of m k ≡ (if nat_lt k number then (if test k then None else machine_of machines k) else machine_of machines k)
+    pub taken_out : (k : ℕ) → machine_of out k ≡ (if nat_lt k number then (if test k then machine_of machines k else None) else None)
 
-  pub taking_begins : (test : ℕ → Bool) (m0 out : View T) → out ≡ replicate (length m0) None → TakingOut test m0 0 m0 out
-  taking_begins test m0 out none = record {
+  pub taking_begins : (test : ℕ → Bool) (machines out : View T) → out ≡ replicate (length machines) None → TakingOut test machines 0 machines out
+  taking_begins test machines out none = record {
     long = refl;
-    out_long = ap length none ∙ length-replicate (length m0) None;
+    out_long = ap length none ∙ length-replicate (length machines) None;
     left = λ k. grind (arith, nat_tests);
-    taken_out = λ k. let a : machine_of out k ≡ None = ap (λ v. machine_of v k) none ∙ machine_of-none (length m0) k in grind (arith, nat_tests);
+    taken_out = λ k. let a : machine_of out k ≡ None = ap (λ v. machine_of v k) none ∙ machine_of-none (length machines) k in grind (arith, nat_tests);
   }
 
-  pub taking_one : (test : ℕ → Bool) (m0 : View T) (number : ℕ) (m out : View T) → TakingOut test m0 number m out → number < length m → number < length out → test number ≡ true
-      → TakingOut test m0 (number + 1) (slice_set m number (machine_of out number)) (slice_set out number (machine_of m number))
-  taking_one test m0 number m out j within out_within is = record {
+  pub taking_one : (test : ℕ → Bool) (machines : View T) (number : ℕ) (m out : View T) → TakingOut test machines number m out → number < length m → number < length out → test number ≡ true
+      → TakingOut test machines (number + 1) (slice_set m number (machine_of out number)) (slice_set out number (machine_of m number))
+  taking_one test machines number m out j within out_within is = record {
     long = length-set _ _ _ ∙ j.long;
     out_long = length-set _ _ _ ∙ j.out_long;
     left = λ k.
         let here : machine_of out number ≡ None = let a = j.taken_out number in grind (arith, nat_tests) in
-        taken k number (machine_of (slice_set m number (machine_of out number)) k) (machine_of out number) (machine_of m k) (λ n. if test n then None else machine_of m0 n) (λ n. machine_of m0 n)
+        taken k number (machine_of (slice_set m number (machine_of out number)) k) (machine_of out number) (machine_of m k) (λ n. if test n then None else machine_of machines n) (λ n. machine_of machines n)
         (machine_of-put m number (machine_of out number) within k) (j.left k) (rw is (sym here));
     taken_out = λ k.
-        let here : machine_of m number ≡ machine_of m0 number = let a = j.left number in grind (arith, nat_tests) in
-        taken k number (machine_of (slice_set out number (machine_of m number)) k) (machine_of m number) (machine_of out k) (λ n. if test n then machine_of m0 n else None) (λ n. None)
+        let here : machine_of m number ≡ machine_of machines number = let a = j.left number in grind (arith, nat_tests) in
+        taken k number (machine_of (slice_set out number (machine_of m number)) k) (machine_of m number) (machine_of out k) (λ n. if test n then machine_of machines n else None) (λ n. None)
         (machine_of-put out number (machine_of m number) out_within k) (j.taken_out k) (rw is (sym here));
   }
 
-  pub taking_none : (test : ℕ → Bool) (m0 : View T) (number : ℕ) (m out : View T) → TakingOut test m0 number m out → test number ≡ false → TakingOut test m0 (number + 1) m out
-  taking_none test m0 number m out j is = record {
+  pub taking_none : (test : ℕ → Bool) (machines : View T) (number : ℕ) (m out : View T) → TakingOut test machines number m out → test number ≡ false → TakingOut test machines (number + 1) m out
+  taking_none test machines number m out j is = record {
     long = j.long;
     out_long = j.out_long;
     left = λ k.
-        let here : machine_of m number ≡ machine_of m0 number = let a = j.left number in grind (arith, nat_tests) in
-        taken k number (machine_of m k) (machine_of m number) (machine_of m k) (λ n. if test n then None else machine_of m0 n) (λ n. machine_of m0 n)
+        let here : machine_of m number ≡ machine_of machines number = let a = j.left number in grind (arith, nat_tests) in
+        taken k number (machine_of m k) (machine_of m number) (machine_of m k) (λ n. if test n then None else machine_of machines n) (λ n. machine_of machines n)
         (itself k number (λ n. machine_of m n)) (j.left k) (rw is (sym here));
     taken_out = λ k.
         let here : machine_of out number ≡ None = let a = j.taken_out number in grind (arith, nat_tests) in
-        taken k number (machine_of out k) (machine_of out number) (machine_of out k) (λ n. if test n then machine_of m0 n else None) (λ n. None)
+        taken k number (machine_of out k) (machine_of out number) (machine_of out k) (λ n. if test n then machine_of machines n else None) (λ n. None)
         (itself k number (λ n. machine_of out n)) (j.taken_out k) (rw is (sym here));
   }
 
-  pub taking_ends : (test : ℕ → Bool) (m0 : View T) (end : ℕ) (m out : View T) → TakingOut test m0 end m out → length m0 ≤ end → (m ≡ machines_left test m0) × (out ≡ machines_picked test m0)
-  taking_ends test m0 end m out j all = (
-    same_view m (machines_left test m0) (j.long ∙ sym (length-picked (λ n. not (test n)) m0)) (λ k. rest k (nat_lt k end) (test k) refl refl ∙ sym (machine_of-picked (λ n. not (test n)) m0 k)),
-    same_view out (machines_picked test m0) (j.out_long ∙ sym (length-picked test m0)) (λ k. gone k (nat_lt k end) refl ∙ sym (machine_of-picked test m0 k)),
+  pub taking_ends : (test : ℕ → Bool) (machines : View T) (end : ℕ) (m out : View T) → TakingOut test machines end m out → length machines ≤ end → (m ≡ machines_left test machines) × (out ≡ machines_picked test machines)
+  taking_ends test machines end m out j all = (
+    same_view m (machines_left test machines) (j.long ∙ sym (length-picked (λ n. not (test n)) machines)) (λ k. rest k (nat_lt k end) (test k) refl refl ∙ sym (machine_of-picked (λ n. not (test n)) machines k)),
+    same_view out (machines_picked test machines) (j.out_long ∙ sym (length-picked test machines)) (λ k. gone k (nat_lt k end) refl ∙ sym (machine_of-picked test machines k)),
   )
     where
-      rest : (k : ℕ) (b c : Bool) → nat_lt k end ≡ b → test k ≡ c → machine_of m k ≡ (if not (test k) then machine_of m0 k else None)
+      rest : (k : ℕ) (b c : Bool) → nat_lt k end ≡ b → test k ≡ c → machine_of m k ≡ (if not (test k) then machine_of machines k else None)
       rest k true true is passes = j.left k ∙ rw (is, passes) refl
       rest k true false is passes = j.left k ∙ rw (is, passes) refl
       rest k false c is passes =
-          let past : length m0 ≤ k = grind (arith, nat_tests) in
-          let a : machine_of m0 k ≡ None = machine_of-past m0 k past in
+          let past : length machines ≤ k = grind (arith, nat_tests) in
+          let a : machine_of machines k ≡ None = machine_of-past machines k past in
           j.left k ∙ rw (is, a) (sym (none_either (not (test k))))
 
-      gone : (k : ℕ) (b : Bool) → nat_lt k end ≡ b → machine_of out k ≡ (if test k then machine_of m0 k else None)
+      gone : (k : ℕ) (b : Bool) → nat_lt k end ≡ b → machine_of out k ≡ (if test k then machine_of machines k else None)
       gone k true is = j.taken_out k ∙ rw is refl
       gone k false is =
-          let past : length m0 ≤ k = grind (arith, nat_tests) in
-          let a : machine_of m0 k ≡ None = machine_of-past m0 k past in
+          let past : length machines ≤ k = grind (arith, nat_tests) in
+          let a : machine_of machines k ≡ None = machine_of-past machines k past in
           j.taken_out k ∙ rw (is, a) (sym (none_either (test k)))
 
   -- the same as code finds the two machines and puts each in the other's place
-  pub joining_swap : (m0 o0 : View T) (number : ℕ) (m o m' o' : View T) (x y : Option T) → Joining m0 o0 number m o → number < length m → number < length o
-      → x ≡ get_or m number x → y ≡ get_or o number y → x ≡ None → m' ≡ slice_set m number y → o' ≡ slice_set o number x → Joining m0 o0 (number + 1) m' o'
-  joining_swap m0 o0 number m o m' o' x y j within other_within x-is y-is none m'-is o'-is =
+  pub joining_swap : (machines others : View T) (number : ℕ) (m o new_m new_o : View T) (x y : Option T) → Joining machines others number m o → number < length m → number < length o
+      → x ≡ get_or m number x → y ≡ get_or o number y → x ≡ None → new_m ≡ slice_set m number y → new_o ≡ slice_set o number x → Joining machines others (number + 1) new_m new_o
+  joining_swap machines others number m o new_m new_o x y j within other_within x-is y-is none new_m-is new_o-is =
       let a : machine_of m number ≡ None = machine_of-index m number x within ∙ sym x-is ∙ none in
       let b : machine_of o number ≡ y = machine_of-index o number y other_within ∙ sym y-is in
-      let c : slice_set m number (machine_of o number) ≡ m' = ap (λ z. slice_set m number z) b ∙ sym m'-is in
-      let d : slice_set o number None ≡ o' = ap (λ z. slice_set o number z) (sym none) ∙ sym o'-is in
-      subst (λ (v : View T). Joining m0 o0 (number + 1) v o') c (subst (λ (v : View T). Joining m0 o0 (number + 1) (slice_set m number (machine_of o number)) v) d (joining_take m0 o0 number m o j within other_within a))
+      let c : slice_set m number (machine_of o number) ≡ new_m = ap (λ z. slice_set m number z) b ∙ sym new_m-is in
+      let d : slice_set o number None ≡ new_o = ap (λ z. slice_set o number z) (sym none) ∙ sym new_o-is in
+      subst (λ (v : View T). Joining machines others (number + 1) v new_o) c (subst (λ (v : View T). Joining machines others (number + 1) (slice_set m number (machine_of o number)) v) d (joining_take machines others number m o j within other_within a))
 
-  pub taking_swap : (test : ℕ → Bool) (m0 : View T) (number : ℕ) (m out m' out' : View T) (x y : Option T) → TakingOut test m0 number m out → number < length m → number < length out
-      → x ≡ get_or m number x → y ≡ get_or out number y → test number ≡ true → m' ≡ slice_set m number y → out' ≡ slice_set out number x → TakingOut test m0 (number + 1) m' out'
-  taking_swap test m0 number m out m' out' x y j within out_within x-is y-is is m'-is out'-is =
+  pub taking_swap : (test : ℕ → Bool) (machines : View T) (number : ℕ) (m out new_m new_out : View T) (x y : Option T) → TakingOut test machines number m out → number < length m → number < length out
+      → x ≡ get_or m number x → y ≡ get_or out number y → test number ≡ true → new_m ≡ slice_set m number y → new_out ≡ slice_set out number x → TakingOut test machines (number + 1) new_m new_out
+  taking_swap test machines number m out new_m new_out x y j within out_within x-is y-is is new_m-is new_out-is =
       let a : machine_of m number ≡ x = machine_of-index m number x within ∙ sym x-is in
       let b : machine_of out number ≡ y = machine_of-index out number y out_within ∙ sym y-is in
-      let c : slice_set m number (machine_of out number) ≡ m' = ap (λ z. slice_set m number z) b ∙ sym m'-is in
-      let d : slice_set out number (machine_of m number) ≡ out' = ap (λ z. slice_set out number z) a ∙ sym out'-is in
-      subst (λ (v : View T). TakingOut test m0 (number + 1) v out') c
-      (subst (λ (v : View T). TakingOut test m0 (number + 1) (slice_set m number (machine_of out number)) v) d (taking_one test m0 number m out j within out_within is))
+      let c : slice_set m number (machine_of out number) ≡ new_m = ap (λ z. slice_set m number z) b ∙ sym new_m-is in
+      let d : slice_set out number (machine_of m number) ≡ new_out = ap (λ z. slice_set out number z) a ∙ sym new_out-is in
+      subst (λ (v : View T). TakingOut test machines (number + 1) v new_out) c
+      (subst (λ (v : View T). TakingOut test machines (number + 1) (slice_set m number (machine_of out number)) v) d (taking_one test machines number m out j within out_within is))
 
   -- a machine that is there
   pub some_there : (x : Option T) → is_some x ≡ true → (r : T) × (x ≡ Some r)

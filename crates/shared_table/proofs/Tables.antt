@@ -11,7 +11,7 @@ number_decided : (m n : ℕ) → Decided m n
 number_decided m n = dite (ℕ_discrete m n) (λ e. inl e) (λ apart. inr apart)
 
 -- two are decided where each is
-both_decided : {X Y Z : Type 0} {x x' : X} {y y' : Y} {z z' : Z} → (z ≡ z' → x ≡ x') → (z ≡ z' → y ≡ y') → (x ≡ x' → y ≡ y' → z ≡ z') → Decided x x' → Decided y y' → Decided z z'
+both_decided : {X Y Z : Type 0} {x other_x : X} {y other_y : Y} {z other_z : Z} → (z ≡ other_z → x ≡ other_x) → (z ≡ other_z → y ≡ other_y) → (x ≡ other_x → y ≡ other_y → z ≡ other_z) → Decided x other_x → Decided y other_y → Decided z other_z
 both_decided left right whole (inl e) (inl d) = inl (whole e d)
 both_decided left right whole (inl e) (inr apart) = inr (λ s. apart (right s))
 both_decided left right whole (inr apart) d = inr (λ s. apart (left s))
@@ -29,14 +29,14 @@ unfolding head_or tail_of
 numbers_decided [] [] = inl refl
 numbers_decided [] (y ∷ ys) = inr (λ e. let n : 0 ≡ length (y ∷ ys) = ap length e in absurd (omega arith))
 numbers_decided (x ∷ xs) [] = inr (λ e. let n : length (x ∷ xs) ≡ 0 = ap length e in absurd (omega arith))
-numbers_decided (x ∷ xs) (y ∷ ys) = both_decided {z = x ∷ xs} {z' = y ∷ ys} (λ s. ap head_or s) (λ s. ap tail_of s) (λ e d i. e i ∷ d i) (number_decided x y) (numbers_decided xs ys)
+numbers_decided (x ∷ xs) (y ∷ ys) = both_decided {z = x ∷ xs} {other_z = y ∷ ys} (λ s. ap head_or s) (λ s. ap tail_of s) (λ e d i. e i ∷ d i) (number_decided x y) (numbers_decided xs ys)
 
 -- what tells tables apart, as pairs
 abbrev told : TableId → ℕ × (ℕ × (ℕ × (ℕ × (ℕ × (ℕ × List ℕ)))))
 told z = (z.words, (z.slots, (z.views_name, (z.atom, (z.block, (z.offset, z.slot_names))))))
 
 pair_decided : {X Y : Type 0} (p q : X × Y) → Decided p.0 q.0 → Decided p.1 q.1 → Decided p q
-pair_decided p q d e = both_decided {z = p} {z' = q} (λ s. ap (λ r. r.0) s) (λ s. ap (λ r. r.1) s) (λ a b i. (a i, b i)) d e
+pair_decided p q d e = both_decided {z = p} {other_z = q} (λ s. ap (λ r. r.0) s) (λ s. ap (λ r. r.1) s) (λ a b i. (a i, b i)) d e
 
 told_decided : (x y : TableId) → Decided (told x) (told y)
 told_decided x y =
@@ -49,6 +49,6 @@ told_decided x y =
     (numbers_decided x.slot_names y.slot_names))))))
 
 pub table_decided : (x y : TableId) → Decided x y
-table_decided x y = both_decided {Y = ℕ} {x = told x} {x' = told y} {y = 0} {y' = 0} {z = x} {z' = y} (λ s. ap told s) (λ s. refl)
+table_decided x y = both_decided {Y = ℕ} {x = told x} {other_x = told y} {y = 0} {other_y = 0} {z = x} {other_z = y} (λ s. ap told s) (λ s. refl)
     (λ e d i. record { words = (e i).0; slots = (e i).1.0; views_name = (e i).1.1.0; atom = (e i).1.1.1.0; block = (e i).1.1.1.1.0; offset = (e i).1.1.1.1.1.0; slot_names = (e i).1.1.1.1.1.1 })
     (told_decided x y) (inl refl)

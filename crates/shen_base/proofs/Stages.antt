@@ -138,13 +138,13 @@ pub taken_by_new : {w : Option (List ℕ)} {f c : ℕ} {held : Held} {s : SinkSt
 taken_by_new {w} {f} {c} {held} {s} {text} e p = p.behind (outlet w f c) [] (subst (λ h. HasTaken (stage w f c h) (outlet w f c) []) (sym e) (taken_none w f c))
 
 -- a turn of putting: some was put, then the block was emptied or not, and then it took a piece
-pub puts_turn : (a : SinkStage) (w w' : Option (List ℕ)) (f f' c c' : ℕ) (before held after : Held) (done piece : List ℕ)
-    → Puts a (stage w f c before) done → Puts (stage w f c before) (stage w' f' c' held) [] → after ≡ record held { unsent = held.unsent ++ piece }
-    → Puts a (stage w' f' c' after) (done ++ piece)
-puts_turn a w w' f f' c c' before held after done piece p q e =
-    let cleared : Puts a (stage w' f' c' held) done = puts_same (append-nil done) (puts_both p q) in
-    subst (λ h. Puts a (stage w' f' c' h) (done ++ piece)) (sym e)
-    (puts_both cleared (puts_kept w' f' c' held piece))
+pub puts_turn : (a : SinkStage) (w new_sent : Option (List ℕ)) (f new_faults c new_calls : ℕ) (before held after : Held) (done piece : List ℕ)
+    → Puts a (stage w f c before) done → Puts (stage w f c before) (stage new_sent new_faults new_calls held) [] → after ≡ record held { unsent = held.unsent ++ piece }
+    → Puts a (stage new_sent new_faults new_calls after) (done ++ piece)
+puts_turn a w new_sent f new_faults c new_calls before held after done piece p q e =
+    let cleared : Puts a (stage new_sent new_faults new_calls held) done = puts_same (append-nil done) (puts_both p q) in
+    subst (λ h. Puts a (stage new_sent new_faults new_calls h) (done ++ piece)) (sym e)
+    (puts_both cleared (puts_kept new_sent new_faults new_calls held piece))
 
 -- what a block held was sent: it is empty, and knows whether that failed
 pub puts_sent : {F : Type 0} (result : Result (Unit {0}) F) (before after : Outlet) (held left : Held)

@@ -24,31 +24,31 @@ more n m others R further out = by_test (eqb n m) refl
     by_test false e = λ (r : R). let one = (Decides-eqb n m).1 (out r) in absurd cc
 
 pub same_command : (a b : Command) → MatchBool (eq-value.it a b) (a ≡ b) (a ≡ b → ⊥)
-same_command (New dst refs nums) (New dst' refs' nums') = more dst dst' (eqb refs refs' && eqb nums nums') _ (λ p. more refs refs' (eqb nums nums') _ (λ q. last nums nums' _ (λ e. cc) (λ same. cc)) (λ same. cc)) (λ same. cc)
+same_command (New dst refs nums) (New other_dst other_refs other_nums) = more dst other_dst (eqb refs other_refs && eqb nums other_nums) _ (λ p. more refs other_refs (eqb nums other_nums) _ (λ q. last nums other_nums _ (λ e. cc) (λ same. cc)) (λ same. cc)) (λ same. cc)
 same_command (New dst refs nums) _ = λ e. absurd cc
-same_command (Get dst src field) (Get dst' src' field') = more dst dst' (eqb src src' && eqb field field') _ (λ p. more src src' (eqb field field') _ (λ q. last field field' _ (λ e. cc) (λ same. cc)) (λ same. cc)) (λ same. cc)
+same_command (Get dst src field) (Get other_dst other_src other_field) = more dst other_dst (eqb src other_src && eqb field other_field) _ (λ p. more src other_src (eqb field other_field) _ (λ q. last field other_field _ (λ e. cc) (λ same. cc)) (λ same. cc)) (λ same. cc)
 same_command (Get dst src field) _ = λ e. absurd cc
-same_command (Set obj field val) (Set obj' field' val') = more obj obj' (eqb field field' && eqb val val') _ (λ p. more field field' (eqb val val') _ (λ q. last val val' _ (λ e. cc) (λ same. cc)) (λ same. cc)) (λ same. cc)
+same_command (Set obj field val) (Set other_obj other_field other_val) = more obj other_obj (eqb field other_field && eqb val other_val) _ (λ p. more field other_field (eqb val other_val) _ (λ q. last val other_val _ (λ e. cc) (λ same. cc)) (λ same. cc)) (λ same. cc)
 same_command (Set obj field val) _ = λ e. absurd cc
-same_command (Cas obj field expect val) (Cas obj' field' expect' val') = more obj obj' (eqb field field' && (eqb expect expect' && eqb val val')) _ (λ p. more field field' (eqb expect expect' && eqb val val') _ (λ q. more expect expect' (eqb val val') _ (λ r. last val val' _ (λ e. cc) (λ same. cc)) (λ same. cc)) (λ same. cc)) (λ same. cc)
+same_command (Cas obj field expect val) (Cas other_obj other_field other_expect other_val) = more obj other_obj (eqb field other_field && (eqb expect other_expect && eqb val other_val)) _ (λ p. more field other_field (eqb expect other_expect && eqb val other_val) _ (λ q. more expect other_expect (eqb val other_val) _ (λ r. last val other_val _ (λ e. cc) (λ same. cc)) (λ same. cc)) (λ same. cc)) (λ same. cc)
 same_command (Cas obj field expect val) _ = λ e. absurd cc
-same_command (Xchg dst obj field val) (Xchg dst' obj' field' val') = more dst dst' (eqb obj obj' && (eqb field field' && eqb val val')) _ (λ p. more obj obj' (eqb field field' && eqb val val') _ (λ q. more field field' (eqb val val') _ (λ r. last val val' _ (λ e. cc) (λ same. cc)) (λ same. cc)) (λ same. cc)) (λ same. cc)
+same_command (Xchg dst obj field val) (Xchg other_dst other_obj other_field other_val) = more dst other_dst (eqb obj other_obj && (eqb field other_field && eqb val other_val)) _ (λ p. more obj other_obj (eqb field other_field && eqb val other_val) _ (λ q. more field other_field (eqb val other_val) _ (λ r. last val other_val _ (λ e. cc) (λ same. cc)) (λ same. cc)) (λ same. cc)) (λ same. cc)
 same_command (Xchg dst obj field val) _ = λ e. absurd cc
-same_command (Rd obj index) (Rd obj' index') = more obj obj' (eqb index index') _ (λ p. last index index' _ (λ e. cc) (λ same. cc)) (λ same. cc)
+same_command (Rd obj index) (Rd other_obj other_index) = more obj other_obj (eqb index other_index) _ (λ p. last index other_index _ (λ e. cc) (λ same. cc)) (λ same. cc)
 same_command (Rd obj index) _ = λ e. absurd cc
-same_command (Wr obj index value) (Wr obj' index' value') = more obj obj' (eqb index index' && eqb value value') _ (λ p. more index index' (eqb value value') _ (λ q. last value value' _ (λ e. cc) (λ same. cc)) (λ same. cc)) (λ same. cc)
+same_command (Wr obj index value) (Wr other_obj other_index other_value) = more obj other_obj (eqb index other_index && eqb value other_value) _ (λ p. more index other_index (eqb value other_value) _ (λ q. last value other_value _ (λ e. cc) (λ same. cc)) (λ same. cc)) (λ same. cc)
 same_command (Wr obj index value) _ = λ e. absurd cc
-same_command (Copy dst src) (Copy dst' src') = more dst dst' (eqb src src') _ (λ p. last src src' _ (λ e. cc) (λ same. cc)) (λ same. cc)
+same_command (Copy dst src) (Copy other_dst other_src) = more dst other_dst (eqb src other_src) _ (λ p. last src other_src _ (λ e. cc) (λ same. cc)) (λ same. cc)
 same_command (Copy dst src) _ = λ e. absurd cc
-same_command (Drop dst) (Drop dst') = last dst dst' _ (λ e. cc) (λ same. cc)
+same_command (Drop dst) (Drop other_dst) = last dst other_dst _ (λ e. cc) (λ same. cc)
 same_command (Drop dst) _ = λ e. absurd cc
-same_command (Same one two) (Same one' two') = more one one' (eqb two two') _ (λ p. last two two' _ (λ e. cc) (λ same. cc)) (λ same. cc)
+same_command (Same one two) (Same other_one other_two) = more one other_one (eqb two other_two) _ (λ p. last two other_two _ (λ e. cc) (λ same. cc)) (λ same. cc)
 same_command (Same one two) _ = λ e. absurd cc
 same_command Gc Gc = refl
 same_command Gc _ = λ e. absurd cc
-same_command (Pin slot obj) (Pin slot' obj') = more slot slot' (eqb obj obj') _ (λ p. last obj obj' _ (λ e. cc) (λ same. cc)) (λ same. cc)
+same_command (Pin slot obj) (Pin other_slot other_obj) = more slot other_slot (eqb obj other_obj) _ (λ p. last obj other_obj _ (λ e. cc) (λ same. cc)) (λ same. cc)
 same_command (Pin slot obj) _ = λ e. absurd cc
-same_command (Unpin slot) (Unpin slot') = last slot slot' _ (λ e. cc) (λ same. cc)
+same_command (Unpin slot) (Unpin other_slot) = last slot other_slot _ (λ e. cc) (λ same. cc)
 same_command (Unpin slot) _ = λ e. absurd cc
 
 -- the next command is there and is this one

@@ -6,7 +6,7 @@ use Rattle.std.proofs.lemmas.List.{length-append}
 use Rattle.std.proofs.lemmas.List.Elements.{All-from_recursion, All-from_get_or}
 use Rattle.std.proofs.lemmas.List.FromFn.{get_or-map-range_with_len, length-map-range_with_len}
 use Rattle.shen_graph.specs.declared.command.Command.{Command}
-use Rattle.shen_graph.specs.Valid.{IsValid}
+use Rattle.shen_graph.specs.Valid.{IsValid, most_objects}
 use Rattle.heap_words.specs.declared.config.Config.{Config}
 use Rattle.heap_words.specs.declared.schedule.Item.{Item}
 use Rattle.trace_reading.specs.Spelling.{TraceLine, IsLine, line, header, schedule_line}
@@ -46,7 +46,7 @@ short_script (l ∷ lines) t = by_thread (eqb l.thread t) (short_script lines t)
     by_thread true others = omega arith
     by_thread false others = omega arith
 
-few_commands : (bytes : List ℕ) (version : ℕ) (c : Config) (scripts : List (List Command)) (items : List Item) (t : ℕ) → Reads bytes version c scripts items → t < c.mutators → length (get_or scripts t []) < 4294967295
+few_commands : (bytes : List ℕ) (version : ℕ) (c : Config) (scripts : List (List Command)) (items : List Item) (t : ℕ) → Reads bytes version c scripts items → t < c.mutators → length (get_or scripts t []) < most_objects
 few_commands bytes version c scripts items t reads below =
     let script = ap length (script_at bytes version c scripts items t reads below) in
     let lines = flat_map line reads.lines in
@@ -57,6 +57,6 @@ pub can_be_judged : (bytes : List ℕ) (version : ℕ) (c : Config) (scripts : L
 can_be_judged bytes version c scripts items reads = record {
   count = count_scripts bytes version c scripts items reads;
   valid = valid_scripts bytes version c scripts items reads;
-  few = All-from_get_or (λ (script : List Command). length script < 4294967295) scripts [] (λ t within.
+  few = All-from_get_or (λ (script : List Command). length script < most_objects) scripts [] (λ t within.
       few_commands bytes version c scripts items t reads (omega (arith, within, count_scripts bytes version c scripts items reads)));
 }

@@ -7,7 +7,7 @@ use Rattle.std.proofs.lemmas.Option.{slice_get-get_or}
 use Rattle.std.proofs.lemmas.Bool.{false≢true}
 use Rattle.heap_words.specs.declared.config.Config.{Config}
 use Rattle.heap_words.specs.Ranges.{seat_count}
-use Rattle.shen_graph.specs.Valid.{IsValid}
+use Rattle.shen_graph.specs.Valid.{IsValid, most_objects}
 use Rattle.shen_graph.specs.Work as work
 use Rattle.shen_graph.specs.declared.order.Order.TheVariants.{Nothing}
 use Rattle.heap_machines.proofs.Openings.{first_is, first_machines, first_made, first_rests}
@@ -47,7 +47,7 @@ can_run_first p scripts shows orders count few served = record {
   busy = λ t below busy. absurd (false≢true (sym busy ∙ rests_first (config_of p) (machines_of p) t shows.machines_are below));
   made = λ t below.
       let none = made_first (config_of p) (machines_of p) t shows.machines_are below in
-      let few_commands : length (nth_script scripts t) < 4294967295 = (served t [] (omega arith)).1 in
+      let few_commands : length (nth_script scripts t) < most_objects = (served t [] (omega arith)).1 in
       let is : work.script_in (work.opened scripts) t ≡ nth_script scripts t = ap (λ o. (unwrap_or o (work.begun [])).script) (progress_first scripts t (omega arith) few) in
       let long = ap length is in
       omega (arith, none, few_commands, long);

@@ -17,7 +17,7 @@ use Rattle.heap_words.specs.Ranges.{seat_count}
 use Rattle.shen_graph.specs.declared.order.Order.{Order}
 use Rattle.shen_graph.specs.declared.order.Order.TheVariants.{Nothing}
 use Rattle.heap_machines.specs.declared.machine.Machine.{Machine}
-use Rattle.heap_machines.specs.Shown.{shown, order_of, heap_of, has_turn, no_machine}
+use Rattle.heap_machines.specs.Shown.{shown, order_of, config_of, has_turn, no_machine}
 use Rattle.heap_machines.specs.declared.stepped.Stepped.{Stepped}
 use Rattle.heap_machines.specs.declared.stepped.Stepped.TheVariants as stepped
 use Rattle.heap_machines.specs.Answer.{stepped_of, stepped_by, says}
@@ -36,10 +36,10 @@ use Rattle.shen_core.proofs.Events.{one_event}
 -- a machine of these has made its access, and has taken its word
 pub record IsMade (config : Config) (words new_words : List ℕ) (machines : List Machine) (number : ℕ) (m n : Machine) : Type 0 where
   pub here : slice_get machines number ≡ Some m
-  pub heap : heap_of m ≡ config
+  pub heap : config_of m ≡ config
   pub takes : has_turn m ≡ true
-  pub words_are : new_words ≡ accessed (plan_of (heap_of m) (order_of m) (shown m)) words
-  pub shown_is : shown n ≡ machine_after pause_image (heap_of m) (order_of m) (slice_index words (table_index (plan_of (heap_of m) (order_of m) (shown m)))) (shown m)
+  pub words_are : new_words ≡ accessed (plan_of (config_of m) (order_of m) (shown m)) words
+  pub shown_is : shown n ≡ machine_after pause_image (config_of m) (order_of m) (slice_index words (table_index (plan_of (config_of m) (order_of m) (shown m)))) (shown m)
 
 -- a machine that was read is there
 pub from_read : (machines : List Machine) (number : ℕ) (m : Machine) → number < length machines → m ≡ get_or machines number m → slice_get machines number ≡ Some m
@@ -50,9 +50,9 @@ pub put_back : (machines : List Machine) (number : ℕ) (m : Machine) → m ≡ 
 put_back machines number m value = ap (λ x. slice_set machines number x) value ∙ set-get_or machines number m
 
 -- its heap is that of all
-pub heap_here : (config : Config) (machines : List Machine) (number : ℕ) (m : Machine) → All (λ x. heap_of x ≡ config) machines → slice_get machines number ≡ Some m → heap_of m ≡ config
+pub heap_here : (config : Config) (machines : List Machine) (number : ℕ) (m : Machine) → All (λ x. config_of x ≡ config) machines → slice_get machines number ≡ Some m → config_of m ≡ config
 heap_here config machines number m one_heap here =
-    sym (ap heap_of (get_or_from_slice_get machines number m m here)) ∙ one_heap number m (slice_get_within machines number m here)
+    sym (ap config_of (get_or_from_slice_get machines number m m here)) ∙ one_heap number m (slice_get_within machines number m here)
 
 -- it is shown
 pub shown_here : (machines : List Machine) (number : ℕ) (m : Machine) → slice_get machines number ≡ Some m → slice_get (map shown machines) number ≡ Some (shown m)
@@ -106,8 +106,8 @@ again_only took.Done is = absurd cc
 
 -- by what the code has read and done
 pub made_from : (config : Config) (words new_words : List ℕ) (machines : List Machine) (number : ℕ) (m n : Machine) (access : Access) (found : ℕ)
-    → number < length machines → m ≡ get_or machines number m → All (λ x. heap_of x ≡ config) machines → has_turn m ≡ true → access ≡ plan_of (heap_of m) (order_of m) (shown m)
-    → new_words ≡ accessed access words → found ≡ slice_index words (table_index access) → shown n ≡ machine_after pause_image (heap_of m) (order_of m) found (shown m) → IsMade config words new_words machines number m n
+    → number < length machines → m ≡ get_or machines number m → All (λ x. config_of x ≡ config) machines → has_turn m ≡ true → access ≡ plan_of (config_of m) (order_of m) (shown m)
+    → new_words ≡ accessed access words → found ≡ slice_index words (table_index access) → shown n ≡ machine_after pause_image (config_of m) (order_of m) found (shown m) → IsMade config words new_words machines number m n
 made_from config words new_words machines number m n access found below value one_heap takes row words_are found_is shown_is =
     let here = from_read machines number m below value in
     record {
@@ -115,12 +115,12 @@ made_from config words new_words machines number m n access found below value on
       heap = heap_here config machines number m one_heap here;
       takes = takes;
       words_are = words_are ∙ ap (λ x. accessed x words) row;
-      shown_is = shown_is ∙ ap (λ got. machine_after pause_image (heap_of m) (order_of m) got (shown m)) (found_is ∙ ap (λ x. slice_index words (table_index x)) row);
+      shown_is = shown_is ∙ ap (λ got. machine_after pause_image (config_of m) (order_of m) got (shown m)) (found_is ∙ ap (λ x. slice_index words (table_index x)) row);
     }
 
 module _ (config : Config) (words new_words : List ℕ) (machines : List Machine) (number : ℕ) (m n : Machine) (made : IsMade config words new_words machines number m n) where
   -- the machines after its step
-  new_machines_are : map shown (slice_set machines number n) ≡ slice_set (map shown machines) number (machine_after pause_image (heap_of m) (order_of m) (slice_index words (table_index (plan_of (heap_of m) (order_of m) (shown m)))) (shown m))
+  new_machines_are : map shown (slice_set machines number n) ≡ slice_set (map shown machines) number (machine_after pause_image (config_of m) (order_of m) (slice_index words (table_index (plan_of (config_of m) (order_of m) (shown m)))) (shown m))
   new_machines_are = map-set shown machines number n ∙ ap (λ x. slice_set (map shown machines) number x) made.shown_is
 
   -- the step is one event
@@ -128,7 +128,7 @@ module _ (config : Config) (words new_words : List ℕ) (machines : List Machine
   made_event =
       subst (λ c. IsOneEvent c words (map shown machines) new_words (map shown (slice_set machines number n)) number (order_of m)) made.heap
       (rw (new_machines_are, made.words_are)
-      (one_event (heap_of m) words (map shown machines) number (shown m) (order_of m) (shown_here machines number m made.here) made.takes))
+      (one_event (config_of m) words (map shown machines) number (shown m) (order_of m) (shown_here machines number m made.here) made.takes))
 
   -- so memory shows a stage again
   pub made_shown : IsShownBySome config words (map shown machines) → IsShownBySome config new_words (map shown (slice_set machines number n))
@@ -147,8 +147,8 @@ module _ (config : Config) (words new_words : List ℕ) (machines : List Machine
       (sym (order_here machines number m made.here)) made_event
 
   -- all machines are still of one heap
-  pub made_heap : heap_of n ≡ heap_of m → All (λ y. heap_of y ≡ config) machines → All (λ y. heap_of y ≡ config) (slice_set machines number n)
-  made_heap same one_heap = All-set (λ y. heap_of y ≡ config) machines number n (same ∙ made.heap) one_heap
+  pub made_heap : config_of n ≡ config_of m → All (λ y. config_of y ≡ config) machines → All (λ y. config_of y ≡ config) (slice_set machines number n)
+  made_heap same one_heap = All-set (λ y. config_of y ≡ config) machines number n (same ∙ made.heap) one_heap
 
   -- all that holds of the machines after the step
   pub made_machines : map shown (slice_set machines number n) ≡ slice_set (map shown machines) number (machine_next config words (slice_index_or (map order_of machines) number Nothing) (slice_index_or (map shown machines) number no_machine))
@@ -189,9 +189,9 @@ pub ordered_orders : (machines : List Machine) (number : ℕ) (n : Machine) (ord
 ordered_orders machines number n order is = map-set order_of machines number n ∙ ap (λ x. slice_set (map order_of machines) number x) is
 
 -- all machines are still of one heap
-pub ordered_heap : (config : Config) (machines : List Machine) (number : ℕ) (m n : Machine) → slice_get machines number ≡ Some m → heap_of n ≡ heap_of m → All (λ y. heap_of y ≡ config) machines → All (λ y. heap_of y ≡ config) (slice_set machines number n)
+pub ordered_heap : (config : Config) (machines : List Machine) (number : ℕ) (m n : Machine) → slice_get machines number ≡ Some m → config_of n ≡ config_of m → All (λ y. config_of y ≡ config) machines → All (λ y. config_of y ≡ config) (slice_set machines number n)
 ordered_heap config machines number m n here same one_heap =
-    All-set (λ y. heap_of y ≡ config) machines number n (same ∙ heap_here config machines number m one_heap here) one_heap
+    All-set (λ y. config_of y ≡ config) machines number n (same ∙ heap_here config machines number m one_heap here) one_heap
 
 -- memory shows the opening
 pub shows_opening : (c : Config) (words : List ℕ) (machines : List Machine) → words ≡ opening_words c → map shown machines ≡ map (opening_machine c) (range_with_len 0 (seat_count c.mutators c.helpers)) → WordsShow words (map shown machines) (opening c)
@@ -209,7 +209,7 @@ machines_count c machines machines_are =
 
 -- what its step says, by what the code has read
 module _ (config : Config) (words : List ℕ) (machines : List Machine) (number : ℕ) (m : Machine) (access : Access) (found : ℕ) (said : Took) (result : Stepped)
-    (here : slice_get machines number ≡ Some m) (heap : heap_of m ≡ config) (takes : has_turn m ≡ true) (row : access ≡ plan_of (heap_of m) (order_of m) (shown m))
+    (here : slice_get machines number ≡ Some m) (heap : config_of m ≡ config) (takes : has_turn m ≡ true) (row : access ≡ plan_of (config_of m) (order_of m) (shown m))
     (found_is : found ≡ slice_index words (table_index access)) (is : result ≡ stepped_of said) where
   -- the word that it finds
   found_here : found ≡ slice_index words (table_index (plan_of config (slice_index_or (map order_of machines) number Nothing) (slice_index_or (map shown machines) number no_machine)))
@@ -221,7 +221,7 @@ module _ (config : Config) (words : List ℕ) (machines : List Machine) (number 
       ∙ ap (λ order. plan_of config order (shown m)) (sym (order_here machines number m here))
       ∙ ap (λ x. plan_of config (slice_index_or (map order_of machines) number Nothing) x) (sym (machine_here machines number m here)))
 
-  pub says_here : answer_of (heap_of m) (order_of m) (shown m) found ≡ Some said
+  pub says_here : answer_of (config_of m) (order_of m) (shown m) found ≡ Some said
       → result ≡ says config (slice_index_or (map order_of machines) number Nothing) (slice_index_or (map shown machines) number no_machine) (slice_index words (table_index (plan_of config (slice_index_or (map order_of machines) number Nothing) (slice_index_or (map shown machines) number no_machine))))
   says_here answer =
       is
@@ -242,7 +242,7 @@ module _ (config : Config) (words : List ℕ) (machines : List Machine) (number 
         λ all. is ∙ ap stepped_of (done.1 (sym (ap is_mutating machine) ∙ all.1, sym place ∙ all.2)),
       )
 
-  pub again_here : (said ≡ took.Again) ↔ WaitsIn (heap_of m) (order_of m) (shown m) found
+  pub again_here : (said ≡ took.Again) ↔ WaitsIn (config_of m) (order_of m) (shown m) found
       → (result ≡ stepped.Again) ↔ ((takes_of (slice_index_or (map shown machines) number no_machine) (slice_index_or (map order_of machines) number Nothing) ≡ true) × WaitsIn config (slice_index_or (map order_of machines) number Nothing) (slice_index_or (map shown machines) number no_machine) (slice_index words (table_index (plan_of config (slice_index_or (map order_of machines) number Nothing) (slice_index_or (map shown machines) number no_machine)))))
   again_here again =
       let order = order_here machines number m here in

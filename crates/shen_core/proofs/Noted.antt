@@ -34,7 +34,7 @@ use Rattle.shen_core.specs.declared.plain.Plain.{Plain}
 use Rattle.shen_core.specs.Runs.{WordsShow, event}
 use Rattle.shen_core.specs.Progress.{Jobs, Tells, CanRun, IsTurn, IsNextTurn, Turned, IsMovedOn, HasTurned, next_for}
 use Rattle.shen_core.specs.State.{config_of, words_of, orders_of, machines_of, machine_at, order_at, has_turn, next_machine, IsStep}
-use Rattle.shen_graph.specs.Valid.{IsValid}
+use Rattle.shen_graph.specs.Valid.{IsValid, most_objects}
 use Rattle.shen_core.proofs.Events.{shown_actor}
 use Rattle.shen_core.proofs.Turns.{machine_within}
 
@@ -119,7 +119,7 @@ pub record IsAfter (p q : Plain) (jobs later : Jobs) (number : ℕ) (next : Mach
   pub orders : All (λ o. o ≡ Nothing) (orders_of q)
   pub machines : machines_of q ≡ slice_set (machines_of p) number next
   pub within : number < length (machines_of p)
-  pub made : number < (config_of p).mutators → made_of_machine next + length (work.script_in later number) < 4294967295 + (length (work.replies_of later number) + at_hand_of next)
+  pub made : number < (config_of p).mutators → made_of_machine next + length (work.script_in later number) < most_objects + (length (work.replies_of later number) + at_hand_of next)
   pub has : (t : ℕ) → work.HasScript jobs t → work.HasScript later t
   pub script : (t : ℕ) → work.script_in later t ≡ work.script_in jobs t
   pub other : (t : ℕ) → t ≢ number → work.replies_of later t ≡ work.replies_of jobs t
@@ -194,7 +194,7 @@ module _ (p mid q : Plain) (jobs : Jobs) (number : ℕ) (said : Stepped) (facts 
   -- the heap can go on with work in which others stay
   after_turn : (later : Jobs) → CanRun p jobs → ((t : ℕ) → work.HasScript jobs t → work.HasScript later t) → ((t : ℕ) → work.script_in later t ≡ work.script_in jobs t) → ((t : ℕ) → t ≢ number → work.replies_of later t ≡ work.replies_of jobs t)
       → (number < (config_of p).mutators → is_resting (next_machine mid number) ≡ false → length (work.replies_of later number) < length (work.script_in later number))
-      → (number < (config_of p).mutators → made_of_machine (next_machine mid number) + length (work.script_in later number) < 4294967295 + (length (work.replies_of later number) + at_hand_of (next_machine mid number)))
+      → (number < (config_of p).mutators → made_of_machine (next_machine mid number) + length (work.script_in later number) < most_objects + (length (work.replies_of later number) + at_hand_of (next_machine mid number)))
       → IsAfter p q jobs later number (next_machine mid number)
   after_turn later before has script other busy made = record {
     config = facts.config ∙ facts.mid_config;

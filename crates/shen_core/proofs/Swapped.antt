@@ -6,7 +6,7 @@ use Rattle.heap_words.specs.declared.schedule.Item.{Item}
 use Rattle.heap_words.specs.Steps.{Stage, go}
 use Rattle.shen_graph.specs.declared.order.Order.TheVariants.{Nothing}
 use Rattle.shen_graph.specs.Noting.{Noting}
-use Rattle.shen_graph.specs.Valid.{IsValid}
+use Rattle.shen_graph.specs.Valid.{IsValid, most_objects}
 use Rattle.shen_graph.specs.Work as work
 use Rattle.step_core.specs.Actor.{Actor}
 use Rattle.step_core.specs.Begins.{Run, ending}
@@ -41,7 +41,7 @@ module _ (p q : Plain) (same : IsSwapped p q) where
     jobs_are = subst (λ c. (t : ℕ) → t < c.mutators → work.HasScript jobs t) (sym same.config) can.jobs_are;
     commands = subst (λ c. (t : ℕ) → t < c.mutators → All IsValid (work.script_in jobs t)) (sym same.config) can.commands;
     busy = λ t below busy. can.busy t (subst (λ c. t < c.mutators) same.config below) (ap is_resting (sym (machine_same t)) ∙ busy);
-    made = λ t below. subst (λ m. made_of_machine m + length (work.script_in jobs t) < 4294967295 + (length (work.replies_of jobs t) + at_hand_of m)) (sym (machine_same t)) (can.made t (subst (λ c. t < c.mutators) same.config below));
+    made = λ t below. subst (λ m. made_of_machine m + length (work.script_in jobs t) < most_objects + (length (work.replies_of jobs t) + at_hand_of m)) (sym (machine_same t)) (can.made t (subst (λ c. t < c.mutators) same.config below));
   }
 
 -- a run between two exchanges

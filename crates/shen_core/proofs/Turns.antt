@@ -14,7 +14,7 @@ use Rattle.heap_words.specs.declared.config.Config.{Config}
 use Rattle.heap_words.specs.Steps.{Stage, Event, Finds}
 use Rattle.shen_graph.specs.declared.command.Command.{Command}
 use Rattle.shen_graph.specs.Work as work
-use Rattle.shen_graph.specs.Valid.{IsValid}
+use Rattle.shen_graph.specs.Valid.{IsValid, most_objects}
 use Rattle.shen_graph.specs.declared.order.Order.{Order}
 use Rattle.heap_machines.proofs.Turns.{order_alike, rest_is_mutating, begins_at_rest, order_of_script}
 use Rattle.step_core.proofs.Machines.Roles.{role_of, fit_is_prop}
@@ -141,10 +141,10 @@ stands_shown p jobs number place within scripts s shows tells =
 
 -- the command that follows can be given
 pub next_fits : (p : Plain) (jobs : Jobs) (number : ℕ) → CanRun p jobs → number < length (machines_of p) → is_mutating (machine_at p number) ≡ nat_lt number (config_of p).mutators
-    → may_begin (machine_at p number) ≡ true → IfSome (next_for (config_of p) jobs number) (λ command. IsValid command × (made_of_machine (machine_at p number) < 4294967295))
+    → may_begin (machine_at p number) ≡ true → IfSome (next_for (config_of p) jobs number) (λ command. IsValid command × (made_of_machine (machine_at p number) < most_objects))
 next_fits p jobs number can within role may =
     let rest : is_resting (machine_at p number) ≡ true = begins_at_rest (machine_at p number) may in
     let is : nat_lt number (config_of p).mutators ≡ true = sym role ∙ rest_is_mutating (machine_at p number) rest in
     let below : number < (config_of p).mutators = ltb-true number (config_of p).mutators is in
-    subst (λ b. IfSome (if b then work.next_of jobs number else None) (λ command. IsValid command × (made_of_machine (machine_at p number) < 4294967295))) (sym is)
+    subst (λ b. IfSome (if b then work.next_of jobs number else None) (λ command. IsValid command × (made_of_machine (machine_at p number) < most_objects))) (sym is)
     (command_fits (machine_at p number) (work.script_in jobs number) (length (work.replies_of jobs number)) (can.commands number below) (can.made number below) may)

@@ -6,7 +6,7 @@ use Rattle.heap_words.specs.declared.schedule.Item.{Item}
 use Rattle.heap_words.specs.declared.schedule.Item.TheVariants.{Steps, Until, Replies}
 use Rattle.heap_words.specs.Steps.{Stage, Event, act, go}
 use Rattle.shen_graph.specs.declared.command.Command.{Command}
-use Rattle.shen_graph.specs.Valid.{IsValid}
+use Rattle.shen_graph.specs.Valid.{IsValid, most_objects}
 use Rattle.shen_graph.specs.Work as work
 use Rattle.shen_graph.specs.declared.order.Order.{Order}
 use Rattle.shen_graph.specs.declared.order.Order.TheVariants.{Nothing}
@@ -40,7 +40,7 @@ pub record Tells (c : Config) (scripts : Scripts) (jobs : Jobs) (s : Stage Actor
 
 -- a script that a mutator can be given: its commands are in range, and no more than there are names for what they make
 abbrev pub IsRunnable : List Command → Type 0
-IsRunnable script = All IsValid script × (length script < 4294967295)
+IsRunnable script = All IsValid script × (length script < most_objects)
 
 -- A `Plain` between two steps, and work for its mutators: no order is pending, the commands are in range, and there are
 -- names left for what the commands to come may make.
@@ -49,7 +49,7 @@ pub record CanRun (p : Plain) (jobs : Jobs) : Type 0 where
   pub jobs_are : (t : ℕ) → t < (config_of p).mutators → work.HasScript jobs t
   pub commands : (t : ℕ) → t < (config_of p).mutators → All IsValid (work.script_in jobs t)
   pub busy : (t : ℕ) → t < (config_of p).mutators → is_resting (machine_at p t) ≡ false → length (work.replies_of jobs t) < length (work.script_in jobs t)
-  pub made : (t : ℕ) → t < (config_of p).mutators → made_of_machine (machine_at p t) + length (work.script_in jobs t) < 4294967295 + (length (work.replies_of jobs t) + at_hand_of (machine_at p t))
+  pub made : (t : ℕ) → t < (config_of p).mutators → made_of_machine (machine_at p t) + length (work.script_in jobs t) < most_objects + (length (work.replies_of jobs t) + at_hand_of (machine_at p t))
 
 -- the next command of a machine's script, which only a mutator has
 abbrev pub next_for : Config → Jobs → ℕ → Option Command

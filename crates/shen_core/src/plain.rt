@@ -1,7 +1,8 @@
 ghost use Rattle.std.specs.Prelude.{◌≡◌, ◌≤◌, length, map, All};
+ghost use Rattle.shen_graph.specs.Valid.{most_objects};
 ghost use Rattle.heap_words.specs.Words.{table_words, heap_size};
 ghost use Rattle.heap_words.specs.Ranges.{seat_count};
-ghost use Rattle.heap_machines.specs.Shown.{shown, order_of, heap_of};
+ghost use Rattle.heap_machines.specs.Shown.{shown, order_of, config_of as machine_config};
 ghost use Rattle.shen_core.specs.Runs.{IsShownBySome};
 
 use heap_machines::{Machine, Stepped, machines_from, open_machines, words_from};
@@ -22,7 +23,7 @@ pub struct Plain {
     notes: History,
     ghost all_words: { length words.items ≡ table_words config },
     ghost all_machines: { length machines.items ≡ seat_count config.mutators config.helpers },
-    ghost one_heap: { All (λ m. heap_of m ≡ config) machines.items },
+    ghost one_heap: { All (λ m. machine_config m ≡ config) machines.items },
     ghost reached: { ∥ IsShownBySome config words.items (map shown machines.items) ∥₁ },
 }
 
@@ -91,7 +92,7 @@ impl Plain {
     fn of(config: Config, words: Vec<u64>, machines: Vec<Machine>, notes: History) -> Plain
         requires words { length words.items ≡ table_words config }
         requires machines { length machines.items ≡ seat_count config.mutators config.helpers }
-        requires heap { All (λ m. heap_of m ≡ config) machines.items }
+        requires heap { All (λ m. machine_config m ≡ config) machines.items }
         requires reached { ∥ IsShownBySome config words.items (map shown machines.items) ∥₁ }
         ensures config { config_of result ≡ config }
         ensures words { words_of result ≡ words.items }
@@ -111,7 +112,7 @@ impl Plain {
         requires number { number < seats_of self.old }
         requires rest { may_begin (machine_at self.old number) ≡ true }
         requires valid { IsValid command }
-        requires made { made_of_machine (machine_at self.old number) < 4294967295 }
+        requires made { made_of_machine (machine_at self.old number) < most_objects }
         ensures order { orders_of self.new ≡ slice_set (orders_of self.old) number (Begin command) }
         ensures takes { takes_of (machine_at self.old number) (Begin command) ≡ true }
         ensures words { words_of self.new ≡ words_of self.old }

@@ -103,8 +103,8 @@ EndsAt-push [] p = (refl, refl)
 EndsAt-push (q ∷ []) p = (refl, refl)
 EndsAt-push (q ∷ r ∷ ps) p = EndsAt-push (r ∷ ps) p
 
-pub Within-longer : (r r' n n' : ℕ) → r ≤ r' → n ≤ n' → (p : Place) → Within r n p → Within r' n' p
-Within-longer r r' n n' more_refs more_nums p h = (h.0, omega arith, h.2, omega arith)
+pub Within-longer : (r more_r n more_n : ℕ) → r ≤ more_r → n ≤ more_n → (p : Place) → Within r n p → Within more_r more_n p
+Within-longer r more_r n more_n more_refs more_nums p h = (h.0, omega arith, h.2, omega arith)
 
 pub IsLaid-push : (ps : List Place) (r n : ℕ) (p : Place) → IsLaid ps r n → p.refs.from ≡ r → p.nums.from ≡ n → r ≤ p.refs.to → n ≤ p.nums.to → IsLaid (ps ++ p ∷ []) p.refs.to p.nums.to
 IsLaid-push ps r n p h refs nums more_refs more_nums = record {

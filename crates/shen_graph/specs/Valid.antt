@@ -74,3 +74,7 @@ is_valid (Unpin slot) = is_slot slot
 abbrev pub fits_value : Command → Bool
 fits_value (Wr obj index value) = nat_lt value (2 ^ 64)
 fits_value _ = true
+
+-- a thread makes at most so many objects, whose numbers are 1 to this one
+abbrev pub most_objects : ℕ
+most_objects = 4294967295

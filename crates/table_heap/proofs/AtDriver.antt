@@ -14,6 +14,7 @@ use Rattle.shen_graph.specs.declared.order.Order.TheVariants.{Begin}
 use Rattle.table_heap.specs.Driven.{IsDrivenFrom, driver_after}
 use Rattle.shen_graph.specs.History.{Entry, commands_of}
 use Rattle.shen_graph.specs.Step.{IsNew}
+use Rattle.shen_graph.specs.Valid.{most_objects}
 use Rattle.table_heap.proofs.DriverLemmas.{driven_more, after_more}
 use Rattle.step_core.specs.Actor.{Machine, Actor, command_by}
 use Rattle.step_core.specs.Machines.{is_resting, may_begin, took_of, ended_by, machine_after, next_order}
@@ -51,7 +52,7 @@ makes_is_new _ is = absurd cc
 
 module _ {D : Type 0} (next_of : D → Option Command) (replied : D → Reply → D) (to_come : D → ℕ) where
   -- a mutator that has not begun, and its driver
-  pub drives_first : (first : D) (a : Actor) → to_come first < 4294967295 → HasNotBegun a → IsDriving next_of replied to_come first first a
+  pub drives_first : (first : D) (a : Actor) → to_come first < most_objects → HasNotBegun a → IsDriving next_of replied to_come first first a
   drives_first first a few fresh = record {
     driven = subst (λ es. IsDrivenFrom next_of replied first es) (sym fresh.calls) tt;
     state = sym (ap (driver_after replied first) fresh.calls);

@@ -11,7 +11,7 @@ use Rattle.shen_graph.specs.declared.command.Reply.{Reply}
 use Rattle.shen_graph.specs.declared.order.Order.{Order}
 use Rattle.shen_graph.specs.History.{Entry, commands_of}
 use Rattle.shen_graph.specs.History as history
-use Rattle.shen_graph.specs.Valid.{IsValid}
+use Rattle.shen_graph.specs.Valid.{IsValid, most_objects}
 use Rattle.shen_graph.specs.Work.{Progress, answered}
 use Rattle.step_core.specs.Actor.{Machine, Actor}
 use Rattle.step_core.specs.Machines.{is_resting, may_begin, made_of_machine, took_of, machine_after}
@@ -40,7 +40,7 @@ starts jobs number a can =
     let there = progress_there jobs number can.script in
     let script = script_here jobs number there.0 there.1 in
     let replies : there.0.replies ≡ [] = sym (replies_here jobs number there.0 there.1) ∙ can.replies in
-    let few : length there.0.script < 4294967295 = subst (λ xs. length xs < 4294967295) script can.few in
+    let few : length there.0.script < most_objects = subst (λ xs. length xs < most_objects) script can.few in
     let none = can.made in (
       there.0,
       there.1,
@@ -58,7 +58,7 @@ module _ (p : Progress) (a : Actor) (at : IsAtWork p a) where
   count = ap length at.replies ∙ length-map a.calls (λ e. e.reply)
 
   -- the command that follows can be given
-  pub next_fits : may_begin a.machine ≡ true → IfSome (slice_get p.script (length p.replies)) (λ command. IsValid command × (made_of_machine a.machine < 4294967295))
+  pub next_fits : may_begin a.machine ≡ true → IfSome (slice_get p.script (length p.replies)) (λ command. IsValid command × (made_of_machine a.machine < most_objects))
   next_fits may = command_fits a.machine p.script (length p.replies) at.commands at.made may
 
   -- it has called its whole script where it is idle for good

@@ -9,7 +9,7 @@ use Rattle.shared_table.specs.Views.{machine_of}
 use Rattle.shen_graph.specs.declared.command.Command.{Command}
 use Rattle.shen_graph.specs.declared.command.Reply.{Reply}
 use Rattle.shen_graph.specs.Step.{IsNew}
-use Rattle.shen_graph.specs.Valid.{IsValid}
+use Rattle.shen_graph.specs.Valid.{IsValid, most_objects}
 use Rattle.step_core.specs.Actor.{Actor}
 use Rattle.step_core.specs.Machines.{reply_in, may_begin, made_of_machine}
 use Rattle.heap_machines.specs.declared.stepped.Stepped.{Stepped}
@@ -71,7 +71,7 @@ module _ {D : Type 0} (next_of : D → Option Command) (replied : D → Reply �
           place.0,
           place.1,
           place.1,
-          drives_first next_of replied to_come place.0 a (one_of_these (λ d. to_come d < 4294967295) drivers (mutators_below b number) place.0 can.few place.1) (can.mutators number a here role),
+          drives_first next_of replied to_come place.0 a (one_of_these (λ d. to_come d < most_objects) drivers (mutators_below b number) place.0 can.few place.1) (can.mutators number a here role),
         );
   }
 
@@ -82,14 +82,14 @@ module _ {D : Type 0} (next_of : D → Option Command) (replied : D → Reply �
         ap (λ t. if t then given_by next_of (driver_of b drivers number) else None) (sym (role_at b number a here) ∙ role) ∙ ap (given_by next_of) is
 
     -- there is a name for what the next command makes
-    pub name_there : (number : ℕ) → HasMachine b number → may_begin (machine_at b number) ≡ true → made_of_machine (machine_at b number) < 4294967295
+    pub name_there : (number : ℕ) → HasMachine b number → may_begin (machine_at b number) ≡ true → made_of_machine (machine_at b number) < most_objects
     name_there number here may =
         let seen = in_view b number here in
         let at = at_number b number seen.0 seen.1 in
         let free : may_begin seen.0.machine ≡ true = ap may_begin (sym at) ∙ may in
         let role = rest_is_mutating seen.0.machine (begins_at_rest seen.0.machine free) in
         let job = before.mutators number seen.0 seen.1 role in
-        subst (λ machine. made_of_machine machine < 4294967295) (sym at) (name_left seen.0.machine (to_come job.1) job.4.names free)
+        subst (λ machine. made_of_machine machine < most_objects) (sym at) (name_left seen.0.machine (to_come job.1) job.4.names free)
 
     -- a mutator of the bundle has a driver
     pub has_driver : (number : ℕ) → HasMachine b number → nat_lt number b.config.mutators ≡ true → mutators_below b number < length drivers

@@ -17,7 +17,7 @@ use Rattle.step_core.specs.Actor.{Machine, mutating, helping, controlling}
 use Rattle.step_core.specs.Machines.{takes_hint, takes_of}
 use Rattle.table_heap.specs.Core.{machine_in}
 use Rattle.table_heap.specs.declared.bundle.Bundle.{Bundle}
-use Rattle.table_heap.specs.State.{heap_of, start_in, view_of, orders_of, machine_at, order_at, has_turn, HasMachine, IsSameBundle, IsUnmoved, IsBundleStep}
+use Rattle.table_heap.specs.State.{config_in, start_in, view_of, orders_of, machine_at, order_at, has_turn, HasMachine, IsSameBundle, IsUnmoved, IsBundleStep}
 use Rattle.table_heap.specs.Turning.{IsOrderFor, IsHinted, OnlyHintsDiffer}
 use Rattle.table_heap.proofs.Running.{same_bundle_more}
 use Rattle.heap_words.specs.Words.{Heap, IsWord}
@@ -58,7 +58,7 @@ takes_any (controlling k) address hints goes = rw hints goes
 -- The machine with its order, or with a hint: it has a turn, by an order that it may have then.
 pub record HasHinted (old new : Bundle) (next : Option Command) (number : ℕ) : Type 0 where
   pub unmoved : IsUnmoved old new
-  pub turn : IsOrderFor (heap_of old) next (machine_at old number) (order_at new number)
+  pub turn : IsOrderFor (config_in old) next (machine_at old number) (order_at new number)
   pub orders : orders_of new ≡ slice_set (orders_of old) number (Some (order_at new number))
   pub has : has_turn new number ≡ true
 
@@ -83,7 +83,7 @@ after_hint old mid new next number here first second turn orders has hinted = �
       orders = same ∙ orders ∙ ap (λ o. slice_set (orders_of old) number (Some o)) (sym order);
       has = ap (λ m. takes_of m (order_at new number)) (same_machine mid new number second) ∙ ap (takes_of (machine_at mid number)) order ∙ has;
     })
-    (λ (hint : (takes_hint (machine_at mid number) ≡ true) × ((address : ℕ) × IsWord (heap_of mid) (Heap address) × (orders_of new ≡ slice_set (orders_of mid) number (Some (Hint address))))).
+    (λ (hint : (takes_hint (machine_at mid number) ≡ true) × ((address : ℕ) × IsWord (config_in mid) (Heap address) × (orders_of new ≡ slice_set (orders_of mid) number (Some (Hint address))))).
     let order : order_at new number ≡ Hint hint.1.0 = ap (λ v. unwrap_or (machine_of v number) Nothing) hint.1.2
     ∙ put_here (orders_of mid) number (Hint hint.1.0) Nothing (ap (λ v. is_some (machine_of v number)) orders ∙ put_there (orders_of old) number (order_at mid number) (order_there old number here)) in
     let was : machine_at mid number ≡ machine_at old number = same_machine old mid number first in

@@ -13,7 +13,7 @@ use Rattle.heap_machines.proofs.Inside.{goes_inside}
 use Rattle.table_heap.specs.declared.bundle.Bundle.{Bundle}
 use Rattle.table_heap.specs.Driving.{next_driven, AreDriving}
 use Rattle.table_heap.specs.Running.{Jobs, HasNoOrder, AreAtWork, next_for}
-use Rattle.table_heap.specs.State.{heap_of, orders_of, machine_at, order_at, HasMachine, IsSameBundle, IsBundleStep}
+use Rattle.table_heap.specs.State.{config_in, orders_of, machine_at, order_at, HasMachine, IsSameBundle, IsBundleStep}
 use Rattle.table_heap.specs.Turning.{IsTurn, HasHadTurns}
 use Rattle.table_heap.proofs.Driving.{driven_on}
 use Rattle.table_heap.proofs.Hinting.{order_there}
@@ -36,12 +36,12 @@ put_itself (Some order ∷ xs) zero there = refl
 put_itself (x ∷ xs) (suc number) there = ap (λ (ys : View Order). x ∷ ys) (put_itself xs number there)
 
 -- Its step is its turn, whatever command would follow
-pub turn_inside : (old new : Bundle) (number : ℕ) (next : Option Command) → HasMachine old number → HasNoOrder old → is_inside_image (heap_of old) (machine_at old number) ≡ true
+pub turn_inside : (old new : Bundle) (number : ℕ) (next : Option Command) → HasMachine old number → HasNoOrder old → is_inside_image (config_in old) (machine_at old number) ≡ true
     → IsBundleStep old new number stepped.More → IsTurn old new next number stepped.More
 turn_inside old new number next here none inside step = record {
   ordered = old;
   unmoved = record { same = same_bundle old; view = refl; steps = refl; greyed = refl };
-  turn = inl ((goes_inside (heap_of old) (machine_at old number) inside).goes_on next ∙ ap Some (sym (none_at old number none)));
+  turn = inl ((goes_inside (config_in old) (machine_at old number) inside).goes_on next ∙ ap Some (sym (none_at old number none)));
   orders = sym (put_itself (orders_of old) number (order_there old number here));
   step = step;
 }
@@ -60,7 +60,7 @@ module _ (number : ℕ) where
   pub gone_work : (count : ℕ) (old new : Bundle) → HasHadTurns count old new number → (jobs : Jobs) → AreAtWork old jobs → AreAtWork new jobs
   gone_work zero old new is jobs before = subst (λ b. AreAtWork b jobs) (sym is) before
   gone_work (suc count) old new then jobs before =
-      let next = next_for (heap_of then.0) jobs number in
+      let next = next_for (config_in then.0) jobs number in
       turned_on then.0 new next number stepped.More (then.3 next) jobs refl (gone_work count old then.0 then.1 jobs before) (λ done. absurd cc)
 
   -- and their drivers

@@ -8,6 +8,7 @@ use Rattle.shen_graph.specs.declared.command.Command.{Command}
 use Rattle.shen_graph.specs.declared.command.Reply.{Reply}
 use Rattle.shen_graph.specs.declared.order.Order.{Order}
 use Rattle.shen_graph.specs.declared.order.Order.TheVariants.{Nothing, Begin, End, Hint}
+use Rattle.shen_graph.specs.Valid.{most_objects}
 use Rattle.mutator.specs.declared.spot.Spot.{Spot}
 use Rattle.mutator.specs.declared.spot.Spot.TheVariants.{Rest, Ended, Making, Waiting}
 use Rattle.mutator.specs.Orders.{takes_commands}
@@ -84,7 +85,7 @@ making_low machine = by_test (makes_object (call_in machine))
     by_test false = omega arith
 
 -- between two calls there is a name for what the next one may make
-pub name_left : (machine : Machine) (to_come : ℕ) → HasNamesFor to_come machine → may_begin machine ≡ true → made_of_machine machine < 4294967295
+pub name_left : (machine : Machine) (to_come : ℕ) → HasNamesFor to_come machine → may_begin machine ≡ true → made_of_machine machine < most_objects
 name_left machine to_come names may =
     let none = rest_at_hand machine (begins_at_rest machine may) in
     let low = making_low machine in
@@ -114,7 +115,7 @@ module _ (change : Change) (c : Config) (next : Option Command) (order : Order) 
       after : Machine
       after = machine_after change c Nothing got machine
 
-      by_makes : (b : Bool) → makes_object (call_in machine) ≡ b → made_of_machine after + to_come < 4294967295 + making_at_hand after
+      by_makes : (b : Bool) → makes_object (call_in machine) ≡ b → made_of_machine after + to_come < most_objects + making_at_hand after
       by_makes true makes =
           let before : making_at_hand machine ≡ at_hand_of machine = ap (λ b. if b then at_hand_of machine else 0) makes in
           let now : making_at_hand after ≡ at_hand_of after = ap (λ b. if b then at_hand_of after else 0) (ap makes_object (call_kept change c got machine) ∙ makes) in
@@ -162,7 +163,7 @@ module _ (change : Change) (c : Config) (next : Option Command) (order : Order) 
         few = by_makes (makes_object (call_in machine)) refl;
       }
     where
-      by_makes : (b : Bool) → makes_object (call_in machine) ≡ b → made_of_machine then_is + fewer < 4294967295 + making_at_hand then_is
+      by_makes : (b : Bool) → makes_object (call_in machine) ≡ b → made_of_machine then_is + fewer < most_objects + making_at_hand then_is
       by_makes true makes =
           let step = given_after change c order got machine r gives in
           let made = step.made in

@@ -16,7 +16,7 @@ use Rattle.shared_table.proofs.Dealing.{picked_twice, picked_all}
 use Rattle.shared_table.proofs.Kept.{kept-whole}
 use Rattle.shared_table.proofs.ViewsShow.{machine_of-whole, machine_of-picked}
 use Rattle.heap_machines.specs.declared.machine.Machine.{Machine}
-use Rattle.heap_machines.specs.Shown.{shown, order_of, heap_of}
+use Rattle.heap_machines.specs.Shown.{shown, order_of, config_of as machine_config}
 use Rattle.shen_graph.specs.declared.order.Order.{Order}
 use Rattle.shen_graph.specs.declared.order.Order.TheVariants.{Nothing}
 use Rattle.heap_machines.specs.Roles.{is_mutating}
@@ -58,7 +58,7 @@ module _ (k : HeapKey) (machines : List Machine) (are : AreMachinesOfStage k.con
       ap (λ xs. slice_get xs number) (sym are.machines) ∙ slice_get-map shown machines number ∙ ap (option_map shown) here in
       let a = actor_there (slice_get (start_of_key k).machines number) m (sym (slice_get-map machine_in (start_of_key k).machines number) ∙ shows) in
       record {
-        heap = sym (ap heap_of (get_or_from_slice_get machines number m m here)) ∙ are.heap number m within;
+        heap = sym (ap machine_config (get_or_from_slice_get machines number m m here)) ∙ are.heap number m within;
         role = ap is_mutating (sym a.2) ∙ start_role k number a.0 a.1;
       }
 
@@ -83,10 +83,10 @@ module _ (c : Config) (left : Left) (image : Image) (counts : List ℕ) (sizes :
 
   -- its machines
   pub left_machines : (machines : List Machine) → map shown machines ≡ map (machine_from (images.config_of image) counts (images.memory_of image)) (range_with_len 0 (seat_count (images.config_of image).mutators (images.config_of image).helpers))
-      → All (λ m. heap_of m ≡ images.config_of image) machines → All (λ m. order_of m ≡ Nothing) machines → AreMachinesOfStage c machines (start_from c (Some left))
+      → All (λ m. machine_config m ≡ images.config_of image) machines → All (λ m. order_of m ≡ Nothing) machines → AreMachinesOfStage c machines (start_from c (Some left))
   left_machines machines are heap none = record {
     machines = are ∙ sym (stage_machines (images.config_of image) (images.words_of image) counts) ∙ ap (λ (s : Stage Actor). map machine_in s.machines) (sym left_start);
-    heap = subst (λ (k : Config). All (λ m. heap_of m ≡ k) machines) (sym sizes) heap;
+    heap = subst (λ (k : Config). All (λ m. machine_config m ≡ k) machines) (sym sizes) heap;
     orders = none;
   }
 

@@ -5,7 +5,7 @@ use Rattle.std.proofs.lemmas.Bool.{false≢true}
 use Rattle.shared_table.specs.Views.{View, machine_of}
 use Rattle.shared_table.proofs.Kept.{kept_here, kept_some}
 use Rattle.shared_table.proofs.Numbers.{same_none, same_more}
-use Rattle.shen_graph.specs.Valid.{IsValid}
+use Rattle.shen_graph.specs.Valid.{IsValid, most_objects}
 use Rattle.shen_graph.specs.Work.{HasScript, next_of}
 use Rattle.step_core.specs.Actor.{Actor}
 use Rattle.heap_machines.specs.Shown.{no_machine, shown}
@@ -45,7 +45,7 @@ role_at b number a here =
 
 -- the next command of a mutator's script can be given
 pub command_fits : (b : Bundle) (jobs : Jobs) (number : ℕ) → AreAtWork b jobs → HasMachine b number → may_begin (machine_at b number) ≡ true
-    → IfSome (next_for b.config jobs number) (λ command. IsValid command × (made_of_machine (machine_at b number) < 4294967295))
+    → IfSome (next_for b.config jobs number) (λ command. IsValid command × (made_of_machine (machine_at b number) < most_objects))
 command_fits b jobs number work here may =
     let seen = in_view b number here in
     let a = seen.0 in
@@ -55,8 +55,8 @@ command_fits b jobs number work here may =
     let is : nat_lt number b.config.mutators ≡ true = sym (role_at b number a seen.1) ∙ role in
     let job = work.mutators number a seen.1 role in
     let next : next_for b.config jobs number ≡ slice_get job.0.script (length job.0.replies) = ap (λ t. if t then next_of jobs number else None) is ∙ next_here jobs number job.0 job.1 in
-    subst (λ o. IfSome o (λ command. IsValid command × (made_of_machine (machine_at b number) < 4294967295))) (sym next)
-    (subst (λ machine. IfSome (slice_get job.0.script (length job.0.replies)) (λ command. IsValid command × (made_of_machine machine < 4294967295))) (sym at)
+    subst (λ o. IfSome o (λ command. IsValid command × (made_of_machine (machine_at b number) < most_objects))) (sym next)
+    (subst (λ machine. IfSome (slice_get job.0.script (length job.0.replies)) (λ command. IsValid command × (made_of_machine machine < most_objects))) (sym at)
     (next_fits job.0 a job.2 free))
 
 -- a mutator of the bundle has a script

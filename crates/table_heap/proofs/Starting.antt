@@ -6,7 +6,7 @@ use Rattle.heap_words.specs.declared.config.Config.{Config}
 use Rattle.shared_table.specs.Views.{View, machine_of, whole, dealt_to, is_dealt_to}
 use Rattle.shared_table.proofs.ViewsShow.{machine_of-whole, machine_of-picked}
 use Rattle.shen_graph.specs.declared.command.Command.{Command}
-use Rattle.shen_graph.specs.Valid.{IsValid}
+use Rattle.shen_graph.specs.Valid.{IsValid, most_objects}
 use Rattle.shen_graph.specs.Work.{progress_of, begun}
 use Rattle.step_core.specs.Actor.{Actor}
 use Rattle.step_core.specs.Machines.{is_resting, may_begin, made_of_machine}
@@ -31,7 +31,7 @@ dealt_here {R} test v k r there = by_test (test k) refl there
 -- A bundle that was dealt from the machines of the opening, where the work has for each mutator that is dealt to it a script that
 -- is not begun, of commands in range, and no more than there are names for what they make.
 pub fresh_can_start : (h : Heap) (b : Bundle) (c : Config) (workers bundle : ℕ) (jobs : Jobs) → IsFresh h b (dealt_to workers bundle (whole (heap_opening c).machines))
-    → ((number : ℕ) → number < c.mutators → is_dealt_to workers bundle number ≡ true → (script : List Command) × (progress_of jobs number ≡ Some (begun script)) × All IsValid script × (length script < 4294967295))
+    → ((number : ℕ) → number < c.mutators → is_dealt_to workers bundle number ≡ true → (script : List Command) × (progress_of jobs number ≡ Some (begun script)) × All IsValid script × (length script < most_objects))
     → CanStart b jobs
 fresh_can_start h b c workers bundle jobs fresh scripts = record {
   orders = fresh.orders;
@@ -54,6 +54,6 @@ fresh_can_start h b c workers bundle jobs fresh scripts = record {
         script = has_here jobs number (begun job.0) job.1;
         replies = replies_here jobs number (begun job.0) job.1;
         commands = subst (λ xs. All IsValid xs) (sym script) job.2;
-        few = subst (λ xs. length xs < 4294967295) (sym script) job.3;
+        few = subst (λ xs. length xs < most_objects) (sym script) job.3;
       };
 }

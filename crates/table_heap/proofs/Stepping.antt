@@ -15,7 +15,7 @@ use Rattle.shared_table.proofs.Kept.{kept_can, kept_finds, kept_step, kept-set}
 use Rattle.shared_table.proofs.Numbers.{same_step}
 use Rattle.shared_table.proofs.ViewsShow.{machine_of-set, machine_of-picked, machine_of-merged}
 use Rattle.heap_machines.specs.declared.machine.Machine.{Machine}
-use Rattle.heap_machines.specs.Shown.{shown, order_of, heap_of, has_turn}
+use Rattle.heap_machines.specs.Shown.{shown, order_of, config_of, has_turn}
 use Rattle.heap_machines.proofs.Turns.{role_stays}
 use Rattle.step_core.specs.Actor.{Actor}
 use Rattle.heap_machines.specs.Roles.{is_mutating}
@@ -33,7 +33,7 @@ module _ {S : Type 0} (c : Config) (key : HeapKey) (sizes : key.config ≡ c) (i
   seen_here = ap (λ v. machine_of v number) kept ∙ shows_here shown items number m here
 
   -- it can make its access
-  pub can : (access : Access) → heap_of m ≡ c → has_turn m ≡ true → access ≡ plan_of (heap_of m) (order_of m) (shown m)
+  pub can : (access : Access) → config_of m ≡ c → has_turn m ≡ true → access ≡ plan_of (config_of m) (order_of m) (shown m)
       → (a : Actor) × (machine_of before.0 number ≡ Some a) × ((heap_kind c).takes a (order_of m) ≡ true) × ((heap_kind c).plan a (order_of m) ≡ access)
   can access heap takes row =
       kept_can (heap_kind c) (start_of_key key) machine_in before.0 number (order_of m) (shown m) access seen_here
@@ -44,7 +44,7 @@ module _ {S : Type 0} (c : Config) (key : HeapKey) (sizes : key.config ≡ c) (i
 
   module _ (got : ℕ) (after : Me S (View Actor)) (took : Took (heap_kind c) (start_of_key key) number (order_of m) before got after) where
     -- the word that it found is fit
-    pub fits : heap_of m ≡ c → IsFitFor (heap_of m) (order_of m) got (shown m)
+    pub fits : config_of m ≡ c → IsFitFor (config_of m) (order_of m) got (shown m)
     fits heap =
         let found = kept_finds (heap_kind c) (start_of_key key) machine_in number (order_of m) before after got (shown m) took seen_here in
         subst (λ k. IsFitFor k (order_of m) got (shown m)) (sym heap)
@@ -56,7 +56,7 @@ module _ {S : Type 0} (c : Config) (key : HeapKey) (sizes : key.config ≡ c) (i
     pub numbers_stay : SameNumbers before.0 after.0
     numbers_stay = subst (λ (v : View Actor). SameNumbers before.0 v) (sym took.view) (same_step before.0 number took.machine _ took.here)
 
-    module _ (n : Machine) (shown_is : shown n ≡ machine_after pause_image (heap_of m) (order_of m) got (shown m)) (heap : heap_of m ≡ c) where
+    module _ (n : Machine) (shown_is : shown n ≡ machine_after pause_image (config_of m) (order_of m) got (shown m)) (heap : config_of m ≡ c) where
       -- memory keeps what the view has
       pub kept_after : kept_in_view machine_in after.0 ≡ kept_in_view shown (slice_set items number (Some n))
       kept_after =
@@ -67,7 +67,7 @@ module _ {S : Type 0} (c : Config) (key : HeapKey) (sizes : key.config ≡ c) (i
 
       -- its machines are still of the heap
       pub role_after : is_mutating (shown n) ≡ is_mutating (shown m)
-      role_after = ap is_mutating shown_is ∙ role_stays pause_image (heap_of m) (order_of m) got (shown m)
+      role_after = ap is_mutating shown_is ∙ role_stays pause_image (config_of m) (order_of m) got (shown m)
 
 -- the same step, with other names for key and order
 pub took_as : {S : Type 0} (j k : HeapKey) (number : ℕ) (o p : Order) (before : Me S (View (Counted Actor))) (got : ℕ) (after : Me S (View (Counted Actor))) → j ≡ k → o ≡ p
@@ -98,7 +98,7 @@ can_as k c view number o p access same order can_it =
     (subst (λ (x : Order). (a : Actor) × (machine_of view number ≡ Some a) × ((heap_kind c).takes a x ≡ true) × ((heap_kind c).plan a x ≡ access)) (sym order) can_it)
 
 -- a machine that is put in the place of another of the same heap and role
-pub heap_put : (c : Config) (items : View Machine) (number : ℕ) (m n : Machine) → machine_of items number ≡ Some m → heap_of n ≡ heap_of m → is_mutating (shown n) ≡ is_mutating (shown m) → AreOfHeap c items → AreOfHeap c (slice_set items number (Some n))
+pub heap_put : (c : Config) (items : View Machine) (number : ℕ) (m n : Machine) → machine_of items number ≡ Some m → config_of n ≡ config_of m → is_mutating (shown n) ≡ is_mutating (shown m) → AreOfHeap c items → AreOfHeap c (slice_set items number (Some n))
 heap_put c items number m n here heap role are k x there = by_number (k == number) refl (sym (machine_of-set items number m (Some n) here k) ∙ there)
   where
     by_number : (b : Bool) → (k == number) ≡ b → (if k == number then Some n else machine_of items k) ≡ Some x → IsMachineOfHeap c k x

@@ -16,11 +16,11 @@ use Rattle.table_heap.specs.State as state
 
 -- the bundle has all machines of its heap
 abbrev pub HasAll : Bundle → Type 0
-HasAll b = (number : ℕ) → number < seat_count (state.heap_of b).mutators (state.heap_of b).helpers → state.HasMachine b number
+HasAll b = (number : ℕ) → number < seat_count (state.config_in b).mutators (state.config_in b).helpers → state.HasMachine b number
 
 -- its control has made its last access
 abbrev pub IsControlIdle : Bundle → Type 0
-IsControlIdle b = (a : Actor) → views.machine_of (state.view_of b) (control_number (state.heap_of b)) ≡ Some a → takes_of a.machine Nothing ≡ false
+IsControlIdle b = (a : Actor) → views.machine_of (state.view_of b) (control_number (state.config_in b)) ≡ Some a → takes_of a.machine Nothing ≡ false
 
 -- the configuration
 abbrev pub config_of : Closed → Config

@@ -7,11 +7,12 @@ use Rattle.shen_graph.specs.declared.command.Command.{Command}
 use Rattle.shen_graph.specs.declared.command.Reply.{Reply}
 use Rattle.table_heap.specs.Driven.{IsDrivenFrom, driver_after}
 use Rattle.shen_graph.specs.Step.{IsNew}
+use Rattle.shen_graph.specs.Valid.{most_objects}
 use Rattle.step_core.specs.Actor.{Actor}
 use Rattle.step_core.specs.Machines.{is_resting, may_begin, made_of_machine}
 use Rattle.table_heap.specs.Makes.{call_in, HasNamesFor}
 use Rattle.table_heap.specs.declared.bundle.Bundle.{Bundle}
-use Rattle.table_heap.specs.State.{heap_of, view_of}
+use Rattle.table_heap.specs.State.{config_in, view_of}
 use Rattle.table_heap.specs.Running.{HasNoOrder, EachMutator}
 
 -- how many of the numbers below pass a test
@@ -21,7 +22,7 @@ count_below test (suc number) = if test number then suc (count_below test number
 
 -- whether the bundle has the machine, and it is a mutator
 abbrev pub has_mutator : Bundle → ℕ → Bool
-has_mutator b number = is_some (machine_of (view_of b) number) && nat_lt number (heap_of b).mutators
+has_mutator b number = is_some (machine_of (view_of b) number) && nat_lt number (config_in b).mutators
 
 -- how many mutators of the bundle have lower numbers
 abbrev pub mutators_below : Bundle → ℕ → ℕ
@@ -32,7 +33,7 @@ abbrev pub driver_of : {D : Type 0} → Bundle → List D → ℕ → Option D
 driver_of b drivers number = slice_get drivers (mutators_below b number)
 
 abbrev pub AreDriversOf : {D : Type 0} → Bundle → List D → Type 0
-AreDriversOf b drivers = length drivers ≡ mutators_below b (heap_of b).mutators
+AreDriversOf b drivers = length drivers ≡ mutators_below b (config_in b).mutators
 
 -- a mutator has ended no call, made no object, and may begin a call
 pub record HasNotBegun (a : Actor) : Type 0 where
@@ -47,7 +48,7 @@ pub record CanDrive {D : Type 0} (to_come : D → ℕ) (b : Bundle) (drivers : L
   pub orders : HasNoOrder b
   pub mutators : EachMutator (view_of b) (λ number a. HasNotBegun a)
   pub count : AreDriversOf b drivers
-  pub few : All (λ driver. to_come driver < 4294967295) drivers
+  pub few : All (λ driver. to_come driver < most_objects) drivers
 
 -- what the driver at a place of the list gives next
 abbrev pub given_by : {D : Type 0} → (D → Option Command) → Option D → Option Command
@@ -56,7 +57,7 @@ given_by next_of (Some driver) = next_of driver
 
 -- the next command of a machine's driver, which only a mutator has
 abbrev pub next_driven : {D : Type 0} → (D → Option Command) → Bundle → List D → ℕ → Option Command
-next_driven next_of b drivers number = if nat_lt number (heap_of b).mutators then given_by next_of (driver_of b drivers number) else None
+next_driven next_of b drivers number = if nat_lt number (config_in b).mutators then given_by next_of (driver_of b drivers number) else None
 
 -- A mutator whose driver began in one state and has come to another: its calls are the driver's, with the replies that it has
 -- taken; a call in progress has its next command, and there is none where the mutator has ended; and names are left.

@@ -2,6 +2,7 @@
 use Rattle.std.specs.Prelude.{ℕ, ◌≡◌, ◌+◌, ◌<◌, Bool, true, false, if◌then◌else◌}
 use Rattle.shen_graph.specs.declared.command.Command.{Command}
 use Rattle.shen_graph.specs.declared.command.Command.TheVariants.{New, Gc}
+use Rattle.shen_graph.specs.Valid.{most_objects}
 use Rattle.mutator.specs.declared.spot.Spot.{Spot}
 use Rattle.mutator.specs.declared.spot.Spot.TheVariants.{Rest, Ended, Entering, Making, Waiting, Gone}
 use Rattle.mutator.specs.declared.spot.Entered.TheVariants.{Waited}
@@ -39,4 +40,4 @@ making_at_hand machine = if makes_object (call_in machine) then at_hand_of machi
 -- names, where one whose reply is at hand was made already.
 pub record HasNamesFor (to_come : ℕ) (machine : Machine) : Type 0 where
   pub call : is_resting machine ≡ false → stands_in_its_call machine ≡ true
-  pub few : made_of_machine machine + to_come < 4294967295 + making_at_hand machine
+  pub few : made_of_machine machine + to_come < most_objects + making_at_hand machine

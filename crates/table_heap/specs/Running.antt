@@ -7,7 +7,7 @@ use Rattle.shen_graph.specs.declared.command.Reply.{Reply}
 use Rattle.shen_graph.specs.declared.order.Order.{Order}
 use Rattle.shen_graph.specs.declared.order.Order.TheVariants.{Nothing}
 use Rattle.shen_graph.specs.History as history
-use Rattle.shen_graph.specs.Valid.{IsValid}
+use Rattle.shen_graph.specs.Valid.{IsValid, most_objects}
 use Rattle.shen_graph.specs.Work.{Progress, HasScript, progress_of, script_in, replies_of, next_of}
 use Rattle.step_core.specs.Actor.{Machine, Actor}
 use Rattle.step_core.specs.Machines.{is_resting, may_begin, made_of_machine, at_hand_of}
@@ -43,7 +43,7 @@ pub record CanStartOn (jobs : Jobs) (number : ℕ) (a : Actor) : Type 0 where
   pub script : HasScript jobs number
   pub replies : replies_of jobs number ≡ []
   pub commands : All IsValid (script_in jobs number)
-  pub few : length (script_in jobs number) < 4294967295
+  pub few : length (script_in jobs number) < most_objects
 
 -- a bundle and the work for its mutators, before they begin
 pub record CanStart (b : Bundle) (jobs : Jobs) : Type 0 where
@@ -56,7 +56,7 @@ pub record IsAtWork (p : Progress) (a : Actor) : Type 0 where
   pub on : IsOnScript p.script a
   pub replies : p.replies ≡ history.replies_of a.calls
   pub commands : All IsValid p.script
-  pub made : made_of_machine a.machine + length p.script < 4294967295 + (length p.replies + at_hand_of a.machine)
+  pub made : made_of_machine a.machine + length p.script < most_objects + (length p.replies + at_hand_of a.machine)
 
 abbrev pub IsAtWorkOn : Jobs → ℕ → Actor → Type 0
 IsAtWorkOn jobs number a = (p : Progress) × (progress_of jobs number ≡ Some p) × IsAtWork p a

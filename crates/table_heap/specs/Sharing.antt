@@ -4,7 +4,7 @@ use Rattle.heap_words.specs.declared.config.Config.{Config}
 use Rattle.table_heap.specs.Seen.{IsThiefOf, IsSameDeque}
 use Rattle.table_heap.specs.declared.hints.Thief.{Thief}
 use Rattle.table_heap.specs.declared.bundle.Bundle.{Bundle}
-use Rattle.table_heap.specs.State.{heap_of}
+use Rattle.table_heap.specs.State.{config_in}
 use Rattle.table_heap.specs.Turning.{OnlyHintsDiffer}
 
 -- one of the bundle's thieves steals the other's hints
@@ -25,7 +25,7 @@ StealFromEachOther bundles = (number : ℕ) → number < length bundles → Stea
 
 -- some bundles are of heaps with one configuration
 abbrev pub HaveConfig : Config → List Bundle → Type 0
-HaveConfig c bundles = (k : ℕ) (b : Bundle) → slice_get bundles k ≡ Some b → heap_of b ≡ c
+HaveConfig c bundles = (k : ℕ) (b : Bundle) → slice_get bundles k ≡ Some b → config_in b ≡ c
 
 -- The bundle has all thieves that it had, and its own hints are in the same deque. Nothing else has changed.
 pub record SharesMore (old new : Bundle) : Type 0 where

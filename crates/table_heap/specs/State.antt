@@ -23,8 +23,8 @@ use Rattle.table_heap.specs.Core.{heap_kind, start_of_key}
 abbrev pub config_of : Heap → Config
 config_of h = h.config
 
-abbrev pub heap_of : Bundle → Config
-heap_of b = b.config
+abbrev pub config_in : Bundle → Config
+config_in b = b.config
 
 -- the words and machines with which a heap began, and the heap of a bundle
 abbrev pub start_of_heap : Heap → Stage Actor

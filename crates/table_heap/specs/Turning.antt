@@ -11,7 +11,7 @@ use Rattle.heap_machines.specs.declared.stepped.Stepped.{Stepped}
 use Rattle.heap_machines.specs.declared.stepped.Stepped.TheVariants.{More}
 use Rattle.heap_machines.specs.Turn.{order_for}
 use Rattle.table_heap.specs.declared.bundle.Bundle.{Bundle}
-use Rattle.table_heap.specs.State.{heap_of, orders_of, machine_at, order_at, IsSameBundle, IsUnmoved, IsBundleStep}
+use Rattle.table_heap.specs.State.{config_in, orders_of, machine_at, order_at, IsSameBundle, IsUnmoved, IsBundleStep}
 
 -- What a machine may be ordered for its turn, where this command would follow: what it does then, or, where it takes hints, the hint of
 -- an address of the heap.
@@ -23,7 +23,7 @@ IsOrderFor c next machine order =
 pub record IsTurn (old new : Bundle) (next : Option Command) (number : ℕ) (said : Stepped) : Type 0 where
   pub ordered : Bundle
   pub unmoved : IsUnmoved old ordered
-  pub turn : IsOrderFor (heap_of old) next (machine_at old number) (order_at ordered number)
+  pub turn : IsOrderFor (config_in old) next (machine_at old number) (order_at ordered number)
   pub orders : orders_of ordered ≡ slice_set (orders_of old) number (Some (order_at ordered number))
   pub step : IsBundleStep ordered new number said
 
@@ -44,4 +44,4 @@ pub record OnlyHintsDiffer (old new : Bundle) : Type 0 where
 abbrev pub IsHinted : (old new : Bundle) → ℕ → Type 0
 IsHinted old new number =
     (orders_of new ≡ orders_of old)
-    ⊎ ((takes_hint (machine_at old number) ≡ true) × ((address : ℕ) × IsWord (heap_of old) (Heap address) × (orders_of new ≡ slice_set (orders_of old) number (Some (Hint address)))))
+    ⊎ ((takes_hint (machine_at old number) ≡ true) × ((address : ℕ) × IsWord (config_in old) (Heap address) × (orders_of new ≡ slice_set (orders_of old) number (Some (Hint address)))))

@@ -1,4 +1,5 @@
 ghost use Rattle.std.specs.Prelude.{◌≡◌, [], length};
+ghost use Rattle.shen_graph.specs.Valid.{most_objects};
 ghost use Rattle.heap_words.specs.Ranges.{seat_count};
 ghost use Rattle.heap_machines.specs.Shown.{shown};
 ghost use Rattle.shared_table.specs.Views.{kept_in_view};
@@ -53,7 +54,7 @@ impl Bundle {
     ghost use Rattle.heap_machines.specs.Roles.{is_mutating, phase_in};
     ghost use Rattle.heap_machines.specs.Inside.{loads_left, stores_left};
     ghost use Rattle.step_core.specs.Machines.{takes_of, takes_hint, reply_in, place_in, may_begin, made_of_machine};
-    ghost use Rattle.table_heap.specs.State.{heap_of, view_of, machines_of, orders_of, steps_of, greyed_of, deques_of, IsBundleOf, HasMachine, machine_at, order_at, has_turn, IsSameBundle, IsUnmoved, IsUnchanged, IsBundleStep};
+    ghost use Rattle.table_heap.specs.State.{config_in, view_of, machines_of, orders_of, steps_of, greyed_of, deques_of, IsBundleOf, HasMachine, machine_at, order_at, has_turn, IsSameBundle, IsUnmoved, IsUnchanged, IsBundleStep};
 
     /// Gives the machines of one bundle, of so many, to a bundle of their own: those whose numbers have the remainder `bundle`.
     /// The error is that memory was refused.
@@ -175,7 +176,7 @@ impl Bundle {
     pub fn hint(&mut self, number: usize, address: u64)
         requires here { HasMachine self.old number }
         requires takes { takes_hint (machine_at self.old number) ≡ true }
-        requires heap { words.IsWord (heap_of self.old) (words.Heap address) }
+        requires heap { words.IsWord (config_in self.old) (words.Heap address) }
         ensures order { orders_of self.new ≡ slice_set (orders_of self.old) number (Some (Order.Hint address)) }
         ensures takes { takes_of (machine_at self.old number) (Order.Hint address) ≡ true }
         ensures unmoved { IsUnmoved self.old self.new }
@@ -191,7 +192,7 @@ impl Bundle {
     pub fn greyed(&self, number: usize) -> Option<u64>
         requires here { HasMachine self.now number }
         ensures row { result ≡ machine_of (greyed_of self.now) number }
-        ensures heap { IfSome result (λ address. words.IsWord (heap_of self.now) (words.Heap address)) }
+        ensures heap { IfSome result (λ address. words.IsWord (config_in self.now) (words.Heap address)) }
     {
         self.greyed[number]
     }
@@ -201,7 +202,7 @@ impl Bundle {
         requires here { HasMachine self.old number }
         requires rest { may_begin (machine_at self.old number) ≡ true }
         requires valid { IsValid command }
-        requires made { made_of_machine (machine_at self.old number) < 4294967295 }
+        requires made { made_of_machine (machine_at self.old number) < most_objects }
         ensures order { orders_of self.new ≡ slice_set (orders_of self.old) number (Some (Order.Begin command)) }
         ensures takes { takes_of (machine_at self.old number) (Order.Begin command) ≡ true }
         ensures unmoved { IsUnmoved self.old self.new }
@@ -262,9 +263,9 @@ impl Bundle {
 
     // How many words of the image the machine loads before the last one, one after the other, if it is the bundle's.
     pub(crate) fn words_to_load(&self, number: usize) -> usize
-        requires { number < seat_count (heap_of self.now).mutators (heap_of self.now).helpers }
+        requires { number < seat_count (config_in self.now).mutators (config_in self.now).helpers }
         ensures here { 0 < result → HasMachine self.now number }
-        ensures left { 0 < result → result ≡ loads_left (heap_of self.now) (machine_at self.now number) }
+        ensures left { 0 < result → result ≡ loads_left (config_in self.now) (machine_at self.now number) }
     {
         let Some(machine) = &self.machines[number] else {
             return 0;
@@ -274,9 +275,9 @@ impl Bundle {
 
     // How many it stores.
     pub(crate) fn words_to_store(&self, number: usize) -> usize
-        requires { number < seat_count (heap_of self.now).mutators (heap_of self.now).helpers }
+        requires { number < seat_count (config_in self.now).mutators (config_in self.now).helpers }
         ensures here { 0 < result → HasMachine self.now number }
-        ensures left { 0 < result → result ≡ stores_left (heap_of self.now) (machine_at self.now number) }
+        ensures left { 0 < result → result ≡ stores_left (config_in self.now) (machine_at self.now number) }
     {
         let Some(machine) = &self.machines[number] else {
             return 0;
@@ -290,11 +291,11 @@ impl Bundle {
     pub(crate) fn load_word(&mut self, heap: &Heap, number: usize)
         requires heap { IsBundleOf self.old heap.now }
         requires here { HasMachine self.old number }
-        requires left { 0 < loads_left (heap_of self.old) (machine_at self.old number) }
+        requires left { 0 < loads_left (config_in self.old) (machine_at self.old number) }
         ensures event { IsBundleStep self.old self.new number Stepped.More }
         ensures same { IsSameBundle self.old self.new }
         ensures here { HasMachine self.new number }
-        ensures left { loads_left (heap_of self.new) (machine_at self.new number) + 1 ≡ loads_left (heap_of self.old) (machine_at self.old number) }
+        ensures left { loads_left (config_in self.new) (machine_at self.new number) + 1 ≡ loads_left (config_in self.old) (machine_at self.old number) }
     {
         let Some(machine) = self.machines[number].as_mut() else {
             unreachable!()
@@ -316,11 +317,11 @@ impl Bundle {
     pub(crate) fn store_word(&mut self, heap: &Heap, number: usize)
         requires heap { IsBundleOf self.old heap.now }
         requires here { HasMachine self.old number }
-        requires left { 0 < stores_left (heap_of self.old) (machine_at self.old number) }
+        requires left { 0 < stores_left (config_in self.old) (machine_at self.old number) }
         ensures event { IsBundleStep self.old self.new number Stepped.More }
         ensures same { IsSameBundle self.old self.new }
         ensures here { HasMachine self.new number }
-        ensures left { stores_left (heap_of self.new) (machine_at self.new number) + 1 ≡ stores_left (heap_of self.old) (machine_at self.old number) }
+        ensures left { stores_left (config_in self.new) (machine_at self.new number) + 1 ≡ stores_left (config_in self.old) (machine_at self.old number) }
     {
         let Some(machine) = self.machines[number].as_mut() else {
             unreachable!()

@@ -1,6 +1,6 @@
 ghost use Rattle.std.specs.Prelude.{◌≡◌, ◌+◌, ◌<◌, ◌≤◌, List, length, Some, IfSome, slice_get, if◌then◌else◌, nat_lt};
 ghost use Rattle.shen_graph.specs.Valid.{IsValid};
-ghost use Rattle.table_heap.specs.State.{heap_of, IsBundleOf, HasMachine, machine_at, IsSameBundle, IsUnchanged};
+ghost use Rattle.table_heap.specs.State.{config_in, IsBundleOf, HasMachine, machine_at, IsSameBundle, IsUnchanged};
 ghost use Rattle.table_heap.specs.Running.{HasNoOrder, IsIdleForGood, AreIdleForGood};
 ghost use Rattle.table_heap.specs.Driving.{mutators_below, next_driven, CanDrive, AreDriving, HaveDriven, HasTaken};
 
@@ -71,7 +71,7 @@ impl Bundle {
     // The place of the next driver behind a machine: one further behind a mutator.
     fn place_behind(&self, number: usize, place: usize) -> usize
         requires { place ≤ number }
-        ensures { result ≡ (if nat_lt number (heap_of self.now).mutators then place + 1 else place) }
+        ensures { result ≡ (if nat_lt number (config_in self.now).mutators then place + 1 else place) }
     {
         if number < self.config.mutators() {
             place + 1

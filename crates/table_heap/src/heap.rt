@@ -2,7 +2,7 @@ ghost use Rattle.std.specs.Prelude.{◌≡◌, [], length, replicate, map, All, 
 ghost use Rattle.std.specs.List.{range_with_len};
 ghost use Rattle.shared_table.specs.Views.{whole};
 ghost use Rattle.heap_words.specs.Words.{table_words};
-ghost use Rattle.heap_machines.specs.Shown.{shown, order_of, heap_of};
+ghost use Rattle.heap_machines.specs.Shown.{shown, order_of, config_of as machine_config};
 ghost use Rattle.shen_graph.specs.declared.order.Order.TheVariants.{Nothing};
 ghost use Rattle.table_heap.specs.Core.{table_start, start_of_key};
 ghost use Rattle.heap_words.specs.Ranges.{seat_count};

@@ -1,9 +1,9 @@
 ghost use Rattle.std.specs.Prelude.{ℕ, ◌≡◌, ◌≢◌, ◌↔◌, ◌<◌, true, false, Option, Some, None, IfSome, if◌then◌else◌, slice_set};
 ghost use Rattle.heap_words.specs.Ranges.{seat_count};
 ghost use Rattle.heap_machines.specs.Turn.{order_for};
-ghost use Rattle.shen_graph.specs.Valid.{IsValid};
+ghost use Rattle.shen_graph.specs.Valid.{IsValid, most_objects};
 ghost use Rattle.step_core.specs.Machines.{reply_in, may_begin, made_of_machine};
-ghost use Rattle.table_heap.specs.State.{heap_of, view_of, orders_of, IsBundleOf, HasMachine, machine_at, order_at, has_turn, IsSameBundle, IsUnmoved, IsUnchanged};
+ghost use Rattle.table_heap.specs.State.{config_in, view_of, orders_of, IsBundleOf, HasMachine, machine_at, order_at, has_turn, IsSameBundle, IsUnmoved, IsUnchanged};
 ghost use Rattle.table_heap.specs.Turning.{IsTurn, HasHadTurns};
 ghost use Rattle.table_heap.specs.Running.{HasNoOrder, CanStart, AreAtWork, next_for, IsIdleForGood, AreIdleForGood, HaveDone, AreSameJobs};
 
@@ -82,7 +82,7 @@ impl Bundle {
     fn next_command(&self, work: &Work, number: usize) -> Option<Command>
         requires here { HasMachine self.now number }
         requires work { AreAtWork self.now work.now }
-        ensures { result ≡ next_for (heap_of self.now) work.now number }
+        ensures { result ≡ next_for (config_in self.now) work.now number }
     {
         if number < self.config.mutators() {
             work.next(number)
@@ -95,8 +95,8 @@ impl Bundle {
     fn next_to_begin(&self, work: &Work, number: usize) -> Option<Command>
         requires here { HasMachine self.now number }
         requires work { AreAtWork self.now work.now }
-        ensures turn { order_for result (machine_at self.now number) ≡ order_for (next_for (heap_of self.now) work.now number) (machine_at self.now number) }
-        ensures begins { may_begin (machine_at self.now number) ≡ true → result ≡ next_for (heap_of self.now) work.now number }
+        ensures turn { order_for result (machine_at self.now number) ≡ order_for (next_for (config_in self.now) work.now number) (machine_at self.now number) }
+        ensures begins { may_begin (machine_at self.now number) ≡ true → result ≡ next_for (config_in self.now) work.now number }
     {
         if self.may_begin(number) {
             self.next_command(work, number)
@@ -110,7 +110,7 @@ impl Bundle {
     fn order_next(&mut self, next: Option<Command>, number: usize) -> bool
         requires here { HasMachine self.old number }
         requires orders { HasNoOrder self.old }
-        requires fits { may_begin (machine_at self.old number) ≡ true → IfSome next (λ command. IsValid command × (made_of_machine (machine_at self.old number) < 4294967295)) }
+        requires fits { may_begin (machine_at self.old number) ≡ true → IfSome next (λ command. IsValid command × (made_of_machine (machine_at self.old number) < most_objects)) }
         ensures turn { order_for next (machine_at self.old number) ≡ (if result then Some (order_at self.new number) else None) }
         ensures has { has_turn self.new number ≡ result }
         ensures orders { orders_of self.new ≡ slice_set (orders_of self.old) number (Some (order_at self.new number)) }
@@ -134,7 +134,7 @@ impl Bundle {
         requires heap { IsBundleOf self.old heap.now }
         requires here { HasMachine self.old number }
         requires orders { HasNoOrder self.old }
-        requires fits { may_begin (machine_at self.old number) ≡ true → IfSome next (λ command. IsValid command × (made_of_machine (machine_at self.old number) < 4294967295)) }
+        requires fits { may_begin (machine_at self.old number) ≡ true → IfSome next (λ command. IsValid command × (made_of_machine (machine_at self.old number) < most_objects)) }
         ensures same { IsSameBundle self.old self.new }
         ensures turn { result ≢ Stepped.Idle → IsTurn self.old self.new next number result }
         ensures unchanged { result ≡ Stepped.Idle → IsUnchanged self.old self.new }
@@ -193,7 +193,7 @@ impl Bundle {
     fn load_words<G: Gate>(&mut self, heap: &Heap, gate: &G, number: usize)
         requires heap { IsBundleOf self.old heap.now }
         requires orders { HasNoOrder self.old }
-        requires number { number < seat_count (heap_of self.old).mutators (heap_of self.old).helpers }
+        requires number { number < seat_count (config_in self.old).mutators (config_in self.old).helpers }
         ensures turns { (count : ℕ) × HasHadTurns count self.old self.new number }
     {
         let mut left = self.words_to_load(number);
@@ -209,7 +209,7 @@ impl Bundle {
     fn store_words<G: Gate>(&mut self, heap: &Heap, gate: &G, number: usize)
         requires heap { IsBundleOf self.old heap.now }
         requires orders { HasNoOrder self.old }
-        requires number { number < seat_count (heap_of self.old).mutators (heap_of self.old).helpers }
+        requires number { number < seat_count (config_in self.old).mutators (config_in self.old).helpers }
         ensures turns { (count : ℕ) × HasHadTurns count self.old self.new number }
     {
         let mut left = self.words_to_store(number);

@@ -3,7 +3,7 @@ ghost use Rattle.heap_words.specs.declared.config.Config.{Config};
 ghost use Rattle.heap_words.specs.Words.{Heap, IsWord};
 ghost use Rattle.table_heap.specs.Seen.{config_in, IsThiefOf};
 ghost use Rattle.table_heap.specs.Known.{AreThievesOf};
-ghost use Rattle.table_heap.specs.State.{heap_of, HasMachine, IsUnmoved};
+ghost use Rattle.table_heap.specs.State.{config_in as bundle_config, HasMachine, IsUnmoved};
 ghost use Rattle.table_heap.specs.Sharing.{HaveConfig, SharesMore, AllShareMore, StealsFrom, StealFrom};
 ghost use Rattle.table_heap.specs.Turning.{IsHinted, OnlyHintsDiffer};
 ghost use Rattle.table_heap.specs.declared.bundle.Bundle.{Bundle as Bundles};
@@ -58,14 +58,14 @@ impl Bundle {
     // One who steals the hints of this bundle.
     fn thief(&mut self) -> Result<Thief, NoMemory>
         ensures more { SharesMore self.old self.new }
-        ensures thief { IfOk result (λ thief. (config_in thief ≡ heap_of self.old) × IsThiefOf self.new.hints thief) }
+        ensures thief { IfOk result (λ thief. (config_in thief ≡ bundle_config self.old) × IsThiefOf self.new.hints thief) }
     {
         self.hints.thief()
     }
 
     // From now on the bundle steals by this one, too.
     fn steal_by(&mut self, thief: Thief) -> Result<(), NoMemory>
-        requires heap { config_in thief ≡ heap_of self.old }
+        requires heap { config_in thief ≡ bundle_config self.old }
         ensures more { SharesMore self.old self.new }
         ensures thief { IfOk result (λ _. slice_get self.new.thieves.items (length self.old.thieves.items) ≡ Some thief) }
     {
@@ -77,7 +77,7 @@ impl Bundle {
 
     // A hint, if there is one: of the bundle's own the latest, or else one that is stolen from another bundle.
     fn next_hint(&mut self) -> Option<u64>
-        ensures heap { IfSome result (λ address. IsWord (heap_of self.old) (Heap address)) }
+        ensures heap { IfSome result (λ address. IsWord (bundle_config self.old) (Heap address)) }
         ensures only { OnlyHintsDiffer self.old self.new }
     {
         if let Some(address) = self.hints.pop() {

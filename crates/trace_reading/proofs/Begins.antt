@@ -184,8 +184,8 @@ threads_read v h first narrow none =
 
 pub head_read : (bytes first second rest : List ℕ) (v : ℕ) (h c : Config) → bytes ≡ titled (codes "shen") (v ∷ []) ++ first → first ≡ titled (codes "heap") (h.regions ∷ h.region_words ∷ h.reserve ∷ []) ++ second
     → titled (codes "heap") (h.regions ∷ h.region_words ∷ h.reserve ∷ []) ≡ titled (codes "heap") (c.regions ∷ c.region_words ∷ c.reserve ∷ []) → second ≡ titled (codes "threads") (c.mutators ∷ c.helpers ∷ []) ++ rest → bytes ≡ header v c ++ rest
-head_read bytes first second rest v h c e1 e2 same e3 =
+head_read bytes first second rest v h c first_is second_is same third_is =
     let shen = titled (codes "shen") (v ∷ []) in
     let heap = titled (codes "heap") (c.regions ∷ c.region_words ∷ c.reserve ∷ []) in
     let threads = titled (codes "threads") (c.mutators ∷ c.helpers ∷ []) in
-    e1 ∙ ap (λ (t : List ℕ). shen ++ t) (e2 ∙ ap (λ (t : List ℕ). t ++ second) same ∙ ap (λ (t : List ℕ). heap ++ t) e3 ∙ sym (append_assoc heap threads rest)) ∙ sym (append_assoc shen (heap ++ threads) rest)
+    first_is ∙ ap (λ (t : List ℕ). shen ++ t) (second_is ∙ ap (λ (t : List ℕ). t ++ second) same ∙ ap (λ (t : List ℕ). heap ++ t) third_is ∙ sym (append_assoc heap threads rest)) ∙ sym (append_assoc shen (heap ++ threads) rest)

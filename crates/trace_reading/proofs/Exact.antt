@@ -42,12 +42,12 @@ same_heap v c d e =
 
 same_threads : (r w e : ℕ) (c d : Config) → c.regions ≡ r → c.region_words ≡ w → c.reserve ≡ e → d.regions ≡ r → d.region_words ≡ w → d.reserve ≡ e
     → codes "threads" ∷ map decimal (c.mutators ∷ c.helpers ∷ []) ≡ codes "threads" ∷ map decimal (d.mutators ∷ d.helpers ∷ []) → c ≡ d
-same_threads r w e c d c1 c2 c3 d1 d2 d3 same =
+same_threads r w e c d c_regions c_words c_reserve d_regions d_words d_reserve same =
     let ws = codes "threads" ∷ map decimal (c.mutators ∷ c.helpers ∷ []) in
     let vs = codes "threads" ∷ map decimal (d.mutators ∷ d.helpers ∷ []) in
     let m = same_number c.mutators d.mutators (omega (arith, c.in_range.most_mutators)) (omega (arith, d.in_range.most_mutators)) (same_words ws vs 1 same) in
     let h = same_number c.helpers d.helpers (omega (arith, c.in_range.most_helpers)) (omega (arith, d.in_range.most_helpers)) (same_words ws vs 2 same) in
-    same_config c d (c1 ∙ sym d1) (c2 ∙ sym d2) m h (c3 ∙ sym d3)
+    same_config c d (c_regions ∙ sym d_regions) (c_words ∙ sym d_words) m h (c_reserve ∙ sym d_reserve)
 
 -- a line of a command is no line of the schedule
 not_both : (v : ℕ) (c : Config) (text : List ℕ) → IsCommandLine v c text → IsTurnItem c text → ⊥

@@ -317,15 +317,15 @@ valid_within (command.Unpin slot) v f = (omega arith, tt)
 pub command_takes : (version : ℕ) (bytes : List ℕ) (x : Command × List ℕ) → spelled_command version bytes ≡ Some x → (bytes ≡ command_word x.0 ++ (numbers (numbers_of x.0) ++ x.1)) × IsKnown version x.0 × IsValid x.0 × FitsWhenWritten x.0
 unfolding spelled_command
 command_takes version bytes x e =
-    then_some (kind_among (kinds version) bytes) (λ k. numbers_at (limits k.0) k.1 >>= λ ns. Some (command_from k.0 ns.0, ns.1)) x e (λ k at_k e1.
-    then_some (numbers_at (limits k.0) k.1) (λ ns. Some (command_from k.0 ns.0, ns.1)) x e1 (λ ns at_ns e2.
+    then_some (kind_among (kinds version) bytes) (λ k. numbers_at (limits k.0) k.1 >>= λ ns. Some (command_from k.0 ns.0, ns.1)) x e (λ k at_k then_is.
+    then_some (numbers_at (limits k.0) k.1) (λ ns. Some (command_from k.0 ns.0, ns.1)) x then_is (λ ns at_ns behind_is.
     let kind = kind_takes (kinds version) bytes k at_k in
     let known = made_known version k.0 ns.0 (kind_is (HasKind version) (kinds version) bytes k (kinds_known version) at_k) in
     let rest = numbers_take (limits k.0) k.1 ns (limits_small k.0) at_ns in
     let made : Command × List ℕ = (command_from k.0 ns.0, ns.1) in
     let valid = made_valid k.0 ns.0 rest.1 in
     let spelled : bytes ≡ command_word made.0 ++ (numbers (numbers_of made.0) ++ made.1) = rw (made_word k.0 ns.0, made_numbers k.0 ns.0 rest.1) (kind ∙ ap (λ (bs : List ℕ). word k.0 ++ bs) rest.0) in
-    subst (λ (y : Command × List ℕ). (bytes ≡ command_word y.0 ++ (numbers (numbers_of y.0) ++ y.1)) × IsKnown version y.0 × IsValid y.0 × FitsWhenWritten y.0) (same_some made x e2) (spelled, known, valid.0, valid.1)))
+    subst (λ (y : Command × List ℕ). (bytes ≡ command_word y.0 ++ (numbers (numbers_of y.0) ++ y.1)) × IsKnown version y.0 × IsValid y.0 × FitsWhenWritten y.0) (same_some made x behind_is) (spelled, known, valid.0, valid.1)))
 
 pub command_again_at : (version : ℕ) (c : Command) (rest : List ℕ) → IsKnown version c → IsValid c → FitsWhenWritten c → NoDigit rest → spelled_command version (command_word c ++ (numbers (numbers_of c) ++ rest)) ≡ Some (c, rest)
 unfolding spelled_command
@@ -344,15 +344,15 @@ line_parts bytes gap words end rest l a b c d = rw (a, b, c, d) (sym (line-appen
 pub line_takes : (version threads : ℕ) (bytes : List ℕ) (x : TraceLine × List ℕ) → threads < 2 ^ 64 → line_at version threads bytes ≡ Some x → (bytes ≡ line x.0 ++ x.1) × IsLine version threads x.0
 unfolding line_at
 line_takes version threads bytes x small e =
-    then_some (positive_at threads bytes) (λ t. behind (32 ∷ []) t.1 >>= λ rest. spelled_command version rest >>= λ c. behind (10 ∷ []) c.1 >>= λ end. Some (record { thread = t.0; command = c.0 }, end)) x e (λ t at_t e1.
-    then_some (behind (32 ∷ []) t.1) (λ rest. spelled_command version rest >>= λ c. behind (10 ∷ []) c.1 >>= λ end. Some (record { thread = t.0; command = c.0 }, end)) x e1 (λ rest at_rest e2.
-    then_some (spelled_command version rest) (λ c. behind (10 ∷ []) c.1 >>= λ end. Some (record { thread = t.0; command = c.0 }, end)) x e2 (λ c at_c e3.
-    then_some (behind (10 ∷ []) c.1) (λ end. Some (record { thread = t.0; command = c.0 }, end)) x e3 (λ end at_end e4.
+    then_some (positive_at threads bytes) (λ t. behind (32 ∷ []) t.1 >>= λ rest. spelled_command version rest >>= λ c. behind (10 ∷ []) c.1 >>= λ end. Some (record { thread = t.0; command = c.0 }, end)) x e (λ t at_t then_is.
+    then_some (behind (32 ∷ []) t.1) (λ rest. spelled_command version rest >>= λ c. behind (10 ∷ []) c.1 >>= λ end. Some (record { thread = t.0; command = c.0 }, end)) x then_is (λ rest at_rest behind_is.
+    then_some (spelled_command version rest) (λ c. behind (10 ∷ []) c.1 >>= λ end. Some (record { thread = t.0; command = c.0 }, end)) x behind_is (λ c at_c from_command.
+    then_some (behind (10 ∷ []) c.1) (λ end. Some (record { thread = t.0; command = c.0 }, end)) x from_command (λ end at_end from_end.
     let thread = positive_takes threads bytes t small at_t in
     let command = command_takes version rest c at_c in
     let made : TraceLine × List ℕ = (record { thread = t.0; command = c.0 }, end) in
     let spelled : bytes ≡ line made.0 ++ made.1 = line_parts bytes t.1 rest c.1 end made.0 thread.0 (behind_takes (32 ∷ []) t.1 rest at_rest) command.0 (behind_takes (10 ∷ []) c.1 end at_end) in
-    subst (λ (y : TraceLine × List ℕ). (bytes ≡ line y.0 ++ y.1) × IsLine version threads y.0) (same_some made x e4)
+    subst (λ (y : TraceLine × List ℕ). (bytes ≡ line y.0 ++ y.1) × IsLine version threads y.0) (same_some made x from_end)
     (spelled, record { from_one = thread.1; to_last = thread.2; known = command.1; valid = command.2; fits = command.3 })))))
 
 pub line_again : (version threads : ℕ) (l : TraceLine) (rest : List ℕ) → threads < 2 ^ 64 → IsLine version threads l → line_at version threads (line l ++ rest) ≡ Some (l, rest)

@@ -49,25 +49,25 @@ behind_version version = behind (10 ∷ codes "heap") version.1 >>= λ second. n
 heap_takes : (version : ℕ) (heap : List ℕ × List ℕ) (x : HeadNumbers × List ℕ) → behind_heap version heap ≡ Some x
     → (heap.1 ≡ (10 ∷ codes "threads") ++ (numbers x.0.threads ++ 10 ∷ x.1)) × (length x.0.threads ≡ 2) × (x.0.version ≡ version) × (x.0.heap ≡ heap.0)
 heap_takes version heap x e =
-    then_some (behind (10 ∷ codes "threads") heap.1) (λ third. numbers_at (8 ∷ 3 ∷ []) third >>= λ threads. behind (10 ∷ []) threads.1 >>= λ end. Some (these_numbers version heap.0 threads.0, end)) x e (λ third at_third e1.
-    then_some (numbers_at (8 ∷ 3 ∷ []) third) (λ threads. behind (10 ∷ []) threads.1 >>= λ end. Some (these_numbers version heap.0 threads.0, end)) x e1 (λ threads at_threads e2.
-    then_some (behind (10 ∷ []) threads.1) (λ end. Some (these_numbers version heap.0 threads.0, end)) x e2 (λ end at_end e3.
+    then_some (behind (10 ∷ codes "threads") heap.1) (λ third. numbers_at (8 ∷ 3 ∷ []) third >>= λ threads. behind (10 ∷ []) threads.1 >>= λ end. Some (these_numbers version heap.0 threads.0, end)) x e (λ third at_third then_is.
+    then_some (numbers_at (8 ∷ 3 ∷ []) third) (λ threads. behind (10 ∷ []) threads.1 >>= λ end. Some (these_numbers version heap.0 threads.0, end)) x then_is (λ threads at_threads behind_is.
+    then_some (behind (10 ∷ []) threads.1) (λ end. Some (these_numbers version heap.0 threads.0, end)) x behind_is (λ end at_end end_is.
     let a = behind_takes (10 ∷ codes "threads") heap.1 third at_third in
     let b = numbers_take (8 ∷ 3 ∷ []) third threads (lit< tt, (lit< tt, tt)) at_threads in
     let c = behind_takes (10 ∷ []) threads.1 end at_end in
     let made : HeadNumbers × List ℕ = (these_numbers version heap.0 threads.0, end) in
     let spelled : heap.1 ≡ (10 ∷ codes "threads") ++ (numbers threads.0 ++ 10 ∷ end) = a ∙ ap (λ (bs : List ℕ). (10 ∷ codes "threads") ++ bs) (b.0 ∙ ap (λ (bs : List ℕ). numbers threads.0 ++ bs) c) in
-    subst (λ (y : HeadNumbers × List ℕ). (heap.1 ≡ (10 ∷ codes "threads") ++ (numbers y.0.threads ++ 10 ∷ y.1)) × (length y.0.threads ≡ 2) × (y.0.version ≡ version) × (y.0.heap ≡ heap.0)) (same_some made x e3)
+    subst (λ (y : HeadNumbers × List ℕ). (heap.1 ≡ (10 ∷ codes "threads") ++ (numbers y.0.threads ++ 10 ∷ y.1)) × (length y.0.threads ≡ 2) × (y.0.version ≡ version) × (y.0.heap ≡ heap.0)) (same_some made x end_is)
     (spelled, within_length (8 ∷ 3 ∷ []) threads.0 b.1, refl, refl))))
 
 version_takes : (version : ℕ × List ℕ) (x : HeadNumbers × List ℕ) → behind_version version ≡ Some x
     → (version.1 ≡ (10 ∷ codes "heap") ++ (numbers x.0.heap ++ ((10 ∷ codes "threads") ++ (numbers x.0.threads ++ 10 ∷ x.1)))) × (length x.0.heap ≡ 3) × (length x.0.threads ≡ 2) × (x.0.version ≡ version.0)
 version_takes version x e =
-    then_some (behind (10 ∷ codes "heap") version.1) (λ second. numbers_at (64 ∷ 1024 ∷ 63 ∷ []) second >>= λ heap. behind_heap version.0 heap) x e (λ second at_second e1.
-    then_some (numbers_at (64 ∷ 1024 ∷ 63 ∷ []) second) (λ heap. behind_heap version.0 heap) x e1 (λ heap at_heap e2.
+    then_some (behind (10 ∷ codes "heap") version.1) (λ second. numbers_at (64 ∷ 1024 ∷ 63 ∷ []) second >>= λ heap. behind_heap version.0 heap) x e (λ second at_second then_is.
+    then_some (numbers_at (64 ∷ 1024 ∷ 63 ∷ []) second) (λ heap. behind_heap version.0 heap) x then_is (λ heap at_heap behind_is.
     let a = behind_takes (10 ∷ codes "heap") version.1 second at_second in
     let b = numbers_take (64 ∷ 1024 ∷ 63 ∷ []) second heap (lit< tt, (lit< tt, (lit< tt, tt))) at_heap in
-    let c = heap_takes version.0 heap x e2 in (
+    let c = heap_takes version.0 heap x behind_is in (
       a ∙ ap (λ (bs : List ℕ). (10 ∷ codes "heap") ++ bs) (b.0 ∙ ap (λ (bs : List ℕ). numbers heap.0 ++ bs) c.0 ∙ ap (λ (ns : List ℕ). numbers ns ++ ((10 ∷ codes "threads") ++ (numbers x.0.threads ++ 10 ∷ x.1))) (sym c.3)),
       ap length c.3 ∙ within_length (64 ∷ 1024 ∷ 63 ∷ []) heap.0 b.1,
       c.1,
@@ -77,11 +77,11 @@ version_takes version x e =
 pub sizes_take : (bytes : List ℕ) (x : HeadNumbers × List ℕ) → sizes_at bytes ≡ Some x → (bytes ≡ head x.0.version x.0.heap x.0.threads ++ x.1) × IsVersion x.0.version × (length x.0.heap ≡ 3) × (length x.0.threads ≡ 2)
 unfolding sizes_at
 sizes_take bytes x e =
-    then_some (behind (codes "shen ") bytes) (λ first. positive_at 2 first >>= λ version. behind_version version) x e (λ first at_first e1.
-    then_some (positive_at 2 first) (λ version. behind_version version) x e1 (λ version at_version e2.
+    then_some (behind (codes "shen ") bytes) (λ first. positive_at 2 first >>= λ version. behind_version version) x e (λ first at_first then_is.
+    then_some (positive_at 2 first) (λ version. behind_version version) x then_is (λ version at_version behind_is.
     let a = behind_takes (codes "shen ") bytes first at_first in
     let b = positive_takes 2 first version (lit< tt) at_version in
-    let c = version_takes version x e2 in
+    let c = version_takes version x behind_is in
     let after = (10 ∷ codes "heap") ++ (numbers x.0.heap ++ ((10 ∷ codes "threads") ++ (numbers x.0.threads ++ 10 ∷ x.1))) in
     let spelled : bytes ≡ codes "shen " ++ (decimal x.0.version ++ after) =
     a ∙ ap (λ (bs : List ℕ). codes "shen " ++ bs) (b.0 ∙ ap (λ (bs : List ℕ). decimal version.0 ++ bs) c.0 ∙ ap (λ (n : ℕ). decimal n ++ after) (sym c.3)) in

@@ -102,12 +102,12 @@ one_proof r w m h e = Prim.hlevel props
 
 -- a configuration is its numbers
 pub same_config : (c d : Config) → c.regions ≡ d.regions → c.region_words ≡ d.region_words → c.mutators ≡ d.mutators → c.helpers ≡ d.helpers → c.reserve ≡ d.reserve → c ≡ d
-same_config c d e1 e2 e3 e4 e5 =
-    subst (λ (r : ℕ). (p : IsInRange r d.region_words d.mutators d.helpers d.reserve) → c ≡ of r d.region_words d.mutators d.helpers d.reserve p) e1
-    (subst (λ (w : ℕ). (p : IsInRange c.regions w d.mutators d.helpers d.reserve) → c ≡ of c.regions w d.mutators d.helpers d.reserve p) e2
-    (subst (λ (m : ℕ). (p : IsInRange c.regions c.region_words m d.helpers d.reserve) → c ≡ of c.regions c.region_words m d.helpers d.reserve p) e3
-    (subst (λ (h : ℕ). (p : IsInRange c.regions c.region_words c.mutators h d.reserve) → c ≡ of c.regions c.region_words c.mutators h d.reserve p) e4
-    (subst (λ (e : ℕ). (p : IsInRange c.regions c.region_words c.mutators c.helpers e) → c ≡ of c.regions c.region_words c.mutators c.helpers e p) e5
+same_config c d same_regions same_words same_mutators same_helpers same_reserve =
+    subst (λ (r : ℕ). (p : IsInRange r d.region_words d.mutators d.helpers d.reserve) → c ≡ of r d.region_words d.mutators d.helpers d.reserve p) same_regions
+    (subst (λ (w : ℕ). (p : IsInRange c.regions w d.mutators d.helpers d.reserve) → c ≡ of c.regions w d.mutators d.helpers d.reserve p) same_words
+    (subst (λ (m : ℕ). (p : IsInRange c.regions c.region_words m d.helpers d.reserve) → c ≡ of c.regions c.region_words m d.helpers d.reserve p) same_mutators
+    (subst (λ (h : ℕ). (p : IsInRange c.regions c.region_words c.mutators h d.reserve) → c ≡ of c.regions c.region_words c.mutators h d.reserve p) same_helpers
+    (subst (λ (e : ℕ). (p : IsInRange c.regions c.region_words c.mutators c.helpers e) → c ≡ of c.regions c.region_words c.mutators c.helpers e p) same_reserve
     (λ p. ap (of c.regions c.region_words c.mutators c.helpers c.reserve) (one_proof c.regions c.region_words c.mutators c.helpers c.reserve c.in_range p)))))) d.in_range
 
 -- bytes are read as one trace at most

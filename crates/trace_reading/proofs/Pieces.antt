@@ -54,5 +54,5 @@ pub all_taken : {A : Type 0} (spelling : A → List ℕ) (IsGood : A → Type 0)
 all_taken {A} spelling IsGood IsTail bytes rest pieces laws begun at_tail ys tail all is_tail e = let m = begun.only ys tail all is_tail e in by_more m.0 m.1 m.3
   where
     by_more : (more : List A) → ys ≡ pieces ++ more → rest ≡ flat_map spelling more ++ tail → (pieces ≡ ys) × (rest ≡ tail)
-    by_more [] same e1 = (sym (same ∙ append-nil pieces), e1)
-    by_more (y ∷ later) same e1 = absurd (laws.no_tail y (flat_map spelling later ++ tail) (subst IsTail (e1 ∙ first_piece spelling y later tail) at_tail))
+    by_more [] same rest_is = (sym (same ∙ append-nil pieces), rest_is)
+    by_more (y ∷ later) same rest_is = absurd (laws.no_tail y (flat_map spelling later ++ tail) (subst IsTail (rest_is ∙ first_piece spelling y later tail) at_tail))

@@ -13,7 +13,7 @@ use Rattle.heap_words.specs.declared.config.Config.{Config}
 use Rattle.heap_words.specs.Ranges.{seat_count}
 use Rattle.shen_graph.specs.declared.order.Order.{Order}
 use Rattle.shen_graph.specs.declared.order.Order.TheVariants.{Nothing}
-use Rattle.shen_graph.specs.Valid.{IsValid}
+use Rattle.shen_graph.specs.Valid.{IsValid, most_objects}
 use Rattle.shen_graph.specs.Work.{Progress, progress_of, replies_of, begun, one_of, joined}
 use Rattle.managed_queue.specs.Users.{Use, to_come}
 use Rattle.shared_table.specs.Views as views
@@ -28,7 +28,7 @@ use Rattle.heap_machines.specs.Shown.{shown}
 use Rattle.table_heap.specs.declared.bundle.Bundle.{Bundle}
 use Rattle.table_heap.specs.declared.heap.Heap.{Heap}
 use Rattle.table_heap.specs.Core.{machine_in}
-use Rattle.table_heap.specs.State.{config_of, heap_of, view_of, orders_of, IsBundleOf}
+use Rattle.table_heap.specs.State.{config_of, config_in, view_of, orders_of, IsBundleOf}
 use Rattle.table_heap.specs.Running.{Jobs, HasNoOrder, EachMutator, CanStart, CanStartOn, HasDone}
 use Rattle.table_heap.specs.Driving.{has_mutator, mutators_below, CanDrive}
 use Rattle.table_heap.proofs.Running.{still_of}
@@ -93,7 +93,7 @@ start_by v w number a same can = record {
   script = subst (λ o. IsSome o) same can.script;
   replies = ap (λ o. (unwrap_or o (begun [])).replies) (sym same) ∙ can.replies;
   commands = subst (λ o. All IsValid (unwrap_or o (begun [])).script) same can.commands;
-  few = subst (λ o. length (unwrap_or o (begun [])).script < 4294967295) same can.few;
+  few = subst (λ o. length (unwrap_or o (begun [])).script < most_objects) same can.few;
 }
 
 -- the scripts of two parts
@@ -212,7 +212,7 @@ module _ (h : Heap) (w a b : ℕ) (p : Part) (is : IsPart h w a b p) where
 
     mutator_here : (n : ℕ) → n < (config_of h).mutators → has_mutator p.bundle n ≡ (nat_le a n && nat_lt n b)
     mutator_here n below =
-        ap (λ x. x && nat_lt n (heap_of p.bundle).mutators) (is.machines n)
+        ap (λ x. x && nat_lt n (config_in p.bundle).mutators) (is.machines n)
         ∙ ap (λ (c : Config). (nat_lt n (seat_count (config_of h).mutators (config_of h).helpers) && is_dealt w a b n) && nat_lt n c.mutators) is.of.config
         ∙ ap (λ k. (nat_lt n (seat_count (config_of h).mutators (config_of h).helpers) && (nat_le a k && nat_lt k b)) && nat_lt n (config_of h).mutators) (same_number n below)
         ∙ by_tests n (config_of h).mutators (config_of h).helpers (nat_le a n && nat_lt n b) below
@@ -225,7 +225,7 @@ module _ (h : Heap) (w a b : ℕ) (p : Part) (is : IsPart h w a b p) where
     below_here n most = span (has_mutator p.bundle) a b (config_of h).mutators low mutator_here n most
 
     -- there are as many users of these bundles as mutators
-    pub crew_counts : (firsts : List Use) → IsCrewed (config_of h) firsts w → length (crew_of firsts a b) ≡ mutators_below p.bundle (heap_of p.bundle).mutators
+    pub crew_counts : (firsts : List Use) → IsCrewed (config_of h) firsts w → length (crew_of firsts a b) ≡ mutators_below p.bundle (config_in p.bundle).mutators
     crew_counts firsts crewed =
         crew_count firsts a b ∙ ap (λ x. min b x - a) crewed.count
         ∙ sym (below_here (config_of h).mutators (omega arith))
@@ -304,7 +304,7 @@ module _ (h : Heap) (assigned : Assigned) (w a b d : ℕ) (p q r : Part) (of : I
   -- users
   module _ (firsts : List Use) (crewed : IsCrewed (config_of h) firsts w) (v u all : List Use) (joined_is : all ≡ v ++ u) where
     -- there are as many users of all as mutators
-    count_joined : v ≡ crew_of firsts a b → u ≡ crew_of firsts b d → length all ≡ mutators_below r.bundle (heap_of r.bundle).mutators
+    count_joined : v ≡ crew_of firsts a b → u ≡ crew_of firsts b d → length all ≡ mutators_below r.bundle (config_in r.bundle).mutators
     count_joined mine others =
         ap length (joined_is ∙ ap (λ xs. xs ++ u) mine ∙ ap (λ xs. crew_of firsts a b ++ xs) others ∙ crew_joined firsts a b d low high)
         ∙ crew_counts h w a d r joined_part (omega (arith, low, high)) crewed.single firsts crewed
@@ -314,7 +314,7 @@ module _ (h : Heap) (assigned : Assigned) (w a b d : ℕ) (p q r : Part) (of : I
       orders = orders_joined orders can.orders can_too.orders;
       mutators = λ n x here role. ⊎_elim (λ side. can.mutators n x side role) (λ side. can_too.mutators n x side role) (by_side n x here);
       count = count_joined mine others;
-      few = subst (λ xs. All (λ (driver : Use). to_come driver < 4294967295) xs) (sym joined_is) (All-append (λ (driver : Use). to_come driver < 4294967295) v u can.few can_too.few);
+      few = subst (λ xs. All (λ (driver : Use). to_come driver < most_objects) xs) (sym joined_is) (All-append (λ (driver : Use). to_come driver < most_objects) v u can.few can_too.few);
     }
 
     used_joined : length v ≡ length (crew_of firsts a b) → EachMutator (view_of p.bundle) (HasUsed firsts v a) → EachMutator (view_of q.bundle) (HasUsed firsts u b) → EachMutator (view_of r.bundle) (HasUsed firsts all a)

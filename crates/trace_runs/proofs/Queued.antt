@@ -13,7 +13,7 @@ use Rattle.heap_words.specs.Steps.{Stage, IsReached}
 use Rattle.shen_graph.specs.History.{Entry, of_thread, commands_of}
 use Rattle.shen_graph.specs.Crowd.{IsLegalHistory}
 use Rattle.shen_graph.specs.Work.{opened, parted}
-use Rattle.shen_graph.specs.Valid.{IsValid}
+use Rattle.shen_graph.specs.Valid.{IsValid, most_objects}
 use Rattle.arrayvec.specs.ArrayVec.{ArrayVec}
 use Rattle.shen_graph.specs.declared.command.Command.{Command}
 use Rattle.heap_machines.specs.Pause.{pause_image}
@@ -51,8 +51,8 @@ use Rattle.trace_runs.proofs.Whole as ends
 -- ---- the users of a heap
 
 -- no user is to make more than 392 objects
-few_to_come : (count : ℕ) → count ≤ most_numbers → All (λ (u : Use). to_come u < 4294967295) (queue_users count)
-few_to_come count small = All-from_recursion (λ (u : Use). to_come u < 4294967295) (queue_users count) (omega (arith, small), (omega (arith, small), (omega arith, (omega arith, tt))))
+few_to_come : (count : ℕ) → count ≤ most_numbers → All (λ (u : Use). to_come u < most_objects) (queue_users count)
+few_to_come count small = All-from_recursion (λ (u : Use). to_come u < most_objects) (queue_users count) (omega (arith, small), (omega (arith, small), (omega arith, (omega arith, tt))))
 
 -- the scripts of mutators that have nothing to do
 abbrev idle_scripts : Scripts
@@ -73,8 +73,8 @@ crewed_part h count bundles w k b crew small can many here are = record {
         let can_start = idle.start.mutators n a there role in
         record { calls = can_start.calls; rest = can_start.rest; free = can_start.free; made = can_start.made };
     count = ap length are ∙ crew_counts h w k (k + 1) (record { bundle = b; load = Driven crew }) part (omega arith) crewed.single (queue_users count) crewed;
-    few = subst (λ us. All (λ (u : Use). to_come u < 4294967295) us) (sym are)
-        (All-drop (λ (u : Use). to_come u < 4294967295) k (take (k + 1) (queue_users count)) (All-take (λ (u : Use). to_come u < 4294967295) (k + 1) (queue_users count) (few_to_come count small)));
+    few = subst (λ us. All (λ (u : Use). to_come u < most_objects) us) (sym are)
+        (All-drop (λ (u : Use). to_come u < most_objects) k (take (k + 1) (queue_users count)) (All-take (λ (u : Use). to_come u < most_objects) (k + 1) (queue_users count) (few_to_come count small)));
   };
 }
   where

@@ -6,7 +6,7 @@ use Rattle.std.proofs.lemmas.List.{length-append}
 use Rattle.std.proofs.lemmas.List.Sums.{sum_by-le, sum_by-drop_more}
 use Rattle.std.proofs.lemmas.List.Elements.{All-from_get_or}
 use Rattle.shen_graph.specs.declared.command.Command.{Command}
-use Rattle.shen_graph.specs.Valid.{IsValid}
+use Rattle.shen_graph.specs.Valid.{IsValid, most_objects}
 use Rattle.heap_words.specs.declared.config.Config.{Config}
 use Rattle.heap_words.specs.declared.schedule.Item.{Item}
 use Rattle.shen_core.specs.Progress.{IsInSeats, IsRunnable}
@@ -37,7 +37,7 @@ runnable_scripts bytes v c scripts items reads = All-from_get_or IsRunnable scri
 -- and all scripts together fewer than a machine word counts
 pub few_in_all : (bytes : List ℕ) (v : ℕ) (c : Config) (scripts : List (List Command)) (items : List Item) → Reads bytes v c scripts items → sum_by length scripts ≤ 34359738360
 few_in_all bytes v c scripts items reads =
-    let total : sum_by length scripts ≤ length scripts * 4294967295 = sum_by-le length 4294967295 scripts (λ k d below. let few = (runnable_scripts bytes v c scripts items reads k d below).1 in omega (arith, few)) in
+    let total : sum_by length scripts ≤ length scripts * most_objects = sum_by-le length most_objects scripts (λ k d below. let few = (runnable_scripts bytes v c scripts items reads k d below).1 in omega (arith, few)) in
     let count = count_scripts bytes v c scripts items reads in
     omega (arith, total, count)
 

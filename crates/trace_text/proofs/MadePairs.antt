@@ -130,8 +130,8 @@ made_pair trace body v c scripts items es reads legal follows answer short =
     let behind = body ++ history_text es in
     let asked = each_asked trace v c scripts items es reads follows in
     let few : length es < 2 ^ 32 = few_in_all in
-    let small = history_small c.regions c.region_words 0 (opening c.mutators) es room (opening_small c.mutators) legal (recursion_from_All IsAsked es (All-weaker (λ (e : Entry). IsOfScript v c e.thread e.command) IsAsked (λ e is. record { thread = omega (arith, is.to_last, few_threads32); fits = is.fits.2 }) es asked)) (omega (arith, few)) in
-    let lines : AreLines body = subst AreLines (sym answer.text) (answer_lines v c.mutators (λ t. replies_of (of_thread es t)) (map (row_in (after (opening c.mutators) es)) answer.names) (after (opening c.mutators) es).root (λ t slot. name_in ((after (opening c.mutators) es).pin t slot)) (omega (arith, few_threads32))
+    let small = history_small c.regions c.region_words 0 (opening c.mutators) es room (opening_small c.mutators) legal (recursion_from_All IsAsked es (All-weaker (λ (e : Entry). IsOfScript v c e.thread e.command) IsAsked (λ e is. record { thread = omega (arith, is.to_last, threads_fit); fits = is.fits.2 }) es asked)) (omega (arith, few)) in
+    let lines : AreLines body = subst AreLines (sym answer.text) (answer_lines v c.mutators (λ t. replies_of (of_thread es t)) (map (row_in (after (opening c.mutators) es)) answer.names) (after (opening c.mutators) es).root (λ t slot. name_in ((after (opening c.mutators) es).pin t slot)) (omega (arith, threads_fit))
     (λ t. thread_replies es t small.replies) (rows_small (0 + length es) (after (opening c.mutators) es) answer.names small.graph answer.reach) small.graph.root small.graph.pin) in
     record {
       behind = behind;
@@ -145,8 +145,8 @@ made_pair trace body v c scripts items es reads legal follows answer short =
         let most : (c.regions + 1) * c.region_words ≤ 65 * c.region_words = mul-le-mul_right c.region_words (omega (arith, c.in_range.most_regions)) in
         omega (arith, most, c.in_range.most_words)
 
-    few_threads32 : c.mutators < 2 ^ 32
-    few_threads32 = omega (arith, c.in_range.most_mutators)
+    threads_fit : c.mutators < 2 ^ 32
+    threads_fit = omega (arith, c.in_range.most_mutators)
 
     few_in_all : length es < 2 ^ 32
     few_in_all =

@@ -26,19 +26,19 @@ entry_parts bytes gap words after answer reply end rest e a b c d f g = rw (a, b
 pub entry_takes : (version threads : ℕ) (bytes : List ℕ) (x : Entry × List ℕ) → threads < 2 ^ 64 → entry_at version threads bytes ≡ Some x → (bytes ≡ entry_line x.0 ++ x.1) × IsClaim version threads x.0
 unfolding entry_at
 entry_takes version threads bytes x small e =
-    then_some (positive_at threads bytes) (λ t. behind (codes " ") t.1 >>= λ words. spelled_command version words >>= λ c. behind (codes " : ") c.1 >>= λ reply. spelled_reply reply >>= λ r. behind (codes "\n") r.1 >>= λ end. Some (record { thread = t.0; command = c.0; reply = r.0 }, end)) x e (λ t at_t e1.
-    then_some (behind (codes " ") t.1) (λ words. spelled_command version words >>= λ c. behind (codes " : ") c.1 >>= λ reply. spelled_reply reply >>= λ r. behind (codes "\n") r.1 >>= λ end. Some (record { thread = t.0; command = c.0; reply = r.0 }, end)) x e1 (λ words at_words e2.
-    then_some (spelled_command version words) (λ c. behind (codes " : ") c.1 >>= λ reply. spelled_reply reply >>= λ r. behind (codes "\n") r.1 >>= λ end. Some (record { thread = t.0; command = c.0; reply = r.0 }, end)) x e2 (λ c at_c e3.
-    then_some (behind (codes " : ") c.1) (λ reply. spelled_reply reply >>= λ r. behind (codes "\n") r.1 >>= λ end. Some (record { thread = t.0; command = c.0; reply = r.0 }, end)) x e3 (λ reply at_reply e4.
-    then_some (spelled_reply reply) (λ r. behind (codes "\n") r.1 >>= λ end. Some (record { thread = t.0; command = c.0; reply = r.0 }, end)) x e4 (λ r at_r e5.
-    then_some (behind (codes "\n") r.1) (λ end. Some (record { thread = t.0; command = c.0; reply = r.0 }, end)) x e5 (λ end at_end e6.
+    then_some (positive_at threads bytes) (λ t. behind (codes " ") t.1 >>= λ words. spelled_command version words >>= λ c. behind (codes " : ") c.1 >>= λ reply. spelled_reply reply >>= λ r. behind (codes "\n") r.1 >>= λ end. Some (record { thread = t.0; command = c.0; reply = r.0 }, end)) x e (λ t at_t from_thread.
+    then_some (behind (codes " ") t.1) (λ words. spelled_command version words >>= λ c. behind (codes " : ") c.1 >>= λ reply. spelled_reply reply >>= λ r. behind (codes "\n") r.1 >>= λ end. Some (record { thread = t.0; command = c.0; reply = r.0 }, end)) x from_thread (λ words at_words from_words.
+    then_some (spelled_command version words) (λ c. behind (codes " : ") c.1 >>= λ reply. spelled_reply reply >>= λ r. behind (codes "\n") r.1 >>= λ end. Some (record { thread = t.0; command = c.0; reply = r.0 }, end)) x from_words (λ c at_c from_command.
+    then_some (behind (codes " : ") c.1) (λ reply. spelled_reply reply >>= λ r. behind (codes "\n") r.1 >>= λ end. Some (record { thread = t.0; command = c.0; reply = r.0 }, end)) x from_command (λ reply at_reply from_reply.
+    then_some (spelled_reply reply) (λ r. behind (codes "\n") r.1 >>= λ end. Some (record { thread = t.0; command = c.0; reply = r.0 }, end)) x from_reply (λ r at_r from_answer.
+    then_some (behind (codes "\n") r.1) (λ end. Some (record { thread = t.0; command = c.0; reply = r.0 }, end)) x from_answer (λ end at_end from_end.
     let thread = positive_takes threads bytes t small at_t in
     let command = command_takes version words c at_c in
     let answer = reply_takes reply r at_r in
     let made : Entry × List ℕ = (record { thread = t.0; command = c.0; reply = r.0 }, end) in
     let spelled : bytes ≡ entry_line made.0 ++ made.1 =
     entry_parts bytes t.1 words c.1 reply reply r.1 end made.0 thread.0 (behind_takes (codes " ") t.1 words at_words) command.0 (behind_takes (codes " : ") c.1 reply at_reply) answer.0 (behind_takes (codes "\n") r.1 end at_end) in
-    subst (λ (y : Entry × List ℕ). (bytes ≡ entry_line y.0 ++ y.1) × IsClaim version threads y.0) (same_some made x e6)
+    subst (λ (y : Entry × List ℕ). (bytes ≡ entry_line y.0 ++ y.1) × IsClaim version threads y.0) (same_some made x from_end)
     (spelled, record { from_one = thread.1; to_last = thread.2; known = command.1; valid = command.2; fits = command.3; reply = answer.1 })))))))
 
 pub entry_again : (version threads : ℕ) (e : Entry) (rest : List ℕ) → threads < 2 ^ 64 → IsClaim version threads e → entry_at version threads (entry_line e ++ rest) ≡ Some (e, rest)

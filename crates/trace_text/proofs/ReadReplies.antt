@@ -29,32 +29,32 @@ settled P false x other y here go e = go e
 
 word_begun : (b : ℕ) (r : Reply × List ℕ) → word_begun_by b ≡ Some r → IsItsWord r
 word_begun b r e =
-    settled IsItsWord (eqb b 45) (Null, codes "-") _ r (refl, tt) (λ e1.
-    settled IsItsWord (eqb b 111) (Ok, codes "ok") _ r (refl, tt) (λ e2.
-    settled IsItsWord (eqb b 121) (Yes, codes "yes") _ r (refl, tt) (λ e3.
-    settled IsItsWord (eqb b 110) (No, codes "no") _ r (refl, tt) (λ e4.
-    settled IsItsWord (eqb b 98) (Bad, codes "bad") _ r (refl, tt) (λ e5.
-    settled IsItsWord (eqb b 102) (Full, codes "full") _ r (refl, tt) (λ e6. absurd cc) e5) e4) e3) e2) e1) e
+    settled IsItsWord (eqb b 45) (Null, codes "-") _ r (refl, tt) (λ then_is.
+    settled IsItsWord (eqb b 111) (Ok, codes "ok") _ r (refl, tt) (λ behind_is.
+    settled IsItsWord (eqb b 121) (Yes, codes "yes") _ r (refl, tt) (λ then_yes.
+    settled IsItsWord (eqb b 110) (No, codes "no") _ r (refl, tt) (λ then_no.
+    settled IsItsWord (eqb b 98) (Bad, codes "bad") _ r (refl, tt) (λ then_bad.
+    settled IsItsWord (eqb b 102) (Full, codes "full") _ r (refl, tt) (λ then_full. absurd cc) then_bad) then_no) then_yes) behind_is) then_is) e
 
 word_takes : (b : ℕ) (bytes : List ℕ) (r : Reply × List ℕ) → spelled_word b bytes ≡ Some r → IsReadAs bytes r
 unfolding spelled_word
 word_takes b bytes r e =
-    then_some (word_begun_by b) (λ w. behind w.1 bytes >>= λ rest. Some (w.0, rest)) r e (λ w at_w e1.
-    then_some (behind w.1 bytes) (λ rest. Some (w.0, rest)) r e1 (λ rest at_rest e2.
+    then_some (word_begun_by b) (λ w. behind w.1 bytes >>= λ rest. Some (w.0, rest)) r e (λ w at_w then_is.
+    then_some (behind w.1 bytes) (λ rest. Some (w.0, rest)) r then_is (λ rest at_rest behind_is.
     let its = word_begun b w at_w in
     let made : Reply × List ℕ = (w.0, rest) in
     let spelled : bytes ≡ reply_word made.0 ++ made.1 = behind_takes w.1 bytes rest at_rest ∙ ap (λ (word : List ℕ). word ++ rest) its.0 in
-    subst (IsReadAs bytes) (same_some made r e2) (spelled, its.1)))
+    subst (IsReadAs bytes) (same_some made r behind_is) (spelled, its.1)))
 
 -- ---- numbers and names
 
 count_takes : (thread : ℕ) (bytes : List ℕ) (r : Reply × List ℕ) → count_at thread bytes ≡ Some r → thread < 2 ^ 32 → (count : ℕ) × (rest : List ℕ) × (bytes ≡ decimal count ++ rest) × (count < 2 ^ 32) × (r ≡ (Ref (record { thread = thread; count = count }), rest))
 unfolding count_at
 count_takes thread bytes r e small =
-    then_some (spelled_number 4294967295 bytes) (λ n. Some (Ref (record { thread = thread; count = n.0 }), n.1)) r e (λ n at_n e1.
+    then_some (spelled_number 4294967295 bytes) (λ n. Some (Ref (record { thread = thread; count = n.0 }), n.1)) r e (λ n at_n then_is.
     let read = number_takes 4294967295 bytes n (lit< tt) at_n in
     let made : Reply × List ℕ = (Ref (record { thread = thread; count = n.0 }), n.1) in
-    (n.0, n.1, read.0, omega (arith, read.1), sym (same_some made r e1)))
+    (n.0, n.1, read.0, omega (arith, read.1), sym (same_some made r then_is)))
 
 named : (bytes after rest : List ℕ) (t c : ℕ) (end : List ℕ) → bytes ≡ decimal t ++ after → after ≡ codes "." ++ rest → rest ≡ decimal c ++ end → bytes ≡ ((decimal t ++ codes ".") ++ decimal c) ++ end
 named bytes after rest t c end a b d =
@@ -64,16 +64,16 @@ named bytes after rest t c end a b d =
 numbered_takes : (bytes : List ℕ) (r : Reply × List ℕ) → numbered_at bytes ≡ Some r → IsReadAs bytes r
 unfolding numbered_at
 numbered_takes bytes r e =
-    then_some (spelled_number 18446744073709551615 bytes) (λ n. number_or_name n.0 n.1 (behind (codes ".") n.1)) r e (λ n at_n e1.
+    then_some (spelled_number 18446744073709551615 bytes) (λ n. number_or_name n.0 n.1 (behind (codes ".") n.1)) r e (λ n at_n then_is.
     let read = number_takes 18446744073709551615 bytes n (lit< tt) at_n in
-    by_dot n.0 n.1 read.0 read.1 (behind (codes ".") n.1) refl e1)
+    by_dot n.0 n.1 read.0 read.1 (behind (codes ".") n.1) refl then_is)
   where
     by_dot : (n : ℕ) (after : List ℕ) → bytes ≡ decimal n ++ after → n ≤ 18446744073709551615 → (dot : Option (List ℕ)) → behind (codes ".") after ≡ dot → number_or_name n after dot ≡ Some r → IsReadAs bytes r
-    by_dot n after spelled le None at_dot e1 =
+    by_dot n after spelled le None at_dot then_is =
         let made : Reply × List ℕ = (Number n, after) in
-        subst (IsReadAs bytes) (same_some made r e1) (spelled, omega (arith, le))
-    by_dot n after spelled le (Some rest) at_dot e1 =
-        let small = not_stopped (ltb 4294967295 n) (count_at n rest) r e1 in
+        subst (IsReadAs bytes) (same_some made r then_is) (spelled, omega (arith, le))
+    by_dot n after spelled le (Some rest) at_dot then_is =
+        let small = not_stopped (ltb 4294967295 n) (count_at n rest) r then_is in
         let thread : n < 2 ^ 32 = let low = ltb-false _ _ small.0 in omega (arith, low) in
         let counted = count_takes n rest r small.1 thread in
         subst (IsReadAs bytes) (sym counted.4) (named bytes after rest n counted.0 counted.1 spelled (behind_takes (codes ".") after rest at_dot) counted.2, (thread, counted.3))
@@ -81,11 +81,11 @@ numbered_takes bytes r e =
 place_takes : (bytes : List ℕ) (r : Reply × List ℕ) → spelled_place bytes ≡ Some r → IsReadAs (64 ∷ bytes) r
 unfolding spelled_place
 place_takes bytes r e =
-    then_some (spelled_number 18446744073709551615 bytes) (λ n. Some (At n.0, n.1)) r e (λ n at_n e1.
+    then_some (spelled_number 18446744073709551615 bytes) (λ n. Some (At n.0, n.1)) r e (λ n at_n then_is.
     let read = number_takes 18446744073709551615 bytes n (lit< tt) at_n in
     let made : Reply × List ℕ = (At n.0, n.1) in
     let spelled : 64 ∷ bytes ≡ reply_word made.0 ++ made.1 = ap (λ (bs : List ℕ). 64 ∷ bs) read.0 in
-    subst (IsReadAs (64 ∷ bytes)) (same_some made r e1) (spelled, omega (arith, read.1)))
+    subst (IsReadAs (64 ∷ bytes)) (same_some made r then_is) (spelled, omega (arith, read.1)))
 
 pub reply_takes : (bytes : List ℕ) (r : Reply × List ℕ) → spelled_reply bytes ≡ Some r → IsReadAs bytes r
 unfolding spelled_reply
@@ -93,9 +93,9 @@ reply_takes [] r e = absurd cc
 reply_takes (b ∷ bytes) r e = by_test (is_ascii_digit b) (eqb b 64) refl e
   where
     by_test : (digit mark : Bool) → eqb b 64 ≡ mark → cond digit (numbered_at (b ∷ bytes)) (cond mark (spelled_place bytes) (spelled_word b (b ∷ bytes))) ≡ Some r → IsReadAs (b ∷ bytes) r
-    by_test true mark same e1 = numbered_takes (b ∷ bytes) r e1
-    by_test false true same e1 = subst (λ (d : ℕ). IsReadAs (d ∷ bytes) r) (sym (eqb-true b 64 same)) (place_takes bytes r e1)
-    by_test false false same e1 = word_takes b (b ∷ bytes) r e1
+    by_test true mark same then_is = numbered_takes (b ∷ bytes) r then_is
+    by_test false true same then_is = subst (λ (d : ℕ). IsReadAs (d ∷ bytes) r) (sym (eqb-true b 64 same)) (place_takes bytes r then_is)
+    by_test false false same then_is = word_takes b (b ∷ bytes) r then_is
 
 -- ---- again
 

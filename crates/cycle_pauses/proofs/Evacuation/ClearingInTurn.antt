@@ -291,7 +291,7 @@ module _ (c : Config) (first m : Word → ℕ) (block : Plot) (owner : ℕ → O
         (moves.2.promises p u words promise))
         (asking u) (s.asked u within)
 
-    answer_cleared : (plot' : Plot) × IsClearing c first (cleared_at c m (Answer t)) plot' owner g asking
+    answer_cleared : (new_plot : Plot) × IsClearing c first (cleared_at c m (Answer t)) new_plot owner g asking
     answer_cleared = (
       plot,
       subst (λ end. IsClearing c first end plot owner g asking) (sym (copied_then c m (Answer t) to collected made_header moves.2.header))

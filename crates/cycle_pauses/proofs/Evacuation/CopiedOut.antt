@@ -588,7 +588,7 @@ module _ (c : Config) (m : Word → ℕ) (block : Plot) (owner : ℕ → Option 
   }
 
   -- and that is where the copy is
-  pub copied_out_of : (to' : ℕ) × (plot' : Plot) × HasCopied c m (copied_out c m a) block plot' owner g a to' x
+  pub copied_out_of : (copy_address : ℕ) × (new_plot : Plot) × HasCopied c m (copied_out c m a) block new_plot owner g a copy_address x
   copied_out_of = (
     to,
     plot,

@@ -199,7 +199,7 @@ module _ (c : Config) (first m : Word → ℕ) (block : Plot) (owner : ℕ → O
       pins_stay_here : (t i : ℕ) → t < c.mutators → i < 4 → PinStands c (first Cset) (first Evac) plot (first (Pin t i)) (g.pin (t + 1) i)
       pins_stay_here t i inside few =
           let other : first (Pin t i) ≢ a = λ same. unpinned_there c m a is.above is.unpinned t i inside few (pins_same t i ∙ same) in
-          pin_kept c (first Cset) (first Evac) block plot (first (Pin t i)) (g.pin (t + 1) i) (λ z here'. at.2.stays (first (Pin t i)) z other here') (s.pinned t i inside few)
+          pin_kept c (first Cset) (first Evac) block plot (first (Pin t i)) (g.pin (t + 1) i) (λ z is_there. at.2.stays (first (Pin t i)) z other is_there) (s.pinned t i inside few)
 
       -- so a unit that was swept is swept still
       swept_still : (r : ℕ) → IsIn (m Cset) r → IsSweptTo c (m Evac) block r (base_of c (r + 1)) → IsSweptTo c (n Evac) plot r (base_of c (r + 1))
@@ -209,7 +209,7 @@ module _ (c : Config) (first m : Word → ℕ) (block : Plot) (owner : ℕ → O
           let inside : IsIn (n Cset) r = subst (λ set. IsIn set r) (sym set_same) member in
           none p refs nums name from before (thing_was p refs nums name there (subst (IsIn (n Cset)) (sym region) inside)).1)
 
-      pub one_copied : (plot' : Plot) × IsCopying c first (copied_out c m a) plot' owner g asking (a + 1)
+      pub one_copied : (new_plot : Plot) × IsCopying c first (copied_out c m a) new_plot owner g asking (a + 1)
       one_copied = (
         plot,
         record {

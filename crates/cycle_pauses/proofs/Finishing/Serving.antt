@@ -370,7 +370,7 @@ module _ (c : Config) (m : Word → ℕ) (block : Plot) (owner : ℕ → Option 
       (λ (other : t ≢ u). subst (IsServedSo (asking u)) (sym (updated_else asking t (given refs nums) u other)) (IsServedSo.as_before (asking u)))
       (cases_eq t u)
 
-  pub given_one : (plot' : Plot) × (then : ℕ → Asking) × IsIdle c (made_in c m t r) plot' owner g then × ((u : ℕ) → IsServedSo (asking u) (then u))
+  pub given_one : (new_plot : Plot) × (then : ℕ → Asking) × IsIdle c (made_in c m t r) new_plot owner g then × ((u : ℕ) → IsServedSo (asking u) (then u))
   given_one = (plot, asking_then, one_made, served_one)
 
 -- served again

@@ -71,8 +71,8 @@ module _ (c : Config) (m : Word → ℕ) where
   -- who does not wait is given nothing
   idle_given : (u : ℕ) → m (Wait u) ≡ 0 → given_in c m u ≡ 0
   idle_given u none =
-      let zero' : asked_in m u ≡ 0 = cond-true (m (Wait u) == 0) 0 (object_words (request_shape_in (m (Wait u)))) (eq-eqb (m (Wait u)) 0 none) in
-      ap (given_by (room_at_turn c.region_words c.regions (asked_in m) (λ s. m (Top s)) u)) zero' ∙ given_nothing (room_at_turn c.region_words c.regions (asked_in m) (λ s. m (Top s)) u)
+      let is_zero : asked_in m u ≡ 0 = cond-true (m (Wait u) == 0) 0 (object_words (request_shape_in (m (Wait u)))) (eq-eqb (m (Wait u)) 0 none) in
+      ap (given_by (room_at_turn c.region_words c.regions (asked_in m) (λ s. m (Top s)) u)) is_zero ∙ given_nothing (room_at_turn c.region_words c.regions (asked_in m) (λ s. m (Top s)) u)
 
   -- and so is who finds no room
   left_given : (u : ℕ) → NoneHasRoom c.region_words (tops_at_turn c m u) (asked_in m u) c.regions → given_in c m u ≡ 0
@@ -115,7 +115,7 @@ module _ (c : Config) (m : Word → ℕ) (g : Graph) (asking : ℕ → Asking) (
   given_are u (asks refs nums) inside is asked =
       let none = promised_are u (asks refs nums) inside is in
       let waits = waits_for m g.count u refs nums asked.0 in
-      let answered = (requests_are_answered c after).answered u inside (λ zero'. waits (sym (packed_wait c m u) ∙ zero')) in
+      let answered = (requests_are_answered c after).answered u inside (λ is_zero. waits (sym (packed_wait c m u) ∙ is_zero)) in
       ⊎_elim
       (λ (room : (s : ℕ) × IsLowestRoom c.region_words (tops_at_turn c after u) (asked_in after u) c.regions s).
       let low : 1 * c.region_words ≤ (room.0 + 1) * c.region_words = mul-le-mul_right c.region_words (omega arith) in

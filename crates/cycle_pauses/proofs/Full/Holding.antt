@@ -57,8 +57,8 @@ request_reads memory count t refs nums request =
 -- and is not 0
 pub waits_for : (memory : Word → ℕ) (count : ℕ → ℕ) (t refs nums : ℕ) → IsRequest memory count t refs nums → memory (Wait t) ≢ 0
 waits_for memory count t refs nums request none =
-    let zero' : request_code (count (t + 1) + 1) (shape_word refs nums) ≡ 0 = sym request.wait_is ∙ none in
-    omega (arith, zero')
+    let is_zero : request_code (count (t + 1) + 1) (shape_word refs nums) ≡ 0 = sym request.wait_is ∙ none in
+    omega (arith, is_zero)
 
 -- a region that is not in a set is outside
 not_in : (set region : ℕ) → (IsIn set region → ⊥) → IsOutside set region

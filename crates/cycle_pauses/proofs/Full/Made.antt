@@ -10,6 +10,7 @@ use Rattle.heap_words.specs.Encoding.{name_code, fresh_word}
 use Rattle.shen_graph.specs.declared.name.Name.{Name}
 use Rattle.shen_graph.specs.Graph.{Graph, Object, Reference, blank, fresh, same_reference}
 use Rattle.shen_graph.proofs.PlainLemmas.{same_name-itself}
+use Rattle.shen_graph.specs.Valid.{most_objects}
 use Rattle.heap_world.specs.World.{thing, promised, Plot, name_at, IsThing}
 use Rattle.heap_world.specs.Asking.{HasNoPromise, IsPromise}
 use Rattle.image_graph.proofs.Named.{thing_at}
@@ -77,7 +78,7 @@ module _ (c : Config) (m : Word → ℕ) (block : Plot) (g : Graph) (p : Promise
       omega (arith, some, none)
 
   module _ (t refs nums : ℕ) (inside : t < c.mutators) (some : 1 < m (Answer t)) (refs_are : p.refs (t + 1) ≡ refs) (nums_are : p.nums (t + 1) ≡ nums)
-      (few_refs : refs ≤ 16) (few_nums : nums ≤ 16) (few : g.count (t + 1) < 4294967295) where
+      (few_refs : refs ≤ 16) (few_nums : nums ≤ 16) (few : g.count (t + 1) < most_objects) where
     abbrev a : ℕ
     a = m (Answer t)
 
@@ -109,9 +110,9 @@ module _ (c : Config) (m : Word → ℕ) (block : Plot) (g : Graph) (p : Promise
         let o = is_after.stands.objects.each a was.0 was.1 n was.2 in
         let same : o.0 ≡ blank refs nums = same_Some o.0 (blank refs nums) (sym o.1 ∙ object) in
         let null : Reference = None in
-        let zero' : ℕ = 0 in
+        let blank_number : ℕ = 0 in
         let long : length o.0.refs ≡ refs = ap (λ (x : Object). length x.refs) same ∙ length-replicate refs null in
-        let wide : length o.0.nums ≡ nums = ap (λ (x : Object). length x.nums) same ∙ length-replicate nums zero' in
+        let wide : length o.0.nums ≡ nums = ap (λ (x : Object). length x.nums) same ∙ length-replicate nums blank_number in
         was.2 ∙ ap (λ k. Some (thing n k was.1)) (sym o.2.refs_are ∙ long) ∙ ap (λ k. Some (thing n refs k)) (sym o.2.nums_are ∙ wide)
 
     words_there : IsThing heap block a refs nums n (blank refs nums)

@@ -97,40 +97,40 @@ module _ (c : Config) (m : Word → ℕ) (shut : ℕ → Bool) (kept renew : ℕ
   -- nor is the heap there
   heap_outside : (x : ℕ) → (x < c.region_words) ⊎ (heap_end c ≤ x) → renew ≡ renewed place (now_in m) → m (Heap x) ≡ 0 → packed c shut (now_in m) kept m (Heap x) ≡ 0
   unfolding packed moved_heap
-  heap_outside x out same zero' =
+  heap_outside x out same zero_outside =
       cond-false (shut (region_with c x + 1) && (begins c m x && is_unkept kept m x)) (filler_header (object_words (m (Heap (x + 1))))) (slid place kept (renewed place (now_in m)) (λ y. m (Heap y)) (heap_end c) x)
       (and_right (shut (region_with c x + 1)) _ (and_left (begins c m x) (is_unkept kept m x) (none_begins c m x out)))
-      ∙ ap (λ f. slid place kept f (λ y. m (Heap y)) (heap_end c) x) (sym same) ∙ slid_outside (λ y. m (Heap y)) (heap_end c) x out ∙ zero'
+      ∙ ap (λ f. slid place kept f (λ y. m (Heap y)) (heap_end c) x) (sym same) ∙ slid_outside (λ y. m (Heap y)) (heap_end c) x out ∙ zero_outside
 
 packed_outside : (c : Config) (m : Word → ℕ) → LieApart c.region_words (kept_in c m) → ((a : ℕ) → 0 < kept_in c m a → a + kept_in c m a ≤ heap_end c) → IsZeroOutside c m → IsZeroOutside c (packed_in c m)
 unfolding packed
-packed_outside c m lie inside zero' (Heap a) other =
-    heap_outside c m (is_row_pinned c m) (kept_in c m) (renewed (place_in c (is_row_pinned c m) (kept_in c m)) (now_in m)) lie inside a (outside_heap c a other) refl (zero' (Heap a) other)
-packed_outside c m lie inside zero' (Root t i) other = ap (renewed (place_in c (is_row_pinned c m) (kept_in c m)) (now_in m)) (zero' (Root t i) other)
-packed_outside c m lie inside zero' (Pin t i) other = zero' (Pin t i) other
-packed_outside c m lie inside zero' (Answer t) other = ap (λ word. cond (nat_le word 1) word (place_in c (is_row_pinned c m) (kept_in c m) (now_in m word))) (zero' (Answer t) other)
-packed_outside c m lie inside zero' (Top r) other =
-    either_zero (is_row_pinned c m (r + 1)) (m (Top r)) (packed_top c (is_row_pinned c m) (kept_in c m) r) (zero' (Top r) other)
+packed_outside c m lie inside zero_outside (Heap a) other =
+    heap_outside c m (is_row_pinned c m) (kept_in c m) (renewed (place_in c (is_row_pinned c m) (kept_in c m)) (now_in m)) lie inside a (outside_heap c a other) refl (zero_outside (Heap a) other)
+packed_outside c m lie inside zero_outside (Root t i) other = ap (renewed (place_in c (is_row_pinned c m) (kept_in c m)) (now_in m)) (zero_outside (Root t i) other)
+packed_outside c m lie inside zero_outside (Pin t i) other = zero_outside (Pin t i) other
+packed_outside c m lie inside zero_outside (Answer t) other = ap (λ word. cond (nat_le word 1) word (place_in c (is_row_pinned c m) (kept_in c m) (now_in m word))) (zero_outside (Answer t) other)
+packed_outside c m lie inside zero_outside (Top r) other =
+    either_zero (is_row_pinned c m (r + 1)) (m (Top r)) (packed_top c (is_row_pinned c m) (kept_in c m) r) (zero_outside (Top r) other)
     (top_outside c m (is_row_pinned c m) (kept_in c m) (renewed (place_in c (is_row_pinned c m) (kept_in c m)) (now_in m)) lie inside r (not_below r other))
   where
     not_below : (s : ℕ) → nat_lt s c.regions ≡ false → c.regions ≤ s
     not_below s test = grind (arith, nat_tests)
-packed_outside c m lie inside zero' (State s) other = zero' (State s) other
-packed_outside c m lie inside zero' (Buffer t i) other = zero' (Buffer t i) other
-packed_outside c m lie inside zero' (Wait t) other = zero' (Wait t) other
-packed_outside c m lie inside zero' (Tams r) other = refl
-packed_outside c m lie inside zero' (Limit r) other = refl
-packed_outside c m lie inside zero' (Current s) other = refl
-packed_outside c m lie inside zero' (Count t) other = refl
-packed_outside c m lie inside zero' (Grey n) other = refl
-packed_outside c m lie inside zero' (Black n) other = refl
-packed_outside c m lie inside zero' _ other = absurd (true≢false other)
+packed_outside c m lie inside zero_outside (State s) other = zero_outside (State s) other
+packed_outside c m lie inside zero_outside (Buffer t i) other = zero_outside (Buffer t i) other
+packed_outside c m lie inside zero_outside (Wait t) other = zero_outside (Wait t) other
+packed_outside c m lie inside zero_outside (Tams r) other = refl
+packed_outside c m lie inside zero_outside (Limit r) other = refl
+packed_outside c m lie inside zero_outside (Current s) other = refl
+packed_outside c m lie inside zero_outside (Count t) other = refl
+packed_outside c m lie inside zero_outside (Grey n) other = refl
+packed_outside c m lie inside zero_outside (Black n) other = refl
+packed_outside c m lie inside zero_outside _ other = absurd (true≢false other)
 
 -- an object that is made in a region writes no other word
 made_outside : (c : Config) (m : Word → ℕ) (t r : ℕ) → t < c.mutators → r < c.regions → m (Top r) + object_words (request_shape_in (m (Wait t))) ≤ c.region_words
     → IsZeroOutside c m → IsZeroOutside c (made_in c m t r)
 unfolding made_in
-made_outside c m t r inside within room zero' (Heap x) other =
+made_outside c m t r inside within room zero_outside (Heap x) other =
     let low : 1 * c.region_words ≤ (r + 1) * c.region_words = mul-le-mul_right c.region_words (omega arith) in
     let high : (r + 1 + 1) * c.region_words ≤ (c.regions + 1) * c.region_words = mul-le-mul_right c.region_words (omega (arith, within)) in
     outside_fresh (base_of c r + m (Top r)) (request_shape_in (m (Wait t))) (name_code (t + 1) (request_count_in (m (Wait t)))) (m (Heap x)) x
@@ -138,38 +138,38 @@ made_outside c m t r inside within room zero' (Heap x) other =
     (λ (below : x < c.region_words). inl (omega (arith, below, low)))
     (λ (past : heap_end c ≤ x). inr (omega (arith, past, room, high)))
     (outside_heap c x other))
-    ∙ zero' (Heap x) other
-made_outside c m t r inside within room zero' (Top q) other =
-    cond-false (r == q) (m (Top r) + object_words (request_shape_in (m (Wait t)))) (m (Top q)) (ne_eqb r q (differ q other)) ∙ zero' (Top q) other
+    ∙ zero_outside (Heap x) other
+made_outside c m t r inside within room zero_outside (Top q) other =
+    cond-false (r == q) (m (Top r) + object_words (request_shape_in (m (Wait t)))) (m (Top q)) (ne_eqb r q (differ q other)) ∙ zero_outside (Top q) other
   where
     differ : (s : ℕ) → nat_lt s c.regions ≡ false → r ≢ s
     differ s test same = grind (arith, nat_tests)
-made_outside c m t r inside within room zero' (Answer u) other =
-    cond-false (t == u) (base_of c r + m (Top r)) (m (Answer u)) (ne_eqb t u (differ u other)) ∙ zero' (Answer u) other
+made_outside c m t r inside within room zero_outside (Answer u) other =
+    cond-false (t == u) (base_of c r + m (Top r)) (m (Answer u)) (ne_eqb t u (differ u other)) ∙ zero_outside (Answer u) other
   where
     differ : (s : ℕ) → nat_lt s c.mutators ≡ false → t ≢ s
     differ s test same = grind (arith, nat_tests)
-made_outside c m t r inside within room zero' (Wait u) other =
-    cond-false (t == u) 0 (m (Wait u)) (ne_eqb t u (differ u other)) ∙ zero' (Wait u) other
+made_outside c m t r inside within room zero_outside (Wait u) other =
+    cond-false (t == u) 0 (m (Wait u)) (ne_eqb t u (differ u other)) ∙ zero_outside (Wait u) other
   where
     differ : (s : ℕ) → nat_lt s c.mutators ≡ false → t ≢ s
     differ s test same = grind (arith, nat_tests)
-made_outside c m t r inside within room zero' (State s) other = zero' (State s) other
-made_outside c m t r inside within room zero' (Buffer u i) other = zero' (Buffer u i) other
-made_outside c m t r inside within room zero' (Root u i) other = zero' (Root u i) other
-made_outside c m t r inside within room zero' (Pin u i) other = zero' (Pin u i) other
-made_outside c m t r inside within room zero' (Tams q) other = zero' (Tams q) other
-made_outside c m t r inside within room zero' (Limit q) other = zero' (Limit q) other
-made_outside c m t r inside within room zero' (Current s) other = zero' (Current s) other
-made_outside c m t r inside within room zero' (Count u) other = zero' (Count u) other
-made_outside c m t r inside within room zero' (Grey n) other = zero' (Grey n) other
-made_outside c m t r inside within room zero' (Black n) other = zero' (Black n) other
-made_outside c m t r inside within room zero' _ other = absurd (true≢false other)
+made_outside c m t r inside within room zero_outside (State s) other = zero_outside (State s) other
+made_outside c m t r inside within room zero_outside (Buffer u i) other = zero_outside (Buffer u i) other
+made_outside c m t r inside within room zero_outside (Root u i) other = zero_outside (Root u i) other
+made_outside c m t r inside within room zero_outside (Pin u i) other = zero_outside (Pin u i) other
+made_outside c m t r inside within room zero_outside (Tams q) other = zero_outside (Tams q) other
+made_outside c m t r inside within room zero_outside (Limit q) other = zero_outside (Limit q) other
+made_outside c m t r inside within room zero_outside (Current s) other = zero_outside (Current s) other
+made_outside c m t r inside within room zero_outside (Count u) other = zero_outside (Count u) other
+made_outside c m t r inside within room zero_outside (Grey n) other = zero_outside (Grey n) other
+made_outside c m t r inside within room zero_outside (Black n) other = zero_outside (Black n) other
+made_outside c m t r inside within room zero_outside _ other = absurd (true≢false other)
 
 pub served_outside : (c : Config) (m : Word → ℕ) (n : ℕ) → n ≤ c.mutators → IsZeroOutside c m → IsZeroOutside c (served c m n)
-served_outside c m zero few zero' word other = served_first c m word ∙ zero' word other
-served_outside c m (suc n) few zero' word other =
-    let before : IsZeroOutside c (served c m n) = served_outside c m n (omega (arith, few)) zero' in
+served_outside c m zero few zero_outside word other = served_first c m word ∙ zero_outside word other
+served_outside c m (suc n) few zero_outside word other =
+    let before : IsZeroOutside c (served c m n) = served_outside c m n (omega (arith, few)) zero_outside in
     ⊎_elim
     (λ (none : served c m n (Wait n) ≡ 0). turn_idle c m n word none ∙ before word other)
     (λ (some : served c m n (Wait n) ≢ 0). turn_waits c m n word some ∙ by_room (served c m n) before (room_for c (served c m n) n) refl)
@@ -183,10 +183,10 @@ served_outside c m (suc n) few zero' word other =
 
 refused_outside : (c : Config) (m : Word → ℕ) → IsZeroOutside c m → IsZeroOutside c (refused m)
 unfolding refused
-refused_outside c m zero' (Answer t) other = cond-true (m (Wait t) == 0) (m (Answer t)) 1 (eq-eqb (m (Wait t)) 0 (zero' (Wait t) other)) ∙ zero' (Answer t) other
-refused_outside c m zero' (Wait t) other = refl
-refused_outside c m zero' word other = zero' word other
+refused_outside c m zero_outside (Answer t) other = cond-true (m (Wait t) == 0) (m (Answer t)) 1 (eq-eqb (m (Wait t)) 0 (zero_outside (Wait t) other)) ∙ zero_outside (Answer t) other
+refused_outside c m zero_outside (Wait t) other = refl
+refused_outside c m zero_outside word other = zero_outside word other
 
 pub full_outside : (c : Config) (m : Word → ℕ) → LieApart c.region_words (kept_in c m) → ((a : ℕ) → 0 < kept_in c m a → a + kept_in c m a ≤ heap_end c) → IsZeroOutside c m → IsZeroOutside c (full_from c m)
-full_outside c m lie inside zero' =
-    refused_outside c (served c (packed_in c m) c.mutators) (served_outside c (packed_in c m) c.mutators (omega arith) (packed_outside c m lie inside zero'))
+full_outside c m lie inside zero_outside =
+    refused_outside c (served c (packed_in c m) c.mutators) (served_outside c (packed_in c m) c.mutators (omega arith) (packed_outside c m lie inside zero_outside))

@@ -36,7 +36,7 @@ with_one (Some n) names = n ∷ names
 
 abbrev names_at : (ℕ → Option Name) → List ℕ → List Name
 names_at at [] = []
-names_at at (a ∷ as') = with_one (at a) (names_at at as')
+names_at at (a ∷ others) = with_one (at a) (names_at at others)
 
 one_first : (o : Option Name) (names : List Name) (n : Name) → o ≡ Some n → Contains (with_one o names) n
 one_first None names n is = absurd (none-some n is)

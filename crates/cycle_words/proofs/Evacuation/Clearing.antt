@@ -263,7 +263,7 @@ module _ (c : Config) (before : Word → ℕ) (empty : FreeAreEmpty c before) (l
       abbrev clear_of : ℕ → Word → ℕ
       clear_of a word = if same_word place word then now_in (moved_out c m a) a else moved_out c m a word
 
-      moved_by : is_collected c before (before place) ≡ true → (objects' : List ℕ) × IsMoved m (moved_out c m (before place)) (before place) objects'
+      moved_by : is_collected c before (before place) ≡ true → (new_objects : List ℕ) × IsMoved m (moved_out c m (before place)) (before place) new_objects
       moved_by collected =
           let a = before place in
           let parts = and_parts (nat_le c.region_words a) (bit_at (before Cset) (region_with c a) == 1) collected in
@@ -286,7 +286,7 @@ module _ (c : Config) (before : Word → ℕ) (empty : FreeAreEmpty c before) (l
           (cases_Bool (is_forwarded (m (Heap a))))
 
       -- the place named something in the set
-      cleared_by : is_collected c before (before place) ≡ true → (objects' : List ℕ) × IsCleared m (clear_of (before place)) place objects'
+      cleared_by : is_collected c before (before place) ≡ true → (new_objects : List ℕ) × IsCleared m (clear_of (before place)) place new_objects
       cleared_by collected =
           let found = moved_by collected in
           let n = moved_out c m (before place) in
@@ -358,7 +358,7 @@ module _ (c : Config) (before : Word → ℕ) (empty : FreeAreEmpty c before) (l
       }
 
       clears : (next : Word → ℕ) → (is_collected c m (m place) ≡ false → next ≡ m) → (is_collected c m (m place) ≡ true → next ≡ clear_of (m place))
-          → (objects' : List ℕ) × IsCleared m next place objects'
+          → (new_objects : List ℕ) × IsCleared m next place new_objects
       clears next spared cleared = ⊎_elim
           (λ (collected : is_collected c m (m place) ≡ true).
           let in_set : is_collected c before (m place) ≡ true = sym (collected_same (m place)) ∙ collected in
@@ -369,7 +369,7 @@ module _ (c : Config) (before : Word → ℕ) (empty : FreeAreEmpty c before) (l
           (objects, subst (λ n. IsCleared m n place objects) (sym (spared outside)) (record { so_far = so_far; here = sym (collected_same (m place)) ∙ outside; stays = λ p _ was. was })))
           (cases_Bool (is_collected c m (m place)))
 
-      clears_here : (objects' : List ℕ) × IsCleared m (cleared_at c m place) place objects'
+      clears_here : (new_objects : List ℕ) × IsCleared m (cleared_at c m place) place new_objects
       unfolding cleared_at
       clears_here = clears (cleared_at c m place)
           (λ outside. fun_ext (λ word. cond-false (is_collected c m (m place)) (clear_of (m place) word) (m word) outside))
@@ -382,7 +382,7 @@ module _ (c : Config) (before : Word → ℕ) (empty : FreeAreEmpty c before) (l
     stays : (p : Word) → IsNaming p → is_collected c before (m p) ≡ false → is_collected c before (end p) ≡ false
 
   all_cleared : (places : List Word) (m : Word → ℕ) (objects : List ℕ) → ((p : Word) → Contains places p → Contains (naming_places c) p) → IsSoFar m objects
-      → (objects' : List ℕ) × AreClearedHere m (cleared_in_turn c m places) places objects'
+      → (new_objects : List ℕ) × AreClearedHere m (cleared_in_turn c m places) places new_objects
   unfolding cleared_in_turn
   all_cleared [] m objects are so_far = (objects, record { so_far = so_far; here = λ p has. absurd (omega (arith, has.1)); stays = λ p _ was. was })
   all_cleared (place ∷ places) m objects are so_far =

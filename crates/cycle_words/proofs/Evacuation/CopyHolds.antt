@@ -45,7 +45,7 @@ use Rattle.image_graph.proofs.Carried.{now_same, not_renamed, IsCarried, led_com
 
 -- a set that has a region is not empty
 pub some_set : (c : Config) (set a : ℕ) → IsCollected c set a → set ≢ 0
-some_set c set a inside none = (let zero' : bit_at set (region_with c a) ≡ 0 = ap (λ k. bit_at k (region_with c a)) none ∙ bit_at-zero (region_with c a) in omega (arith, zero', inside))
+some_set c set a inside none = (let is_zero : bit_at set (region_with c a) ≡ 0 = ap (λ k. bit_at k (region_with c a)) none ∙ bit_at-zero (region_with c a) in omega (arith, is_zero, inside))
 
 -- What holds of the collection set from one object to the next.
 pub record IsInOrder (c : Config) (m : Word → ℕ) (block : Plot) : Type 0 where

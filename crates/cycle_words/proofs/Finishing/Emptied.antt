@@ -207,14 +207,14 @@ module _ (c : Config) (m : Word → ℕ) (block : Plot) (owner : ℕ → Option 
   without : m Cset ≡ 0 → (plot : Plot) × IsEmptied c (all_copied c m) plot owner p g
   without none =
       let all = copies.all_copied_hold c owner p g m block at_first in
-      let zero' : all_copied c m Cset ≡ 0 = all_copied_set c m ∙ none in (
+      let is_zero : all_copied c m Cset ≡ 0 = all_copied_set c m ∙ none in (
         all.0,
         record {
           holds = all.2.holds;
           sized = all.2.sized;
-          reachable = λ some. absurd (some zero');
-          unseated = λ seat r is member. absurd (let bit : bit_at (all_copied c m Cset) r ≡ 0 = ap (λ k. bit_at k r) zero' ∙ bit_at-zero r in omega (arith, bit, member));
-          outside = λ a reached inside. absurd (some_set c (all_copied c m Cset) a inside zero');
+          reachable = λ some. absurd (some is_zero);
+          unseated = λ seat r is member. absurd (let bit : bit_at (all_copied c m Cset) r ≡ 0 = ap (λ k. bit_at k r) is_zero ∙ bit_at-zero r in omega (arith, bit, member));
+          outside = λ a reached inside. absurd (some_set c (all_copied c m Cset) a inside is_zero);
         },
       )
 

@@ -149,7 +149,7 @@ module _ (c : Config) (m : Word → ℕ) (block : Plot) (owner : ℕ → Option 
   }
 
   not_null : (a : ℕ) → IsObjectAt m block a → a ≢ 0
-  not_null a is zero' = let at = object_inside a is in let long = c.in_range.least_words in omega (arith, at.0, zero', long)
+  not_null a is is_zero = let at = object_inside a is in let long = c.in_range.least_words in omega (arith, at.0, is_zero, long)
 
   abbrev s : Snapshot
   s = marking.ghost.snapshot
@@ -162,10 +162,10 @@ module _ (c : Config) (m : Word → ℕ) (block : Plot) (owner : ℕ → Option 
   noted_black a now (IsNoted.by_mark mark) =
       let at = object_inside a (markable_object a now) in
       traced_black a (from_grey a (and_from (nat_le c.region_words a) _ (le-leb c.region_words a at.0) (eq-eqb (bit_at (m (Grey (mark_word c a))) (mark_bit c a)) 1 mark)))
-  noted_black a now (IsNoted.by_entry t k inside' below is) =
+  noted_black a now (IsNoted.by_entry t k within below is) =
       let some = not_null a (markable_object a now) in
-      subst (λ x. is_black c n x ≡ true) is (traced_black (m (Buffer t k)) (from_buffer t k inside' below (λ e. some (sym is ∙ e))))
-  noted_black a now (IsNoted.by_hand t inside' is) = absurd (none-some a (sym (marking.unmarking.records_none t (omega (arith, inside'))) ∙ is))
+      subst (λ x. is_black c n x ≡ true) is (traced_black (m (Buffer t k)) (from_buffer t k within below (λ e. some (sym is ∙ e))))
+  noted_black a now (IsNoted.by_hand t within is) = absurd (none-some a (sym (marking.unmarking.records_none t (omega (arith, within))) ∙ is))
 
   -- A field of an object of the snapshot that becomes black: what it named then becomes black.
   module _ (a refs nums k : ℕ) (name : Name) (here : s.block a ≡ Some (thing name refs nums)) (below : k < refs) (some : was_at s a k ≢ 0) (now : IsMarkable block (was_at s a k)) (black : is_black c n a ≡ true) where
@@ -179,7 +179,7 @@ module _ (c : Config) (m : Word → ℕ) (block : Plot) (owner : ℕ → Option 
     from_scan same (IsToScan.is_white white) = from_white same (false_from_ne_true (is_black c m a) (λ old.
         let bit = eqb-true (bit_at (m (Black (mark_word c a))) (mark_bit c a)) 1 (and_parts (nat_le c.region_words a) _ old).1 in
         omega (arith, bit, white)))
-    from_scan same (IsToScan.in_scan seat at inside' is before) = absurd (none-some _ (sym (marking.unmarking.scans_none seat inside') ∙ is))
+    from_scan same (IsToScan.in_scan seat at within is before) = absurd (none-some _ (sym (marking.unmarking.scans_none seat within) ∙ is))
 
     from_edge : IsTracedAt c s heap (λ q. m (Black q)) marking.ghost.scanning Noted a k → is_black c n (was_at s a k) ≡ true
     from_edge (IsTracedAt.done is) = ⊎_elim (λ (null : was_at s a k ≡ 0). absurd (some null)) (λ (noted : Noted (was_at s a k)). noted_black (was_at s a k) now noted) is

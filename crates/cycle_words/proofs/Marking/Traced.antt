@@ -101,7 +101,7 @@ module _ (c : Config) (m : Word → ℕ) where
   -- where all of it lies in the heap, all of it is found
   module _ (inside : (q : ℕ) → IsTraced c m q → (c.region_words ≤ q) × (q < c.region_words + c.regions * c.region_words)) where
     some_traced : (q : ℕ) → IsTraced c m q → q ≢ 0
-    some_traced q is zero' = let at = inside q is in let long = c.in_range.least_words in omega (arith, at.0, zero', long)
+    some_traced q is is_zero = let at = inside q is in let long = c.in_range.least_words in omega (arith, at.0, is_zero, long)
 
     pub traced_listed : (q : ℕ) → IsTraced c m q → has (traced_in c m) q ≡ true
     traced_listed _ (from_grey a is) =

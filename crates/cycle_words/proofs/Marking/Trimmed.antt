@@ -147,7 +147,7 @@ module _ (c : Config) (m : Word → ℕ) (block : Plot) (owner : ℕ → Option 
         (holds.rooted.roots t i below few);
     answers = λ t below.
         answer_stays (m (Answer t)) (p.ref (t + 1))
-        (λ some. is_trimmed.roots (m (Answer t)) (answer_among c top m block g p holds.objects.plotted holds.rooted t below some) (λ zero'. omega (arith, some, zero')))
+        (λ some. is_trimmed.roots (m (Answer t)) (answer_among c top m block g p holds.objects.plotted holds.rooted t below some) (λ is_zero. omega (arith, some, is_zero)))
         (holds.rooted.answers t below);
     no_more_roots = holds.rooted.no_more_roots;
     pins = λ t i below few.

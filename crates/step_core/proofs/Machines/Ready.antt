@@ -9,6 +9,7 @@ use Rattle.heap_words.specs.Words.{Root}
 use Rattle.heap_words.specs.Fits.{touch_fits, is_number}
 use Rattle.shen_graph.specs.declared.command.Command.{Command}
 use Rattle.shen_graph.specs.declared.command.Reply.{Reply}
+use Rattle.shen_graph.specs.Valid.{most_objects}
 use Rattle.alloc_buffers.specs.declared.spot.TakeSpot.{TakeSpot}
 use Rattle.alloc_buffers.specs.Rows as takes
 use Rattle.mutator.specs.declared.spot.Spot.{Spot}
@@ -72,7 +73,7 @@ leaving c w seat made kept command r seated idle roots rooms = record {
 }
 
 -- the words of a new object are words of 64 bits
-fresh_small : (seat made refs nums k : ℕ) → seat < 8 → made < 4294967295 → refs ≤ 16 → nums ≤ 16 → fresh_word seat made refs nums k < 2 ^ 64
+fresh_small : (seat made refs nums k : ℕ) → seat < 8 → made < most_objects → refs ≤ 16 → nums ≤ 16 → fresh_word seat made refs nums k < 2 ^ 64
 fresh_small seat made refs nums k few_seats few_made few_refs few_nums = grind (arith, nat_tests)
 
 module _ (c : Config) (seat made : ℕ) (kept : Kept) (command : Command) (fixed : Option Reply) (making : IsMaking made command fixed (dst_of kept.command) (refs_of kept.command) (nums_of kept.command)) where

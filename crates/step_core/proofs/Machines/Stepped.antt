@@ -16,6 +16,7 @@ use Rattle.shen_graph.specs.History.{after_entry}
 use Rattle.alloc_buffers.specs.Facts.{TakeFacts}
 use Rattle.shen_graph.specs.declared.order.Order.{Order}
 use Rattle.shen_graph.specs.declared.order.Order.TheVariants.{Nothing}
+use Rattle.shen_graph.specs.Valid.{most_objects}
 use Rattle.mutator.specs.declared.spot.Kept.{Kept}
 use Rattle.mutator.specs.declared.spot.Spot.{Spot}
 use Rattle.mutator.specs.declared.spot.Spot.TheVariants.{Rest, Ended, Entering, LoadPhase, LoadSet, Loading, OnField, Resolving, Recording, OnNumber, Showing, StoreRoot, Making, AskCycle, Pinning, Waiting, Leave, Gone}
@@ -187,7 +188,7 @@ pub record IsMaking (made : ℕ) (command : Command) (fixed : Option Reply) (dst
   pub small : dst < 16
   pub few_refs : refs ≤ 16
   pub few_nums : nums ≤ 16
-  pub few : made < 4294967295
+  pub few : made < most_objects
 
 -- room in hand, in which so many words of the new object stand
 pub record IsFilling (w : World) (seat made refs nums address done : ℕ) : Type 0 where

@@ -59,19 +59,19 @@ in_heap c k small =
 -- the table of the opening, by names
 pub view-opening : (c : Config) → view c (opening_words c) ≡ first_memory c
 view-opening c =
-    let n0 = length-rooted c c.mutators (replicate (table_words c) 0) (length-replicate (table_words c) 0) in
-    let n1 = length-stored c Left c.mutators _ n0 in
-    let n2 = length-stored c Free (first_free c.regions) _ n1 in
-    let n3 = length-stored c (Top 0) 19 _ n2 in
-    let n4 = length-stored c (Heap c.region_words) 1 _ n3 in
-    let n5 = length-stored c (Heap (c.region_words + 1)) 69632 _ n4 in
+    let rooted_long = length-rooted c c.mutators (replicate (table_words c) 0) (length-replicate (table_words c) 0) in
+    let left_long = length-stored c Left c.mutators _ rooted_long in
+    let free_long = length-stored c Free (first_free c.regions) _ left_long in
+    let top_long = length-stored c (Top 0) 19 _ free_long in
+    let header_long = length-stored c (Heap c.region_words) 1 _ top_long in
+    let shape_long = length-stored c (Heap (c.region_words + 1)) 69632 _ header_long in
     let first : IsWord c (Heap c.region_words) = subst (λ a. IsWord c (Heap a)) (add-zero c.region_words) (in_heap c 0 (omega arith)) in
-    view-stored c (Heap (c.region_words + 2)) 1 _ _ (in_heap c 2 (omega arith)) n5
-    (view-stored c (Heap (c.region_words + 1)) 69632 _ _ (in_heap c 1 (omega arith)) n4
-    (view-stored c (Heap c.region_words) 1 _ _ first n3
-    (view-stored c (Top 0) 19 _ _ (omega (arith, c.in_range.least_regions)) n2
-    (view-stored c Free (first_free c.regions) _ _ tt n1
-    (view-stored c Left c.mutators _ _ tt n0
+    view-stored c (Heap (c.region_words + 2)) 1 _ _ (in_heap c 2 (omega arith)) shape_long
+    (view-stored c (Heap (c.region_words + 1)) 69632 _ _ (in_heap c 1 (omega arith)) header_long
+    (view-stored c (Heap c.region_words) 1 _ _ first top_long
+    (view-stored c (Top 0) 19 _ _ (omega (arith, c.in_range.least_regions)) free_long
+    (view-stored c Free (first_free c.regions) _ _ tt left_long
+    (view-stored c Left c.mutators _ _ tt rooted_long
     (view-rooted c c.mutators (omega arith)))))))
 
 -- the size of the table of the opening

@@ -1,7 +1,7 @@
 use Rattle.std.proofs.Common.{◌++◌, ◌∷◌, ◌∙◌, ap, sym, append_assoc}
 use Rattle.std.specs.List.{flat_map, range_with_len}
 use Rattle.shen_graph.specs.declared.command.Command.TheVariants.{New, Set}
-use Rattle.churn.specs.Script.{making, loading, round}
+use Rattle.churn.specs.Script.{making, loading, round, shared_hub, own_box}
 use Rattle.churn.proofs.ScriptLemmas.{rounds_more}
 use Rattle.churn.proofs.script.churn_script.Goals as goal
 
@@ -10,5 +10,5 @@ loop-i-preserved c =
     let seed = c.args.seed in
     let i = c.loop-i.i in
     c.in_ok-add_loading.ensures ∙ ap (λ l. l ++ loading i) (c.in_ok-add_making.ensures ∙ ap (λ l. l ++ making seed i) c.loop-i.invariant)
-    ∙ append_assoc (New 1 16 0 ∷ Set 0 c.args.thread 1 ∷ flat_map (round seed) (range_with_len 0 i)) (making seed i) (loading i)
-    ∙ ap (λ l. New 1 16 0 ∷ Set 0 c.args.thread 1 ∷ l) (sym (rounds_more (round seed) i))
+    ∙ append_assoc (New own_box 16 0 ∷ Set shared_hub c.args.thread own_box ∷ flat_map (round seed) (range_with_len 0 i)) (making seed i) (loading i)
+    ∙ ap (λ l. New own_box 16 0 ∷ Set shared_hub c.args.thread own_box ∷ l) (sym (rounds_more (round seed) i))

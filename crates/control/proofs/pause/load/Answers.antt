@@ -6,7 +6,7 @@ use Rattle.control.proofs.pause.load.Goals as goal
 
 pub returns-clause-image : goal.returns-clause-image
 returns-clause-image c =
-    let d = config_of c.args.image.now in
-    let count : c.image_words-index-end.result ≡ image_words d = c.image_words-index-end.ensures ∙ ap image_words c.config-config.ensures in
-    image-loaded d c.loop-index.image c.args.words.now c.loop-index.invariant.config c.requires.words
+    let config = config_of c.args.image.now in
+    let count : c.image_words-index-end.result ≡ image_words config = c.image_words-index-end.ensures ∙ ap image_words c.config-config.ensures in
+    image-loaded config c.loop-index.image c.args.words.now c.loop-index.invariant.config c.requires.words
     (λ k below. c.loop-index.invariant.loaded k (omega (arith, below, count, c.loop-index-test.false)))

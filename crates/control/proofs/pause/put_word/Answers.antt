@@ -9,17 +9,17 @@ returns-clause-config c = c.set_word.ensures.config
 
 pub returns-clause-image : goal.returns-clause-image
 returns-clause-image c =
-    let d = config_of c.args.image.now in
+    let config = config_of c.args.image.now in
     let words = words_of c.args.image.now in
     let start = c.image_start-start.ensures.value ∙ ap image_start c.config.ensures in
-    ap (λ e. drop (image_start e) (words_of c.set_word.new.self)) c.set_word.ensures.config ∙ ap (drop (image_start d)) c.set_word.ensures.words
-    ∙ ap (λ n. drop (image_start d) (set words (n + c.args.index) c.args.word)) start ∙ drop-set-add (image_start d) words c.args.index c.args.word
+    ap (λ e. drop (image_start e) (words_of c.set_word.new.self)) c.set_word.ensures.config ∙ ap (drop (image_start config)) c.set_word.ensures.words
+    ∙ ap (λ n. drop (image_start config) (set words (n + c.args.index) c.args.word)) start ∙ drop-set-add (image_start config) words c.args.index c.args.word
 
 pub returns-clause-clear : goal.returns-clause-clear
 returns-clause-clear c at below =
-    let d = config_of c.args.image.now in
+    let config = config_of c.args.image.now in
     let words = words_of c.args.image.now in
-    let start : c.image_start-start.result ≡ image_start d = c.image_start-start.ensures.value ∙ ap image_start c.config.ensures in
-    let before : at < image_start d = subst (λ e. at < image_start e) c.set_word.ensures.config below in
+    let start : c.image_start-start.result ≡ image_start config = c.image_start-start.ensures.value ∙ ap image_start c.config.ensures in
+    let before : at < image_start config = subst (λ e. at < image_start e) c.set_word.ensures.config below in
     ap (λ all. get_or all at 0) c.set_word.ensures.words
     ∙ get_or-set_other words (c.image_start-start.result + c.args.index) at c.args.word 0 (omega (arith, start, before)) ∙ c.requires.clear at before

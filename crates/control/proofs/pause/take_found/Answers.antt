@@ -18,34 +18,34 @@ take_word-requires-clause-own c = subst (λ s. SeesOwn (config_of c.args.image.n
 
 pub take_word-requires-clause-fit : goal.take_word-requires-clause-fit
 take_word-requires-clause-fit c =
-    let d = config_of c.args.image.now in
-    let Fits : ControlSpot → Type 0 = λ s. fits_with d s c.args.last.phase (words_seen d s c.args.starts.now (image_in c.args.image.now)) c.args.got in
+    let config = config_of c.args.image.now in
+    let Fits : ControlSpot → Type 0 = λ s. fits_with config s c.args.last.phase (words_seen config s c.args.starts.now (image_in c.args.image.now)) c.args.got in
     subst Fits c.in-LoadWord.is c.requires.fit
 
 pub returns-in-LoadWord-clause-image : goal.returns-in-LoadWord-clause-image
 returns-in-LoadWord-clause-image c =
-    let d = config_of c.args.image.now in
-    let seen : ControlSpot → List ℕ = λ s. words_seen d s c.args.starts.now (image_in c.args.image.now) in
-    let Made : ControlSpot → Type 0 = λ s. words_seen d (next_spot d c.args.last.phase c.args.last.cset c.args.last.seen (stored_next d s (seen s)) s c.args.got) c.take_word.new.starts (image_in c.take_word.new.image) ≡ next_image collect_image d s (seen s) c.args.last.phase c.args.got in
+    let config = config_of c.args.image.now in
+    let seen : ControlSpot → List ℕ = λ s. words_seen config s c.args.starts.now (image_in c.args.image.now) in
+    let Made : ControlSpot → Type 0 = λ s. words_seen config (next_spot config c.args.last.phase c.args.last.cset c.args.last.seen (stored_next config s (seen s)) s c.args.got) c.take_word.new.starts (image_in c.take_word.new.image) ≡ next_image collect_image config s (seen s) c.args.last.phase c.args.got in
     subst Made (sym c.in-LoadWord.is) c.take_word.ensures.image
 
 pub returns-in-LoadWord-clause-own : goal.returns-in-LoadWord-clause-own
 returns-in-LoadWord-clause-own c =
-    let d = config_of c.args.image.now in
+    let config = config_of c.args.image.now in
     let index = c.in-LoadWord.index in
     let extent = c.in-LoadWord.extent in
-    let ready : is_ready d (LoadWord index extent) ≡ true = ap (is_ready d) (sym c.in-LoadWord.is) ∙ c.requires.ready in
-    let Own : ControlSpot → Type 0 = λ s. SeesOwn d (next_spot d c.args.last.phase c.args.last.cset c.args.last.seen (stored_next d s (words_seen d s c.args.starts.now (image_in c.args.image.now))) s c.args.got) c.take_word.new.starts in
-    subst Own (sym c.in-LoadWord.is) (load_own d c.take_word.new.starts (extent_after c.args.last.phase index extent c.args.got) index (ltb-true index (image_words d) ready))
+    let ready : is_ready config (LoadWord index extent) ≡ true = ap (is_ready config) (sym c.in-LoadWord.is) ∙ c.requires.ready in
+    let Own : ControlSpot → Type 0 = λ s. SeesOwn config (next_spot config c.args.last.phase c.args.last.cset c.args.last.seen (stored_next config s (words_seen config s c.args.starts.now (image_in c.args.image.now))) s c.args.got) c.take_word.new.starts in
+    subst Own (sym c.in-LoadWord.is) (load_own config c.take_word.new.starts (extent_after c.args.last.phase index extent c.args.got) index (ltb-true index (image_words config) ready))
 
 pub returns-in_default-clause-image : goal.returns-in_default-clause-image
 returns-in_default-clause-image c =
-    let d = config_of c.args.image.now in
-    let words = words_seen d c.args.spot c.args.starts.now (image_in c.args.image.now) in
-    others_seen d c.args.starts.now collect_image c.args.last.phase c.args.last.cset c.args.last.seen (stored_next d c.args.spot words) c.args.spot c.args.got (image_in c.args.image.now) c.in_default.not-LoadWord refl
+    let config = config_of c.args.image.now in
+    let words = words_seen config c.args.spot c.args.starts.now (image_in c.args.image.now) in
+    others_seen config c.args.starts.now collect_image c.args.last.phase c.args.last.cset c.args.last.seen (stored_next config c.args.spot words) c.args.spot c.args.got (image_in c.args.image.now) c.in_default.not-LoadWord refl
 
 pub returns-in_default-clause-own : goal.returns-in_default-clause-own
 returns-in_default-clause-own c =
-    let d = config_of c.args.image.now in
-    let words = words_seen d c.args.spot c.args.starts.now (image_in c.args.image.now) in
-    next_own d c.args.starts.now c.args.last.phase c.args.last.cset c.args.last.seen (stored_next d c.args.spot words) c.args.spot c.args.got (image_in c.args.image.now) c.requires.ready refl
+    let config = config_of c.args.image.now in
+    let words = words_seen config c.args.spot c.args.starts.now (image_in c.args.image.now) in
+    next_own config c.args.starts.now c.args.last.phase c.args.last.cset c.args.last.seen (stored_next config c.args.spot words) c.args.spot c.args.got (image_in c.args.image.now) c.requires.ready refl

@@ -40,7 +40,7 @@ put_word-requires-clause-index c =
 
 pub loop-number-preserved : goal.loop-number-preserved
 loop-number-preserved c =
-    let d = config_of c.args.image.now in
+    let config = config_of c.args.image.now in
     let starts = c.args.starts.now in
     let number = c.loop-number.number in
     let some : number < length starts = omega (arith, c.loop-number-test.true) in

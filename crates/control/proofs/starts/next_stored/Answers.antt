@@ -8,10 +8,10 @@ use Rattle.control.proofs.starts.next_stored.Goals as goal
 
 pub loop-number-init : goal.loop-number-init
 loop-number-init c =
-    let d = config_of c.args.image.now in
-    let next : c.next-next.result ≡ next_loaded d c.args.extent c.args.index = c.next-next.ensures ∙ ap (λ k. next_loaded k c.args.extent c.args.index) c.config.ensures in
-    subst (IsLeast d c.args.extent c.args.starts.now (image_in c.args.image.now) c.args.index 0) (sym next)
-    (least_first d c.args.extent c.args.starts.now (image_in c.args.image.now) c.args.index c.requires.index)
+    let config = config_of c.args.image.now in
+    let next : c.next-next.result ≡ next_loaded config c.args.extent c.args.index = c.next-next.ensures ∙ ap (λ k. next_loaded k c.args.extent c.args.index) c.config.ensures in
+    subst (IsLeast config c.args.extent c.args.starts.now (image_in c.args.image.now) c.args.index 0) (sym next)
+    (least_first config c.args.extent c.args.starts.now (image_in c.args.image.now) c.args.index c.requires.index)
 
 pub lesser-next-requires : goal.lesser-next-requires
 lesser-next-requires c =

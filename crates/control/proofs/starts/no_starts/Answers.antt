@@ -6,6 +6,6 @@ use Rattle.control.proofs.starts.no_starts.Goals as goal
 
 pub returns : goal.returns
 returns c = λ i less.
-    let k = c.args.config in
+    let config = c.args.config in
     let below : i < 12 = omega (arith, less) in
-    subst (IsHeapIndex k) (sym (get_or-replicate 12 i c.heap_index.result 0 below)) (subst (IsHeapIndex k) (sym c.heap_index.ensures) (first_of_heap k))
+    subst (IsHeapIndex config) (sym (get_or-replicate 12 i c.heap_index.result 0 below)) (subst (IsHeapIndex config) (sym c.heap_index.ensures) (first_of_heap config))

@@ -27,34 +27,34 @@ heap_at-requires c =
 
 pub returns-then-next-end-clause-value : goal.returns-then-next-end-clause-value
 returns-then-next-end-clause-value c =
-    let k = c.args.config in
+    let config = c.args.config in
     let word = c.args.word in
     let next = c.next_of-next.ensures in
     let end = c.end_of-end.ensures in
     let some : next_in word < end_in word = omega (arith, c.if-next-end.true, next, end) in
-    let at : c.heap_at.result ≡ word_at k (Heap (next_in word)) = c.heap_at.ensures ∙ ap (λ a. word_at k (Heap a)) next in
-    ap (λ n. n - c.image_start.result) at ∙ ap (λ n. word_at k (Heap (next_in word)) - n) c.image_start.ensures.value
-    ∙ sym (cond-true (nat_lt (next_in word) (end_in word)) (word_at k (Heap (next_in word)) - image_start k) (heap_index k) (lt-ltb _ _ some))
+    let at : c.heap_at.result ≡ word_at config (Heap (next_in word)) = c.heap_at.ensures ∙ ap (λ a. word_at config (Heap a)) next in
+    ap (λ n. n - c.image_start.result) at ∙ ap (λ n. word_at config (Heap (next_in word)) - n) c.image_start.ensures.value
+    ∙ sym (cond-true (nat_lt (next_in word) (end_in word)) (word_at config (Heap (next_in word)) - image_start config) (heap_index config) (lt-ltb _ _ some))
 
 pub returns-then-next-end-clause-heap : goal.returns-then-next-end-clause-heap
 returns-then-next-end-clause-heap c =
-    let k = c.args.config in
+    let config = c.args.config in
     let word = c.args.word in
     let next = c.next_of-next.ensures in
     let end = c.end_of-end.ensures in
     let some : next_in word < end_in word = omega (arith, c.if-next-end.true, next, end) in
-    let is = first_is_word k word c.requires some in
-    let at : c.heap_at.result ≡ word_at k (Heap (next_in word)) = c.heap_at.ensures ∙ ap (λ a. word_at k (Heap a)) next in
+    let is = first_is_word config word c.requires some in
+    let at : c.heap_at.result ≡ word_at config (Heap (next_in word)) = c.heap_at.ensures ∙ ap (λ a. word_at config (Heap a)) next in
     let start = c.image_start.ensures.value in
     (omega (arith, at, start, is.0, is.1), omega (arith, at, start, is.0, is.1))
 
 pub returns-else-next-end-clause-value : goal.returns-else-next-end-clause-value
 returns-else-next-end-clause-value c =
-    let k = c.args.config in
+    let config = c.args.config in
     let word = c.args.word in
     let next = c.next_of-next.ensures in
     let end = c.end_of-end.ensures in
-    c.heap_index.ensures ∙ sym (cond-false (nat_lt (next_in word) (end_in word)) (word_at k (Heap (next_in word)) - image_start k) (heap_index k) (le-ltb _ _ (omega (arith, c.if-next-end.false, next, end))))
+    c.heap_index.ensures ∙ sym (cond-false (nat_lt (next_in word) (end_in word)) (word_at config (Heap (next_in word)) - image_start config) (heap_index config) (le-ltb _ _ (omega (arith, c.if-next-end.false, next, end))))
 
 pub returns-else-next-end-clause-heap : goal.returns-else-next-end-clause-heap
 returns-else-next-end-clause-heap c = subst (IsHeapIndex c.args.config) (sym c.heap_index.ensures) (first_of_heap c.args.config)

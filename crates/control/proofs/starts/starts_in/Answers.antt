@@ -20,35 +20,35 @@ loop-seat-init c = record {
 
 pub start_of-requires : goal.start_of-requires
 start_of-requires c =
-    let k = config_of c.args.image.now in
-    let m = memory_of c.args.image.now in
+    let config = config_of c.args.image.now in
+    let memory = memory_of c.args.image.now in
     let seat = c.loop-seat.seat in
-    let config = c.config-config.ensures in
-    let below : seat < seat_count k.mutators k.helpers = omega (arith, c.loop-seat-test.true, c.seats-seat-end.ensures, ap (λ (d : Config). seat_count d.mutators d.helpers) config) in
-    let word : c.word.result ≡ m (Current seat) = c.word.ensures.named (Current seat) below (sym (c.cur_at.ensures ∙ ap (λ d. word_at d (Current seat)) config)) in
-    λ some. subst (λ (d : Config). IsInside d c.word.result) (sym config) (subst (IsInside k) (sym word) (c.requires seat below (λ none. some (word ∙ none))))
+    let same_config = c.config-config.ensures in
+    let below : seat < seat_count config.mutators config.helpers = omega (arith, c.loop-seat-test.true, c.seats-seat-end.ensures, ap (λ (d : Config). seat_count d.mutators d.helpers) same_config) in
+    let word : c.word.result ≡ memory (Current seat) = c.word.ensures.named (Current seat) below (sym (c.cur_at.ensures ∙ ap (λ d. word_at d (Current seat)) same_config)) in
+    λ some. subst (λ (d : Config). IsInside d c.word.result) (sym same_config) (subst (IsInside config) (sym word) (c.requires seat below (λ none. some (word ∙ none))))
 
 pub loop-seat-preserved : goal.loop-seat-preserved
 loop-seat-preserved c =
-    let k = config_of c.args.image.now in
-    let m = memory_of c.args.image.now in
+    let config = config_of c.args.image.now in
+    let memory = memory_of c.args.image.now in
     let seat = c.loop-seat.seat in
     let starts = c.loop-seat.starts in
-    let config = c.config-config.ensures in
-    let below : seat < seat_count k.mutators k.helpers = omega (arith, c.loop-seat-test.true, c.seats-seat-end.ensures, ap (λ (d : Config). seat_count d.mutators d.helpers) config) in
-    let mutators = k.in_range.most_mutators in
-    let helpers = k.in_range.most_helpers in
-    let word : c.word.result ≡ m (Current seat) = c.word.ensures.named (Current seat) below (sym (c.cur_at.ensures ∙ ap (λ d. word_at d (Current seat)) config)) in
-    let start : c.start_of.result ≡ start_index k (m (Current seat)) = c.start_of.ensures.value ∙ ap (λ d. start_index d c.word.result) config ∙ ap (start_index k) word in
+    let same_config = c.config-config.ensures in
+    let below : seat < seat_count config.mutators config.helpers = omega (arith, c.loop-seat-test.true, c.seats-seat-end.ensures, ap (λ (d : Config). seat_count d.mutators d.helpers) same_config) in
+    let mutators = config.in_range.most_mutators in
+    let helpers = config.in_range.most_helpers in
+    let word : c.word.result ≡ memory (Current seat) = c.word.ensures.named (Current seat) below (sym (c.cur_at.ensures ∙ ap (λ d. word_at d (Current seat)) same_config)) in
+    let start : c.start_of.result ≡ start_index config (memory (Current seat)) = c.start_of.ensures.value ∙ ap (λ d. start_index d c.word.result) same_config ∙ ap (start_index config) word in
     let long = c.loop-seat.invariant.long in
     record {
       long = length-set starts seat c.start_of.result ∙ long;
       of_seat = λ s less. ⊎_elim
-          (λ (same : s ≡ seat). subst (λ j. slice_index (set starts seat c.start_of.result) j ≡ start_index k (m (Current j))) (sym same)
+          (λ (same : s ≡ seat). subst (λ j. slice_index (set starts seat c.start_of.result) j ≡ start_index config (memory (Current j))) (sym same)
           (get_or-set_same starts seat c.start_of.result 0 (omega (arith, long, below, mutators, helpers)) ∙ start))
           (λ (other : s ≢ seat). get_or-set_other starts seat s c.start_of.result 0 other ∙ c.loop-seat.invariant.of_seat s (omega (arith, less, other)))
           (cases_eq s seat);
-      heap = one_more_of_heap k starts seat c.start_of.result (subst (λ d. IsHeapIndex d c.start_of.result) config c.start_of.ensures.heap) c.loop-seat.invariant.heap;
+      heap = one_more_of_heap config starts seat c.start_of.result (subst (λ d. IsHeapIndex d c.start_of.result) same_config c.start_of.ensures.heap) c.loop-seat.invariant.heap;
     }
 
 pub returns-clause-are : goal.returns-clause-are

@@ -6,13 +6,13 @@ use Rattle.covremuj.proofs.mutators.begin.Goals as goal
 
 pub returns-in_default-Some : goal.returns-in_default-Some
 returns-in_default-Some c =
-    let s = c.args.seat.now in
-    subst (λ answer. BeginsBy (is_mutator s) s (Some s) c.args.command answer) (sym c.of_refused.ensures)
-    (begins_refused s c.args.command c.in_default-Some.refused (sym c.is_mutator.ensures ∙ c.if-not-is_mutator.false) (sym c.in_default-Some.is-1 ∙ c.refuses.ensures))
+    let seat = c.args.seat.now in
+    subst (λ answer. BeginsBy (is_mutator seat) seat (Some seat) c.args.command answer) (sym c.of_refused.ensures)
+    (begins_refused seat c.args.command c.in_default-Some.refused (sym c.is_mutator.ensures ∙ c.if-not-is_mutator.false) (sym c.in_default-Some.is-1 ∙ c.refuses.ensures))
 
 pub returns-in-Some-None : goal.returns-in-Some-None
 returns-in-Some-None c =
-    let s = c.args.seat.now in
+    let seat = c.args.seat.now in
     let said = c.begin.ensures in
-    subst (λ command. BeginsBy (is_mutator s) s (Some c.begin.new.self) command c.of_order.result) (sym c.in-Some-None.is-0)
-    (begins_command s c.begin.new.self c.in-Some-None.command c.begin.result c.of_order.result (sym c.is_mutator.ensures ∙ c.if-not-is_mutator.false) said.refused said.unchanged said.ordered c.of_order.ensures)
+    subst (λ command. BeginsBy (is_mutator seat) seat (Some c.begin.new.self) command c.of_order.result) (sym c.in-Some-None.is-0)
+    (begins_command seat c.begin.new.self c.in-Some-None.command c.begin.result c.of_order.result (sym c.is_mutator.ensures ∙ c.if-not-is_mutator.false) said.refused said.unchanged said.ordered c.of_order.ensures)

@@ -4,9 +4,9 @@ use Rattle.covremuj.proofs.mutators.go.Goals as goal
 
 pub returns : goal.returns
 returns c =
-    let s = c.args.seat.now in
+    let seat = c.args.seat.now in
     let new = c.go-progress.new.self in
-    let went : SeatGoes s (Some new) c.args.steps c.of_progress.result c.args.value.now c.value_after.result = record {
+    let went : SeatGoes seat (Some new) c.args.steps c.of_progress.result c.args.value.now c.value_after.result = record {
       new = new;
       said = c.go-progress.result;
       holds = refl;
@@ -14,4 +14,4 @@ returns c =
       answers = c.of_progress.ensures;
       value = c.value_after.ensures;
     } in
-    subst (λ role. GoesBy role s (Some new) c.args.steps c.of_progress.result c.args.value.now c.value_after.result) (sym c.if-not-is_mutator.false ∙ c.is_mutator.ensures) went
+    subst (λ role. GoesBy role seat (Some new) c.args.steps c.of_progress.result c.args.value.now c.value_after.result) (sym c.if-not-is_mutator.false ∙ c.is_mutator.ensures) went

@@ -22,64 +22,64 @@ returns-then-set-eq0-clause-words c =
 
 pub clear_all_roots-requires : goal.clear_all_roots-requires
 clear_all_roots-requires c =
-    let g = config_of c.args.image.now in
-    let m : Word → ℕ = memory_of c.args.image.now in
+    let config = config_of c.args.image.now in
+    let memory : Word → ℕ = memory_of c.args.image.now in
     let one = c.set_word.new.self in
-    let stored_is : memory_of one ≡ with_set m (chosen g m) =
-    stored g c.config.result m (memory_of one) Cset c.cset_at.result c.args.set (sym c.config.ensures) tt c.cset_at.ensures c.set_word.ensures.named
-    ∙ set_stored m c.args.set ∙ ap (with_set m) c.requires.set in
+    let stored_is : memory_of one ≡ with_set memory (chosen config memory) =
+    stored config c.config.result memory (memory_of one) Cset c.cset_at.result c.args.set (sym c.config.ensures) tt c.cset_at.ensures c.set_word.ensures.named
+    ∙ set_stored memory c.args.set ∙ ap (with_set memory) c.requires.set in
     subst (λ (k : Config). CanClearInTurn k (memory_of one) (root_places k.mutators)) (sym c.set_word.ensures.config)
-    (subst (λ (n : Word → ℕ). CanClearInTurn g n (root_places g.mutators)) (sym stored_is)
-    (can_front g (root_places g.mutators) (answers g) (with_set m (chosen g m)) (can_clear_in_turn g m c.requires.can)))
+    (subst (λ (n : Word → ℕ). CanClearInTurn config n (root_places config.mutators)) (sym stored_is)
+    (can_front config (root_places config.mutators) (answers config) (with_set memory (chosen config memory)) (can_clear_in_turn config memory c.requires.can)))
 
 pub clear_answers-requires : goal.clear_answers-requires
 clear_answers-requires c =
-    let g = config_of c.args.image.now in
-    let m : Word → ℕ = memory_of c.args.image.now in
+    let config = config_of c.args.image.now in
+    let memory : Word → ℕ = memory_of c.args.image.now in
     let one = c.set_word.new.self in
     let two = c.clear_all_roots.new.image in
-    let stored_is : memory_of one ≡ with_set m (chosen g m) =
-    stored g c.config.result m (memory_of one) Cset c.cset_at.result c.args.set (sym c.config.ensures) tt c.cset_at.ensures c.set_word.ensures.named
-    ∙ set_stored m c.args.set ∙ ap (with_set m) c.requires.set in
-    let cleared_is : memory_of two ≡ cleared_in_turn g (with_set m (chosen g m)) (root_places g.mutators) =
+    let stored_is : memory_of one ≡ with_set memory (chosen config memory) =
+    stored config c.config.result memory (memory_of one) Cset c.cset_at.result c.args.set (sym c.config.ensures) tt c.cset_at.ensures c.set_word.ensures.named
+    ∙ set_stored memory c.args.set ∙ ap (with_set memory) c.requires.set in
+    let cleared_is : memory_of two ≡ cleared_in_turn config (with_set memory (chosen config memory)) (root_places config.mutators) =
     c.clear_all_roots.ensures.words
     ∙ ap (λ (k : Config). cleared_in_turn k (memory_of one) (root_places k.mutators)) c.set_word.ensures.config
-    ∙ ap (λ (n : Word → ℕ). cleared_in_turn g n (root_places g.mutators)) stored_is in
+    ∙ ap (λ (n : Word → ℕ). cleared_in_turn config n (root_places config.mutators)) stored_is in
     subst (λ (k : Config). CanClearInTurn k (memory_of two) (answers k)) (sym (c.clear_all_roots.ensures.config ∙ c.set_word.ensures.config))
-    (subst (λ (n : Word → ℕ). CanClearInTurn g n (answers g)) (sym cleared_is)
-    (can_back g (root_places g.mutators) (answers g) (with_set m (chosen g m)) (can_clear_in_turn g m c.requires.can)))
+    (subst (λ (n : Word → ℕ). CanClearInTurn config n (answers config)) (sym cleared_is)
+    (can_back config (root_places config.mutators) (answers config) (with_set memory (chosen config memory)) (can_clear_in_turn config memory c.requires.can)))
 
 pub returns-clause-words : goal.returns-clause-words
 returns-clause-words c =
-    let g = config_of c.args.image.now in
-    let m : Word → ℕ = memory_of c.args.image.now in
+    let config = config_of c.args.image.now in
+    let memory : Word → ℕ = memory_of c.args.image.now in
     let one = c.set_word.new.self in
     let two = c.clear_all_roots.new.image in
     let three = c.clear_answers.new.image in
     let set = c.args.set in
-    let stored_is : memory_of one ≡ with_set m set =
-    stored g c.config.result m (memory_of one) Cset c.cset_at.result set (sym c.config.ensures) tt c.cset_at.ensures c.set_word.ensures.named ∙ set_stored m set in
-    let roots : memory_of two ≡ cleared_in_turn g (with_set m set) (root_places g.mutators) =
+    let stored_is : memory_of one ≡ with_set memory set =
+    stored config c.config.result memory (memory_of one) Cset c.cset_at.result set (sym c.config.ensures) tt c.cset_at.ensures c.set_word.ensures.named ∙ set_stored memory set in
+    let roots : memory_of two ≡ cleared_in_turn config (with_set memory set) (root_places config.mutators) =
     c.clear_all_roots.ensures.words
     ∙ ap (λ (k : Config). cleared_in_turn k (memory_of one) (root_places k.mutators)) c.set_word.ensures.config
-    ∙ ap (λ (n : Word → ℕ). cleared_in_turn g n (root_places g.mutators)) stored_is in
-    let all : memory_of three ≡ cleared_in_turn g (with_set m set) (root_places g.mutators ++ answers g) =
+    ∙ ap (λ (n : Word → ℕ). cleared_in_turn config n (root_places config.mutators)) stored_is in
+    let all : memory_of three ≡ cleared_in_turn config (with_set memory set) (root_places config.mutators ++ answers config) =
     c.clear_answers.ensures.words
     ∙ ap (λ (k : Config). cleared_in_turn k (memory_of two) (answers k)) (c.clear_all_roots.ensures.config ∙ c.set_word.ensures.config)
-    ∙ ap (λ (n : Word → ℕ). cleared_in_turn g n (answers g)) roots
-    ∙ sym (turn_both g (root_places g.mutators) (answers g) (with_set m set)) in
-    c.start.ensures.words ∙ ap evac_started all ∙ begun g m set c.if-set-eq0.false
+    ∙ ap (λ (n : Word → ℕ). cleared_in_turn config n (answers config)) roots
+    ∙ sym (turn_both config (root_places config.mutators) (answers config) (with_set memory set)) in
+    c.start.ensures.words ∙ ap evac_started all ∙ begun config memory set c.if-set-eq0.false
 
 pub returns-then-set-eq0-clause-holds : goal.returns-then-set-eq0-clause-holds
 returns-then-set-eq0-clause-holds c = λ block owner p graph holds calm.
-    let g = config_of c.args.image.now in
-    let m : Word → ℕ = memory_of c.args.image.now in
-    subst (λ (n : Word → ℕ). HoldsStill g m n block owner p graph) (sym (returns-then-set-eq0-clause-words c ∙ ap (evac_begun g m) c.requires.set))
-    (begun_holds g m block owner p graph holds calm c.requires.can)
+    let config = config_of c.args.image.now in
+    let memory : Word → ℕ = memory_of c.args.image.now in
+    subst (λ (n : Word → ℕ). HoldsStill config memory n block owner p graph) (sym (returns-then-set-eq0-clause-words c ∙ ap (evac_begun config memory) c.requires.set))
+    (begun_holds config memory block owner p graph holds calm c.requires.can)
 
 pub returns-clause-holds : goal.returns-clause-holds
 returns-clause-holds c = λ block owner p graph holds calm.
-    let g = config_of c.args.image.now in
-    let m : Word → ℕ = memory_of c.args.image.now in
-    subst (λ (n : Word → ℕ). HoldsStill g m n block owner p graph) (sym (returns-clause-words c ∙ ap (evac_begun g m) c.requires.set))
-    (begun_holds g m block owner p graph holds calm c.requires.can)
+    let config = config_of c.args.image.now in
+    let memory : Word → ℕ = memory_of c.args.image.now in
+    subst (λ (n : Word → ℕ). HoldsStill config memory n block owner p graph) (sym (returns-clause-words c ∙ ap (evac_begun config memory) c.requires.set))
+    (begun_holds config memory block owner p graph holds calm c.requires.can)

@@ -9,20 +9,20 @@ use Rattle.cset_choice.proofs.begin.clear.Goals as goal
 
 pub returns-then-not-is_collected-clause-words : goal.returns-then-not-is_collected-clause-words
 returns-then-not-is_collected-clause-words c = λ place is at.
-    let g = config_of c.args.image.now in
-    let m : Word → ℕ = memory_of c.args.image.now in
-    let value : c.word-address.result ≡ m place = c.word-address.ensures.named place is at in
-    not_cleared g m place (ap (is_collected g m) (sym value) ∙ sym c.is_collected.ensures ∙ c.if-not-is_collected.true)
+    let config = config_of c.args.image.now in
+    let memory : Word → ℕ = memory_of c.args.image.now in
+    let value : c.word-address.result ≡ memory place = c.word-address.ensures.named place is at in
+    not_cleared config memory place (ap (is_collected config memory) (sym value) ∙ sym c.is_collected.ensures ∙ c.if-not-is_collected.true)
 
 pub returns-clause-words : goal.returns-clause-words
 returns-clause-words c = λ place is at.
-    let g = config_of c.args.image.now in
-    let m : Word → ℕ = memory_of c.args.image.now in
-    let value : c.word-address.result ≡ m place = c.word-address.ensures.named place is at in
-    let collected : is_collected g m (m place) ≡ true = ap (is_collected g m) (sym value) ∙ sym c.is_collected.ensures ∙ c.if-not-is_collected.false in
+    let config = config_of c.args.image.now in
+    let memory : Word → ℕ = memory_of c.args.image.now in
+    let value : c.word-address.result ≡ memory place = c.word-address.ensures.named place is at in
+    let collected : is_collected config memory (memory place) ≡ true = ap (is_collected config memory) (sym value) ∙ sym c.is_collected.ensures ∙ c.if-not-is_collected.false in
     let next = c.move_out-copy.new.image in
-    let moved : memory_of next ≡ moved_out g m (m place) = c.move_out-copy.ensures.words ∙ ap (moved_out g m) value in
-    let copy : c.move_out-copy.result ≡ now_in (moved_out g m (m place)) (m place) =
-    c.move_out-copy.ensures.copy ∙ ap (λ (n : Word → ℕ). now_in n c.word-address.result) moved ∙ ap (now_in (moved_out g m (m place))) value in
-    let one = stored (config_of next) g (memory_of next) (memory_of c.set_word.new.self) place c.args.at c.move_out-copy.result c.move_out-copy.ensures.config is (sym at) c.set_word.ensures.named in
-    one ∙ ap (λ n. write n place c.move_out-copy.result) moved ∙ ap (write (moved_out g m (m place)) place) copy ∙ cleared g m place collected
+    let moved : memory_of next ≡ moved_out config memory (memory place) = c.move_out-copy.ensures.words ∙ ap (moved_out config memory) value in
+    let copy : c.move_out-copy.result ≡ now_in (moved_out config memory (memory place)) (memory place) =
+    c.move_out-copy.ensures.copy ∙ ap (λ (n : Word → ℕ). now_in n c.word-address.result) moved ∙ ap (now_in (moved_out config memory (memory place))) value in
+    let one = stored (config_of next) config (memory_of next) (memory_of c.set_word.new.self) place c.args.at c.move_out-copy.result c.move_out-copy.ensures.config is (sym at) c.set_word.ensures.named in
+    one ∙ ap (λ n. write n place c.move_out-copy.result) moved ∙ ap (write (moved_out config memory (memory place)) place) copy ∙ cleared config memory place collected

@@ -12,25 +12,25 @@ loop-mutator-init c = record { config = refl; words = rows_none (config_of c.arg
 
 pub clear_roots-requires-clause-can : goal.clear_roots-requires-clause-can
 clear_roots-requires-clause-can c =
-    let g = config_of c.args.image.now in
-    let m : Word → ℕ = memory_of c.args.image.now in
-    let t = c.loop-mutator.mutator in
+    let config = config_of c.args.image.now in
+    let memory : Word → ℕ = memory_of c.args.image.now in
+    let mutator = c.loop-mutator.mutator in
     let is = c.loop-mutator.invariant in
-    let below : t < g.mutators = omega (arith, c.loop-mutator-test.true, c.mutators-mutator-end.ensures, ap (λ (k : Config). k.mutators) c.config-config.ensures) in
-    subst (λ (k : Config). CanClearInTurn k (memory_of c.loop-mutator.image) (map (Root t) (range_with_len 0 16))) (sym is.config)
-    (subst (λ (n : Word → ℕ). CanClearInTurn g n (map (Root t) (range_with_len 0 16))) (sym is.words) (rows_can g m g.mutators t below c.requires))
+    let below : mutator < config.mutators = omega (arith, c.loop-mutator-test.true, c.mutators-mutator-end.ensures, ap (λ (k : Config). k.mutators) c.config-config.ensures) in
+    subst (λ (k : Config). CanClearInTurn k (memory_of c.loop-mutator.image) (map (Root mutator) (range_with_len 0 16))) (sym is.config)
+    (subst (λ (n : Word → ℕ). CanClearInTurn config n (map (Root mutator) (range_with_len 0 16))) (sym is.words) (rows_can config memory config.mutators mutator below c.requires))
 
 pub loop-mutator-preserved : goal.loop-mutator-preserved
 loop-mutator-preserved c =
-    let g = config_of c.args.image.now in
-    let m : Word → ℕ = memory_of c.args.image.now in
-    let t = c.loop-mutator.mutator in
+    let config = config_of c.args.image.now in
+    let memory : Word → ℕ = memory_of c.args.image.now in
+    let mutator = c.loop-mutator.mutator in
     let is = c.loop-mutator.invariant in
-    let places = map (Root t) (range_with_len 0 16) in
+    let places = map (Root mutator) (range_with_len 0 16) in
     record {
       config = c.clear_roots.ensures.config ∙ is.config;
       words = c.clear_roots.ensures.words
           ∙ ap (λ (k : Config). cleared_in_turn k (memory_of c.loop-mutator.image) places) is.config
-          ∙ ap (λ (n : Word → ℕ). cleared_in_turn g n places) is.words
-          ∙ rows_next g m t;
+          ∙ ap (λ (n : Word → ℕ). cleared_in_turn config n places) is.words
+          ∙ rows_next config memory mutator;
     }

@@ -12,36 +12,36 @@ loop-mutator-init c = record { config = refl; words = row_none (config_of c.args
 
 pub clear-requires-clause-can : goal.clear-requires-clause-can
 clear-requires-clause-can c =
-    let g = config_of c.args.image.now in
-    let m : Word → ℕ = memory_of c.args.image.now in
-    let t = c.loop-mutator.mutator in
-    let below : t < g.mutators = omega (arith, c.loop-mutator-test.true, c.mutators-mutator-end.ensures, ap (λ (k : Config). k.mutators) c.config-config.ensures) in
+    let config = config_of c.args.image.now in
+    let memory : Word → ℕ = memory_of c.args.image.now in
+    let mutator = c.loop-mutator.mutator in
+    let below : mutator < config.mutators = omega (arith, c.loop-mutator-test.true, c.mutators-mutator-end.ensures, ap (λ (k : Config). k.mutators) c.config-config.ensures) in
     let now = c.loop-mutator.image in
     let is = c.loop-mutator.invariant in
-    let word : IsWord (config_of now) (Answer t) = subst (λ (k : Config). IsWord k (Answer t)) (sym is.config) below in
-    let at : c.answer_at.result ≡ word_at (config_of now) (Answer t) = c.answer_at.ensures ∙ ap (λ (k : Config). word_at k (Answer t)) (c.config-config.ensures ∙ sym is.config) in
-    let value : slice_index (words_of now) c.answer_at.result ≡ memory_of now (Answer t) =
-    ap (slice_index (words_of now)) at ∙ sym (view_word (config_of now) (words_of now) (Answer t) word) in
-    let here : CanClear g (row g m Answer t) (memory_of now (Answer t)) =
-    subst (λ (n : Word → ℕ). CanClear g (row g m Answer t) (n (Answer t))) (sym is.words) (row_can g m Answer g.mutators t below c.requires) in
+    let word : IsWord (config_of now) (Answer mutator) = subst (λ (k : Config). IsWord k (Answer mutator)) (sym is.config) below in
+    let at : c.answer_at.result ≡ word_at (config_of now) (Answer mutator) = c.answer_at.ensures ∙ ap (λ (k : Config). word_at k (Answer mutator)) (c.config-config.ensures ∙ sym is.config) in
+    let value : slice_index (words_of now) c.answer_at.result ≡ memory_of now (Answer mutator) =
+    ap (slice_index (words_of now)) at ∙ sym (view_word (config_of now) (words_of now) (Answer mutator) word) in
+    let here : CanClear config (row config memory Answer mutator) (memory_of now (Answer mutator)) =
+    subst (λ (n : Word → ℕ). CanClear config (row config memory Answer mutator) (n (Answer mutator))) (sym is.words) (row_can config memory Answer config.mutators mutator below c.requires) in
     subst (λ (k : Config). CanClear k (memory_of now) (slice_index (words_of now) c.answer_at.result)) (sym is.config)
-    (subst (λ (n : Word → ℕ). CanClear g n (slice_index (words_of now) c.answer_at.result)) (sym is.words)
-    (subst (CanClear g (row g m Answer t)) (sym value) here))
+    (subst (λ (n : Word → ℕ). CanClear config n (slice_index (words_of now) c.answer_at.result)) (sym is.words)
+    (subst (CanClear config (row config memory Answer mutator)) (sym value) here))
 
 pub loop-mutator-preserved : goal.loop-mutator-preserved
 loop-mutator-preserved c =
-    let g = config_of c.args.image.now in
-    let m : Word → ℕ = memory_of c.args.image.now in
-    let t = c.loop-mutator.mutator in
-    let below : t < g.mutators = omega (arith, c.loop-mutator-test.true, c.mutators-mutator-end.ensures, ap (λ (k : Config). k.mutators) c.config-config.ensures) in
+    let config = config_of c.args.image.now in
+    let memory : Word → ℕ = memory_of c.args.image.now in
+    let mutator = c.loop-mutator.mutator in
+    let below : mutator < config.mutators = omega (arith, c.loop-mutator-test.true, c.mutators-mutator-end.ensures, ap (λ (k : Config). k.mutators) c.config-config.ensures) in
     let now = c.loop-mutator.image in
     let is = c.loop-mutator.invariant in
-    let word : IsWord (config_of now) (Answer t) = subst (λ (k : Config). IsWord k (Answer t)) (sym is.config) below in
-    let at : c.answer_at.result ≡ word_at (config_of now) (Answer t) = c.answer_at.ensures ∙ ap (λ (k : Config). word_at k (Answer t)) (c.config-config.ensures ∙ sym is.config) in
+    let word : IsWord (config_of now) (Answer mutator) = subst (λ (k : Config). IsWord k (Answer mutator)) (sym is.config) below in
+    let at : c.answer_at.result ≡ word_at (config_of now) (Answer mutator) = c.answer_at.ensures ∙ ap (λ (k : Config). word_at k (Answer mutator)) (c.config-config.ensures ∙ sym is.config) in
     record {
       config = c.clear.ensures.config ∙ is.config;
-      words = c.clear.ensures.words (Answer t) word (sym at)
-          ∙ ap (λ (k : Config). cleared_at k (memory_of now) (Answer t)) is.config
-          ∙ ap (λ (n : Word → ℕ). cleared_at g n (Answer t)) is.words
-          ∙ row_next g m Answer t;
+      words = c.clear.ensures.words (Answer mutator) word (sym at)
+          ∙ ap (λ (k : Config). cleared_at k (memory_of now) (Answer mutator)) is.config
+          ∙ ap (λ (n : Word → ℕ). cleared_at config n (Answer mutator)) is.words
+          ∙ row_next config memory Answer mutator;
     }

@@ -12,36 +12,36 @@ loop-index-init c = record { config = refl; words = row_none (config_of c.args.i
 
 pub clear-requires-clause-can : goal.clear-requires-clause-can
 clear-requires-clause-can c =
-    let g = config_of c.args.image.now in
-    let m : Word → ℕ = memory_of c.args.image.now in
-    let t = c.args.mutator in
+    let config = config_of c.args.image.now in
+    let memory : Word → ℕ = memory_of c.args.image.now in
+    let mutator = c.args.mutator in
     let i = c.loop-index.index in
     let now = c.loop-index.image in
     let is = c.loop-index.invariant in
-    let word : IsWord (config_of now) (Root t i) = subst (λ (k : Config). IsWord k (Root t i)) (sym is.config) (c.requires.mutator, c.loop-index-test.true) in
-    let at : c.root_at.result ≡ word_at (config_of now) (Root t i) = c.root_at.ensures ∙ ap (λ (k : Config). word_at k (Root t i)) (c.config-config.ensures ∙ sym is.config) in
-    let value : slice_index (words_of now) c.root_at.result ≡ memory_of now (Root t i) =
-    ap (slice_index (words_of now)) at ∙ sym (view_word (config_of now) (words_of now) (Root t i) word) in
-    let here : CanClear g (row g m (Root t) i) (memory_of now (Root t i)) =
-    subst (λ (n : Word → ℕ). CanClear g (row g m (Root t) i) (n (Root t i))) (sym is.words) (row_can g m (Root t) 16 i c.loop-index-test.true c.requires.can) in
+    let word : IsWord (config_of now) (Root mutator i) = subst (λ (k : Config). IsWord k (Root mutator i)) (sym is.config) (c.requires.mutator, c.loop-index-test.true) in
+    let at : c.root_at.result ≡ word_at (config_of now) (Root mutator i) = c.root_at.ensures ∙ ap (λ (k : Config). word_at k (Root mutator i)) (c.config-config.ensures ∙ sym is.config) in
+    let value : slice_index (words_of now) c.root_at.result ≡ memory_of now (Root mutator i) =
+    ap (slice_index (words_of now)) at ∙ sym (view_word (config_of now) (words_of now) (Root mutator i) word) in
+    let here : CanClear config (row config memory (Root mutator) i) (memory_of now (Root mutator i)) =
+    subst (λ (n : Word → ℕ). CanClear config (row config memory (Root mutator) i) (n (Root mutator i))) (sym is.words) (row_can config memory (Root mutator) 16 i c.loop-index-test.true c.requires.can) in
     subst (λ (k : Config). CanClear k (memory_of now) (slice_index (words_of now) c.root_at.result)) (sym is.config)
-    (subst (λ (n : Word → ℕ). CanClear g n (slice_index (words_of now) c.root_at.result)) (sym is.words)
-    (subst (CanClear g (row g m (Root t) i)) (sym value) here))
+    (subst (λ (n : Word → ℕ). CanClear config n (slice_index (words_of now) c.root_at.result)) (sym is.words)
+    (subst (CanClear config (row config memory (Root mutator) i)) (sym value) here))
 
 pub loop-index-preserved : goal.loop-index-preserved
 loop-index-preserved c =
-    let g = config_of c.args.image.now in
-    let m : Word → ℕ = memory_of c.args.image.now in
-    let t = c.args.mutator in
+    let config = config_of c.args.image.now in
+    let memory : Word → ℕ = memory_of c.args.image.now in
+    let mutator = c.args.mutator in
     let i = c.loop-index.index in
     let now = c.loop-index.image in
     let is = c.loop-index.invariant in
-    let word : IsWord (config_of now) (Root t i) = subst (λ (k : Config). IsWord k (Root t i)) (sym is.config) (c.requires.mutator, c.loop-index-test.true) in
-    let at : c.root_at.result ≡ word_at (config_of now) (Root t i) = c.root_at.ensures ∙ ap (λ (k : Config). word_at k (Root t i)) (c.config-config.ensures ∙ sym is.config) in
+    let word : IsWord (config_of now) (Root mutator i) = subst (λ (k : Config). IsWord k (Root mutator i)) (sym is.config) (c.requires.mutator, c.loop-index-test.true) in
+    let at : c.root_at.result ≡ word_at (config_of now) (Root mutator i) = c.root_at.ensures ∙ ap (λ (k : Config). word_at k (Root mutator i)) (c.config-config.ensures ∙ sym is.config) in
     record {
       config = c.clear.ensures.config ∙ is.config;
-      words = c.clear.ensures.words (Root t i) word (sym at)
-          ∙ ap (λ (k : Config). cleared_at k (memory_of now) (Root t i)) is.config
-          ∙ ap (λ (n : Word → ℕ). cleared_at g n (Root t i)) is.words
-          ∙ row_next g m (Root t) i;
+      words = c.clear.ensures.words (Root mutator i) word (sym at)
+          ∙ ap (λ (k : Config). cleared_at k (memory_of now) (Root mutator i)) is.config
+          ∙ ap (λ (n : Word → ℕ). cleared_at config n (Root mutator i)) is.words
+          ∙ row_next config memory (Root mutator) i;
     }

@@ -15,61 +15,61 @@ use Rattle.cset_choice.proofs.begin.move_out.Goals as goal
 
 pub word-header-requires : goal.word-header-requires
 word-header-requires c =
-    let g = config_of c.args.image.now in
-    let m : Word → ℕ = memory_of c.args.image.now in
-    let a = c.args.address in
-    placed_inside g c.config.result (Heap a) c.heap_at.result (sym c.config.ensures)
-    (subst (λ (k : Config). IsWord k (Heap a)) (sym c.config.ensures) (collected_of_heap g m a c.requires.can.set c.requires.collected)) c.heap_at.ensures
+    let config = config_of c.args.image.now in
+    let memory : Word → ℕ = memory_of c.args.image.now in
+    let address = c.args.address in
+    placed_inside config c.config.result (Heap address) c.heap_at.result (sym c.config.ensures)
+    (subst (λ (k : Config). IsWord k (Heap address)) (sym c.config.ensures) (collected_of_heap config memory address c.requires.can.set c.requires.collected)) c.heap_at.ensures
 
 pub returns-clause-words : goal.returns-clause-words
 returns-clause-words c =
-    let g = config_of c.args.image.now in
-    let m : Word → ℕ = memory_of c.args.image.now in
-    let a = c.args.address in
-    let header : c.word-header.result ≡ m (Heap a) =
-    c.word-header.ensures.named (Heap a) (collected_of_heap g m a c.requires.can.set c.requires.collected) (ap (λ (k : Config). word_at k (Heap a)) (sym c.config.ensures) ∙ sym c.heap_at.ensures) in
-    let plain : is_forwarded (m (Heap a)) ≡ false = ap is_forwarded (sym header) ∙ sym c.forwarded.ensures ∙ c.if-forwarded.false in
-    c.copy_out.ensures.words ∙ moved_now g m a plain
+    let config = config_of c.args.image.now in
+    let memory : Word → ℕ = memory_of c.args.image.now in
+    let address = c.args.address in
+    let header : c.word-header.result ≡ memory (Heap address) =
+    c.word-header.ensures.named (Heap address) (collected_of_heap config memory address c.requires.can.set c.requires.collected) (ap (λ (k : Config). word_at k (Heap address)) (sym c.config.ensures) ∙ sym c.heap_at.ensures) in
+    let plain : is_forwarded (memory (Heap address)) ≡ false = ap is_forwarded (sym header) ∙ sym c.forwarded.ensures ∙ c.if-forwarded.false in
+    c.copy_out.ensures.words ∙ moved_now config memory address plain
 
 pub returns-clause-copy : goal.returns-clause-copy
 returns-clause-copy c =
-    let g = config_of c.args.image.now in
-    let m : Word → ℕ = memory_of c.args.image.now in
-    let a = c.args.address in
-    copy_is_now g m a c.unwrap.result (sym c.copy_out.ensures.copy ∙ c.unwrap.ensures) ∙ ap (λ (n : Word → ℕ). now_in n a) (sym c.copy_out.ensures.words)
+    let config = config_of c.args.image.now in
+    let memory : Word → ℕ = memory_of c.args.image.now in
+    let address = c.args.address in
+    copy_is_now config memory address c.unwrap.result (sym c.copy_out.ensures.copy ∙ c.unwrap.ensures) ∙ ap (λ (n : Word → ℕ). now_in n address) (sym c.copy_out.ensures.words)
 
 pub heap_at-requires : goal.heap_at-requires
 heap_at-requires c = subst (λ (k : Config). IsWord k (Heap c.args.address)) (sym c.config.ensures) (collected_of_heap (config_of c.args.image.now) (memory_of c.args.image.now) c.args.address c.requires.can.set c.requires.collected)
 
 pub copy_out-requires : goal.copy_out-requires
 copy_out-requires c =
-    let g = config_of c.args.image.now in
-    let m : Word → ℕ = memory_of c.args.image.now in
-    let a = c.args.address in
-    let header : c.word-header.result ≡ m (Heap a) =
-    read g _ m (Heap a) _ _ c.config.ensures (collected_of_heap g m a c.requires.can.set c.requires.collected) c.heap_at.ensures c.word-header.ensures.named in
+    let config = config_of c.args.image.now in
+    let memory : Word → ℕ = memory_of c.args.image.now in
+    let address = c.args.address in
+    let header : c.word-header.result ≡ memory (Heap address) =
+    read config _ memory (Heap address) _ _ c.config.ensures (collected_of_heap config memory address c.requires.can.set c.requires.collected) c.heap_at.ensures c.word-header.ensures.named in
     c.requires.can.object c.requires.collected (ap is_forwarded (sym header) ∙ sym c.forwarded.ensures ∙ c.if-forwarded.false)
 
 pub unwrap-requires : goal.unwrap-requires
 unwrap-requires c =
-    let g = config_of c.args.image.now in
-    let m : Word → ℕ = memory_of c.args.image.now in
-    let a = c.args.address in
-    let header : c.word-header.result ≡ m (Heap a) =
-    read g _ m (Heap a) _ _ c.config.ensures (collected_of_heap g m a c.requires.can.set c.requires.collected) c.heap_at.ensures c.word-header.ensures.named in
+    let config = config_of c.args.image.now in
+    let memory : Word → ℕ = memory_of c.args.image.now in
+    let address = c.args.address in
+    let header : c.word-header.result ≡ memory (Heap address) =
+    read config _ memory (Heap address) _ _ c.config.ensures (collected_of_heap config memory address c.requires.can.set c.requires.collected) c.heap_at.ensures c.word-header.ensures.named in
     subst (λ (o : Option ℕ). IsSome o) (sym c.copy_out.ensures.copy)
-    (some_copy g m (copy_room g m a) (c.requires.can.room c.requires.collected (ap is_forwarded (sym header) ∙ sym c.forwarded.ensures ∙ c.if-forwarded.false)))
+    (some_copy config memory (copy_room config memory address) (c.requires.can.room c.requires.collected (ap is_forwarded (sym header) ∙ sym c.forwarded.ensures ∙ c.if-forwarded.false)))
 
 pub returns-then-forwarded : goal.returns-then-forwarded
 returns-then-forwarded c =
-    let g = config_of c.args.image.now in
-    let m : Word → ℕ = memory_of c.args.image.now in
-    let a = c.args.address in
-    let header : c.word-header.result ≡ m (Heap a) =
-    read g _ m (Heap a) _ _ c.config.ensures (collected_of_heap g m a c.requires.can.set c.requires.collected) c.heap_at.ensures c.word-header.ensures.named in
-    let moved : is_forwarded (m (Heap a)) ≡ true = ap is_forwarded (sym header) ∙ sym c.forwarded.ensures ∙ c.if-forwarded.true in
+    let config = config_of c.args.image.now in
+    let memory : Word → ℕ = memory_of c.args.image.now in
+    let address = c.args.address in
+    let header : c.word-header.result ≡ memory (Heap address) =
+    read config _ memory (Heap address) _ _ c.config.ensures (collected_of_heap config memory address c.requires.can.set c.requires.collected) c.heap_at.ensures c.word-header.ensures.named in
+    let moved : is_forwarded (memory (Heap address)) ≡ true = ap is_forwarded (sym header) ∙ sym c.forwarded.ensures ∙ c.if-forwarded.true in
     record {
       config = refl;
-      words = moved_before g m a moved;
-      copy = c.forwardee.ensures ∙ ap forwardee_in header ∙ sym (cond-true (is_forwarded (m (Heap a))) (forwardee_in (m (Heap a))) a moved);
+      words = moved_before config memory address moved;
+      copy = c.forwardee.ensures ∙ ap forwardee_in header ∙ sym (cond-true (is_forwarded (memory (Heap address))) (forwardee_in (memory (Heap address))) address moved);
     }

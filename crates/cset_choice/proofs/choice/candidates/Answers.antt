@@ -11,9 +11,9 @@ use Rattle.cset_choice.proofs.choice.candidates.Goals as goal
 
 pub loop-region-init : goal.loop-region-init
 loop-region-init c =
-    let g = config_of c.args.image.now in
-    let m : Word → ℕ = memory_of c.args.image.now in
-    record { live = live_none g m; set = bits_none_yet (is_candidate g m) }
+    let config = config_of c.args.image.now in
+    let memory : Word → ℕ = memory_of c.args.image.now in
+    record { live = live_none config memory; set = bits_none_yet (is_candidate config memory) }
 
 pub with_if-set-requires-clause-below : goal.with_if-set-requires-clause-below
 with_if-set-requires-clause-below c =
@@ -22,33 +22,33 @@ with_if-set-requires-clause-below c =
 
 pub loop-region-preserved : goal.loop-region-preserved
 loop-region-preserved c =
-    let g = config_of c.args.image.now in
-    let m : Word → ℕ = memory_of c.args.image.now in
-    let r = c.loop-region.region in
-    let most = g.in_range.most_regions in
-    let few : r < 64 = omega (arith, c.loop-region-test.true, c.regions-region-end.ensures, ap (λ (k : Config). k.regions) c.config.ensures, most) in
+    let config = config_of c.args.image.now in
+    let memory : Word → ℕ = memory_of c.args.image.now in
+    let region = c.loop-region.region in
+    let most = config.in_range.most_regions in
+    let few : region < 64 = omega (arith, c.loop-region-test.true, c.regions-region-end.ensures, ap (λ (k : Config). k.regions) c.config.ensures, most) in
     let counted = c.live_of_candidate-counted.result in
     let told = c.live_of_candidate-counted.ensures in
     let words : ℕ = c.unwrap_or-words.result in
     record {
-      live = live_more g m c.loop-region.live r words few
-          (counted_words counted words (live_words g m r) (is_candidate g m r) c.unwrap_or-words.ensures told.candidate told.live)
+      live = live_more config memory c.loop-region.live region words few
+          (counted_words counted words (live_words config memory region) (is_candidate config memory region) c.unwrap_or-words.ensures told.candidate told.live)
           (counted_few counted words most_live c.unwrap_or-words.ensures told.bound) c.loop-region.invariant.live;
-      set = bits_next (is_candidate g m) r c.loop-region.set c.with_if-set.result c.is_some-member.result c.loop-region.invariant.set (c.is_some-member.ensures ∙ told.candidate) c.with_if-set.ensures;
+      set = bits_next (is_candidate config memory) region c.loop-region.set c.with_if-set.result c.is_some-member.result c.loop-region.invariant.set (c.is_some-member.ensures ∙ told.candidate) c.with_if-set.ensures;
     }
 
 pub returns-clause-live : goal.returns-clause-live
 returns-clause-live c =
-    let g = config_of c.args.image.now in
-    let all : c.loop-region.region ≡ g.regions =
+    let config = config_of c.args.image.now in
+    let all : c.loop-region.region ≡ config.regions =
     omega (arith, c.loop-region-test.false, c.loop-region.auto.region-end, c.regions-region-end.ensures, ap (λ (k : Config). k.regions) c.config.ensures) in
     let live = c.loop-region.invariant.live in
     record { long = live.long; small = live.small; is = λ r below told. live.is r (omega (arith, below, all)) told }
 
 pub returns-clause-set : goal.returns-clause-set
 returns-clause-set c =
-    let g = config_of c.args.image.now in
-    let m : Word → ℕ = memory_of c.args.image.now in
-    let all : c.loop-region.region ≡ g.regions =
+    let config = config_of c.args.image.now in
+    let memory : Word → ℕ = memory_of c.args.image.now in
+    let all : c.loop-region.region ≡ config.regions =
     omega (arith, c.loop-region-test.false, c.loop-region.auto.region-end, c.regions-region-end.ensures, ap (λ (k : Config). k.regions) c.config.ensures) in
-    c.loop-region.invariant.set ∙ ap (bits_of (is_candidate g m) 0) all
+    c.loop-region.invariant.set ∙ ap (bits_of (is_candidate config memory) 0) all

@@ -29,34 +29,34 @@ with_if-set-requires-clause-below c =
 
 pub loop-region-preserved : goal.loop-region-preserved
 loop-region-preserved c =
-    let g = config_of c.args.image.now in
-    let m : Word → ℕ = memory_of c.args.image.now in
-    let r = c.loop-region.region in
+    let config = config_of c.args.image.now in
+    let memory : Word → ℕ = memory_of c.args.image.now in
+    let region = c.loop-region.region in
     let live = c.candidates-counted.result.live in
-    let below : r < g.regions = omega (arith, c.loop-region-test.true, c.regions-region-end.ensures, ap (λ (k : Config). k.regions) c.config-config.ensures) in
-    let set : ℕ = bits_of (is_candidate g m) 0 g.regions in
-    let told : c.is_taken.result ≡ taken g m r =
+    let below : region < config.regions = omega (arith, c.loop-region-test.true, c.regions-region-end.ensures, ap (λ (k : Config). k.regions) c.config-config.ensures) in
+    let set : ℕ = bits_of (is_candidate config memory) 0 config.regions in
+    let told : c.is_taken.result ≡ taken config memory region =
     c.is_taken.ensures
-    ∙ ap (λ s. (bit_at s r == 1) && nat_le (up_to live s c.config-config.result.regions r) c.copy_limit-limit.result) c.candidates-counted.ensures.set
-    ∙ ap (λ (k : Config). (bit_at set r == 1) && nat_le (up_to live set k.regions r) c.copy_limit-limit.result) c.config-config.ensures
-    ∙ ap (λ n. (bit_at set r == 1) && nat_le (up_to live set g.regions r) n) c.copy_limit-limit.ensures
-    ∙ fits_is g m live c.candidates-counted.ensures.live r (copy_limit g m) below in
-    bits_next (taken g m) r c.loop-region.set c.with_if-set.result c.is_taken.result c.loop-region.invariant told c.with_if-set.ensures
+    ∙ ap (λ s. (bit_at s region == 1) && nat_le (up_to live s c.config-config.result.regions region) c.copy_limit-limit.result) c.candidates-counted.ensures.set
+    ∙ ap (λ (k : Config). (bit_at set region == 1) && nat_le (up_to live set k.regions region) c.copy_limit-limit.result) c.config-config.ensures
+    ∙ ap (λ n. (bit_at set region == 1) && nat_le (up_to live set config.regions region) n) c.copy_limit-limit.ensures
+    ∙ fits_is config memory live c.candidates-counted.ensures.live region (copy_limit config memory) below in
+    bits_next (taken config memory) region c.loop-region.set c.with_if-set.result c.is_taken.result c.loop-region.invariant told c.with_if-set.ensures
 
 pub returns-clause-choice : goal.returns-clause-choice
 returns-clause-choice c =
-    let g = config_of c.args.image.now in
-    let m : Word → ℕ = memory_of c.args.image.now in
-    let all : c.loop-region.region ≡ g.regions =
+    let config = config_of c.args.image.now in
+    let memory : Word → ℕ = memory_of c.args.image.now in
+    let all : c.loop-region.region ≡ config.regions =
     omega (arith, c.loop-region-test.false, c.loop-region.auto.region-end, c.regions-region-end.ensures, ap (λ (k : Config). k.regions) c.config-config.ensures) in
-    let value : c.loop-region.set ≡ chosen g m = c.loop-region.invariant ∙ ap (bits_of (taken g m) 0) all in
-    subst (IsChoice g m) (sym value) (front_is_longest g.regions (copy_limit g m) (live_words g m) (is_candidate g m))
+    let value : c.loop-region.set ≡ chosen config memory = c.loop-region.invariant ∙ ap (bits_of (taken config memory) 0) all in
+    subst (IsChoice config memory) (sym value) (front_is_longest config.regions (copy_limit config memory) (live_words config memory) (is_candidate config memory))
 
 pub returns-clause-live : goal.returns-clause-live
 returns-clause-live c =
-    let g = config_of c.args.image.now in
-    let m : Word → ℕ = memory_of c.args.image.now in
-    let all : c.loop-region.region ≡ g.regions =
+    let config = config_of c.args.image.now in
+    let memory : Word → ℕ = memory_of c.args.image.now in
+    let all : c.loop-region.region ≡ config.regions =
     omega (arith, c.loop-region-test.false, c.loop-region.auto.region-end, c.regions-region-end.ensures, ap (λ (k : Config). k.regions) c.config-config.ensures) in
-    let value : c.loop-region.set ≡ chosen g m = c.loop-region.invariant ∙ ap (bits_of (taken g m) 0) all in
-    subst (ReachableAreLive g m) (sym value) (chosen_are_live g m)
+    let value : c.loop-region.set ≡ chosen config memory = c.loop-region.invariant ∙ ap (bits_of (taken config memory) 0) all in
+    subst (ReachableAreLive config memory) (sym value) (chosen_are_live config memory)

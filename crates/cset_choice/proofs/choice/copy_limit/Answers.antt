@@ -8,10 +8,10 @@ use Rattle.cset_choice.proofs.choice.copy_limit.Goals as goal
 
 pub returns : goal.returns
 returns c =
-    let g = config_of c.args.image.now in
-    let m : Word → ℕ = memory_of c.args.image.now in
-    let free : c.word.result ≡ m Free = c.word.ensures.named Free tt (ap (λ (k : Config). word_at k Free) (sym c.config-config.ensures) ∙ sym c.free_at.ensures) in
-    let few = g.in_range.most_regions in
-    let count : c.size-free.result ≡ members_below (m Free) g.regions = c.size-free.ensures ∙ ap (λ s. members_below s 64) free ∙ members_all (m Free) g.regions few c.requires in
-    let words : c.region_words.result ≡ g.region_words = c.region_words.ensures ∙ ap (λ (k : Config). k.region_words) c.config-config.ensures in
-    ap (λ n. n * (c.region_words.result - 35)) count ∙ ap (λ w. members_below (m Free) g.regions * (w - 35)) words
+    let config = config_of c.args.image.now in
+    let memory : Word → ℕ = memory_of c.args.image.now in
+    let free : c.word.result ≡ memory Free = c.word.ensures.named Free tt (ap (λ (k : Config). word_at k Free) (sym c.config-config.ensures) ∙ sym c.free_at.ensures) in
+    let few = config.in_range.most_regions in
+    let count : c.size-free.result ≡ members_below (memory Free) config.regions = c.size-free.ensures ∙ ap (λ s. members_below s 64) free ∙ members_all (memory Free) config.regions few c.requires in
+    let words : c.region_words.result ≡ config.region_words = c.region_words.ensures ∙ ap (λ (k : Config). k.region_words) c.config-config.ensures in
+    ap (λ n. n * (c.region_words.result - 35)) count ∙ ap (λ w. members_below (memory Free) config.regions * (w - 35)) words

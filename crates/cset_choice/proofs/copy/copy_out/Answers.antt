@@ -26,70 +26,70 @@ module _ (g : Config) (m : Word → ℕ) (a : ℕ) (can : CanCopyOut g m a) wher
 
 pub copy_to-requires-clause-region : goal.copy_to-requires-clause-region
 copy_to-requires-clause-region c =
-    let g = config_of c.args.image.now in
-    let m : Word → ℕ = memory_of c.args.image.now in
-    let a = c.args.address in
-    let read = c.word.ensures.named (Heap (a + 1)) (shape_is g m a c.requires) (ap (λ (k : Config). word_at k (Heap (a + 1))) (sym c.config.ensures) ∙ sym c.heap_at.ensures) in
-    (found_room g m a c.in-Some.region (same_room g m a c.word.result c.words_of-words.result c.room_outside.result (Some c.in-Some.region) read c.words_of-words.ensures c.room_outside.ensures c.in-Some.is)).0
+    let config = config_of c.args.image.now in
+    let memory : Word → ℕ = memory_of c.args.image.now in
+    let address = c.args.address in
+    let read = c.word.ensures.named (Heap (address + 1)) (shape_is config memory address c.requires) (ap (λ (k : Config). word_at k (Heap (address + 1))) (sym c.config.ensures) ∙ sym c.heap_at.ensures) in
+    (found_room config memory address c.in-Some.region (same_room config memory address c.word.result c.words_of-words.result c.room_outside.result (Some c.in-Some.region) read c.words_of-words.ensures c.room_outside.ensures c.in-Some.is)).0
 
 pub copy_to-requires-clause-outside : goal.copy_to-requires-clause-outside
 copy_to-requires-clause-outside c =
-    let g = config_of c.args.image.now in
-    let m : Word → ℕ = memory_of c.args.image.now in
-    let a = c.args.address in
-    let read = c.word.ensures.named (Heap (a + 1)) (shape_is g m a c.requires) (ap (λ (k : Config). word_at k (Heap (a + 1))) (sym c.config.ensures) ∙ sym c.heap_at.ensures) in
-    (found_room g m a c.in-Some.region (same_room g m a c.word.result c.words_of-words.result c.room_outside.result (Some c.in-Some.region) read c.words_of-words.ensures c.room_outside.ensures c.in-Some.is)).1
+    let config = config_of c.args.image.now in
+    let memory : Word → ℕ = memory_of c.args.image.now in
+    let address = c.args.address in
+    let read = c.word.ensures.named (Heap (address + 1)) (shape_is config memory address c.requires) (ap (λ (k : Config). word_at k (Heap (address + 1))) (sym c.config.ensures) ∙ sym c.heap_at.ensures) in
+    (found_room config memory address c.in-Some.region (same_room config memory address c.word.result c.words_of-words.result c.room_outside.result (Some c.in-Some.region) read c.words_of-words.ensures c.room_outside.ensures c.in-Some.is)).1
 
 pub copy_to-requires-clause-room : goal.copy_to-requires-clause-room
 copy_to-requires-clause-room c =
-    let g = config_of c.args.image.now in
-    let m : Word → ℕ = memory_of c.args.image.now in
-    let a = c.args.address in
-    let read = c.word.ensures.named (Heap (a + 1)) (shape_is g m a c.requires) (ap (λ (k : Config). word_at k (Heap (a + 1))) (sym c.config.ensures) ∙ sym c.heap_at.ensures) in
-    (found_room g m a c.in-Some.region (same_room g m a c.word.result c.words_of-words.result c.room_outside.result (Some c.in-Some.region) read c.words_of-words.ensures c.room_outside.ensures c.in-Some.is)).2
+    let config = config_of c.args.image.now in
+    let memory : Word → ℕ = memory_of c.args.image.now in
+    let address = c.args.address in
+    let read = c.word.ensures.named (Heap (address + 1)) (shape_is config memory address c.requires) (ap (λ (k : Config). word_at k (Heap (address + 1))) (sym c.config.ensures) ∙ sym c.heap_at.ensures) in
+    (found_room config memory address c.in-Some.region (same_room config memory address c.word.result c.words_of-words.result c.room_outside.result (Some c.in-Some.region) read c.words_of-words.ensures c.room_outside.ensures c.in-Some.is)).2
 
 pub returns-in-Some-clause-words : goal.returns-in-Some-clause-words
 returns-in-Some-clause-words c =
-    let g = config_of c.args.image.now in
-    let m : Word → ℕ = memory_of c.args.image.now in
-    let a = c.args.address in
-    let read = c.word.ensures.named (Heap (a + 1)) (shape_is g m a c.requires) (ap (λ (k : Config). word_at k (Heap (a + 1))) (sym c.config.ensures) ∙ sym c.heap_at.ensures) in
+    let config = config_of c.args.image.now in
+    let memory : Word → ℕ = memory_of c.args.image.now in
+    let address = c.args.address in
+    let read = c.word.ensures.named (Heap (address + 1)) (shape_is config memory address c.requires) (ap (λ (k : Config). word_at k (Heap (address + 1))) (sym c.config.ensures) ∙ sym c.heap_at.ensures) in
     c.copy_to.ensures.words
-    ∙ sym (copied_as g m a c.in-Some.region (same_room g m a c.word.result c.words_of-words.result c.room_outside.result (Some c.in-Some.region) read c.words_of-words.ensures c.room_outside.ensures c.in-Some.is))
+    ∙ sym (copied_as config memory address c.in-Some.region (same_room config memory address c.word.result c.words_of-words.result c.room_outside.result (Some c.in-Some.region) read c.words_of-words.ensures c.room_outside.ensures c.in-Some.is))
 
 pub returns-in-Some-clause-copy : goal.returns-in-Some-clause-copy
 returns-in-Some-clause-copy c =
-    let g = config_of c.args.image.now in
-    let m : Word → ℕ = memory_of c.args.image.now in
-    let a = c.args.address in
-    let read = c.word.ensures.named (Heap (a + 1)) (shape_is g m a c.requires) (ap (λ (k : Config). word_at k (Heap (a + 1))) (sym c.config.ensures) ∙ sym c.heap_at.ensures) in
+    let config = config_of c.args.image.now in
+    let memory : Word → ℕ = memory_of c.args.image.now in
+    let address = c.args.address in
+    let read = c.word.ensures.named (Heap (address + 1)) (shape_is config memory address c.requires) (ap (λ (k : Config). word_at k (Heap (address + 1))) (sym c.config.ensures) ∙ sym c.heap_at.ensures) in
     ap Some c.copy_to.ensures.address
-    ∙ sym (ap (copy_in g m) (same_room g m a c.word.result c.words_of-words.result c.room_outside.result (Some c.in-Some.region) read c.words_of-words.ensures c.room_outside.ensures c.in-Some.is))
+    ∙ sym (ap (copy_in config memory) (same_room config memory address c.word.result c.words_of-words.result c.room_outside.result (Some c.in-Some.region) read c.words_of-words.ensures c.room_outside.ensures c.in-Some.is))
 
 pub returns-in-None-clause-words : goal.returns-in-None-clause-words
 returns-in-None-clause-words c =
-    let g = config_of c.args.image.now in
-    let m : Word → ℕ = memory_of c.args.image.now in
-    let a = c.args.address in
-    let read = c.word.ensures.named (Heap (a + 1)) (shape_is g m a c.requires) (ap (λ (k : Config). word_at k (Heap (a + 1))) (sym c.config.ensures) ∙ sym c.heap_at.ensures) in
-    sym (ap (copied_in g m a) (same_room g m a c.word.result c.words_of-words.result c.room_outside.result None read c.words_of-words.ensures c.room_outside.ensures c.in-None.is))
+    let config = config_of c.args.image.now in
+    let memory : Word → ℕ = memory_of c.args.image.now in
+    let address = c.args.address in
+    let read = c.word.ensures.named (Heap (address + 1)) (shape_is config memory address c.requires) (ap (λ (k : Config). word_at k (Heap (address + 1))) (sym c.config.ensures) ∙ sym c.heap_at.ensures) in
+    sym (ap (copied_in config memory address) (same_room config memory address c.word.result c.words_of-words.result c.room_outside.result None read c.words_of-words.ensures c.room_outside.ensures c.in-None.is))
 
 pub returns-in-None-clause-copy : goal.returns-in-None-clause-copy
 returns-in-None-clause-copy c =
-    let g = config_of c.args.image.now in
-    let m : Word → ℕ = memory_of c.args.image.now in
-    let a = c.args.address in
-    let read = c.word.ensures.named (Heap (a + 1)) (shape_is g m a c.requires) (ap (λ (k : Config). word_at k (Heap (a + 1))) (sym c.config.ensures) ∙ sym c.heap_at.ensures) in
-    sym (ap (copy_in g m) (same_room g m a c.word.result c.words_of-words.result c.room_outside.result None read c.words_of-words.ensures c.room_outside.ensures c.in-None.is))
+    let config = config_of c.args.image.now in
+    let memory : Word → ℕ = memory_of c.args.image.now in
+    let address = c.args.address in
+    let read = c.word.ensures.named (Heap (address + 1)) (shape_is config memory address c.requires) (ap (λ (k : Config). word_at k (Heap (address + 1))) (sym c.config.ensures) ∙ sym c.heap_at.ensures) in
+    sym (ap (copy_in config memory) (same_room config memory address c.word.result c.words_of-words.result c.room_outside.result None read c.words_of-words.ensures c.room_outside.ensures c.in-None.is))
 
 pub returns-in-Some-clause-holds : goal.returns-in-Some-clause-holds
 returns-in-Some-clause-holds c =
-    let g = config_of c.args.image.now in
-    let m : Word → ℕ = memory_of c.args.image.now in
-    subst (λ (n : Word → ℕ). CopyingHolds g m n c.args.address) (sym (returns-in-Some-clause-words c)) (copying_holds g m c.args.address c.requires)
+    let config = config_of c.args.image.now in
+    let memory : Word → ℕ = memory_of c.args.image.now in
+    subst (λ (n : Word → ℕ). CopyingHolds config memory n c.args.address) (sym (returns-in-Some-clause-words c)) (copying_holds config memory c.args.address c.requires)
 
 pub returns-in-None-clause-holds : goal.returns-in-None-clause-holds
 returns-in-None-clause-holds c =
-    let g = config_of c.args.image.now in
-    let m : Word → ℕ = memory_of c.args.image.now in
-    subst (λ (n : Word → ℕ). CopyingHolds g m n c.args.address) (sym (returns-in-None-clause-words c)) (copying_holds g m c.args.address c.requires)
+    let config = config_of c.args.image.now in
+    let memory : Word → ℕ = memory_of c.args.image.now in
+    subst (λ (n : Word → ℕ). CopyingHolds config memory n c.args.address) (sym (returns-in-None-clause-words c)) (copying_holds config memory c.args.address c.requires)

@@ -17,108 +17,108 @@ use Rattle.cset_choice.proofs.copy.copy_to.Goals as goal
 
 pub copy_words-requires-clause-from : goal.copy_words-requires-clause-from
 copy_words-requires-clause-from c =
-    let g = config_of c.args.image.now in
-    let m : Word → ℕ = memory_of c.args.image.now in
-    let a = c.args.address in
-    let object = object_in_heap g a (words_at m a) c.requires.can.above c.requires.can.of_region c.requires.can.lies in
-    let words : c.words_of-words.result ≡ words_at m a =
-    c.words_of-words.ensures ∙ ap object_words (c.word.ensures.named (Heap (a + 1)) (word_of_heap g a (words_at m a) 1 object (omega arith))
-    (ap (λ (k : Config). word_at k (Heap (a + 1))) (sym c.config-config.ensures) ∙ sym c.heap_at.ensures)) in
-    subst (AreInHeap g a) (sym words) object
+    let config = config_of c.args.image.now in
+    let memory : Word → ℕ = memory_of c.args.image.now in
+    let address = c.args.address in
+    let object = object_in_heap config address (words_at memory address) c.requires.can.above c.requires.can.of_region c.requires.can.lies in
+    let words : c.words_of-words.result ≡ words_at memory address =
+    c.words_of-words.ensures ∙ ap object_words (c.word.ensures.named (Heap (address + 1)) (word_of_heap config address (words_at memory address) 1 object (omega arith))
+    (ap (λ (k : Config). word_at k (Heap (address + 1))) (sym c.config-config.ensures) ∙ sym c.heap_at.ensures)) in
+    subst (AreInHeap config address) (sym words) object
 
 pub copy_words-requires-clause-to : goal.copy_words-requires-clause-to
 copy_words-requires-clause-to c =
-    let g = config_of c.args.image.now in
-    let m : Word → ℕ = memory_of c.args.image.now in
-    let a = c.args.address in
-    let r = c.args.region in
-    let object = object_in_heap g a (words_at m a) c.requires.can.above c.requires.can.of_region c.requires.can.lies in
-    let words : c.words_of-words.result ≡ words_at m a =
-    c.words_of-words.ensures ∙ ap object_words (c.word.ensures.named (Heap (a + 1)) (word_of_heap g a (words_at m a) 1 object (omega arith))
-    (ap (λ (k : Config). word_at k (Heap (a + 1))) (sym c.config-config.ensures) ∙ sym c.heap_at.ensures)) in
-    let base : c.base.result ≡ base_of g r = c.base.ensures ∙ ap (λ (k : Config). base_of k r) c.config-config.ensures in
-    let at : top_address g m r ≡ c.base.result + c.top-top.result = omega (arith, base, c.top-top.ensures) in
-    subst (λ x. AreInHeap g x c.words_of-words.result) at
-    (subst (AreInHeap g (top_address g m r)) (sym words) (room_in_heap g r (m (Top r)) (words_at m a) c.requires.region c.requires.room))
+    let config = config_of c.args.image.now in
+    let memory : Word → ℕ = memory_of c.args.image.now in
+    let address = c.args.address in
+    let region = c.args.region in
+    let object = object_in_heap config address (words_at memory address) c.requires.can.above c.requires.can.of_region c.requires.can.lies in
+    let words : c.words_of-words.result ≡ words_at memory address =
+    c.words_of-words.ensures ∙ ap object_words (c.word.ensures.named (Heap (address + 1)) (word_of_heap config address (words_at memory address) 1 object (omega arith))
+    (ap (λ (k : Config). word_at k (Heap (address + 1))) (sym c.config-config.ensures) ∙ sym c.heap_at.ensures)) in
+    let base : c.base.result ≡ base_of config region = c.base.ensures ∙ ap (λ (k : Config). base_of k region) c.config-config.ensures in
+    let at : top_address config memory region ≡ c.base.result + c.top-top.result = omega (arith, base, c.top-top.ensures) in
+    subst (λ x. AreInHeap config x c.words_of-words.result) at
+    (subst (AreInHeap config (top_address config memory region)) (sym words) (room_in_heap config region (memory (Top region)) (words_at memory address) c.requires.region c.requires.room))
 
 pub copy_words-requires-clause-apart : goal.copy_words-requires-clause-apart
 copy_words-requires-clause-apart c =
-    let g = config_of c.args.image.now in
-    let m : Word → ℕ = memory_of c.args.image.now in
-    let a = c.args.address in
-    let r = c.args.region in
-    let object = object_in_heap g a (words_at m a) c.requires.can.above c.requires.can.of_region c.requires.can.lies in
-    let words : c.words_of-words.result ≡ words_at m a =
-    c.words_of-words.ensures ∙ ap object_words (c.word.ensures.named (Heap (a + 1)) (word_of_heap g a (words_at m a) 1 object (omega arith))
-    (ap (λ (k : Config). word_at k (Heap (a + 1))) (sym c.config-config.ensures) ∙ sym c.heap_at.ensures)) in
-    let base : c.base.result ≡ base_of g r = c.base.ensures ∙ ap (λ (k : Config). base_of k r) c.config-config.ensures in
-    let at : top_address g m r ≡ c.base.result + c.top-top.result = omega (arith, base, c.top-top.ensures) in
-    subst (λ x. (a + c.words_of-words.result ≤ x) ⊎ (x + c.words_of-words.result ≤ a)) at
-    (subst (λ n. (a + n ≤ top_address g m r) ⊎ (top_address g m r + n ≤ a)) (sym words) (copies_apart g m a r c.requires.can c.requires.outside c.requires.room))
+    let config = config_of c.args.image.now in
+    let memory : Word → ℕ = memory_of c.args.image.now in
+    let address = c.args.address in
+    let region = c.args.region in
+    let object = object_in_heap config address (words_at memory address) c.requires.can.above c.requires.can.of_region c.requires.can.lies in
+    let words : c.words_of-words.result ≡ words_at memory address =
+    c.words_of-words.ensures ∙ ap object_words (c.word.ensures.named (Heap (address + 1)) (word_of_heap config address (words_at memory address) 1 object (omega arith))
+    (ap (λ (k : Config). word_at k (Heap (address + 1))) (sym c.config-config.ensures) ∙ sym c.heap_at.ensures)) in
+    let base : c.base.result ≡ base_of config region = c.base.ensures ∙ ap (λ (k : Config). base_of k region) c.config-config.ensures in
+    let at : top_address config memory region ≡ c.base.result + c.top-top.result = omega (arith, base, c.top-top.ensures) in
+    subst (λ x. (address + c.words_of-words.result ≤ x) ⊎ (x + c.words_of-words.result ≤ address)) at
+    (subst (λ n. (address + n ≤ top_address config memory region) ⊎ (top_address config memory region + n ≤ address)) (sym words) (copies_apart config memory address region c.requires.can c.requires.outside c.requires.room))
 
 pub returns-clause-words : goal.returns-clause-words
 returns-clause-words c =
     let old = config_of c.args.image.now in
     let g = c.config-config.result in
-    let m : Word → ℕ = memory_of c.args.image.now in
-    let a = c.args.address in
-    let r = c.args.region in
+    let memory : Word → ℕ = memory_of c.args.image.now in
+    let address = c.args.address in
+    let region = c.args.region in
     let same : g ≡ old = c.config-config.ensures in
     -- what was read
-    let object = object_in_heap old a (words_at m a) c.requires.can.above c.requires.can.of_region c.requires.can.lies in
-    let words : c.words_of-words.result ≡ words_at m a =
-    c.words_of-words.ensures ∙ ap object_words (c.word.ensures.named (Heap (a + 1)) (word_of_heap old a (words_at m a) 1 object (omega arith))
-    (ap (λ (k : Config). word_at k (Heap (a + 1))) (sym same) ∙ sym c.heap_at.ensures)) in
-    let free : c.word-free.result ≡ m Free = c.word-free.ensures.named Free tt (ap (λ (k : Config). word_at k Free) (sym same) ∙ sym c.free_at.ensures) in
-    let base : c.base.result ≡ base_of old r = c.base.ensures ∙ ap (λ (k : Config). base_of k r) same in
+    let object = object_in_heap old address (words_at memory address) c.requires.can.above c.requires.can.of_region c.requires.can.lies in
+    let words : c.words_of-words.result ≡ words_at memory address =
+    c.words_of-words.ensures ∙ ap object_words (c.word.ensures.named (Heap (address + 1)) (word_of_heap old address (words_at memory address) 1 object (omega arith))
+    (ap (λ (k : Config). word_at k (Heap (address + 1))) (sym same) ∙ sym c.heap_at.ensures)) in
+    let free : c.word-free.result ≡ memory Free = c.word-free.ensures.named Free tt (ap (λ (k : Config). word_at k Free) (sym same) ∙ sym c.free_at.ensures) in
+    let base : c.base.result ≡ base_of old region = c.base.ensures ∙ ap (λ (k : Config). base_of k region) same in
     let to : ℕ = c.base.result + c.top-top.result in
-    let at : to ≡ top_address old m r = omega (arith, base, c.top-top.ensures) in
+    let at : to ≡ top_address old memory region = omega (arith, base, c.top-top.ensures) in
     -- where it is written
-    let copy = room_in_heap old r (m (Top r)) (words_at m a) c.requires.region c.requires.room in
+    let copy = room_in_heap old region (memory (Top region)) (words_at memory address) c.requires.region c.requires.room in
     let copy_is : IsWord g (Heap to) = subst (λ (k : Config). IsWord k (Heap to)) (sym same) (omega (arith, copy.from, at), omega (arith, copy.to, at)) in
-    let old_is : IsWord g (Heap a) = subst (λ (k : Config). IsWord k (Heap a)) (sym same) (omega (arith, object.from), omega (arith, object.to)) in
-    let e0 : config_of c.copy_words.new.image ≡ g = c.copy_words.ensures.config ∙ sym same in
-    let e1 : config_of c.set_word.new.self ≡ g = c.set_word.ensures.config ∙ e0 in
-    let e2 : config_of c.set_word-2.new.self ≡ g = c.set_word-2.ensures.config ∙ e1 in
-    let e3 : config_of c.set_word-3.new.self ≡ g = c.set_word-3.ensures.config ∙ e2 in
+    let old_is : IsWord g (Heap address) = subst (λ (k : Config). IsWord k (Heap address)) (sym same) (omega (arith, object.from), omega (arith, object.to)) in
+    let config_copied : config_of c.copy_words.new.image ≡ g = c.copy_words.ensures.config ∙ sym same in
+    let config_header : config_of c.set_word.new.self ≡ g = c.set_word.ensures.config ∙ config_copied in
+    let config_top : config_of c.set_word-2.new.self ≡ g = c.set_word-2.ensures.config ∙ config_header in
+    let config_free : config_of c.set_word-3.new.self ≡ g = c.set_word-3.ensures.config ∙ config_top in
     let top : ℕ = c.top-top.result + c.words_of-words.result in
     let bits : ℕ = bit_and c.word-free.result c.all_but.result in
-    let s1 = stored (config_of c.copy_words.new.image) g _ _ (Heap to) c.heap_at-2.result 1 e0 copy_is c.heap_at-2.ensures c.set_word.ensures.named in
-    let s2 = stored (config_of c.set_word.new.self) g _ _ (Top r) c.top_at.result top e1 (subst (λ (k : Config). r < k.regions) (sym same) c.requires.region) c.top_at.ensures c.set_word-2.ensures.named in
-    let s3 = stored (config_of c.set_word-2.new.self) g _ _ Free c.free_at-2.result bits e2 tt c.free_at-2.ensures c.set_word-3.ensures.named in
-    let s4 = stored (config_of c.set_word-3.new.self) g _ _ (Heap a) c.heap_at-3.result c.header_to.result e3 old_is c.heap_at-3.ensures c.set_word-4.ensures.named in
-    s4 ∙ ap (λ n. write n (Heap a) c.header_to.result)
-    (s3 ∙ ap (λ n. write n Free bits)
-    (s2 ∙ ap (λ n. write n (Top r) top)
-    (s1 ∙ ap (λ n. write n (Heap to) 1) c.copy_words.ensures.words)))
-    ∙ copied_stores old m a r to c.words_of-words.result top bits c.header_to.result at words
+    let stored_header = stored (config_of c.copy_words.new.image) g _ _ (Heap to) c.heap_at-2.result 1 config_copied copy_is c.heap_at-2.ensures c.set_word.ensures.named in
+    let stored_top = stored (config_of c.set_word.new.self) g _ _ (Top region) c.top_at.result top config_header (subst (λ (k : Config). region < k.regions) (sym same) c.requires.region) c.top_at.ensures c.set_word-2.ensures.named in
+    let stored_free = stored (config_of c.set_word-2.new.self) g _ _ Free c.free_at-2.result bits config_top tt c.free_at-2.ensures c.set_word-3.ensures.named in
+    let stored_forward = stored (config_of c.set_word-3.new.self) g _ _ (Heap address) c.heap_at-3.result c.header_to.result config_free old_is c.heap_at-3.ensures c.set_word-4.ensures.named in
+    stored_forward ∙ ap (λ n. write n (Heap address) c.header_to.result)
+    (stored_free ∙ ap (λ n. write n Free bits)
+    (stored_top ∙ ap (λ n. write n (Top region) top)
+    (stored_header ∙ ap (λ n. write n (Heap to) 1) c.copy_words.ensures.words)))
+    ∙ copied_stores old memory address region to c.words_of-words.result top bits c.header_to.result at words
     (omega (arith, c.top-top.ensures, words))
-    (ap (λ k. bit_and k c.all_but.result) free ∙ ap (bit_and (m Free)) c.all_but.ensures.value)
+    (ap (λ k. bit_and k c.all_but.result) free ∙ ap (bit_and (memory Free)) c.all_but.ensures.value)
     (c.header_to.ensures ∙ ap header_word at)
 
 pub overflow_add-address : goal.overflow_add-address
 overflow_add-address c =
-    let k = config_of c.args.image.now in
-    let m : Word → ℕ = memory_of c.args.image.now in
-    let a = c.args.address in
-    let object = object_in_heap k a (words_at m a) c.requires.can.above c.requires.can.of_region c.requires.can.lies in
+    let config = config_of c.args.image.now in
+    let memory : Word → ℕ = memory_of c.args.image.now in
+    let address = c.args.address in
+    let object = object_in_heap config address (words_at memory address) c.requires.can.above c.requires.can.of_region c.requires.can.lies in
     omega (arith, low_in _ _ _ object)
 
 pub heap_at-requires : goal.heap_at-requires
 heap_at-requires c =
-    let k = config_of c.args.image.now in
-    let m : Word → ℕ = memory_of c.args.image.now in
-    let a = c.args.address in
-    let object = object_in_heap k a (words_at m a) c.requires.can.above c.requires.can.of_region c.requires.can.lies in
-    word_in k c.config-config.result a (words_at m a) 1 c.config-config.ensures object (omega arith)
+    let config = config_of c.args.image.now in
+    let memory : Word → ℕ = memory_of c.args.image.now in
+    let address = c.args.address in
+    let object = object_in_heap config address (words_at memory address) c.requires.can.above c.requires.can.of_region c.requires.can.lies in
+    word_in config c.config-config.result address (words_at memory address) 1 c.config-config.ensures object (omega arith)
 
 pub word-requires : goal.word-requires
 word-requires c =
-    let k = config_of c.args.image.now in
-    let m : Word → ℕ = memory_of c.args.image.now in
-    let a = c.args.address in
-    let object = object_in_heap k a (words_at m a) c.requires.can.above c.requires.can.of_region c.requires.can.lies in
-    placed_inside k c.config-config.result (Heap (a + 1)) _ (sym c.config-config.ensures) (word_in k c.config-config.result a (words_at m a) 1 c.config-config.ensures object (omega arith)) c.heap_at.ensures
+    let config = config_of c.args.image.now in
+    let memory : Word → ℕ = memory_of c.args.image.now in
+    let address = c.args.address in
+    let object = object_in_heap config address (words_at memory address) c.requires.can.above c.requires.can.of_region c.requires.can.lies in
+    placed_inside config c.config-config.result (Heap (address + 1)) _ (sym c.config-config.ensures) (word_in config c.config-config.result address (words_at memory address) 1 c.config-config.ensures object (omega arith)) c.heap_at.ensures
 
 pub top-top-requires : goal.top-top-requires
 top-top-requires c =
@@ -134,33 +134,33 @@ base-requires c =
 
 pub overflow_add-copy : goal.overflow_add-copy
 overflow_add-copy c =
-    let k = config_of c.args.image.now in
-    let m : Word → ℕ = memory_of c.args.image.now in
-    let r = c.args.region in
-    let at : base_of k r + m (Top r) ≡ c.base.result + c.top-top.result =
-    omega (arith, c.base.ensures ∙ ap (λ (j : Config). base_of j r) c.config-config.ensures, c.top-top.ensures) in
-    let target = subst (λ (x : ℕ). AreInHeap k x (words_at m c.args.address)) at (room_in_heap k r (m (Top r)) (words_at m c.args.address) c.requires.region c.requires.room) in
+    let config = config_of c.args.image.now in
+    let memory : Word → ℕ = memory_of c.args.image.now in
+    let region = c.args.region in
+    let at : base_of config region + memory (Top region) ≡ c.base.result + c.top-top.result =
+    omega (arith, c.base.ensures ∙ ap (λ (j : Config). base_of j region) c.config-config.ensures, c.top-top.ensures) in
+    let target = subst (λ (x : ℕ). AreInHeap config x (words_at memory c.args.address)) at (room_in_heap config region (memory (Top region)) (words_at memory c.args.address) c.requires.region c.requires.room) in
     omega (arith, low_in _ _ _ target)
 
 pub heap_at-requires-2 : goal.heap_at-requires-2
 heap_at-requires-2 c =
-    let k = config_of c.args.image.now in
-    let m : Word → ℕ = memory_of c.args.image.now in
-    let r = c.args.region in
-    let at : base_of k r + m (Top r) ≡ c.base.result + c.top-top.result =
-    omega (arith, c.base.ensures ∙ ap (λ (j : Config). base_of j r) c.config-config.ensures, c.top-top.ensures) in
-    let target = subst (λ (x : ℕ). AreInHeap k x (words_at m c.args.address)) at (room_in_heap k r (m (Top r)) (words_at m c.args.address) c.requires.region c.requires.room) in
-    first_in k c.config-config.result _ (words_at m c.args.address) c.config-config.ensures target (omega arith)
+    let config = config_of c.args.image.now in
+    let memory : Word → ℕ = memory_of c.args.image.now in
+    let region = c.args.region in
+    let at : base_of config region + memory (Top region) ≡ c.base.result + c.top-top.result =
+    omega (arith, c.base.ensures ∙ ap (λ (j : Config). base_of j region) c.config-config.ensures, c.top-top.ensures) in
+    let target = subst (λ (x : ℕ). AreInHeap config x (words_at memory c.args.address)) at (room_in_heap config region (memory (Top region)) (words_at memory c.args.address) c.requires.region c.requires.room) in
+    first_in config c.config-config.result _ (words_at memory c.args.address) c.config-config.ensures target (omega arith)
 
 pub set_word-requires : goal.set_word-requires
 set_word-requires c =
-    let k = config_of c.args.image.now in
-    let m : Word → ℕ = memory_of c.args.image.now in
-    let r = c.args.region in
-    let at : base_of k r + m (Top r) ≡ c.base.result + c.top-top.result =
-    omega (arith, c.base.ensures ∙ ap (λ (j : Config). base_of j r) c.config-config.ensures, c.top-top.ensures) in
-    let target = subst (λ (x : ℕ). AreInHeap k x (words_at m c.args.address)) at (room_in_heap k r (m (Top r)) (words_at m c.args.address) c.requires.region c.requires.room) in
-    placed_inside (config_of c.copy_words.new.image) c.config-config.result (Heap (c.base.result + c.top-top.result)) _ (c.copy_words.ensures.config ∙ sym c.config-config.ensures) (first_in k c.config-config.result _ (words_at m c.args.address) c.config-config.ensures target (omega arith)) c.heap_at-2.ensures
+    let config = config_of c.args.image.now in
+    let memory : Word → ℕ = memory_of c.args.image.now in
+    let region = c.args.region in
+    let at : base_of config region + memory (Top region) ≡ c.base.result + c.top-top.result =
+    omega (arith, c.base.ensures ∙ ap (λ (j : Config). base_of j region) c.config-config.ensures, c.top-top.ensures) in
+    let target = subst (λ (x : ℕ). AreInHeap config x (words_at memory c.args.address)) at (room_in_heap config region (memory (Top region)) (words_at memory c.args.address) c.requires.region c.requires.room) in
+    placed_inside (config_of c.copy_words.new.image) c.config-config.result (Heap (c.base.result + c.top-top.result)) _ (c.copy_words.ensures.config ∙ sym c.config-config.ensures) (first_in config c.config-config.result _ (words_at memory c.args.address) c.config-config.ensures target (omega arith)) c.heap_at-2.ensures
 
 pub top_at-requires : goal.top_at-requires
 top_at-requires c =
@@ -184,29 +184,29 @@ set_word-requires-3 c =
 
 pub heap_at-requires-3 : goal.heap_at-requires-3
 heap_at-requires-3 c =
-    let k = config_of c.args.image.now in
-    let m : Word → ℕ = memory_of c.args.image.now in
-    let a = c.args.address in
-    let object = object_in_heap k a (words_at m a) c.requires.can.above c.requires.can.of_region c.requires.can.lies in
-    first_in k c.config-config.result a (words_at m a) c.config-config.ensures object (omega arith)
+    let config = config_of c.args.image.now in
+    let memory : Word → ℕ = memory_of c.args.image.now in
+    let address = c.args.address in
+    let object = object_in_heap config address (words_at memory address) c.requires.can.above c.requires.can.of_region c.requires.can.lies in
+    first_in config c.config-config.result address (words_at memory address) c.config-config.ensures object (omega arith)
 
 pub header_to-requires : goal.header_to-requires
 header_to-requires c =
-    let k = config_of c.args.image.now in
-    let m : Word → ℕ = memory_of c.args.image.now in
-    let r = c.args.region in
-    let at : base_of k r + m (Top r) ≡ c.base.result + c.top-top.result =
-    omega (arith, c.base.ensures ∙ ap (λ (j : Config). base_of j r) c.config-config.ensures, c.top-top.ensures) in
-    let target = subst (λ (x : ℕ). AreInHeap k x (words_at m c.args.address)) at (room_in_heap k r (m (Top r)) (words_at m c.args.address) c.requires.region c.requires.room) in
+    let config = config_of c.args.image.now in
+    let memory : Word → ℕ = memory_of c.args.image.now in
+    let region = c.args.region in
+    let at : base_of config region + memory (Top region) ≡ c.base.result + c.top-top.result =
+    omega (arith, c.base.ensures ∙ ap (λ (j : Config). base_of j region) c.config-config.ensures, c.top-top.ensures) in
+    let target = subst (λ (x : ℕ). AreInHeap config x (words_at memory c.args.address)) at (room_in_heap config region (memory (Top region)) (words_at memory c.args.address) c.requires.region c.requires.room) in
     omega (arith, low_in _ _ _ target)
 
 pub set_word-requires-4 : goal.set_word-requires-4
 set_word-requires-4 c =
-    let k = config_of c.args.image.now in
-    let m : Word → ℕ = memory_of c.args.image.now in
-    let a = c.args.address in
-    let object = object_in_heap k a (words_at m a) c.requires.can.above c.requires.can.of_region c.requires.can.lies in
-    placed_inside (config_of c.set_word-3.new.self) c.config-config.result (Heap a) _ (c.set_word-3.ensures.config ∙ c.set_word-2.ensures.config ∙ c.set_word.ensures.config ∙ c.copy_words.ensures.config ∙ sym c.config-config.ensures) (first_in k c.config-config.result a (words_at m a) c.config-config.ensures object (omega arith)) c.heap_at-3.ensures
+    let config = config_of c.args.image.now in
+    let memory : Word → ℕ = memory_of c.args.image.now in
+    let address = c.args.address in
+    let object = object_in_heap config address (words_at memory address) c.requires.can.above c.requires.can.of_region c.requires.can.lies in
+    placed_inside (config_of c.set_word-3.new.self) c.config-config.result (Heap address) _ (c.set_word-3.ensures.config ∙ c.set_word-2.ensures.config ∙ c.set_word.ensures.config ∙ c.copy_words.ensures.config ∙ sym c.config-config.ensures) (first_in config c.config-config.result address (words_at memory address) c.config-config.ensures object (omega arith)) c.heap_at-3.ensures
 
 pub returns-clause-config : goal.returns-clause-config
 returns-clause-config c =
@@ -214,10 +214,10 @@ returns-clause-config c =
 
 pub returns-clause-address : goal.returns-clause-address
 returns-clause-address c =
-    let k = config_of c.args.image.now in
-    let m : Word → ℕ = memory_of c.args.image.now in
-    let r = c.args.region in
-    let at : base_of k r + m (Top r) ≡ c.base.result + c.top-top.result =
-    omega (arith, c.base.ensures ∙ ap (λ (j : Config). base_of j r) c.config-config.ensures, c.top-top.ensures) in
-    let target = subst (λ (x : ℕ). AreInHeap k x (words_at m c.args.address)) at (room_in_heap k r (m (Top r)) (words_at m c.args.address) c.requires.region c.requires.room) in
+    let config = config_of c.args.image.now in
+    let memory : Word → ℕ = memory_of c.args.image.now in
+    let region = c.args.region in
+    let at : base_of config region + memory (Top region) ≡ c.base.result + c.top-top.result =
+    omega (arith, c.base.ensures ∙ ap (λ (j : Config). base_of j region) c.config-config.ensures, c.top-top.ensures) in
+    let target = subst (λ (x : ℕ). AreInHeap config x (words_at memory c.args.address)) at (room_in_heap config region (memory (Top region)) (words_at memory c.args.address) c.requires.region c.requires.room) in
     sym at

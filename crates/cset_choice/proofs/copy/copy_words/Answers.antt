@@ -15,29 +15,29 @@ loop-index-init c = record { config = search; words = none_copied c.args.from c.
 
 pub loop-index-preserved : goal.loop-index-preserved
 loop-index-preserved c =
-    let g = config_of c.args.image.now in
-    let m : Word → ℕ = memory_of c.args.image.now in
+    let config = config_of c.args.image.now in
+    let memory : Word → ℕ = memory_of c.args.image.now in
     let from = c.args.from in
     let to = c.args.to in
     let i = c.loop-index.index in
     let now = c.loop-index.image in
     let is = c.loop-index.invariant in
-    let same : c.config-config.result ≡ g = c.config-config.ensures in
-    let source : IsWord g (Heap (from + i)) = word_of_heap g from c.args.words i c.requires.from c.loop-index-test.true in
-    let target : IsWord g (Heap (to + i)) = word_of_heap g to c.args.words i c.requires.to c.loop-index-test.true in
-    let read : c.word-word.result ≡ m (Heap (from + i)) =
+    let same : c.config-config.result ≡ config = c.config-config.ensures in
+    let source : IsWord config (Heap (from + i)) = word_of_heap config from c.args.words i c.requires.from c.loop-index-test.true in
+    let target : IsWord config (Heap (to + i)) = word_of_heap config to c.args.words i c.requires.to c.loop-index-test.true in
+    let read : c.word-word.result ≡ memory (Heap (from + i)) =
     c.word-word.ensures.named (Heap (from + i)) (subst (λ (k : Config). IsWord k (Heap (from + i))) (sym is.config) source)
     (ap (λ (k : Config). word_at k (Heap (from + i))) (is.config ∙ sym same) ∙ sym c.heap_at.ensures)
     ∙ ap (λ (n : Word → ℕ). n (Heap (from + i))) is.words
-    ∙ still_there from to i c.args.words m c.loop-index-test.true c.requires.apart in
+    ∙ still_there from to i c.args.words memory c.loop-index-test.true c.requires.apart in
     let one = stored (config_of now) c.config-config.result (memory_of now) (memory_of c.set_word.new.self) (Heap (to + i)) c.heap_at-in-loop-index.result c.word-word.result
     (is.config ∙ sym same) (subst (λ (k : Config). IsWord k (Heap (to + i))) (sym same) target) c.heap_at-in-loop-index.ensures c.set_word.ensures.named in
     record {
       config = c.set_word.ensures.config ∙ is.config;
       words = one
           ∙ ap (λ n. write n (Heap (to + i)) c.word-word.result) is.words
-          ∙ ap (write (words_copied from to i m) (Heap (to + i))) read
-          ∙ copied_next from to i c.args.words m c.loop-index-test.true c.requires.apart;
+          ∙ ap (write (words_copied from to i memory) (Heap (to + i))) read
+          ∙ copied_next from to i c.args.words memory c.loop-index-test.true c.requires.apart;
     }
 
 pub returns-clause-words : goal.returns-clause-words

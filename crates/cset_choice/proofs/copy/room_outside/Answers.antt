@@ -9,22 +9,22 @@ use Rattle.cset_choice.proofs.copy.room_outside.Goals as goal
 
 pub returns-then-has_room : goal.returns-then-has_room
 returns-then-has_room c =
-    let g = config_of c.args.image.now in
-    let m : Word → ℕ = memory_of c.args.image.now in
-    let w = g.region_words in
-    let tops : ℕ → ℕ = tops_outside w (m Cset) (λ r. m (Top r)) in
-    let r = c.loop-region.region in
-    let below : r < g.regions = omega (arith, c.loop-region-test.true, c.regions-region-end.ensures, ap (λ (k : Config). k.regions) c.config.ensures) in
-    sym (lowest_is w tops c.args.words g.regions r (record {
+    let config = config_of c.args.image.now in
+    let memory : Word → ℕ = memory_of c.args.image.now in
+    let w = config.region_words in
+    let tops : ℕ → ℕ = tops_outside w (memory Cset) (λ r. memory (Top r)) in
+    let region = c.loop-region.region in
+    let below : region < config.regions = omega (arith, c.loop-region-test.true, c.regions-region-end.ensures, ap (λ (k : Config). k.regions) c.config.ensures) in
+    sym (lowest_is w tops c.args.words config.regions region (record {
       below = below;
-      room = leb-true (tops r + c.args.words) w (sym c.has_room.ensures ∙ c.if-has_room.true);
+      room = leb-true (tops region + c.args.words) w (sym c.has_room.ensures ∙ c.if-has_room.true);
       none_lower = c.loop-region.invariant;
     }))
 
 pub returns : goal.returns
 returns c =
-    let g = config_of c.args.image.now in
-    let m : Word → ℕ = memory_of c.args.image.now in
-    let all : c.loop-region.region ≡ g.regions =
+    let config = config_of c.args.image.now in
+    let memory : Word → ℕ = memory_of c.args.image.now in
+    let all : c.loop-region.region ≡ config.regions =
     omega (arith, c.loop-region-test.false, c.loop-region.auto.region-end, c.regions-region-end.ensures, ap (λ (k : Config). k.regions) c.config.ensures) in
-    sym (all_full g.region_words (tops_outside g.region_words (m Cset) (λ r. m (Top r))) c.args.words g.regions (λ r below. c.loop-region.invariant r (omega (arith, below, all))))
+    sym (all_full config.region_words (tops_outside config.region_words (memory Cset) (λ r. memory (Top r))) c.args.words config.regions (λ r below. c.loop-region.invariant r (omega (arith, below, all))))

@@ -12,16 +12,16 @@ use Rattle.cset_choice.proofs.live.marked_words.Goals as goal
 
 pub heap_at-requires : goal.heap_at-requires
 heap_at-requires c =
-    let g = config_of c.args.image.now in
-    let m : Word → ℕ = memory_of c.args.image.now in
+    let config = config_of c.args.image.now in
+    let memory : Word → ℕ = memory_of c.args.image.now in
     subst (λ (k : Config). IsWord k (Heap (c.args.address + 1))) (sym c.config.ensures)
-    (shape_in_heap g m c.args.address c.requires.apart c.requires.inside c.requires.black)
+    (shape_in_heap config memory c.args.address c.requires.apart c.requires.inside c.requires.black)
 
 pub returns-clause-value : goal.returns-clause-value
 returns-clause-value c =
-    let g = config_of c.args.image.now in
-    let m : Word → ℕ = memory_of c.args.image.now in
-    let a = c.args.address in
-    let shape : c.word.result ≡ m (Heap (a + 1)) =
-    read g _ m (Heap (a + 1)) _ _ c.config.ensures (shape_in_heap g m a c.requires.apart c.requires.inside c.requires.black) c.heap_at.ensures c.word.ensures.named in
-    c.words_of.ensures ∙ ap object_words shape ∙ sym (cond-true (is_black g m a) (words_at m a) 0 c.requires.black)
+    let config = config_of c.args.image.now in
+    let memory : Word → ℕ = memory_of c.args.image.now in
+    let address = c.args.address in
+    let shape : c.word.result ≡ memory (Heap (address + 1)) =
+    read config _ memory (Heap (address + 1)) _ _ c.config.ensures (shape_in_heap config memory address c.requires.apart c.requires.inside c.requires.black) c.heap_at.ensures c.word.ensures.named in
+    c.words_of.ensures ∙ ap object_words shape ∙ sym (cond-true (is_black config memory address) (words_at memory address) 0 c.requires.black)

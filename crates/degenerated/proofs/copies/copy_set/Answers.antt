@@ -11,17 +11,17 @@ use Rattle.degenerated.proofs.copies.copy_set.Goals as goal
 
 pub loop-index-init : goal.loop-index-init
 loop-index-init c =
-    let g = config_of c.args.image.now in
-    let m : Word → ℕ = memory_of c.args.image.now in
-    let w = g.region_words in
-    let size = g.regions * w in
+    let config = config_of c.args.image.now in
+    let memory : Word → ℕ = memory_of c.args.image.now in
+    let w = config.region_words in
+    let size = config.regions * w in
     let at : w ≡ w + 0 = omega arith in
     let left : size ≡ size - 0 = omega arith in
     record {
       config = refl;
-      words = ap (λ a. copied_from g m a size) at ∙ ap (copied_from g m (w + 0)) left;
-      room = ap (λ a. is_room_from g m a size) at ∙ ap (is_room_from g m (w + 0)) left;
-      can = subst (CanCopyFrom g m (w + 0)) left (subst (λ a. CanCopyFrom g m a size) at c.requires);
+      words = ap (λ a. copied_from config memory a size) at ∙ ap (copied_from config memory (w + 0)) left;
+      room = ap (λ a. is_room_from config memory a size) at ∙ ap (is_room_from config memory (w + 0)) left;
+      can = subst (CanCopyFrom config memory (w + 0)) left (subst (λ a. CanCopyFrom config memory a size) at c.requires);
     }
 
 -- what comes after so many addresses, of the words at that time
@@ -81,40 +81,40 @@ module _ (g d : Config) (m now : Word → ℕ) (i : ℕ) (same : d ≡ g) (below
 
 pub copy_if_left-requires-clause-can : goal.copy_if_left-requires-clause-can
 copy_if_left-requires-clause-can c =
-    let g = config_of c.args.image.now in
+    let config = config_of c.args.image.now in
     let is = c.loop-index.invariant in
-    let same : c.config-config.result ≡ g = c.config-config.ensures in
-    let below : c.loop-index.index < g.regions * g.region_words =
+    let same : c.config-config.result ≡ config = c.config-config.ensures in
+    let below : c.loop-index.index < config.regions * config.region_words =
     omega (arith, c.loop-index-test.true, c.heap_size-index-end.ensures.value, ap (λ (k : Config). k.regions * k.region_words) same) in
-    can_now g (config_of c.loop-index.image) (memory_of c.args.image.now) (memory_of c.loop-index.image) c.loop-index.index is.config below c.region_words-first.result
+    can_now config (config_of c.loop-index.image) (memory_of c.args.image.now) (memory_of c.loop-index.image) c.loop-index.index is.config below c.region_words-first.result
     (c.region_words-first.ensures ∙ ap (λ (k : Config). k.region_words) same) is.words is.room is.can
 
 pub returns-then-not-copy_if_left-clause-words : goal.returns-then-not-copy_if_left-clause-words
 returns-then-not-copy_if_left-clause-words c =
-    let g = config_of c.args.image.now in
+    let config = config_of c.args.image.now in
     let is = c.loop-index.invariant in
-    let same : c.config-config.result ≡ g = c.config-config.ensures in
-    let below : c.loop-index.index < g.regions * g.region_words =
+    let same : c.config-config.result ≡ config = c.config-config.ensures in
+    let below : c.loop-index.index < config.regions * config.region_words =
     omega (arith, c.loop-index-test.true, c.heap_size-index-end.ensures.value, ap (λ (k : Config). k.regions * k.region_words) same) in
-    words_end g (config_of c.loop-index.image) (memory_of c.args.image.now) (memory_of c.loop-index.image) c.loop-index.index is.config below c.region_words-first.result
+    words_end config (config_of c.loop-index.image) (memory_of c.args.image.now) (memory_of c.loop-index.image) c.loop-index.index is.config below c.region_words-first.result
     (c.region_words-first.ensures ∙ ap (λ (k : Config). k.region_words) same) is.words is.room is.can
     (memory_of c.copy_if_left.new.image) c.copy_if_left.result c.copy_if_left.ensures.words c.copy_if_left.ensures.room c.if-not-copy_if_left.true
 
 pub returns-then-not-copy_if_left-clause-room : goal.returns-then-not-copy_if_left-clause-room
 returns-then-not-copy_if_left-clause-room c =
-    let g = config_of c.args.image.now in
+    let config = config_of c.args.image.now in
     let is = c.loop-index.invariant in
-    let same : c.config-config.result ≡ g = c.config-config.ensures in
-    let below : c.loop-index.index < g.regions * g.region_words =
+    let same : c.config-config.result ≡ config = c.config-config.ensures in
+    let below : c.loop-index.index < config.regions * config.region_words =
     omega (arith, c.loop-index-test.true, c.heap_size-index-end.ensures.value, ap (λ (k : Config). k.regions * k.region_words) same) in
-    room_end g (config_of c.loop-index.image) (memory_of c.args.image.now) (memory_of c.loop-index.image) c.loop-index.index is.config below c.region_words-first.result
+    room_end config (config_of c.loop-index.image) (memory_of c.args.image.now) (memory_of c.loop-index.image) c.loop-index.index is.config below c.region_words-first.result
     (c.region_words-first.ensures ∙ ap (λ (k : Config). k.region_words) same) is.words is.room is.can
     (memory_of c.copy_if_left.new.image) c.copy_if_left.result c.copy_if_left.ensures.words c.copy_if_left.ensures.room c.if-not-copy_if_left.true
 
 pub loop-index-preserved : goal.loop-index-preserved
 loop-index-preserved c =
     let g = config_of c.args.image.now in
-    let m : Word → ℕ = memory_of c.args.image.now in
+    let memory : Word → ℕ = memory_of c.args.image.now in
     let d = config_of c.loop-index.image in
     let now : Word → ℕ = memory_of c.loop-index.image in
     let i = c.loop-index.index in
@@ -130,23 +130,23 @@ loop-index-preserved c =
     let goes = c.if-not-copy_if_left.false in
     record {
       config = turn.config ∙ is.config;
-      words = words_next g d m now i is.config below first base is.words is.room is.can after told turn.words turn.room goes;
-      room = room_next g d m now i is.config below first base is.words is.room is.can after told turn.words turn.room goes;
-      can = can_next g d m now i is.config below first base is.words is.room is.can after told turn.words turn.room goes;
+      words = words_next g d memory now i is.config below first base is.words is.room is.can after told turn.words turn.room goes;
+      room = room_next g d memory now i is.config below first base is.words is.room is.can after told turn.words turn.room goes;
+      can = can_next g d memory now i is.config below first base is.words is.room is.can after told turn.words turn.room goes;
     }
 
 pub returns-clause-words : goal.returns-clause-words
 returns-clause-words c =
-    let g = config_of c.args.image.now in
+    let config = config_of c.args.image.now in
     let now : Word → ℕ = memory_of c.loop-index.image in
-    let none : g.regions * g.region_words - c.loop-index.index ≡ 0 =
+    let none : config.regions * config.region_words - c.loop-index.index ≡ 0 =
     omega (arith, c.loop-index-test.false, c.heap_size-index-end.ensures.value, ap (λ (k : Config). k.regions * k.region_words) c.config-config.ensures) in
-    sym (c.loop-index.invariant.words ∙ ap (copied_from g now (g.region_words + c.loop-index.index)) none ∙ copied_none g now (g.region_words + c.loop-index.index) 0)
+    sym (c.loop-index.invariant.words ∙ ap (copied_from config now (config.region_words + c.loop-index.index)) none ∙ copied_none config now (config.region_words + c.loop-index.index) 0)
 
 pub returns-clause-room : goal.returns-clause-room
 returns-clause-room c =
-    let g = config_of c.args.image.now in
+    let config = config_of c.args.image.now in
     let now : Word → ℕ = memory_of c.loop-index.image in
-    let none : g.regions * g.region_words - c.loop-index.index ≡ 0 =
+    let none : config.regions * config.region_words - c.loop-index.index ≡ 0 =
     omega (arith, c.loop-index-test.false, c.heap_size-index-end.ensures.value, ap (λ (k : Config). k.regions * k.region_words) c.config-config.ensures) in
-    sym (c.loop-index.invariant.room ∙ ap (is_room_from g now (g.region_words + c.loop-index.index)) none ∙ room_for_none g now (g.region_words + c.loop-index.index))
+    sym (c.loop-index.invariant.room ∙ ap (is_room_from config now (config.region_words + c.loop-index.index)) none ∙ room_for_none config now (config.region_words + c.loop-index.index))

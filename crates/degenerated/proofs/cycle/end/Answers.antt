@@ -21,92 +21,92 @@ to_end g d e m one two three same_d same_e to_one to_two to_three =
 
 pub returns-then-not-copy_rest-clause-words : goal.returns-then-not-copy_rest-clause-words
 returns-then-not-copy_rest-clause-words c =
-    let g = config_of c.args.image.now in
-    let m : Word → ℕ = memory_of c.args.image.now in
-    c.copy_rest.ensures.words ∙ stops_short g m (sym c.copy_rest.ensures.room ∙ c.if-not-copy_rest.true)
+    let config = config_of c.args.image.now in
+    let memory : Word → ℕ = memory_of c.args.image.now in
+    c.copy_rest.ensures.words ∙ stops_short config memory (sym c.copy_rest.ensures.room ∙ c.if-not-copy_rest.true)
 
 pub end_cycle-requires : goal.end_cycle-requires
 end_cycle-requires c =
-    let g = config_of c.args.image.now in
-    let m : Word → ℕ = memory_of c.args.image.now in
+    let config = config_of c.args.image.now in
+    let memory : Word → ℕ = memory_of c.args.image.now in
     let one = c.copy_rest.new.image in
     let two = c.update_all.new.image in
-    let room : is_room_for_all g m ≡ true = sym c.copy_rest.ensures.room ∙ c.if-not-copy_rest.false in
-    let config : config_of two ≡ g = c.update_all.ensures.config ∙ c.copy_rest.ensures.config in
-    let words : memory_of two ≡ all_updated g (all_copied g m) =
-    c.update_all.ensures.words ∙ ap (λ (k : Config). all_updated k (memory_of one)) c.copy_rest.ensures.config ∙ ap (all_updated g) c.copy_rest.ensures.words in
-    subst (λ (k : Config). CanFree k (memory_of two)) (sym config) (subst (CanFree g) (sym words) (c.requires.frees room))
+    let room : is_room_for_all config memory ≡ true = sym c.copy_rest.ensures.room ∙ c.if-not-copy_rest.false in
+    let same_config : config_of two ≡ config = c.update_all.ensures.config ∙ c.copy_rest.ensures.config in
+    let words : memory_of two ≡ all_updated config (all_copied config memory) =
+    c.update_all.ensures.words ∙ ap (λ (k : Config). all_updated k (memory_of one)) c.copy_rest.ensures.config ∙ ap (all_updated config) c.copy_rest.ensures.words in
+    subst (λ (k : Config). CanFree k (memory_of two)) (sym same_config) (subst (CanFree config) (sym words) (c.requires.frees room))
 
 pub give_turns-requires : goal.give_turns-requires
 give_turns-requires c =
-    let g = config_of c.args.image.now in
-    let m : Word → ℕ = memory_of c.args.image.now in
+    let config = config_of c.args.image.now in
+    let memory : Word → ℕ = memory_of c.args.image.now in
     let one = c.copy_rest.new.image in
     let two = c.update_all.new.image in
     let three = c.end_cycle.new.image in
-    let words = to_end g (config_of one) (config_of two) m (memory_of one) (memory_of two) (memory_of three) c.copy_rest.ensures.config c.update_all.ensures.config
+    let words = to_end config (config_of one) (config_of two) memory (memory_of one) (memory_of two) (memory_of three) c.copy_rest.ensures.config c.update_all.ensures.config
     c.copy_rest.ensures.words c.update_all.ensures.words c.end_cycle.ensures.words in
-    let config : config_of three ≡ g = c.end_cycle.ensures.config ∙ c.update_all.ensures.config ∙ c.copy_rest.ensures.config in
-    let room : is_room_for_all g m ≡ true = sym c.copy_rest.ensures.room ∙ c.if-not-copy_rest.false in
-    subst (λ (k : Config). AreWithin k (memory_of three)) (sym config)
-    (subst (AreWithin g) (sym words) (within_still g (all_copied g m) (c.requires.updates room).within))
+    let same_config : config_of three ≡ config = c.end_cycle.ensures.config ∙ c.update_all.ensures.config ∙ c.copy_rest.ensures.config in
+    let room : is_room_for_all config memory ≡ true = sym c.copy_rest.ensures.room ∙ c.if-not-copy_rest.false in
+    subst (λ (k : Config). AreWithin k (memory_of three)) (sym same_config)
+    (subst (AreWithin config) (sym words) (within_still config (all_copied config memory) (c.requires.updates room).within))
 
 pub returns-then-give_turns-clause-words : goal.returns-then-give_turns-clause-words
 returns-then-give_turns-clause-words c =
-    let g = config_of c.args.image.now in
-    let m : Word → ℕ = memory_of c.args.image.now in
+    let config = config_of c.args.image.now in
+    let memory : Word → ℕ = memory_of c.args.image.now in
     let one = c.copy_rest.new.image in
     let two = c.update_all.new.image in
     let three = c.end_cycle.new.image in
-    let words = to_end g (config_of one) (config_of two) m (memory_of one) (memory_of two) (memory_of three) c.copy_rest.ensures.config c.update_all.ensures.config
+    let words = to_end config (config_of one) (config_of two) memory (memory_of one) (memory_of two) (memory_of three) c.copy_rest.ensures.config c.update_all.ensures.config
     c.copy_rest.ensures.words c.update_all.ensures.words c.end_cycle.ensures.words in
-    let config : config_of three ≡ g = c.end_cycle.ensures.config ∙ c.update_all.ensures.config ∙ c.copy_rest.ensures.config in
-    let room : is_room_for_all g m ≡ true = sym c.copy_rest.ensures.room ∙ c.if-not-copy_rest.false in
-    c.give_turns.ensures.words ∙ ap (λ (k : Config). served k (memory_of three) k.mutators) config ∙ ap (λ (n : Word → ℕ). served g n g.mutators) words ∙ goes_through g m room
+    let same_config : config_of three ≡ config = c.end_cycle.ensures.config ∙ c.update_all.ensures.config ∙ c.copy_rest.ensures.config in
+    let room : is_room_for_all config memory ≡ true = sym c.copy_rest.ensures.room ∙ c.if-not-copy_rest.false in
+    c.give_turns.ensures.words ∙ ap (λ (k : Config). served k (memory_of three) k.mutators) same_config ∙ ap (λ (n : Word → ℕ). served config n config.mutators) words ∙ goes_through config memory room
 
 pub returns-then-give_turns-clause-whole : goal.returns-then-give_turns-clause-whole
 returns-then-give_turns-clause-whole c =
-    let g = config_of c.args.image.now in
-    let m : Word → ℕ = memory_of c.args.image.now in
+    let config = config_of c.args.image.now in
+    let memory : Word → ℕ = memory_of c.args.image.now in
     let one = c.copy_rest.new.image in
     let two = c.update_all.new.image in
     let three = c.end_cycle.new.image in
-    let words = to_end g (config_of one) (config_of two) m (memory_of one) (memory_of two) (memory_of three) c.copy_rest.ensures.config c.update_all.ensures.config
+    let words = to_end config (config_of one) (config_of two) memory (memory_of one) (memory_of two) (memory_of three) c.copy_rest.ensures.config c.update_all.ensures.config
     c.copy_rest.ensures.words c.update_all.ensures.words c.end_cycle.ensures.words in
-    let config : config_of three ≡ g = c.end_cycle.ensures.config ∙ c.update_all.ensures.config ∙ c.copy_rest.ensures.config in
-    let room : is_room_for_all g m ≡ true = sym c.copy_rest.ensures.room ∙ c.if-not-copy_rest.false in
-    let none : (t : ℕ) → IsLeft g (cycle_finished g m) t → ⊥ = λ t left.
+    let same_config : config_of three ≡ config = c.end_cycle.ensures.config ∙ c.update_all.ensures.config ∙ c.copy_rest.ensures.config in
+    let room : is_room_for_all config memory ≡ true = sym c.copy_rest.ensures.room ∙ c.if-not-copy_rest.false in
+    let none : (t : ℕ) → IsLeft config (cycle_finished config memory) t → ⊥ = λ t left.
     c.give_turns.ensures.served c.if-give_turns.true t
-    (subst (λ (k : Config). IsLeft k (memory_of three) t) (sym config) (subst (λ (n : Word → ℕ). IsLeft g n t) (sym words) left)) in
-    let whole : (is_room_for_all g m && nobody_waits g (finished_from g m)) ≡ true = whole_is g m room ∙ all_served g (cycle_finished g m) none in
+    (subst (λ (k : Config). IsLeft k (memory_of three) t) (sym same_config) (subst (λ (n : Word → ℕ). IsLeft config n t) (sym words) left)) in
+    let whole : (is_room_for_all config memory && nobody_waits config (finished_from config memory)) ≡ true = whole_is config memory room ∙ all_served config (cycle_finished config memory) none in
     (λ same. whole, λ told. refl)
 
 pub returns-else-give_turns-clause-words : goal.returns-else-give_turns-clause-words
 returns-else-give_turns-clause-words c =
-    let g = config_of c.args.image.now in
-    let m : Word → ℕ = memory_of c.args.image.now in
+    let config = config_of c.args.image.now in
+    let memory : Word → ℕ = memory_of c.args.image.now in
     let one = c.copy_rest.new.image in
     let two = c.update_all.new.image in
     let three = c.end_cycle.new.image in
-    let words = to_end g (config_of one) (config_of two) m (memory_of one) (memory_of two) (memory_of three) c.copy_rest.ensures.config c.update_all.ensures.config
+    let words = to_end config (config_of one) (config_of two) memory (memory_of one) (memory_of two) (memory_of three) c.copy_rest.ensures.config c.update_all.ensures.config
     c.copy_rest.ensures.words c.update_all.ensures.words c.end_cycle.ensures.words in
-    let config : config_of three ≡ g = c.end_cycle.ensures.config ∙ c.update_all.ensures.config ∙ c.copy_rest.ensures.config in
-    let room : is_room_for_all g m ≡ true = sym c.copy_rest.ensures.room ∙ c.if-not-copy_rest.false in
-    c.give_turns.ensures.words ∙ ap (λ (k : Config). served k (memory_of three) k.mutators) config ∙ ap (λ (n : Word → ℕ). served g n g.mutators) words ∙ goes_through g m room
+    let same_config : config_of three ≡ config = c.end_cycle.ensures.config ∙ c.update_all.ensures.config ∙ c.copy_rest.ensures.config in
+    let room : is_room_for_all config memory ≡ true = sym c.copy_rest.ensures.room ∙ c.if-not-copy_rest.false in
+    c.give_turns.ensures.words ∙ ap (λ (k : Config). served k (memory_of three) k.mutators) same_config ∙ ap (λ (n : Word → ℕ). served config n config.mutators) words ∙ goes_through config memory room
 
 pub returns-else-give_turns-clause-whole : goal.returns-else-give_turns-clause-whole
 returns-else-give_turns-clause-whole c =
-    let g = config_of c.args.image.now in
-    let m : Word → ℕ = memory_of c.args.image.now in
+    let config = config_of c.args.image.now in
+    let memory : Word → ℕ = memory_of c.args.image.now in
     let one = c.copy_rest.new.image in
     let two = c.update_all.new.image in
     let three = c.end_cycle.new.image in
-    let words = to_end g (config_of one) (config_of two) m (memory_of one) (memory_of two) (memory_of three) c.copy_rest.ensures.config c.update_all.ensures.config
+    let words = to_end config (config_of one) (config_of two) memory (memory_of one) (memory_of two) (memory_of three) c.copy_rest.ensures.config c.update_all.ensures.config
     c.copy_rest.ensures.words c.update_all.ensures.words c.end_cycle.ensures.words in
-    let config : config_of three ≡ g = c.end_cycle.ensures.config ∙ c.update_all.ensures.config ∙ c.copy_rest.ensures.config in
-    let room : is_room_for_all g m ≡ true = sym c.copy_rest.ensures.room ∙ c.if-not-copy_rest.false in
+    let same_config : config_of three ≡ config = c.end_cycle.ensures.config ∙ c.update_all.ensures.config ∙ c.copy_rest.ensures.config in
+    let room : is_room_for_all config memory ≡ true = sym c.copy_rest.ensures.room ∙ c.if-not-copy_rest.false in
     let told = c.give_turns.ensures.left c.if-give_turns.false in
-    let left : IsLeft g (cycle_finished g m) told.0 =
-    subst (λ (n : Word → ℕ). IsLeft g n told.0) words (subst (λ (k : Config). IsLeft k (memory_of three) told.0) config told.1) in
-    let short : (is_room_for_all g m && nobody_waits g (finished_from g m)) ≡ false = whole_is g m room ∙ not_all_served g (cycle_finished g m) told.0 left in
+    let left : IsLeft config (cycle_finished config memory) told.0 =
+    subst (λ (n : Word → ℕ). IsLeft config n told.0) words (subst (λ (k : Config). IsLeft k (memory_of three) told.0) same_config told.1) in
+    let short : (is_room_for_all config memory && nobody_waits config (finished_from config memory)) ≡ false = whole_is config memory room ∙ not_all_served config (cycle_finished config memory) told.0 left in
     (λ same. search, λ whole. absurd (true≢false (sym whole ∙ short)))

@@ -50,9 +50,9 @@ returns-clause-words c =
 
 pub returns-clause-holds : goal.returns-clause-holds
 returns-clause-holds c =
-    let g = config_of c.args.image.now in
-    let m : Word → ℕ = memory_of c.args.image.now in
-    subst (λ (n : Word → ℕ). FinishingHolds g m n) (sym (returns-clause-words c)) (finishing_holds g m (no_more_seats g (words_of c.args.image.now)))
+    let config = config_of c.args.image.now in
+    let memory : Word → ℕ = memory_of c.args.image.now in
+    subst (λ (n : Word → ℕ). FinishingHolds config memory n) (sym (returns-clause-words c)) (finishing_holds config memory (no_more_seats config (words_of c.args.image.now)))
 
 pub returns-clause-whole : goal.returns-clause-whole
 returns-clause-whole c =

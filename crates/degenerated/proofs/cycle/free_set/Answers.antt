@@ -25,53 +25,53 @@ chosen_still g m now r k words = ap (λ (n : Word → ℕ). is_chosen n r) words
 
 pub free_or_fill-requires-clause-can : goal.free_or_fill-requires-clause-can
 free_or_fill-requires-clause-can c = λ stays.
-    let g = config_of c.args.image.now in
-    let m : Word → ℕ = memory_of c.args.image.now in
+    let config = config_of c.args.image.now in
+    let memory : Word → ℕ = memory_of c.args.image.now in
     let now = c.loop-region.image in
-    let r = c.loop-region.region in
+    let region = c.loop-region.region in
     let is = c.loop-region.invariant in
-    let below : r < g.regions = omega (arith, c.loop-region-test.true, c.regions-region-end.ensures, ap (λ (k : Config). k.regions) c.config-config.ensures) in
-    let stay : is_to_stay g m r ≡ true = sym (stays_still g (config_of now) m (memory_of now) r r is.config is.words) ∙ stays in
-    subst (λ (k : Config). CanFill k (memory_of now) r) (sym is.config)
-    (subst (λ (n : Word → ℕ). CanFill g n r) (sym is.words) (can_fill_now g m r (c.requires.fills r below stay)))
+    let below : region < config.regions = omega (arith, c.loop-region-test.true, c.regions-region-end.ensures, ap (λ (k : Config). k.regions) c.config-config.ensures) in
+    let stay : is_to_stay config memory region ≡ true = sym (stays_still config (config_of now) memory (memory_of now) region region is.config is.words) ∙ stays in
+    subst (λ (k : Config). CanFill k (memory_of now) region) (sym is.config)
+    (subst (λ (n : Word → ℕ). CanFill config n region) (sym is.words) (can_fill_now config memory region (c.requires.fills region below stay)))
 
 pub loop-region-preserved : goal.loop-region-preserved
 loop-region-preserved c =
-    let g = config_of c.args.image.now in
-    let m : Word → ℕ = memory_of c.args.image.now in
+    let config = config_of c.args.image.now in
+    let memory : Word → ℕ = memory_of c.args.image.now in
     let now = c.loop-region.image in
-    let r = c.loop-region.region in
+    let region = c.loop-region.region in
     let is = c.loop-region.invariant in
     let turn = c.free_or_fill.ensures in
-    let below : r < g.regions = omega (arith, c.loop-region-test.true, c.regions-region-end.ensures, ap (λ (k : Config). k.regions) c.config-config.ensures) in
-    let stay = stays_still g (config_of now) m (memory_of now) r r is.config is.words in
-    let free = frees_still g (config_of now) m (memory_of now) r r is.config is.words in
+    let below : region < config.regions = omega (arith, c.loop-region-test.true, c.regions-region-end.ensures, ap (λ (k : Config). k.regions) c.config-config.ensures) in
+    let stay = stays_still config (config_of now) memory (memory_of now) region region is.config is.words in
+    let free = frees_still config (config_of now) memory (memory_of now) region region is.config is.words in
     record {
       config = turn.config ∙ is.config;
       words = ⊎_elim
-          (λ (chosen : is_chosen m r ≡ true). ⊎_elim
-          (λ (pinned : is_pinned g m r ≡ true).
-          let stays : is_to_stay g m r ≡ true = ap (λ b. b && is_pinned g m r) chosen ∙ pinned in
-          let kept : is_to_free g m r ≡ false = ap (λ b. b && not (is_pinned g m r)) chosen ∙ ap not pinned in
+          (λ (chosen : is_chosen memory region ≡ true). ⊎_elim
+          (λ (pinned : is_pinned config memory region ≡ true).
+          let stays : is_to_stay config memory region ≡ true = ap (λ b. b && is_pinned config memory region) chosen ∙ pinned in
+          let kept : is_to_free config memory region ≡ false = ap (λ b. b && not (is_pinned config memory region)) chosen ∙ ap not pinned in
           turn.fills (stay ∙ stays)
-          ∙ ap (λ (k : Config). filled_in k (λ q. q == r) (has_moved (memory_of now)) (memory_of now)) is.config
-          ∙ ap (λ (n : Word → ℕ). filled_in g (λ q. q == r) (has_moved n) n) is.words
-          ∙ filled_region g m r (c.requires.fills r below stays) stays kept)
-          (λ (unpinned : is_pinned g m r ≡ false).
-          let frees : is_to_free g m r ≡ true = ap (λ b. b && not (is_pinned g m r)) chosen ∙ ap not unpinned in
-          let gone : is_to_stay g m r ≡ false = ap (λ b. b && is_pinned g m r) chosen ∙ unpinned in
-          turn.frees (free ∙ frees) ∙ ap (freed_one r) is.words ∙ freed_region g m r (omega (arith, below, g.in_range.most_regions)) frees gone)
-          (cases_Bool (is_pinned g m r)))
-          (λ (spared : is_chosen m r ≡ false).
-          turn.spares (chosen_still g m (memory_of now) r r is.words ∙ spared) ∙ is.words
-          ∙ spared_next g m r (ap (λ b. b && not (is_pinned g m r)) spared) (ap (λ b. b && is_pinned g m r) spared))
-          (cases_Bool (is_chosen m r));
+          ∙ ap (λ (k : Config). filled_in k (λ q. q == region) (has_moved (memory_of now)) (memory_of now)) is.config
+          ∙ ap (λ (n : Word → ℕ). filled_in config (λ q. q == region) (has_moved n) n) is.words
+          ∙ filled_region config memory region (c.requires.fills region below stays) stays kept)
+          (λ (unpinned : is_pinned config memory region ≡ false).
+          let frees : is_to_free config memory region ≡ true = ap (λ b. b && not (is_pinned config memory region)) chosen ∙ ap not unpinned in
+          let gone : is_to_stay config memory region ≡ false = ap (λ b. b && is_pinned config memory region) chosen ∙ unpinned in
+          turn.frees (free ∙ frees) ∙ ap (freed_one region) is.words ∙ freed_region config memory region (omega (arith, below, config.in_range.most_regions)) frees gone)
+          (cases_Bool (is_pinned config memory region)))
+          (λ (spared : is_chosen memory region ≡ false).
+          turn.spares (chosen_still config memory (memory_of now) region region is.words ∙ spared) ∙ is.words
+          ∙ spared_next config memory region (ap (λ b. b && not (is_pinned config memory region)) spared) (ap (λ b. b && is_pinned config memory region) spared))
+          (cases_Bool (is_chosen memory region));
     }
 
 pub returns-clause-words : goal.returns-clause-words
 returns-clause-words c =
-    let g = config_of c.args.image.now in
-    let m : Word → ℕ = memory_of c.args.image.now in
-    let all : c.loop-region.region ≡ g.regions =
+    let config = config_of c.args.image.now in
+    let memory : Word → ℕ = memory_of c.args.image.now in
+    let all : c.loop-region.region ≡ config.regions =
     omega (arith, c.loop-region-test.false, c.loop-region.auto.region-end, c.regions-region-end.ensures, ap (λ (k : Config). k.regions) c.config-config.ensures) in
-    c.loop-region.invariant.words ∙ ap (left_below g m) all ∙ all_left g (words_of c.args.image.now)
+    c.loop-region.invariant.words ∙ ap (left_below config memory) all ∙ all_left config (words_of c.args.image.now)

@@ -10,22 +10,22 @@ use Rattle.degenerated.proofs.fields.update_fields.Goals as goal
 
 pub loop-region-init : goal.loop-region-init
 loop-region-init c =
-    let g = config_of c.args.image.now in
-    record { config = refl; places = refl; words = no_fields g (memory_of c.args.image.now) (kept_now c.args.image.now) (is_of_first g 0) (λ x field. none_of_first g x) }
+    let config = config_of c.args.image.now in
+    record { config = refl; places = refl; words = no_fields config (memory_of c.args.image.now) (kept_now c.args.image.now) (is_of_first config 0) (λ x field. none_of_first config x) }
 
 pub update_if_staying-requires-clause-can : goal.update_if_staying-requires-clause-can
 update_if_staying-requires-clause-can c =
-    let g = config_of c.args.image.now in
-    let m : Word → ℕ = memory_of c.args.image.now in
+    let config = config_of c.args.image.now in
+    let memory : Word → ℕ = memory_of c.args.image.now in
     let is = c.loop-region.invariant in
     subst (λ (k : Config). CanUpdateAll k (memory_of c.loop-region.image)) (sym is.config)
-    (subst (CanUpdateAll g) (sym is.words) (can_still g (kept_now c.args.image.now) m c.requires (is_of_first g c.loop-region.region)))
+    (subst (CanUpdateAll config) (sym is.words) (can_still config (kept_now c.args.image.now) memory c.requires (is_of_first config c.loop-region.region)))
 
 pub loop-region-preserved : goal.loop-region-preserved
 loop-region-preserved c =
-    let g = config_of c.args.image.now in
-    let m : Word → ℕ = memory_of c.args.image.now in
-    let r = c.loop-region.region in
+    let config = config_of c.args.image.now in
+    let memory : Word → ℕ = memory_of c.args.image.now in
+    let region = c.loop-region.region in
     let lead : ℕ → ℕ = kept_now c.args.image.now in
     let now = c.loop-region.image in
     let is = c.loop-region.invariant in
@@ -33,15 +33,15 @@ loop-region-preserved c =
       config = c.update_if_staying.ensures.config ∙ is.config;
       places = c.update_if_staying.ensures.places ∙ is.places;
       words = c.update_if_staying.ensures.words
-          ∙ ap (λ (f : ℕ → ℕ). fields_updated (config_of now) f (is_of (config_of now) r) (memory_of now)) (kept_same c.args.image.now now is.config is.places)
-          ∙ ap (λ (k : Config). fields_updated k lead (is_of k r) (memory_of now)) is.config
-          ∙ ap (fields_updated g lead (is_of g r)) is.words
-          ∙ then_updated g lead m c.requires (is_of_first g r) (is_of g r) (is_of_first g (r + 1)) (λ x field before. regions_apart g r x before) (λ x field. one_region_more g r x);
+          ∙ ap (λ (f : ℕ → ℕ). fields_updated (config_of now) f (is_of (config_of now) region) (memory_of now)) (kept_same c.args.image.now now is.config is.places)
+          ∙ ap (λ (k : Config). fields_updated k lead (is_of k region) (memory_of now)) is.config
+          ∙ ap (fields_updated config lead (is_of config region)) is.words
+          ∙ then_updated config lead memory c.requires (is_of_first config region) (is_of config region) (is_of_first config (region + 1)) (λ x field before. regions_apart config region x before) (λ x field. one_region_more config region x);
     }
 
 pub returns-clause-words : goal.returns-clause-words
 returns-clause-words c =
-    let g = config_of c.args.image.now in
-    let all : c.loop-region.region ≡ g.regions =
+    let config = config_of c.args.image.now in
+    let all : c.loop-region.region ≡ config.regions =
     omega (arith, c.loop-region-test.false, c.loop-region.auto.region-end, c.regions-region-end.ensures, ap (λ (k : Config). k.regions) c.config-config.ensures) in
-    c.loop-region.invariant.words ∙ ap (λ n. fields_updated g (kept_now c.args.image.now) (is_of_first g n) (memory_of c.args.image.now)) all
+    c.loop-region.invariant.words ∙ ap (λ n. fields_updated config (kept_now c.args.image.now) (is_of_first config n) (memory_of c.args.image.now)) all

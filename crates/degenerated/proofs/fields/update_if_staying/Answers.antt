@@ -13,11 +13,11 @@ use Rattle.degenerated.proofs.fields.update_if_staying.Goals as goal
 
 pub returns-then-not-is_pinned-clause-words : goal.returns-then-not-is_pinned-clause-words
 returns-then-not-is_pinned-clause-words c =
-    let g = config_of c.args.image.now in
-    let m : Word → ℕ = memory_of c.args.image.now in
-    let r = c.args.region in
-    let set : c.word.result ≡ m Cset = c.word.ensures.named Cset tt (ap (λ (k : Config). word_at k Cset) (sym c.config.ensures) ∙ sym c.cset_at.ensures) in
-    let member : IsIn (m Cset) r = ap (λ x. bit_at x r) (sym set) ∙ c.is_in.ensures.0 c.if-is_in.true in
-    let gone : stays g m r ≡ false =
-    or_from (bit_at (m Cset) r == 0) (is_pinned g m r) (ne_eqb (bit_at (m Cset) r) 0 (λ none. omega (arith, none, member))) (sym c.is_pinned.ensures ∙ c.if-not-is_pinned.true) in
-    no_fields g m (kept_now c.args.image.now) (is_of g r) (none_where_nothing_stays g m r gone)
+    let config = config_of c.args.image.now in
+    let memory : Word → ℕ = memory_of c.args.image.now in
+    let region = c.args.region in
+    let set : c.word.result ≡ memory Cset = c.word.ensures.named Cset tt (ap (λ (k : Config). word_at k Cset) (sym c.config.ensures) ∙ sym c.cset_at.ensures) in
+    let member : IsIn (memory Cset) region = ap (λ x. bit_at x region) (sym set) ∙ c.is_in.ensures.0 c.if-is_in.true in
+    let gone : stays config memory region ≡ false =
+    or_from (bit_at (memory Cset) region == 0) (is_pinned config memory region) (ne_eqb (bit_at (memory Cset) region) 0 (λ none. omega (arith, none, member))) (sym c.is_pinned.ensures ∙ c.if-not-is_pinned.true) in
+    no_fields config memory (kept_now c.args.image.now) (is_of config region) (none_where_nothing_stays config memory region gone)

@@ -30,13 +30,13 @@ module _ (lead : ℕ → ℕ) (g d : Config) (m now : Word → ℕ) (can : CanUp
 
     pub begun_here : (told : Bool) → told ≡ (object + stride_at (λ a. now (Heap a)) object == first + i) → told ≡ true
         → first + i ≡ base_of g r + start_of (λ a. m (Heap a)) (base_of g r) i
-    begun_here told is yes' =
-        here g lead m can p r below staying i some object first at base (ap (λ (k : Word → ℕ). object + stride_at (λ a. k (Heap a)) object == first + i) (sym words) ∙ sym is ∙ yes')
+    begun_here told is passes =
+        here g lead m can p r below staying i some object first at base (ap (λ (k : Word → ℕ). object + stride_at (λ a. k (Heap a)) object == first + i) (sym words) ∙ sym is ∙ passes)
 
     pub goes_on_here : (told : Bool) → told ≡ (object + stride_at (λ a. now (Heap a)) object == first + i) → told ≡ false
         → object ≡ base_of g r + start_of (λ a. m (Heap a)) (base_of g r) i
-    goes_on_here told is no' =
-        still g lead m can p r below staying i some object first at base (ap (λ (k : Word → ℕ). object + stride_at (λ a. k (Heap a)) object == first + i) (sym words) ∙ sym is ∙ no')
+    goes_on_here told is fails =
+        still g lead m can p r below staying i some object first at base (ap (λ (k : Word → ℕ). object + stride_at (λ a. k (Heap a)) object == first + i) (sym words) ∙ sym is ∙ fails)
 
   pub can_now : CanUpdateAll d now
   can_now = subst (λ (k : Config). CanUpdateAll k now) (sym same) (subst (CanUpdateAll g) (sym words) (can_still g lead m can p))
@@ -54,106 +54,106 @@ module _ (lead : ℕ → ℕ) (g d : Config) (m now : Word → ℕ) (can : CanUp
 
 pub loop-offset-init : goal.loop-offset-init
 loop-offset-init c =
-    let g = config_of c.args.image.now in
-    let m : Word → ℕ = memory_of c.args.image.now in
-    let r = c.args.region in
+    let config = config_of c.args.image.now in
+    let memory : Word → ℕ = memory_of c.args.image.now in
+    let region = c.args.region in
     record {
       config = refl;
       places = refl;
-      words = no_fields g m (kept_now c.args.image.now) (is_below g r 0) (λ x field. none_below g r x);
-      object = c.base-first.ensures ∙ ap (λ (k : Config). base_of k r) c.config.ensures
-          ∙ (let none = start_first (λ a. m (Heap a)) (base_of g r) in let first : base_of g r ≡ base_of g r + start_of (λ a. m (Heap a)) (base_of g r) 0 = omega (arith, none) in first);
+      words = no_fields config memory (kept_now c.args.image.now) (is_below config region 0) (λ x field. none_below config region x);
+      object = c.base-first.ensures ∙ ap (λ (k : Config). base_of k region) c.config.ensures
+          ∙ (let none = start_first (λ a. memory (Heap a)) (base_of config region) in let first : base_of config region ≡ base_of config region + start_of (λ a. memory (Heap a)) (base_of config region) 0 = omega (arith, none) in first);
     }
 
 pub ends_at-requires-clause-header : goal.ends_at-requires-clause-header
 ends_at-requires-clause-header c =
-    let g = config_of c.args.image.now in
-    let m : Word → ℕ = memory_of c.args.image.now in
+    let config = config_of c.args.image.now in
+    let memory : Word → ℕ = memory_of c.args.image.now in
     let is = c.loop-offset.invariant in
-    (first_is (kept_now c.args.image.now) g (config_of c.loop-offset.image) m (memory_of c.loop-offset.image) c.requires.can c.args.region c.loop-offset.offset c.requires.region c.requires.stays
+    (first_is (kept_now c.args.image.now) config (config_of c.loop-offset.image) memory (memory_of c.loop-offset.image) c.requires.can c.args.region c.loop-offset.offset c.requires.region c.requires.stays
     (omega (arith, c.loop-offset-test.true, c.top-top.ensures)) is.config is.words c.base-first.result
     (c.base-first.ensures ∙ ap (λ (k : Config). base_of k c.args.region) c.config.ensures) c.loop-offset.object is.object).0
 
 pub ends_at-requires-clause-shape : goal.ends_at-requires-clause-shape
 ends_at-requires-clause-shape c =
-    let g = config_of c.args.image.now in
-    let m : Word → ℕ = memory_of c.args.image.now in
+    let config = config_of c.args.image.now in
+    let memory : Word → ℕ = memory_of c.args.image.now in
     let is = c.loop-offset.invariant in
-    (first_is (kept_now c.args.image.now) g (config_of c.loop-offset.image) m (memory_of c.loop-offset.image) c.requires.can c.args.region c.loop-offset.offset c.requires.region c.requires.stays
+    (first_is (kept_now c.args.image.now) config (config_of c.loop-offset.image) memory (memory_of c.loop-offset.image) c.requires.can c.args.region c.loop-offset.offset c.requires.region c.requires.stays
     (omega (arith, c.loop-offset-test.true, c.top-top.ensures)) is.config is.words c.base-first.result
     (c.base-first.ensures ∙ ap (λ (k : Config). base_of k c.args.region) c.config.ensures) c.loop-offset.object is.object).1
 
 pub update_word-requires-clause-can : goal.update_word-requires-clause-can
 update_word-requires-clause-can c =
-    let g = config_of c.args.image.now in
-    let m : Word → ℕ = memory_of c.args.image.now in
+    let config = config_of c.args.image.now in
+    let memory : Word → ℕ = memory_of c.args.image.now in
     let is = c.loop-offset.invariant in
-    can_now (kept_now c.args.image.now) g (config_of c.loop-offset.image) m (memory_of c.loop-offset.image) c.requires.can c.args.region c.loop-offset.offset c.requires.region c.requires.stays
+    can_now (kept_now c.args.image.now) config (config_of c.loop-offset.image) memory (memory_of c.loop-offset.image) c.requires.can c.args.region c.loop-offset.offset c.requires.region c.requires.stays
     (omega (arith, c.loop-offset-test.true, c.top-top.ensures)) is.config is.words c.base-first.result
     (c.base-first.ensures ∙ ap (λ (k : Config). base_of k c.args.region) c.config.ensures)
 
 pub update_word-requires-clause-stays : goal.update_word-requires-clause-stays
 update_word-requires-clause-stays c =
-    let g = config_of c.args.image.now in
-    let m : Word → ℕ = memory_of c.args.image.now in
+    let config = config_of c.args.image.now in
+    let memory : Word → ℕ = memory_of c.args.image.now in
     let is = c.loop-offset.invariant in
-    staying_now (kept_now c.args.image.now) g (config_of c.loop-offset.image) m (memory_of c.loop-offset.image) c.requires.can c.args.region c.loop-offset.offset c.requires.region c.requires.stays
+    staying_now (kept_now c.args.image.now) config (config_of c.loop-offset.image) memory (memory_of c.loop-offset.image) c.requires.can c.args.region c.loop-offset.offset c.requires.region c.requires.stays
     (omega (arith, c.loop-offset-test.true, c.top-top.ensures)) is.config is.words c.base-first.result
     (c.base-first.ensures ∙ ap (λ (k : Config). base_of k c.args.region) c.config.ensures)
 
 pub update_word-requires-clause-object : goal.update_word-requires-clause-object
 update_word-requires-clause-object c =
-    let g = config_of c.args.image.now in
-    let m : Word → ℕ = memory_of c.args.image.now in
-    let r = c.args.region in
-    let i = c.loop-offset.offset in
+    let config = config_of c.args.image.now in
+    let memory : Word → ℕ = memory_of c.args.image.now in
+    let region = c.args.region in
+    let offset = c.loop-offset.offset in
     let now = c.loop-offset.image in
     let is = c.loop-offset.invariant in
-    let some : i < m (Top r) = omega (arith, c.loop-offset-test.true, c.top-top.ensures) in
-    let base = c.base-first.ensures ∙ ap (λ (k : Config). base_of k r) c.config.ensures in
-    object_now (kept_now c.args.image.now) g (config_of now) m (memory_of now) c.requires.can r i c.requires.region c.requires.stays some is.config is.words c.base-first.result base c.if-ends_at.object
+    let some : offset < memory (Top region) = omega (arith, c.loop-offset-test.true, c.top-top.ensures) in
+    let base = c.base-first.ensures ∙ ap (λ (k : Config). base_of k region) c.config.ensures in
+    object_now (kept_now c.args.image.now) config (config_of now) memory (memory_of now) c.requires.can region offset c.requires.region c.requires.stays some is.config is.words c.base-first.result base c.if-ends_at.object
     (elim c.if-ends_at.branch [
-      | then-ends_at w ↦ w.object-is ∙ begun_here (kept_now c.args.image.now) g (config_of now) m (memory_of now) c.requires.can r i c.requires.region c.requires.stays some is.config is.words c.base-first.result base
+      | then-ends_at w ↦ w.object-is ∙ begun_here (kept_now c.args.image.now) config (config_of now) memory (memory_of now) c.requires.can region offset c.requires.region c.requires.stays some is.config is.words c.base-first.result base
           c.loop-offset.object is.object c.ends_at.result c.ends_at.ensures w.if-ends_at.true
-      | else-ends_at w ↦ w.object-is ∙ goes_on_here (kept_now c.args.image.now) g (config_of now) m (memory_of now) c.requires.can r i c.requires.region c.requires.stays some is.config is.words c.base-first.result base
+      | else-ends_at w ↦ w.object-is ∙ goes_on_here (kept_now c.args.image.now) config (config_of now) memory (memory_of now) c.requires.can region offset c.requires.region c.requires.stays some is.config is.words c.base-first.result base
           c.loop-offset.object is.object c.ends_at.result c.ends_at.ensures w.if-ends_at.false
     ])
 
 pub loop-offset-preserved : goal.loop-offset-preserved
 loop-offset-preserved c =
-    let g = config_of c.args.image.now in
-    let m : Word → ℕ = memory_of c.args.image.now in
-    let r = c.args.region in
-    let i = c.loop-offset.offset in
+    let config = config_of c.args.image.now in
+    let memory : Word → ℕ = memory_of c.args.image.now in
+    let region = c.args.region in
+    let offset = c.loop-offset.offset in
     let now = c.loop-offset.image in
     let is = c.loop-offset.invariant in
-    let some : i < m (Top r) = omega (arith, c.loop-offset-test.true, c.top-top.ensures) in
-    let base : c.base-first.result ≡ base_of g r = c.base-first.ensures ∙ ap (λ (k : Config). base_of k r) c.config.ensures in
-    let object : c.if-ends_at.object ≡ base_of g r + start_of (λ a. m (Heap a)) (base_of g r) i = elim c.if-ends_at.branch [
-      | then-ends_at w ↦ w.object-is ∙ begun_here (kept_now c.args.image.now) g (config_of now) m (memory_of now) c.requires.can r i c.requires.region c.requires.stays some is.config is.words c.base-first.result base
+    let some : offset < memory (Top region) = omega (arith, c.loop-offset-test.true, c.top-top.ensures) in
+    let base : c.base-first.result ≡ base_of config region = c.base-first.ensures ∙ ap (λ (k : Config). base_of k region) c.config.ensures in
+    let object : c.if-ends_at.object ≡ base_of config region + start_of (λ a. memory (Heap a)) (base_of config region) offset = elim c.if-ends_at.branch [
+      | then-ends_at w ↦ w.object-is ∙ begun_here (kept_now c.args.image.now) config (config_of now) memory (memory_of now) c.requires.can region offset c.requires.region c.requires.stays some is.config is.words c.base-first.result base
           c.loop-offset.object is.object c.ends_at.result c.ends_at.ensures w.if-ends_at.true
-      | else-ends_at w ↦ w.object-is ∙ goes_on_here (kept_now c.args.image.now) g (config_of now) m (memory_of now) c.requires.can r i c.requires.region c.requires.stays some is.config is.words c.base-first.result base
+      | else-ends_at w ↦ w.object-is ∙ goes_on_here (kept_now c.args.image.now) config (config_of now) memory (memory_of now) c.requires.can region offset c.requires.region c.requires.stays some is.config is.words c.base-first.result base
           c.loop-offset.object is.object c.ends_at.result c.ends_at.ensures w.if-ends_at.false
     ] in
-    let last : i ≡ i + 1 - 1 = omega arith in
+    let last : offset ≡ offset + 1 - 1 = omega arith in
     let lead : ℕ → ℕ = kept_now c.args.image.now in
     record {
       config = c.update_word.ensures.config ∙ is.config;
       places = c.update_word.ensures.places ∙ is.places;
       words = c.update_word.ensures.words
-          ∙ ap (λ (f : ℕ → ℕ). fields_updated (config_of now) f (is_at (c.base-first.result + i)) (memory_of now)) (kept_same c.args.image.now now is.config is.places)
-          ∙ ap (λ (k : Config). fields_updated k lead (is_at (c.base-first.result + i)) (memory_of now)) is.config
-          ∙ ap (fields_updated g lead (is_at (c.base-first.result + i))) is.words
-          ∙ ap (λ b. fields_updated g lead (is_at (b + i)) (fields_updated g lead (is_below g r i) m)) base
-          ∙ then_updated g lead m c.requires.can (is_below g r i) (is_at (base_of g r + i)) (is_below g r (i + 1)) (λ x field before. addresses_apart g r i x before) (λ x field. one_address_more g r i x);
-      object = object ∙ ap (λ k. base_of g r + start_of (λ a. m (Heap a)) (base_of g r) k) last;
+          ∙ ap (λ (f : ℕ → ℕ). fields_updated (config_of now) f (is_at (c.base-first.result + offset)) (memory_of now)) (kept_same c.args.image.now now is.config is.places)
+          ∙ ap (λ (k : Config). fields_updated k lead (is_at (c.base-first.result + offset)) (memory_of now)) is.config
+          ∙ ap (fields_updated config lead (is_at (c.base-first.result + offset))) is.words
+          ∙ ap (λ b. fields_updated config lead (is_at (b + offset)) (fields_updated config lead (is_below config region offset) memory)) base
+          ∙ then_updated config lead memory c.requires.can (is_below config region offset) (is_at (base_of config region + offset)) (is_below config region (offset + 1)) (λ x field before. addresses_apart config region offset x before) (λ x field. one_address_more config region offset x);
+      object = object ∙ ap (λ k. base_of config region + start_of (λ a. memory (Heap a)) (base_of config region) k) last;
     }
 
 pub returns-clause-words : goal.returns-clause-words
 returns-clause-words c =
-    let g = config_of c.args.image.now in
-    let m : Word → ℕ = memory_of c.args.image.now in
-    let r = c.args.region in
-    let all : c.loop-offset.offset ≡ m (Top r) = omega (arith, c.loop-offset-test.false, c.loop-offset.auto.offset-end, c.top-top.ensures) in
-    c.loop-offset.invariant.words ∙ ap (λ k. fields_updated g (kept_now c.args.image.now) (is_below g r k) m) all
-    ∙ same_fields g m (kept_now c.args.image.now) (is_below g r (m (Top r))) (is_of g r) (fields_below g m r c.requires.region (c.requires.can.within r c.requires.region))
+    let config = config_of c.args.image.now in
+    let memory : Word → ℕ = memory_of c.args.image.now in
+    let region = c.args.region in
+    let all : c.loop-offset.offset ≡ memory (Top region) = omega (arith, c.loop-offset-test.false, c.loop-offset.auto.offset-end, c.top-top.ensures) in
+    c.loop-offset.invariant.words ∙ ap (λ k. fields_updated config (kept_now c.args.image.now) (is_below config region k) memory) all
+    ∙ same_fields config memory (kept_now c.args.image.now) (is_below config region (memory (Top region))) (is_of config region) (fields_below config memory region c.requires.region (c.requires.can.within region c.requires.region))

@@ -17,59 +17,59 @@ update_fields-requires c = carried CanUpdateAll c.args.image.now c.keep_heap.new
 
 pub update_all_roots-requires : goal.update_all_roots-requires
 update_all_roots-requires c =
-    let g = config_of c.args.image.now in
-    let zero' = c.keep_heap.new.self in
+    let config = config_of c.args.image.now in
+    let begun = c.keep_heap.new.self in
     let one = c.update_fields.new.image in
     let same : memory_of one Cset ≡ memory_of c.args.image.now Cset =
-    ap (λ (n : Word → ℕ). n Cset) c.update_fields.ensures.words ∙ ap (λ (n : Word → ℕ). n Cset) (memory_same c.args.image.now zero' c.keep_heap.ensures.unchanged) in
+    ap (λ (n : Word → ℕ). n Cset) c.update_fields.ensures.words ∙ ap (λ (n : Word → ℕ). n Cset) (memory_same c.args.image.now begun c.keep_heap.ensures.unchanged) in
     subst (λ (k : Config). memory_of one Cset < 2 ^ k.regions) (sym (c.update_fields.ensures.config ∙ c.keep_heap.ensures.unchanged.config))
-    (subst (λ x. x < 2 ^ g.regions) (sym same) c.requires.set)
+    (subst (λ x. x < 2 ^ config.regions) (sym same) c.requires.set)
 
 pub update_answers-requires : goal.update_answers-requires
 update_answers-requires c =
-    let g = config_of c.args.image.now in
-    let zero' = c.keep_heap.new.self in
+    let config = config_of c.args.image.now in
+    let begun = c.keep_heap.new.self in
     let one = c.update_fields.new.image in
     let two = c.update_all_roots.new.image in
     let same : memory_of two Cset ≡ memory_of one Cset = ap (λ (n : Word → ℕ). n Cset) c.update_all_roots.ensures.words in
     let first : memory_of one Cset ≡ memory_of c.args.image.now Cset =
-    ap (λ (n : Word → ℕ). n Cset) c.update_fields.ensures.words ∙ ap (λ (n : Word → ℕ). n Cset) (memory_same c.args.image.now zero' c.keep_heap.ensures.unchanged) in
+    ap (λ (n : Word → ℕ). n Cset) c.update_fields.ensures.words ∙ ap (λ (n : Word → ℕ). n Cset) (memory_same c.args.image.now begun c.keep_heap.ensures.unchanged) in
     subst (λ (k : Config). memory_of two Cset < 2 ^ k.regions) (sym (c.update_all_roots.ensures.config ∙ c.update_fields.ensures.config ∙ c.keep_heap.ensures.unchanged.config))
-    (subst (λ x. x < 2 ^ g.regions) (sym (same ∙ first)) c.requires.set)
+    (subst (λ x. x < 2 ^ config.regions) (sym (same ∙ first)) c.requires.set)
 
 pub returns-clause-words : goal.returns-clause-words
 returns-clause-words c =
     let old = c.args.image.now in
-    let g = config_of old in
-    let m : Word → ℕ = memory_of old in
-    let zero' = c.keep_heap.new.self in
+    let config = config_of old in
+    let memory : Word → ℕ = memory_of old in
+    let begun = c.keep_heap.new.self in
     let one = c.update_fields.new.image in
     let two = c.update_all_roots.new.image in
-    let lead : ℕ → ℕ = now_of g.region_words (heap_in g (words_of old)) in
-    let kept : kept_now zero' ≡ lead = kept_from old zero' c.keep_heap.ensures.unchanged c.keep_heap.ensures.kept in
+    let lead : ℕ → ℕ = now_of config.region_words (heap_in config (words_of old)) in
+    let kept : kept_now begun ≡ lead = kept_from old begun c.keep_heap.ensures.unchanged c.keep_heap.ensures.kept in
     let config_one = c.update_fields.ensures.config ∙ c.keep_heap.ensures.unchanged.config in
     let config_two = c.update_all_roots.ensures.config ∙ config_one in
-    let kept_one : kept_now one ≡ lead = kept_same zero' one c.update_fields.ensures.config c.update_fields.ensures.places ∙ kept in
+    let kept_one : kept_now one ≡ lead = kept_same begun one c.update_fields.ensures.config c.update_fields.ensures.places ∙ kept in
     let kept_two : kept_now two ≡ lead = kept_same one two c.update_all_roots.ensures.config c.update_all_roots.ensures.places ∙ kept_one in
-    let to_one : memory_of one ≡ fields_updated g lead (is_of_first g g.regions) m =
+    let to_one : memory_of one ≡ fields_updated config lead (is_of_first config config.regions) memory =
     c.update_fields.ensures.words
-    ∙ ap (λ (f : ℕ → ℕ). fields_updated (config_of zero') f (is_of_first (config_of zero') (config_of zero').regions) (memory_of zero')) kept
-    ∙ ap (λ (k : Config). fields_updated k lead (is_of_first k k.regions) (memory_of zero')) c.keep_heap.ensures.unchanged.config
-    ∙ ap (fields_updated g lead (is_of_first g g.regions)) (memory_same old zero' c.keep_heap.ensures.unchanged) in
-    let to_two : memory_of two ≡ roots_updated g lead g.mutators (fields_updated g lead (is_of_first g g.regions) m) =
+    ∙ ap (λ (f : ℕ → ℕ). fields_updated (config_of begun) f (is_of_first (config_of begun) (config_of begun).regions) (memory_of begun)) kept
+    ∙ ap (λ (k : Config). fields_updated k lead (is_of_first k k.regions) (memory_of begun)) c.keep_heap.ensures.unchanged.config
+    ∙ ap (fields_updated config lead (is_of_first config config.regions)) (memory_same old begun c.keep_heap.ensures.unchanged) in
+    let to_two : memory_of two ≡ roots_updated config lead config.mutators (fields_updated config lead (is_of_first config config.regions) memory) =
     c.update_all_roots.ensures.words
     ∙ ap (λ (f : ℕ → ℕ). roots_updated (config_of one) f (config_of one).mutators (memory_of one)) kept_one
     ∙ ap (λ (k : Config). roots_updated k lead k.mutators (memory_of one)) config_one
-    ∙ ap (roots_updated g lead g.mutators) to_one in
+    ∙ ap (roots_updated config lead config.mutators) to_one in
     c.update_answers.ensures.words
     ∙ ap (λ (f : ℕ → ℕ). answers_updated (config_of two) f (config_of two).mutators (memory_of two)) kept_two
     ∙ ap (λ (k : Config). answers_updated k lead k.mutators (memory_of two)) config_two
-    ∙ ap (answers_updated g lead g.mutators) to_two
-    ∙ all g (words_of old) old.all_words
+    ∙ ap (answers_updated config lead config.mutators) to_two
+    ∙ all config (words_of old) old.all_words
 
 pub returns-clause-holds : goal.returns-clause-holds
 returns-clause-holds c = λ block owner p graph holds sized none.
-    let g = config_of c.args.image.now in
-    let m : Word → ℕ = memory_of c.args.image.now in
-    subst (λ (n : Word → ℕ). HoldsUpdated g n block owner p graph) (sym (returns-clause-words c))
-    (record { holds = updated_holds g m block owner p graph holds sized none; sized = updated_sized g m block owner p graph holds sized none })
+    let config = config_of c.args.image.now in
+    let memory : Word → ℕ = memory_of c.args.image.now in
+    subst (λ (n : Word → ℕ). HoldsUpdated config n block owner p graph) (sym (returns-clause-words c))
+    (record { holds = updated_holds config memory block owner p graph holds sized none; sized = updated_sized config memory block owner p graph holds sized none })

@@ -18,9 +18,9 @@ update_roots-requires-clause-set c =
 
 pub loop-mutator-preserved : goal.loop-mutator-preserved
 loop-mutator-preserved c =
-    let g = config_of c.args.image.now in
-    let m : Word → ℕ = memory_of c.args.image.now in
-    let t = c.loop-mutator.mutator in
+    let config = config_of c.args.image.now in
+    let memory : Word → ℕ = memory_of c.args.image.now in
+    let mutator = c.loop-mutator.mutator in
     let now = c.loop-mutator.image in
     let lead : ℕ → ℕ = kept_now c.args.image.now in
     let is = c.loop-mutator.invariant in
@@ -28,15 +28,15 @@ loop-mutator-preserved c =
       config = c.update_roots.ensures.config ∙ is.config;
       places = c.update_roots.ensures.places ∙ is.places;
       words = c.update_roots.ensures.words
-          ∙ ap (λ (f : ℕ → ℕ). row_updated (config_of now) f t 16 (memory_of now)) (kept_same c.args.image.now now is.config is.places)
-          ∙ ap (λ (k : Config). row_updated k lead t 16 (memory_of now)) is.config
-          ∙ ap (row_updated g lead t 16) is.words
-          ∙ roots_next g lead m t;
+          ∙ ap (λ (f : ℕ → ℕ). row_updated (config_of now) f mutator 16 (memory_of now)) (kept_same c.args.image.now now is.config is.places)
+          ∙ ap (λ (k : Config). row_updated k lead mutator 16 (memory_of now)) is.config
+          ∙ ap (row_updated config lead mutator 16) is.words
+          ∙ roots_next config lead memory mutator;
     }
 
 pub returns-clause-words : goal.returns-clause-words
 returns-clause-words c =
-    let g = config_of c.args.image.now in
-    let all : c.loop-mutator.mutator ≡ g.mutators =
+    let config = config_of c.args.image.now in
+    let all : c.loop-mutator.mutator ≡ config.mutators =
     omega (arith, c.loop-mutator-test.false, c.loop-mutator.auto.mutator-end, c.mutators-mutator-end.ensures, ap (λ (k : Config). k.mutators) c.config-config.ensures) in
-    c.loop-mutator.invariant.words ∙ ap (λ n. roots_updated g (kept_now c.args.image.now) n (memory_of c.args.image.now)) all
+    c.loop-mutator.invariant.words ∙ ap (λ n. roots_updated config (kept_now c.args.image.now) n (memory_of c.args.image.now)) all

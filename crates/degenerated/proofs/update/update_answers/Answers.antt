@@ -18,29 +18,29 @@ update_place-requires-clause-set c =
 
 pub loop-mutator-preserved : goal.loop-mutator-preserved
 loop-mutator-preserved c =
-    let g = config_of c.args.image.now in
-    let m : Word → ℕ = memory_of c.args.image.now in
-    let t = c.loop-mutator.mutator in
+    let config = config_of c.args.image.now in
+    let memory : Word → ℕ = memory_of c.args.image.now in
+    let mutator = c.loop-mutator.mutator in
     let lead : ℕ → ℕ = kept_now c.args.image.now in
-    let below : t < g.mutators = omega (arith, c.loop-mutator-test.true, c.mutators-mutator-end.ensures, ap (λ (k : Config). k.mutators) c.config-config.ensures) in
+    let below : mutator < config.mutators = omega (arith, c.loop-mutator-test.true, c.mutators-mutator-end.ensures, ap (λ (k : Config). k.mutators) c.config-config.ensures) in
     let now = c.loop-mutator.image in
     let is = c.loop-mutator.invariant in
-    let word : IsWord (config_of now) (Answer t) = subst (λ (k : Config). IsWord k (Answer t)) (sym is.config) below in
-    let at : c.answer_at.result ≡ word_at (config_of now) (Answer t) = c.answer_at.ensures ∙ ap (λ (k : Config). word_at k (Answer t)) (c.config-config.ensures ∙ sym is.config) in
+    let word : IsWord (config_of now) (Answer mutator) = subst (λ (k : Config). IsWord k (Answer mutator)) (sym is.config) below in
+    let at : c.answer_at.result ≡ word_at (config_of now) (Answer mutator) = c.answer_at.ensures ∙ ap (λ (k : Config). word_at k (Answer mutator)) (c.config-config.ensures ∙ sym is.config) in
     record {
       config = c.update_place.ensures.config ∙ is.config;
       places = c.update_place.ensures.places ∙ is.places;
-      words = c.update_place.ensures.words (Answer t) word (sym at)
-          ∙ ap (λ (f : ℕ → ℕ). write (memory_of now) (Answer t) (updated_by (config_of now) f (memory_of now) (memory_of now (Answer t)))) (kept_same c.args.image.now now is.config is.places)
-          ∙ ap (λ (k : Config). write (memory_of now) (Answer t) (updated_by k lead (memory_of now) (memory_of now (Answer t)))) is.config
-          ∙ ap (λ (n : Word → ℕ). write n (Answer t) (updated_by g lead n (n (Answer t)))) is.words
-          ∙ ap (λ v. write (answers_updated g lead t m) (Answer t) (updated_by g lead m v)) (answer_still g lead m t)
-          ∙ answers_next g lead m t;
+      words = c.update_place.ensures.words (Answer mutator) word (sym at)
+          ∙ ap (λ (f : ℕ → ℕ). write (memory_of now) (Answer mutator) (updated_by (config_of now) f (memory_of now) (memory_of now (Answer mutator)))) (kept_same c.args.image.now now is.config is.places)
+          ∙ ap (λ (k : Config). write (memory_of now) (Answer mutator) (updated_by k lead (memory_of now) (memory_of now (Answer mutator)))) is.config
+          ∙ ap (λ (n : Word → ℕ). write n (Answer mutator) (updated_by config lead n (n (Answer mutator)))) is.words
+          ∙ ap (λ v. write (answers_updated config lead mutator memory) (Answer mutator) (updated_by config lead memory v)) (answer_still config lead memory mutator)
+          ∙ answers_next config lead memory mutator;
     }
 
 pub returns-clause-words : goal.returns-clause-words
 returns-clause-words c =
-    let g = config_of c.args.image.now in
-    let all : c.loop-mutator.mutator ≡ g.mutators =
+    let config = config_of c.args.image.now in
+    let all : c.loop-mutator.mutator ≡ config.mutators =
     omega (arith, c.loop-mutator-test.false, c.loop-mutator.auto.mutator-end, c.mutators-mutator-end.ensures, ap (λ (k : Config). k.mutators) c.config-config.ensures) in
-    c.loop-mutator.invariant.words ∙ ap (λ n. answers_updated g (kept_now c.args.image.now) n (memory_of c.args.image.now)) all
+    c.loop-mutator.invariant.words ∙ ap (λ n. answers_updated config (kept_now c.args.image.now) n (memory_of c.args.image.now)) all

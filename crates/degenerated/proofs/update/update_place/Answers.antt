@@ -6,8 +6,8 @@ use Rattle.degenerated.proofs.update.update_place.Goals as goal
 
 pub returns-clause-words : goal.returns-clause-words
 returns-clause-words c = λ place is at.
-    let g = config_of c.args.image.now in
-    let m : Word → ℕ = memory_of c.args.image.now in
-    let read : c.word.result ≡ m place = c.word.ensures.named place is at in
-    let value : c.updated-word.result ≡ updated_by g (kept_now c.args.image.now) m (m place) = c.updated-word.ensures ∙ ap (updated_by g (kept_now c.args.image.now) m) read in
-    c.set_word.ensures.named place is at ∙ ap (write m place) value
+    let config = config_of c.args.image.now in
+    let memory : Word → ℕ = memory_of c.args.image.now in
+    let read : c.word.result ≡ memory place = c.word.ensures.named place is at in
+    let value : c.updated-word.result ≡ updated_by config (kept_now c.args.image.now) memory (memory place) = c.updated-word.ensures ∙ ap (updated_by config (kept_now c.args.image.now) memory) read in
+    c.set_word.ensures.named place is at ∙ ap (write memory place) value

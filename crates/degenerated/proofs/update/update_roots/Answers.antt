@@ -18,24 +18,24 @@ update_place-requires-clause-set c =
 
 pub loop-index-preserved : goal.loop-index-preserved
 loop-index-preserved c =
-    let g = config_of c.args.image.now in
-    let m : Word → ℕ = memory_of c.args.image.now in
-    let t = c.args.mutator in
+    let config = config_of c.args.image.now in
+    let memory : Word → ℕ = memory_of c.args.image.now in
+    let mutator = c.args.mutator in
     let i = c.loop-index.index in
     let lead : ℕ → ℕ = kept_now c.args.image.now in
     let now = c.loop-index.image in
     let is = c.loop-index.invariant in
-    let word : IsWord (config_of now) (Root t i) = subst (λ (k : Config). IsWord k (Root t i)) (sym is.config) (c.requires.mutator, c.loop-index-test.true) in
-    let at : c.root_at.result ≡ word_at (config_of now) (Root t i) = c.root_at.ensures ∙ ap (λ (k : Config). word_at k (Root t i)) (c.config-config.ensures ∙ sym is.config) in
+    let word : IsWord (config_of now) (Root mutator i) = subst (λ (k : Config). IsWord k (Root mutator i)) (sym is.config) (c.requires.mutator, c.loop-index-test.true) in
+    let at : c.root_at.result ≡ word_at (config_of now) (Root mutator i) = c.root_at.ensures ∙ ap (λ (k : Config). word_at k (Root mutator i)) (c.config-config.ensures ∙ sym is.config) in
     record {
       config = c.update_place.ensures.config ∙ is.config;
       places = c.update_place.ensures.places ∙ is.places;
-      words = c.update_place.ensures.words (Root t i) word (sym at)
-          ∙ ap (λ (f : ℕ → ℕ). write (memory_of now) (Root t i) (updated_by (config_of now) f (memory_of now) (memory_of now (Root t i)))) (kept_same c.args.image.now now is.config is.places)
-          ∙ ap (λ (k : Config). write (memory_of now) (Root t i) (updated_by k lead (memory_of now) (memory_of now (Root t i)))) is.config
-          ∙ ap (λ (n : Word → ℕ). write n (Root t i) (updated_by g lead n (n (Root t i)))) is.words
-          ∙ ap (λ v. write (row_updated g lead t i m) (Root t i) (updated_by g lead m v)) (row_still g lead m t i)
-          ∙ row_next g lead m t i;
+      words = c.update_place.ensures.words (Root mutator i) word (sym at)
+          ∙ ap (λ (f : ℕ → ℕ). write (memory_of now) (Root mutator i) (updated_by (config_of now) f (memory_of now) (memory_of now (Root mutator i)))) (kept_same c.args.image.now now is.config is.places)
+          ∙ ap (λ (k : Config). write (memory_of now) (Root mutator i) (updated_by k lead (memory_of now) (memory_of now (Root mutator i)))) is.config
+          ∙ ap (λ (n : Word → ℕ). write n (Root mutator i) (updated_by config lead n (n (Root mutator i)))) is.words
+          ∙ ap (λ v. write (row_updated config lead mutator i memory) (Root mutator i) (updated_by config lead memory v)) (row_still config lead memory mutator i)
+          ∙ row_next config lead memory mutator i;
     }
 
 pub returns-clause-words : goal.returns-clause-words

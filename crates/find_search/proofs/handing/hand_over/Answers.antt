@@ -6,10 +6,10 @@ use Rattle.find_search.proofs.handing.hand_over.Goals as goal
 
 pub returns-clause-ok : goal.returns-clause-ok
 returns-clause-ok c =
-    let m = c.args.mutator in
+    let mutator = c.args.mutator in
     let s = short_script c.args.command in
     let made = c.join.ensures ∙ ap (λ w. joined w c.in_ok-fresh.fresh) c.part.ensures.left in
-    subst (IsHandedOver m s c.args.work.now) (sym made) (handed_over m s c.args.work.now c.in_ok-fresh.fresh c.requires c.in_ok-fresh.ensures)
+    subst (IsHandedOver mutator s c.args.work.now) (sym made) (handed_over mutator s c.args.work.now c.in_ok-fresh.fresh c.requires c.in_ok-fresh.ensures)
 
 pub join-requires : goal.join-requires
 join-requires c = λ t left other.

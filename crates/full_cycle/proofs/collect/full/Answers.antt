@@ -21,11 +21,11 @@ let_go-requires c = inside_some (config_of c.args.image.now) (memory_of c.args.i
 
 pub collect-requires : goal.collect-requires
 collect-requires c =
-    let g = config_of c.args.image.now in
-    let m : Word → ℕ = memory_of c.args.image.now in
-    let lets : LettingGoHolds g m (let_go g m) = subst (LettingGoHolds g m) c.let_go.ensures.words c.let_go.ensures.holds in
+    let config = config_of c.args.image.now in
+    let memory : Word → ℕ = memory_of c.args.image.now in
+    let lets : LettingGoHolds config memory (let_go config memory) = subst (LettingGoHolds config memory) c.let_go.ensures.words c.let_go.ensures.holds in
     subst (λ (k : Config). HoldsWalked k (memory_of c.let_go.new.self)) (sym c.let_go.ensures.config)
-    (subst (HoldsWalked g) (sym c.let_go.ensures.words) (let_go_walked g m lets c.requires))
+    (subst (HoldsWalked config) (sym c.let_go.ensures.words) (let_go_walked config memory lets c.requires))
 
 pub returns-clause-words : goal.returns-clause-words
 returns-clause-words c =
@@ -34,32 +34,32 @@ returns-clause-words c =
 
 pub returns-clause-holds : goal.returns-clause-holds
 returns-clause-holds c =
-    let g = config_of c.args.image.now in
-    let m : Word → ℕ = memory_of c.args.image.now in
-    let lets : LettingGoHolds g m (let_go g m) = subst (LettingGoHolds g m) c.let_go.ensures.words c.let_go.ensures.holds in
-    subst (HoldsSome g) (sym (returns-clause-words c)) (holds_full g (let_go g m) (let_go_walked g m lets c.requires))
+    let config = config_of c.args.image.now in
+    let memory : Word → ℕ = memory_of c.args.image.now in
+    let lets : LettingGoHolds config memory (let_go config memory) = subst (LettingGoHolds config memory) c.let_go.ensures.words c.let_go.ensures.holds in
+    subst (HoldsSome config) (sym (returns-clause-words c)) (holds_full config (let_go config memory) (let_go_walked config memory lets c.requires))
 
 pub returns-clause-graph : goal.returns-clause-graph
 returns-clause-graph c =
-    let g = config_of c.args.image.now in
-    let m : Word → ℕ = memory_of c.args.image.now in
-    let lets : LettingGoHolds g m (let_go g m) = subst (LettingGoHolds g m) c.let_go.ensures.words c.let_go.ensures.holds in
-    keeps_graph g m lets (memory_of c.collect.new.image) (returns-clause-words c)
+    let config = config_of c.args.image.now in
+    let memory : Word → ℕ = memory_of c.args.image.now in
+    let lets : LettingGoHolds config memory (let_go config memory) = subst (LettingGoHolds config memory) c.let_go.ensures.words c.let_go.ensures.holds in
+    keeps_graph config memory lets (memory_of c.collect.new.image) (returns-clause-words c)
 
 pub returns-clause-kept : goal.returns-clause-kept
 returns-clause-kept c =
-    let g = config_of c.args.image.now in
-    let m : Word → ℕ = memory_of c.args.image.now in
-    let lets : LettingGoHolds g m (let_go g m) = subst (LettingGoHolds g m) c.let_go.ensures.words c.let_go.ensures.holds in
-    keeps_reachable g m lets
+    let config = config_of c.args.image.now in
+    let memory : Word → ℕ = memory_of c.args.image.now in
+    let lets : LettingGoHolds config memory (let_go config memory) = subst (LettingGoHolds config memory) c.let_go.ensures.words c.let_go.ensures.holds in
+    keeps_reachable config memory lets
 
 pub returns-clause-pinned : goal.returns-clause-pinned
 returns-clause-pinned c =
-    let g = config_of c.args.image.now in
-    let m : Word → ℕ = memory_of c.args.image.now in
-    let lets : LettingGoHolds g m (let_go g m) = subst (LettingGoHolds g m) c.let_go.ensures.words c.let_go.ensures.holds in
-    let seats : HasNoMoreSeats g m = λ seat past. view_none g (words_of c.args.image.now) (Current seat) (grind (arith, nat_tests)) in
-    pinned_stay_some g m (memory_of c.collect.new.image) (let_go_walked g m lets c.requires) seats (returns-clause-words c) c.requires
+    let config = config_of c.args.image.now in
+    let memory : Word → ℕ = memory_of c.args.image.now in
+    let lets : LettingGoHolds config memory (let_go config memory) = subst (LettingGoHolds config memory) c.let_go.ensures.words c.let_go.ensures.holds in
+    let seats : HasNoMoreSeats config memory = λ seat past. view_none config (words_of c.args.image.now) (Current seat) (grind (arith, nat_tests)) in
+    pinned_stay_some config memory (memory_of c.collect.new.image) (let_go_walked config memory lets c.requires) seats (returns-clause-words c) c.requires
 
 pub returns-clause-refused : goal.returns-clause-refused
 returns-clause-refused c = refuses_left (config_of c.args.image.now) (memory_of c.args.image.now) (memory_of c.collect.new.image) (returns-clause-words c)

@@ -16,15 +16,15 @@ fill_leftovers-requires-clause-found c = λ _. c.requires.found
 
 pub returns-then-is_pinned-clause-words : goal.returns-then-is_pinned-clause-words
 returns-then-is_pinned-clause-words c =
-    let g = config_of c.args.image.now in
-    let m : Word → ℕ = memory_of c.args.image.now in
+    let config = config_of c.args.image.now in
+    let memory : Word → ℕ = memory_of c.args.image.now in
     c.fill_leftovers.ensures.words
-    ∙ ap (λ (k : ℕ → Bool). filled_in g k (is_left_over m (found_of c.args.image.now) NotFound) m)
-    (fun_ext (one_pinned g m c.args.region (sym c.is_pinned.ensures ∙ c.if-is_pinned.true)))
+    ∙ ap (λ (k : ℕ → Bool). filled_in config k (is_left_over memory (found_of c.args.image.now) NotFound) memory)
+    (fun_ext (one_pinned config memory c.args.region (sym c.is_pinned.ensures ∙ c.if-is_pinned.true)))
 
 pub returns-else-is_pinned-clause-words : goal.returns-else-is_pinned-clause-words
 returns-else-is_pinned-clause-words c =
-    let g = config_of c.args.image.now in
-    let m : Word → ℕ = memory_of c.args.image.now in
-    filled_nowhere g (λ q. (q == c.args.region) && is_pinned g m q) (is_left_over m (found_of c.args.image.now) NotFound) m
-    (none_pinned g m c.args.region (sym c.is_pinned.ensures ∙ c.if-is_pinned.false))
+    let config = config_of c.args.image.now in
+    let memory : Word → ℕ = memory_of c.args.image.now in
+    filled_nowhere config (λ q. (q == c.args.region) && is_pinned config memory q) (is_left_over memory (found_of c.args.image.now) NotFound) memory
+    (none_pinned config memory c.args.region (sym c.is_pinned.ensures ∙ c.if-is_pinned.false))

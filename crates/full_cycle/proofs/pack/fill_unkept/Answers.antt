@@ -21,16 +21,16 @@ loop-region-init c = record {
 pub fill_if_pinned-requires-clause-can : goal.fill_if_pinned-requires-clause-can
 fill_if_pinned-requires-clause-can c = λ pinned.
     let old = c.args.image.now in
-    let g = config_of old in
-    let m : Word → ℕ = memory_of old in
+    let config = config_of old in
+    let memory : Word → ℕ = memory_of old in
     let now = c.loop-region.image in
-    let r = c.loop-region.region in
+    let region = c.loop-region.region in
     let is = c.loop-region.invariant in
-    let below : r < g.regions = omega (arith, c.loop-region-test.true, c.regions-region-end.ensures, ap (λ (k : Config). k.regions) c.config-config.ensures) in
-    let still : is_pinned g (unkept_filled g m (found_of old) r) r ≡ true =
-    sym (ap (λ (n : Word → ℕ). is_pinned g n r) is.words) ∙ sym (ap (λ (k : Config). is_pinned k (memory_of now) r) is.config) ∙ pinned in
-    subst (λ (k : Config). CanFill k (memory_of now) r) (sym is.config)
-    (subst (λ (n : Word → ℕ). CanFill g n r) (sym is.words) (can_still g m (found_of old) r (c.requires.can r below) still))
+    let below : region < config.regions = omega (arith, c.loop-region-test.true, c.regions-region-end.ensures, ap (λ (k : Config). k.regions) c.config-config.ensures) in
+    let still : is_pinned config (unkept_filled config memory (found_of old) region) region ≡ true =
+    sym (ap (λ (n : Word → ℕ). is_pinned config n region) is.words) ∙ sym (ap (λ (k : Config). is_pinned k (memory_of now) region) is.config) ∙ pinned in
+    subst (λ (k : Config). CanFill k (memory_of now) region) (sym is.config)
+    (subst (λ (n : Word → ℕ). CanFill config n region) (sym is.words) (can_still config memory (found_of old) region (c.requires.can region below) still))
 
 pub fill_if_pinned-requires-clause-found : goal.fill_if_pinned-requires-clause-found
 fill_if_pinned-requires-clause-found c =
@@ -44,22 +44,22 @@ fill_if_pinned-requires-clause-found c =
 pub loop-region-preserved : goal.loop-region-preserved
 loop-region-preserved c =
     let old = c.args.image.now in
-    let g = config_of old in
-    let m : Word → ℕ = memory_of old in
+    let config = config_of old in
+    let memory : Word → ℕ = memory_of old in
     let now = c.loop-region.image in
-    let r = c.loop-region.region in
+    let region = c.loop-region.region in
     let is = c.loop-region.invariant in
     let turn = c.fill_if_pinned.ensures in
-    let below : r < g.regions = omega (arith, c.loop-region-test.true, c.regions-region-end.ensures, ap (λ (k : Config). k.regions) c.config-config.ensures) in
+    let below : region < config.regions = omega (arith, c.loop-region-test.true, c.regions-region-end.ensures, ap (λ (k : Config). k.regions) c.config-config.ensures) in
     record {
       config = turn.config ∙ is.config;
       places = turn.places ∙ is.places;
       found = turn.found ∙ is.found;
       marks = turn.marks ∙ is.marks;
       words = turn.words
-          ∙ ap (λ (k : Config). filled_in k (λ q. (q == r) && is_pinned k (memory_of now) q) (is_left_over (memory_of now) (found_of now) NotFound) (memory_of now)) is.config
-          ∙ ap (λ (n : Word → ℕ). filled_in g (λ q. (q == r) && is_pinned g n q) (is_left_over n (found_of now) NotFound) n) is.words
-          ∙ one_filled g m (found_of old) r (c.requires.can r below) (found_of now) is.found;
+          ∙ ap (λ (k : Config). filled_in k (λ q. (q == region) && is_pinned k (memory_of now) q) (is_left_over (memory_of now) (found_of now) NotFound) (memory_of now)) is.config
+          ∙ ap (λ (n : Word → ℕ). filled_in config (λ q. (q == region) && is_pinned config n q) (is_left_over n (found_of now) NotFound) n) is.words
+          ∙ one_filled config memory (found_of old) region (c.requires.can region below) (found_of now) is.found;
     }
 
 pub returns-clause-words : goal.returns-clause-words

@@ -9,28 +9,28 @@ use Rattle.full_cycle.proofs.pack.pack_held.Goals as goal
 
 pub pack_found-requires : goal.pack_found-requires
 pack_found-requires c =
-    let i = c.args.image.now in
-    can_compact (config_of i) (is_row_pinned (config_of i) (memory_of i)) (words_of i) (marks_of i) (found_of i) i.all_words i.all_marks c.requires.found c.requires.held c.requires.can
+    let image = c.args.image.now in
+    can_compact (config_of image) (is_row_pinned (config_of image) (memory_of image)) (words_of image) (marks_of image) (found_of image) image.all_words image.all_marks c.requires.found c.requires.held c.requires.can
 
 pub returns-clause-still : goal.returns-clause-still
 returns-clause-still c =
-    let i = c.args.image.now in
+    let image = c.args.image.now in
     let j = c.pack_found.new.self in
     subst (λ (k : Config). IsMarked k.region_words (marks_of j) (found_of j)) (sym c.pack_found.ensures.config)
-    (subst (λ (marks : List Bool). IsMarked (config_of i).region_words marks (found_of j)) (sym c.pack_found.ensures.marks)
-    (subst (λ (found : List ℕ). IsMarked (config_of i).region_words (marks_of i) found) (sym c.pack_found.ensures.found) c.requires.found))
+    (subst (λ (marks : List Bool). IsMarked (config_of image).region_words marks (found_of j)) (sym c.pack_found.ensures.marks)
+    (subst (λ (found : List ℕ). IsMarked (config_of image).region_words (marks_of image) found) (sym c.pack_found.ensures.found) c.requires.found))
 
 pub returns-clause-words : goal.returns-clause-words
 returns-clause-words c =
-    let i = c.args.image.now in
+    let image = c.args.image.now in
     let j = c.pack_found.new.self in
     ap (λ (k : Config). view k (words_of j)) c.pack_found.ensures.config
-    ∙ moved (config_of i) (is_row_pinned (config_of i) (memory_of i)) (words_of i) (marks_of i) (found_of i) i.all_words i.all_marks c.requires.found c.requires.held c.requires.can
+    ∙ moved (config_of image) (is_row_pinned (config_of image) (memory_of image)) (words_of image) (marks_of image) (found_of image) image.all_words image.all_marks c.requires.found c.requires.held c.requires.can
     (words_of j) (places_of j) (j.all_words ∙ ap table_words c.pack_found.ensures.config) c.pack_found.ensures.packed
 
 pub returns-clause-renews : goal.returns-clause-renews
 returns-clause-renews c =
-    let i = c.args.image.now in
+    let image = c.args.image.now in
     let j = c.pack_found.new.self in
-    renews (config_of i) (is_row_pinned (config_of i) (memory_of i)) (words_of i) (marks_of i) (found_of i) i.all_words i.all_marks c.requires.found c.requires.held c.requires.can
+    renews (config_of image) (is_row_pinned (config_of image) (memory_of image)) (words_of image) (marks_of image) (found_of image) image.all_words image.all_marks c.requires.found c.requires.held c.requires.can
     (words_of j) (places_of j) (j.all_words ∙ ap table_words c.pack_found.ensures.config) c.pack_found.ensures.packed

@@ -7,12 +7,12 @@ use Rattle.full_cycle.proofs.refuse.refuse_one.Goals as goal
 
 pub returns-clause-waits : goal.returns-clause-waits
 returns-clause-waits c = λ _.
-    let t = c.args.mutator in
+    let mutator = c.args.mutator in
     let old = c.args.image.now in
     let one = c.set_word.new.self in
-    let inside : t < c.config-config.result.mutators = subst (λ (k : Config). t < k.mutators) (sym c.config-config.ensures) c.requires in
-    stored (config_of one) c.config-config.result (memory_of one) (memory_of c.set_word-2.new.self) (Wait t) c.wait_at-2.result 0
+    let inside : mutator < c.config-config.result.mutators = subst (λ (k : Config). mutator < k.mutators) (sym c.config-config.ensures) c.requires in
+    stored (config_of one) c.config-config.result (memory_of one) (memory_of c.set_word-2.new.self) (Wait mutator) c.wait_at-2.result 0
     (c.set_word.ensures.config ∙ sym c.config-config.ensures) inside c.wait_at-2.ensures c.set_word-2.ensures.named
-    ∙ ap (λ m. write m (Wait t) 0)
-    (stored (config_of old) c.config-config.result (memory_of old) (memory_of one) (Answer t) c.answer_at.result 1
+    ∙ ap (λ m. write m (Wait mutator) 0)
+    (stored (config_of old) c.config-config.result (memory_of old) (memory_of one) (Answer mutator) c.answer_at.result 1
     (sym c.config-config.ensures) inside c.answer_at.ensures c.set_word.ensures.named)

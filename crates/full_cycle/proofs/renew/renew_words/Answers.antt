@@ -19,26 +19,26 @@ word-requires c = subst (λ (j : Config). c.loop-at.at < table_words j) (sym c.l
 
 pub renewed-place-requires : goal.renewed-place-requires
 renewed-place-requires c = λ some.
-    let g = config_of c.args.image.now in
+    let config = config_of c.args.image.now in
     let places = places_of c.args.image.now in
     let before = words_of c.args.image.now in
     let i = c.loop-at.at in
     let is = c.loop-at.invariant in
-    let word : c.word.result ≡ get_or before i 0 = c.word.ensures.value ∙ not_yet c.args.from i (renewed_by g.region_words places) before (words_of c.loop-at.image) is.words in
+    let word : c.word.result ≡ get_or before i 0 = c.word.ensures.value ∙ not_yet c.args.from i (renewed_by config.region_words places) before (words_of c.loop-at.image) is.words in
     let here = c.requires.table i c.loop-at.auto.at c.loop-at-test.true (subst (λ (n : ℕ). 1 < n) word some) in
     subst (λ (j : Config). IsInTable j.region_words (places_of c.loop-at.image) c.word.result) (sym is.config)
-    (subst (λ (p : List ℕ). IsInTable g.region_words p c.word.result) (sym is.places)
-    (subst (IsInTable g.region_words places) (sym word) here))
+    (subst (λ (p : List ℕ). IsInTable config.region_words p c.word.result) (sym is.places)
+    (subst (IsInTable config.region_words places) (sym word) here))
 
 pub set_word-requires : goal.set_word-requires
 set_word-requires c = subst (λ (j : Config). c.loop-at.at < table_words j) (sym c.loop-at.invariant.config) (omega (arith, c.loop-at-test.true, c.requires.inside))
 
 pub loop-at-preserved : goal.loop-at-preserved
 loop-at-preserved c =
-    let g = config_of c.args.image.now in
+    let config = config_of c.args.image.now in
     let places = places_of c.args.image.now in
     let before = words_of c.args.image.now in
-    let f : ℕ → ℕ = renewed_by g.region_words places in
+    let f : ℕ → ℕ = renewed_by config.region_words places in
     let i = c.loop-at.at in
     let now = c.loop-at.image in
     let is = c.loop-at.invariant in
@@ -47,7 +47,7 @@ loop-at-preserved c =
     let place : c.renewed-place.result ≡ f (get_or before i 0) =
     c.renewed-place.ensures
     ∙ ap (λ (j : Config). renewed_by j.region_words (places_of now) c.word.result) is.config
-    ∙ ap (λ (p : List ℕ). renewed_by g.region_words p c.word.result) is.places
+    ∙ ap (λ (p : List ℕ). renewed_by config.region_words p c.word.result) is.places
     ∙ ap f word in
     record {
       config = c.set_word.ensures.config ∙ is.config;

@@ -10,16 +10,16 @@ use Rattle.full_cycle.proofs.walk.find_all_pins.Goals as goal
 
 pub loop-mutator-preserved : goal.loop-mutator-preserved
 loop-mutator-preserved c =
-    let t = c.loop-mutator.mutator in
+    let mutator = c.loop-mutator.mutator in
     let old = c.args.image.now in
     let now = c.loop-mutator.image in
     let same = c.loop-mutator.invariant.unchanged in
-    let m : Word → ℕ = memory_of old in
+    let memory : Word → ℕ = memory_of old in
     record {
       unchanged = both old now c.find_pins.new.image same c.find_pins.ensures.unchanged;
       found = c.find_pins.ensures.found;
       noted = c.find_pins.ensures.noted
-          ∙ ap (λ (k : Word → ℕ). with_addresses (found_of now) (copies_of k (map (λ i. k (Pin t i)) (range_with_len 0 4)))) (memory_same old now same)
-          ∙ ap (λ xs. with_addresses xs (copies_of m (map (λ i. m (Pin t i)) (range_with_len 0 4)))) c.loop-mutator.invariant.noted
-          ∙ pins_more m t (found_of old);
+          ∙ ap (λ (k : Word → ℕ). with_addresses (found_of now) (copies_of k (map (λ i. k (Pin mutator i)) (range_with_len 0 4)))) (memory_same old now same)
+          ∙ ap (λ xs. with_addresses xs (copies_of memory (map (λ i. memory (Pin mutator i)) (range_with_len 0 4)))) c.loop-mutator.invariant.noted
+          ∙ pins_more memory mutator (found_of old);
     }

@@ -10,16 +10,16 @@ use Rattle.full_cycle.proofs.walk.find_all_roots.Goals as goal
 
 pub loop-mutator-preserved : goal.loop-mutator-preserved
 loop-mutator-preserved c =
-    let t = c.loop-mutator.mutator in
+    let mutator = c.loop-mutator.mutator in
     let old = c.args.image.now in
     let now = c.loop-mutator.image in
     let same = c.loop-mutator.invariant.unchanged in
-    let m : Word → ℕ = memory_of old in
+    let memory : Word → ℕ = memory_of old in
     record {
       unchanged = both old now c.find_roots.new.image same c.find_roots.ensures.unchanged;
       found = c.find_roots.ensures.found;
       noted = c.find_roots.ensures.noted
-          ∙ ap (λ (k : Word → ℕ). with_addresses (found_of now) (copies_of k (map (λ i. k (Root t i)) (range_with_len 0 16)))) (memory_same old now same)
-          ∙ ap (λ xs. with_addresses xs (copies_of m (map (λ i. m (Root t i)) (range_with_len 0 16)))) c.loop-mutator.invariant.noted
-          ∙ roots_more m t (found_of old);
+          ∙ ap (λ (k : Word → ℕ). with_addresses (found_of now) (copies_of k (map (λ i. k (Root mutator i)) (range_with_len 0 16)))) (memory_same old now same)
+          ∙ ap (λ xs. with_addresses xs (copies_of memory (map (λ i. memory (Root mutator i)) (range_with_len 0 16)))) c.loop-mutator.invariant.noted
+          ∙ roots_more memory mutator (found_of old);
     }

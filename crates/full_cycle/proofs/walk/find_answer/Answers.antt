@@ -7,15 +7,15 @@ use Rattle.full_cycle.proofs.walk.find_answer.Goals as goal
 
 pub find_copy-requires-clause-leads : goal.find_copy-requires-clause-leads
 find_copy-requires-clause-leads c =
-    let t = c.args.mutator in
-    let value : c.word-answer.result ≡ memory_of c.args.image.now (Answer t) =
-    c.word-answer.ensures.named (Answer t) c.requires.mutator (ap (λ (k : Config). word_at k (Answer t)) (sym c.config-config.ensures) ∙ sym c.answer_at.ensures) in
+    let mutator = c.args.mutator in
+    let value : c.word-answer.result ≡ memory_of c.args.image.now (Answer mutator) =
+    c.word-answer.ensures.named (Answer mutator) c.requires.mutator (ap (λ (k : Config). word_at k (Answer mutator)) (sym c.config-config.ensures) ∙ sym c.answer_at.ensures) in
     subst (LeadsToHeld (config_of c.args.image.now) (memory_of c.args.image.now)) (sym value)
-    (c.requires.can.answers t c.requires.mutator (subst (λ k. 1 < k) value c.if-answer-le1.false))
+    (c.requires.can.answers mutator c.requires.mutator (subst (λ k. 1 < k) value c.if-answer-le1.false))
 
 pub returns-clause-none : goal.returns-clause-none
 returns-clause-none c = λ small.
-    let t = c.args.mutator in
-    let value : c.word-answer.result ≡ memory_of c.args.image.now (Answer t) =
-    c.word-answer.ensures.named (Answer t) c.requires.mutator (ap (λ (k : Config). word_at k (Answer t)) (sym c.config-config.ensures) ∙ sym c.answer_at.ensures) in
+    let mutator = c.args.mutator in
+    let value : c.word-answer.result ≡ memory_of c.args.image.now (Answer mutator) =
+    c.word-answer.ensures.named (Answer mutator) c.requires.mutator (ap (λ (k : Config). word_at k (Answer mutator)) (sym c.config-config.ensures) ∙ sym c.answer_at.ensures) in
     absurd (omega (arith, value, small, c.if-answer-le1.false))

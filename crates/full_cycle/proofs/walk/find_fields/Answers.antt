@@ -25,95 +25,95 @@ word-requires c =
 
 pub heap_at-requires-in-loop-index : goal.heap_at-requires-in-loop-index
 heap_at-requires-in-loop-index c =
-    let a = c.args.address in
+    let address = c.args.address in
     let i = c.loop-index.index in
     let old = c.args.image.now in
-    let g = config_of old in
-    let m : Word → ℕ = memory_of old in
-    let shape : c.word.result ≡ m (Heap (a + 1)) =
-    c.word.ensures.named (Heap (a + 1)) (field_word g m c.requires.can a 1 c.requires.kept (omega arith))
-    (ap (λ (k : Config). word_at k (Heap (a + 1))) (sym c.config-config.ensures) ∙ sym c.heap_at.ensures) in
-    let refs : c.refs_of-refs.result ≡ refs_in (m (Heap (a + 1))) = c.refs_of-refs.ensures ∙ ap refs_in shape in
-    let few : i < refs_in (m (Heap (a + 1))) = omega (arith, refs, c.loop-index-test.true) in
-    let index : a + (3 + i) ≡ a + 3 + i = omega arith in
-    let is : IsWord g (Heap (a + 3 + i)) = subst (λ x. IsWord g (Heap x)) index (field_word g m c.requires.can a (3 + i) c.requires.kept (omega (arith, few))) in
-    subst (λ k. IsWord k (Heap (a + 3 + i))) (sym c.config-config.ensures) is
+    let config = config_of old in
+    let memory : Word → ℕ = memory_of old in
+    let shape : c.word.result ≡ memory (Heap (address + 1)) =
+    c.word.ensures.named (Heap (address + 1)) (field_word config memory c.requires.can address 1 c.requires.kept (omega arith))
+    (ap (λ (k : Config). word_at k (Heap (address + 1))) (sym c.config-config.ensures) ∙ sym c.heap_at.ensures) in
+    let refs : c.refs_of-refs.result ≡ refs_in (memory (Heap (address + 1))) = c.refs_of-refs.ensures ∙ ap refs_in shape in
+    let few : i < refs_in (memory (Heap (address + 1))) = omega (arith, refs, c.loop-index-test.true) in
+    let index : address + (3 + i) ≡ address + 3 + i = omega arith in
+    let is : IsWord config (Heap (address + 3 + i)) = subst (λ x. IsWord config (Heap x)) index (field_word config memory c.requires.can address (3 + i) c.requires.kept (omega (arith, few))) in
+    subst (λ k. IsWord k (Heap (address + 3 + i))) (sym c.config-config.ensures) is
 
 pub word-word-requires : goal.word-word-requires
 word-word-requires c =
-    let a = c.args.address in
+    let address = c.args.address in
     let i = c.loop-index.index in
     let old = c.args.image.now in
-    let g = config_of old in
-    let m : Word → ℕ = memory_of old in
-    let shape : c.word.result ≡ m (Heap (a + 1)) =
-    c.word.ensures.named (Heap (a + 1)) (field_word g m c.requires.can a 1 c.requires.kept (omega arith))
-    (ap (λ (k : Config). word_at k (Heap (a + 1))) (sym c.config-config.ensures) ∙ sym c.heap_at.ensures) in
-    let refs : c.refs_of-refs.result ≡ refs_in (m (Heap (a + 1))) = c.refs_of-refs.ensures ∙ ap refs_in shape in
-    let few : i < refs_in (m (Heap (a + 1))) = omega (arith, refs, c.loop-index-test.true) in
-    let index : a + (3 + i) ≡ a + 3 + i = omega arith in
-    let is : IsWord g (Heap (a + 3 + i)) = subst (λ x. IsWord g (Heap x)) index (field_word g m c.requires.can a (3 + i) c.requires.kept (omega (arith, few))) in
-    placed_inside (config_of c.loop-index.image) g (Heap (a + 3 + i)) c.heap_at-in-loop-index.result c.loop-index.invariant.unchanged.config is
-    (c.heap_at-in-loop-index.ensures ∙ ap (λ (k : Config). word_at k (Heap (a + 3 + i))) c.config-config.ensures)
+    let config = config_of old in
+    let memory : Word → ℕ = memory_of old in
+    let shape : c.word.result ≡ memory (Heap (address + 1)) =
+    c.word.ensures.named (Heap (address + 1)) (field_word config memory c.requires.can address 1 c.requires.kept (omega arith))
+    (ap (λ (k : Config). word_at k (Heap (address + 1))) (sym c.config-config.ensures) ∙ sym c.heap_at.ensures) in
+    let refs : c.refs_of-refs.result ≡ refs_in (memory (Heap (address + 1))) = c.refs_of-refs.ensures ∙ ap refs_in shape in
+    let few : i < refs_in (memory (Heap (address + 1))) = omega (arith, refs, c.loop-index-test.true) in
+    let index : address + (3 + i) ≡ address + 3 + i = omega arith in
+    let is : IsWord config (Heap (address + 3 + i)) = subst (λ x. IsWord config (Heap x)) index (field_word config memory c.requires.can address (3 + i) c.requires.kept (omega (arith, few))) in
+    placed_inside (config_of c.loop-index.image) config (Heap (address + 3 + i)) c.heap_at-in-loop-index.result c.loop-index.invariant.unchanged.config is
+    (c.heap_at-in-loop-index.ensures ∙ ap (λ (k : Config). word_at k (Heap (address + 3 + i))) c.config-config.ensures)
 
 pub find_copy-requires-clause-leads : goal.find_copy-requires-clause-leads
 find_copy-requires-clause-leads c =
-    let a = c.args.address in
+    let address = c.args.address in
     let i = c.loop-index.index in
     let old = c.args.image.now in
-    let g = config_of old in
-    let m : Word → ℕ = memory_of old in
-    let shape : c.word.result ≡ m (Heap (a + 1)) =
-    c.word.ensures.named (Heap (a + 1)) (field_word g m c.requires.can a 1 c.requires.kept (omega arith))
-    (ap (λ (k : Config). word_at k (Heap (a + 1))) (sym c.config-config.ensures) ∙ sym c.heap_at.ensures) in
-    let refs : c.refs_of-refs.result ≡ refs_in (m (Heap (a + 1))) = c.refs_of-refs.ensures ∙ ap refs_in shape in
-    let few : i < refs_in (m (Heap (a + 1))) = omega (arith, refs, c.loop-index-test.true) in
-    let index : a + (3 + i) ≡ a + 3 + i = omega arith in
-    let is : IsWord g (Heap (a + 3 + i)) = subst (λ x. IsWord g (Heap x)) index (field_word g m c.requires.can a (3 + i) c.requires.kept (omega (arith, few))) in
+    let config = config_of old in
+    let memory : Word → ℕ = memory_of old in
+    let shape : c.word.result ≡ memory (Heap (address + 1)) =
+    c.word.ensures.named (Heap (address + 1)) (field_word config memory c.requires.can address 1 c.requires.kept (omega arith))
+    (ap (λ (k : Config). word_at k (Heap (address + 1))) (sym c.config-config.ensures) ∙ sym c.heap_at.ensures) in
+    let refs : c.refs_of-refs.result ≡ refs_in (memory (Heap (address + 1))) = c.refs_of-refs.ensures ∙ ap refs_in shape in
+    let few : i < refs_in (memory (Heap (address + 1))) = omega (arith, refs, c.loop-index-test.true) in
+    let index : address + (3 + i) ≡ address + 3 + i = omega arith in
+    let is : IsWord config (Heap (address + 3 + i)) = subst (λ x. IsWord config (Heap x)) index (field_word config memory c.requires.can address (3 + i) c.requires.kept (omega (arith, few))) in
     let now = c.loop-index.image in
     let same = c.loop-index.invariant.unchanged in
-    let value : c.word-word.result ≡ memory_of now (Heap (a + 3 + i)) =
-    c.word-word.ensures.named (Heap (a + 3 + i)) (subst (λ k. IsWord k (Heap (a + 3 + i))) (sym same.config) is)
-    (ap (λ (k : Config). word_at k (Heap (a + 3 + i))) (same.config ∙ sym c.config-config.ensures) ∙ sym c.heap_at-in-loop-index.ensures) in
+    let value : c.word-word.result ≡ memory_of now (Heap (address + 3 + i)) =
+    c.word-word.ensures.named (Heap (address + 3 + i)) (subst (λ k. IsWord k (Heap (address + 3 + i))) (sym same.config) is)
+    (ap (λ (k : Config). word_at k (Heap (address + 3 + i))) (same.config ∙ sym c.config-config.ensures) ∙ sym c.heap_at-in-loop-index.ensures) in
     subst (LeadsToHeld (config_of now) (memory_of now)) (sym value)
-    (carried (λ k n. LeadsToHeld k n (n (Heap (a + 3 + i)))) old now same (c.requires.can.fields a i c.requires.kept few))
+    (carried (λ k n. LeadsToHeld k n (n (Heap (address + 3 + i)))) old now same (c.requires.can.fields address i c.requires.kept few))
 
 pub loop-index-preserved : goal.loop-index-preserved
 loop-index-preserved c =
-    let a = c.args.address in
+    let address = c.args.address in
     let i = c.loop-index.index in
     let old = c.args.image.now in
-    let g = config_of old in
-    let m : Word → ℕ = memory_of old in
-    let shape : c.word.result ≡ m (Heap (a + 1)) =
-    c.word.ensures.named (Heap (a + 1)) (field_word g m c.requires.can a 1 c.requires.kept (omega arith))
-    (ap (λ (k : Config). word_at k (Heap (a + 1))) (sym c.config-config.ensures) ∙ sym c.heap_at.ensures) in
-    let refs : c.refs_of-refs.result ≡ refs_in (m (Heap (a + 1))) = c.refs_of-refs.ensures ∙ ap refs_in shape in
-    let few : i < refs_in (m (Heap (a + 1))) = omega (arith, refs, c.loop-index-test.true) in
-    let index : a + (3 + i) ≡ a + 3 + i = omega arith in
-    let is : IsWord g (Heap (a + 3 + i)) = subst (λ x. IsWord g (Heap x)) index (field_word g m c.requires.can a (3 + i) c.requires.kept (omega (arith, few))) in
+    let config = config_of old in
+    let memory : Word → ℕ = memory_of old in
+    let shape : c.word.result ≡ memory (Heap (address + 1)) =
+    c.word.ensures.named (Heap (address + 1)) (field_word config memory c.requires.can address 1 c.requires.kept (omega arith))
+    (ap (λ (k : Config). word_at k (Heap (address + 1))) (sym c.config-config.ensures) ∙ sym c.heap_at.ensures) in
+    let refs : c.refs_of-refs.result ≡ refs_in (memory (Heap (address + 1))) = c.refs_of-refs.ensures ∙ ap refs_in shape in
+    let few : i < refs_in (memory (Heap (address + 1))) = omega (arith, refs, c.loop-index-test.true) in
+    let index : address + (3 + i) ≡ address + 3 + i = omega arith in
+    let is : IsWord config (Heap (address + 3 + i)) = subst (λ x. IsWord config (Heap x)) index (field_word config memory c.requires.can address (3 + i) c.requires.kept (omega (arith, few))) in
     let now = c.loop-index.image in
     let same = c.loop-index.invariant.unchanged in
-    let value : c.word-word.result ≡ memory_of now (Heap (a + 3 + i)) =
-    c.word-word.ensures.named (Heap (a + 3 + i)) (subst (λ k. IsWord k (Heap (a + 3 + i))) (sym same.config) is)
-    (ap (λ (k : Config). word_at k (Heap (a + 3 + i))) (same.config ∙ sym c.config-config.ensures) ∙ sym c.heap_at-in-loop-index.ensures) in
-    let found : c.word-word.result ≡ m (Heap (a + 3 + i)) = value ∙ ap (λ k. k (Heap (a + 3 + i))) (memory_same old now same) in
+    let value : c.word-word.result ≡ memory_of now (Heap (address + 3 + i)) =
+    c.word-word.ensures.named (Heap (address + 3 + i)) (subst (λ k. IsWord k (Heap (address + 3 + i))) (sym same.config) is)
+    (ap (λ (k : Config). word_at k (Heap (address + 3 + i))) (same.config ∙ sym c.config-config.ensures) ∙ sym c.heap_at-in-loop-index.ensures) in
+    let found : c.word-word.result ≡ memory (Heap (address + 3 + i)) = value ∙ ap (λ k. k (Heap (address + 3 + i))) (memory_same old now same) in
     record {
       unchanged = both old now c.find_copy.new.image same c.find_copy.ensures.unchanged;
       found = c.find_copy.ensures.found;
-      noted = noted_step old now c.find_copy.new.image (λ j. m (Heap (a + 3 + j))) i c.word-word.result same c.loop-index.invariant.noted found c.find_copy.ensures.noted;
+      noted = noted_step old now c.find_copy.new.image (λ j. memory (Heap (address + 3 + j))) i c.word-word.result same c.loop-index.invariant.noted found c.find_copy.ensures.noted;
     }
 
 pub returns-clause-noted : goal.returns-clause-noted
 returns-clause-noted c =
-    let a = c.args.address in
+    let address = c.args.address in
     let old = c.args.image.now in
-    let g = config_of old in
-    let m : Word → ℕ = memory_of old in
-    let shape : c.word.result ≡ m (Heap (a + 1)) =
-    c.word.ensures.named (Heap (a + 1)) (field_word g m c.requires.can a 1 c.requires.kept (omega arith))
-    (ap (λ (k : Config). word_at k (Heap (a + 1))) (sym c.config-config.ensures) ∙ sym c.heap_at.ensures) in
-    let refs : c.refs_of-refs.result ≡ refs_in (m (Heap (a + 1))) = c.refs_of-refs.ensures ∙ ap refs_in shape in
-    let all : c.loop-index.index ≡ refs_in (m (Heap (a + 1))) = omega (arith, refs, c.loop-index-test.false, c.loop-index.auto.index-end) in
+    let config = config_of old in
+    let memory : Word → ℕ = memory_of old in
+    let shape : c.word.result ≡ memory (Heap (address + 1)) =
+    c.word.ensures.named (Heap (address + 1)) (field_word config memory c.requires.can address 1 c.requires.kept (omega arith))
+    (ap (λ (k : Config). word_at k (Heap (address + 1))) (sym c.config-config.ensures) ∙ sym c.heap_at.ensures) in
+    let refs : c.refs_of-refs.result ≡ refs_in (memory (Heap (address + 1))) = c.refs_of-refs.ensures ∙ ap refs_in shape in
+    let all : c.loop-index.index ≡ refs_in (memory (Heap (address + 1))) = omega (arith, refs, c.loop-index-test.false, c.loop-index.auto.index-end) in
     c.loop-index.invariant.noted
-    ∙ ap (λ n. with_addresses (found_of old) (copies_of m (map (λ i. m (Heap (a + 3 + i))) (range_with_len 0 n)))) all
+    ∙ ap (λ n. with_addresses (found_of old) (copies_of memory (map (λ i. memory (Heap (address + 3 + i))) (range_with_len 0 n)))) all

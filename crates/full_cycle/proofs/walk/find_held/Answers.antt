@@ -16,8 +16,8 @@ use Rattle.full_cycle.proofs.walk.find_held.Goals as goal
 pub loop-address-init : goal.loop-address-init
 loop-address-init c =
     let old = c.args.image.now in
-    let g = config_of old in
-    let m : Word → ℕ = memory_of old in
+    let config = config_of old in
+    let memory : Word → ℕ = memory_of old in
     let one = c.forget_found.new.self in
     let two = c.find_all_roots.new.image in
     let three = c.find_answers.new.image in
@@ -26,24 +26,24 @@ loop-address-init c =
     let to_two = both old one two to_one c.find_all_roots.ensures.unchanged in
     let to_three = both old two three to_two c.find_answers.ensures.unchanged in
     let to_four = both old three four to_three c.find_all_pins.ensures.unchanged in
-    let roots : found_of two ≡ with_addresses [] (copies_of m (roots_below m g.mutators)) =
+    let roots : found_of two ≡ with_addresses [] (copies_of memory (roots_below memory config.mutators)) =
     c.find_all_roots.ensures.noted
     ∙ ap (λ (k : Word → ℕ). with_addresses (found_of one) (copies_of k (roots_below k (config_of one).mutators))) (memory_same old one to_one)
-    ∙ ap (λ (k : Config). with_addresses (found_of one) (copies_of m (roots_below m k.mutators))) to_one.config
-    ∙ ap (λ xs. with_addresses xs (copies_of m (roots_below m g.mutators))) c.forget_found.ensures.none in
-    let answers : found_of three ≡ with_addresses (with_addresses [] (copies_of m (roots_below m g.mutators))) (copies_of m (answers_below m g.mutators)) =
+    ∙ ap (λ (k : Config). with_addresses (found_of one) (copies_of memory (roots_below memory k.mutators))) to_one.config
+    ∙ ap (λ xs. with_addresses xs (copies_of memory (roots_below memory config.mutators))) c.forget_found.ensures.none in
+    let answers : found_of three ≡ with_addresses (with_addresses [] (copies_of memory (roots_below memory config.mutators))) (copies_of memory (answers_below memory config.mutators)) =
     c.find_answers.ensures.noted
     ∙ ap (λ (k : Word → ℕ). with_addresses (found_of two) (copies_of k (answers_below k (config_of two).mutators))) (memory_same old two to_two)
-    ∙ ap (λ (k : Config). with_addresses (found_of two) (copies_of m (answers_below m k.mutators))) to_two.config
-    ∙ ap (λ xs. with_addresses xs (copies_of m (answers_below m g.mutators))) roots in
+    ∙ ap (λ (k : Config). with_addresses (found_of two) (copies_of memory (answers_below memory k.mutators))) to_two.config
+    ∙ ap (λ xs. with_addresses xs (copies_of memory (answers_below memory config.mutators))) roots in
     record {
       unchanged = to_four;
       found = c.find_all_pins.ensures.found;
       turns = c.find_all_pins.ensures.noted
           ∙ ap (λ (k : Word → ℕ). with_addresses (found_of three) (copies_of k (pins_below k (config_of three).mutators))) (memory_same old three to_three)
-          ∙ ap (λ (k : Config). with_addresses (found_of three) (copies_of m (pins_below m k.mutators))) to_three.config
-          ∙ ap (λ xs. with_addresses xs (copies_of m (pins_below m g.mutators))) answers
-          ∙ no_turn g m;
+          ∙ ap (λ (k : Config). with_addresses (found_of three) (copies_of memory (pins_below memory k.mutators))) to_three.config
+          ∙ ap (λ xs. with_addresses xs (copies_of memory (pins_below memory config.mutators))) answers
+          ∙ no_turn config memory;
       few = omega arith;
     }
 
@@ -51,11 +51,11 @@ pub find_fields-requires-clause-kept : goal.find_fields-requires-clause-kept
 find_fields-requires-clause-kept c =
     let old = c.args.image.now in
     let now = c.loop-address.image in
-    let a = c.in-Some.address in
-    let n = c.loop-address.turn in
-    let at : slice_get (found_in_turns (config_of old) (memory_of old) n) n ≡ Some a =
-    sym (ap (λ xs. slice_get xs n) c.loop-address.invariant.turns) ∙ sym c.in-Some.ensures in
-    carried (λ k m. 0 < kept_in k m a) old now c.loop-address.invariant.unchanged (c.requires.found n a at)
+    let address = c.in-Some.address in
+    let turn = c.loop-address.turn in
+    let at : slice_get (found_in_turns (config_of old) (memory_of old) turn) turn ≡ Some address =
+    sym (ap (λ xs. slice_get xs turn) c.loop-address.invariant.turns) ∙ sym c.in-Some.ensures in
+    carried (λ k m. 0 < kept_in k m address) old now c.loop-address.invariant.unchanged (c.requires.found turn address at)
 
 pub loop-address-smaller : goal.loop-address-smaller
 loop-address-smaller c =
@@ -68,28 +68,28 @@ pub loop-address-preserved : goal.loop-address-preserved
 loop-address-preserved c =
     let old = c.args.image.now in
     let now = c.loop-address.image in
-    let a = c.in-Some.address in
-    let n = c.loop-address.turn in
-    let m : Word → ℕ = memory_of old in
+    let address = c.in-Some.address in
+    let turn = c.loop-address.turn in
+    let memory : Word → ℕ = memory_of old in
     let same = c.loop-address.invariant.unchanged in
-    let at : slice_get (found_in_turns (config_of old) m n) n ≡ Some a = sym (ap (λ xs. slice_get xs n) c.loop-address.invariant.turns) ∙ sym c.in-Some.ensures in
-    let within = slice_get_within (found_of now) n a (sym c.in-Some.ensures) in
+    let at : slice_get (found_in_turns (config_of old) memory turn) turn ≡ Some address = sym (ap (λ xs. slice_get xs turn) c.loop-address.invariant.turns) ∙ sym c.in-Some.ensures in
+    let within = slice_get_within (found_of now) turn address (sym c.in-Some.ensures) in
     let few = marks.few (config_of now).region_words (marks_of now) (found_of now) c.loop-address.invariant.found in
     record {
       unchanged = both old now c.find_fields.new.image same c.find_fields.ensures.unchanged;
       found = c.find_fields.ensures.found;
       turns = c.find_fields.ensures.noted
-          ∙ ap (λ (k : Word → ℕ). with_addresses (found_of now) (copies_of k (field_words k a))) (memory_same old now same)
-          ∙ ap (λ xs. with_addresses xs (copies_of m (field_words m a))) c.loop-address.invariant.turns
-          ∙ next_turn (config_of old) m n a at;
+          ∙ ap (λ (k : Word → ℕ). with_addresses (found_of now) (copies_of k (field_words k address))) (memory_same old now same)
+          ∙ ap (λ xs. with_addresses xs (copies_of memory (field_words memory address))) c.loop-address.invariant.turns
+          ∙ next_turn (config_of old) memory turn address at;
       few = omega (arith, within, few, now.all_marks, ap heap_size same.config);
     }
 
 pub returns-clause-held : goal.returns-clause-held
 returns-clause-held c =
     let old = c.args.image.now in
-    let m : Word → ℕ = memory_of old in
-    let n = c.loop-address.turn in
+    let memory : Word → ℕ = memory_of old in
+    let turn = c.loop-address.turn in
     let turns = c.loop-address.invariant.turns in
-    let none : slice_get (found_of c.loop-address.image) n ≡ None = sym c.found_at.ensures ∙ is_none c.found_at.result c.in_default.not-Some in
-    turns ∙ last_turn (config_of old) m n (none_left (found_in_turns (config_of old) m n) n (ap (λ xs. slice_get xs n) (sym turns) ∙ none)) c.loop-address.invariant.few
+    let none : slice_get (found_of c.loop-address.image) turn ≡ None = sym c.found_at.ensures ∙ is_none c.found_at.result c.in_default.not-Some in
+    turns ∙ last_turn (config_of old) memory turn (none_left (found_in_turns (config_of old) memory turn) turn (ap (λ xs. slice_get xs turn) (sym turns) ∙ none)) c.loop-address.invariant.few

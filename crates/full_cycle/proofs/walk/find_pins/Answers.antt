@@ -12,34 +12,34 @@ use Rattle.full_cycle.proofs.walk.find_pins.Goals as goal
 
 pub find_copy-requires-clause-leads : goal.find_copy-requires-clause-leads
 find_copy-requires-clause-leads c =
-    let t = c.args.mutator in
-    let i = c.loop-slot.slot in
+    let mutator = c.args.mutator in
+    let slot = c.loop-slot.slot in
     let old = c.args.image.now in
     let now = c.loop-slot.image in
     let same = c.loop-slot.invariant.unchanged in
-    let few : i < 4 = c.loop-slot-test.true in
-    let value : c.word-word.result ≡ memory_of now (Pin t i) =
-    c.word-word.ensures.named (Pin t i) (omega (arith, c.requires.mutator, ap (λ (k : Config). k.mutators) same.config), few)
-    (ap (λ (k : Config). word_at k (Pin t i)) (same.config ∙ sym c.config-config.ensures) ∙ sym c.pin_at.ensures) in
+    let few : slot < 4 = c.loop-slot-test.true in
+    let value : c.word-word.result ≡ memory_of now (Pin mutator slot) =
+    c.word-word.ensures.named (Pin mutator slot) (omega (arith, c.requires.mutator, ap (λ (k : Config). k.mutators) same.config), few)
+    (ap (λ (k : Config). word_at k (Pin mutator slot)) (same.config ∙ sym c.config-config.ensures) ∙ sym c.pin_at.ensures) in
     subst (LeadsToHeld (config_of now) (memory_of now)) (sym value)
-    (carried (λ k m. LeadsToHeld k m (m (Pin t i))) old now same (c.requires.can.pins t i c.requires.mutator few))
+    (carried (λ k m. LeadsToHeld k m (m (Pin mutator slot))) old now same (c.requires.can.pins mutator slot c.requires.mutator few))
 
 pub loop-slot-preserved : goal.loop-slot-preserved
 loop-slot-preserved c =
-    let t = c.args.mutator in
-    let i = c.loop-slot.slot in
+    let mutator = c.args.mutator in
+    let slot = c.loop-slot.slot in
     let old = c.args.image.now in
     let now = c.loop-slot.image in
     let same = c.loop-slot.invariant.unchanged in
-    let few : i < 4 = c.loop-slot-test.true in
-    let value : c.word-word.result ≡ memory_of now (Pin t i) =
-    c.word-word.ensures.named (Pin t i) (omega (arith, c.requires.mutator, ap (λ (k : Config). k.mutators) same.config), few)
-    (ap (λ (k : Config). word_at k (Pin t i)) (same.config ∙ sym c.config-config.ensures) ∙ sym c.pin_at.ensures) in
-    let is : c.word-word.result ≡ memory_of old (Pin t i) = value ∙ ap (λ m. m (Pin t i)) (memory_same old now same) in
+    let few : slot < 4 = c.loop-slot-test.true in
+    let value : c.word-word.result ≡ memory_of now (Pin mutator slot) =
+    c.word-word.ensures.named (Pin mutator slot) (omega (arith, c.requires.mutator, ap (λ (k : Config). k.mutators) same.config), few)
+    (ap (λ (k : Config). word_at k (Pin mutator slot)) (same.config ∙ sym c.config-config.ensures) ∙ sym c.pin_at.ensures) in
+    let is : c.word-word.result ≡ memory_of old (Pin mutator slot) = value ∙ ap (λ m. m (Pin mutator slot)) (memory_same old now same) in
     record {
       unchanged = both old now c.find_copy.new.image same c.find_copy.ensures.unchanged;
       found = c.find_copy.ensures.found;
-      noted = noted_step old now c.find_copy.new.image (λ j. memory_of old (Pin t j)) i c.word-word.result same c.loop-slot.invariant.noted is c.find_copy.ensures.noted;
+      noted = noted_step old now c.find_copy.new.image (λ j. memory_of old (Pin mutator j)) slot c.word-word.result same c.loop-slot.invariant.noted is c.find_copy.ensures.noted;
     }
 
 pub returns-clause-noted : goal.returns-clause-noted

@@ -12,34 +12,34 @@ use Rattle.full_cycle.proofs.walk.find_roots.Goals as goal
 
 pub find_copy-requires-clause-leads : goal.find_copy-requires-clause-leads
 find_copy-requires-clause-leads c =
-    let t = c.args.mutator in
+    let mutator = c.args.mutator in
     let i = c.loop-index.index in
     let old = c.args.image.now in
     let now = c.loop-index.image in
     let same = c.loop-index.invariant.unchanged in
     let few : i < 16 = c.loop-index-test.true in
-    let value : c.word-word.result ≡ memory_of now (Root t i) =
-    c.word-word.ensures.named (Root t i) (omega (arith, c.requires.mutator, ap (λ (k : Config). k.mutators) same.config), few)
-    (ap (λ (k : Config). word_at k (Root t i)) (same.config ∙ sym c.config-config.ensures) ∙ sym c.root_at.ensures) in
+    let value : c.word-word.result ≡ memory_of now (Root mutator i) =
+    c.word-word.ensures.named (Root mutator i) (omega (arith, c.requires.mutator, ap (λ (k : Config). k.mutators) same.config), few)
+    (ap (λ (k : Config). word_at k (Root mutator i)) (same.config ∙ sym c.config-config.ensures) ∙ sym c.root_at.ensures) in
     subst (LeadsToHeld (config_of now) (memory_of now)) (sym value)
-    (carried (λ k m. LeadsToHeld k m (m (Root t i))) old now same (c.requires.can.roots t i c.requires.mutator few))
+    (carried (λ k m. LeadsToHeld k m (m (Root mutator i))) old now same (c.requires.can.roots mutator i c.requires.mutator few))
 
 pub loop-index-preserved : goal.loop-index-preserved
 loop-index-preserved c =
-    let t = c.args.mutator in
+    let mutator = c.args.mutator in
     let i = c.loop-index.index in
     let old = c.args.image.now in
     let now = c.loop-index.image in
     let same = c.loop-index.invariant.unchanged in
     let few : i < 16 = c.loop-index-test.true in
-    let value : c.word-word.result ≡ memory_of now (Root t i) =
-    c.word-word.ensures.named (Root t i) (omega (arith, c.requires.mutator, ap (λ (k : Config). k.mutators) same.config), few)
-    (ap (λ (k : Config). word_at k (Root t i)) (same.config ∙ sym c.config-config.ensures) ∙ sym c.root_at.ensures) in
-    let is : c.word-word.result ≡ memory_of old (Root t i) = value ∙ ap (λ m. m (Root t i)) (memory_same old now same) in
+    let value : c.word-word.result ≡ memory_of now (Root mutator i) =
+    c.word-word.ensures.named (Root mutator i) (omega (arith, c.requires.mutator, ap (λ (k : Config). k.mutators) same.config), few)
+    (ap (λ (k : Config). word_at k (Root mutator i)) (same.config ∙ sym c.config-config.ensures) ∙ sym c.root_at.ensures) in
+    let is : c.word-word.result ≡ memory_of old (Root mutator i) = value ∙ ap (λ m. m (Root mutator i)) (memory_same old now same) in
     record {
       unchanged = both old now c.find_copy.new.image same c.find_copy.ensures.unchanged;
       found = c.find_copy.ensures.found;
-      noted = noted_step old now c.find_copy.new.image (λ j. memory_of old (Root t j)) i c.word-word.result same c.loop-index.invariant.noted is c.find_copy.ensures.noted;
+      noted = noted_step old now c.find_copy.new.image (λ j. memory_of old (Root mutator j)) i c.word-word.result same c.loop-index.invariant.noted is c.find_copy.ensures.noted;
     }
 
 pub returns-clause-noted : goal.returns-clause-noted

@@ -6,33 +6,33 @@ use Rattle.graph_placing.proofs.addresses.fits.Goals as goal
 
 pub loop-row-init : goal.loop-row-init
 loop-row-init c =
-    let g = c.args.config in
-    let least : 1 * g.region_words ≤ (g.regions + 1) * g.region_words = mul-le 1 g.region_words (g.regions + 1) g.region_words (omega arith) (omega arith) in
-    (c.region_words-region_words.ensures ∙ sym (located.first_end g c.args.text.now c.requires), omega (arith, c.region_words-region_words.ensures, least))
+    let config = c.args.config in
+    let least : 1 * config.region_words ≤ (config.regions + 1) * config.region_words = mul-le 1 config.region_words (config.regions + 1) config.region_words (omega arith) (omega arith) in
+    (c.region_words-region_words.ensures ∙ sym (located.first_end config c.args.text.now c.requires), omega (arith, c.region_words-region_words.ensures, least))
 
 pub returns-then-end-last : goal.returns-then-end-last
 returns-then-end-last c = (
   λ is. absurd (false≢true is),
   λ all.
-      let g = c.args.config in
-      let t = c.args.text.now in
-      let k = c.loop-row.row in
-      let place = located.next_place g t c.requires c.region_words-region_words.result c.loop-row.end c.words_of_row-words.result c.place_behind.result k c.region_words-region_words.ensures c.loop-row.invariant.0 c.words_of_row-words.ensures.value
+      let config = c.args.config in
+      let text = c.args.text.now in
+      let row = c.loop-row.row in
+      let place = located.next_place config text c.requires c.region_words-region_words.result c.loop-row.end c.words_of_row-words.result c.place_behind.result row c.region_words-region_words.ensures c.loop-row.invariant.0 c.words_of_row-words.ensures.value
       c.place_behind.ensures in
-      let end = located.next_end g t c.requires c.words_of_row-words.result c.place_behind.result k c.words_of_row-words.ensures.value place in
-      let later = located.ends_rise g t c.requires (k + 1) (length t.rows) (omega (arith, c.loop-row-test.true, c.rows-row-end.ensures)) in
-      let words : (c.regions.result + 1) * c.region_words-region_words.result ≡ (g.regions + 1) * g.region_words =
-      ap (λ (r : ℕ). (r + 1) * c.region_words-region_words.result) c.regions.ensures ∙ ap (λ (w : ℕ). (g.regions + 1) * w) c.region_words-region_words.ensures in
+      let end = located.next_end config text c.requires c.words_of_row-words.result c.place_behind.result row c.words_of_row-words.ensures.value place in
+      let later = located.ends_rise config text c.requires (row + 1) (length text.rows) (omega (arith, c.loop-row-test.true, c.rows-row-end.ensures)) in
+      let words : (c.regions.result + 1) * c.region_words-region_words.result ≡ (config.regions + 1) * config.region_words =
+      ap (λ (r : ℕ). (r + 1) * c.region_words-region_words.result) c.regions.ensures ∙ ap (λ (w : ℕ). (config.regions + 1) * w) c.region_words-region_words.ensures in
       absurd (omega (arith, end, later, all, c.if-end-last.true, words)),
 )
 
 pub loop-row-preserved : goal.loop-row-preserved
 loop-row-preserved c =
-    let g = c.args.config in
-    let t = c.args.text.now in
-    let k = c.loop-row.row in
-    let place = located.next_place g t c.requires c.region_words-region_words.result c.loop-row.end c.words_of_row-words.result c.place_behind.result k c.region_words-region_words.ensures c.loop-row.invariant.0 c.words_of_row-words.ensures.value
+    let config = c.args.config in
+    let text = c.args.text.now in
+    let row = c.loop-row.row in
+    let place = located.next_place config text c.requires c.region_words-region_words.result c.loop-row.end c.words_of_row-words.result c.place_behind.result row c.region_words-region_words.ensures c.loop-row.invariant.0 c.words_of_row-words.ensures.value
     c.place_behind.ensures in
-    let words : (c.regions.result + 1) * c.region_words-region_words.result ≡ (g.regions + 1) * g.region_words =
-    ap (λ (r : ℕ). (r + 1) * c.region_words-region_words.result) c.regions.ensures ∙ ap (λ (w : ℕ). (g.regions + 1) * w) c.region_words-region_words.ensures in
-    (located.next_end g t c.requires c.words_of_row-words.result c.place_behind.result k c.words_of_row-words.ensures.value place, omega (arith, c.if-end-last.false, words))
+    let words : (c.regions.result + 1) * c.region_words-region_words.result ≡ (config.regions + 1) * config.region_words =
+    ap (λ (r : ℕ). (r + 1) * c.region_words-region_words.result) c.regions.ensures ∙ ap (λ (w : ℕ). (config.regions + 1) * w) c.region_words-region_words.ensures in
+    (located.next_end config text c.requires c.words_of_row-words.result c.place_behind.result row c.words_of_row-words.ensures.value place, omega (arith, c.if-end-last.false, words))

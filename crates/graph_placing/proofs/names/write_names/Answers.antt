@@ -24,18 +24,18 @@ use Rattle.graph_placing.proofs.names.write_names.Goals as goal
 
 pub loop-row-init : goal.loop-row-init
 loop-row-init c =
-    let g = config_of c.args.image.now in
-    let t = c.args.text.now in
-    let words : c.region_words-region_words.result ≡ g.region_words = c.region_words-region_words.ensures ∙ ap (λ (h : Config). h.region_words) c.config-config.ensures in
-    let least : 1 * g.region_words ≤ (g.regions + 1) * g.region_words = mul-le 1 g.region_words (g.regions + 1) g.region_words (omega arith) (omega arith) in
+    let config = config_of c.args.image.now in
+    let text = c.args.text.now in
+    let words : c.region_words-region_words.result ≡ config.region_words = c.region_words-region_words.ensures ∙ ap (λ (h : Config). h.region_words) c.config-config.ensures in
+    let least : 1 * config.region_words ≤ (config.regions + 1) * config.region_words = mul-le 1 config.region_words (config.regions + 1) config.region_words (omega arith) (omega arith) in
     record {
-      end = words ∙ sym (located.first_end g t c.requires.whole);
+      end = words ∙ sym (located.first_end config text c.requires.whole);
       within = omega (arith, words, least);
       config = refl;
-      words = names_none g t (memory_of c.args.image.now);
+      words = names_none config text (memory_of c.args.image.now);
       counts = record {
-        long = ap length c.requires.none ∙ length-replicate g.mutators 0;
-        each = λ m below. ap (λ (xs : List ℕ). get_or xs m 0) c.requires.none ∙ get_or-replicate g.mutators m 0 0 below;
+        long = ap length c.requires.none ∙ length-replicate config.mutators 0;
+        each = λ m below. ap (λ (xs : List ℕ). get_or xs m 0) c.requires.none ∙ get_or-replicate config.mutators m 0 0 below;
       };
     }
 
@@ -45,20 +45,20 @@ words_of_row-words-requires-clause-short c = omega (arith, located.few_words (co
 
 pub place_behind-address-requires-clause-fits : goal.place_behind-address-requires-clause-fits
 place_behind-address-requires-clause-fits c =
-    let g = config_of c.args.image.now in
-    let words : c.region_words-region_words.result ≡ g.region_words = c.region_words-region_words.ensures ∙ ap (λ (h : Config). h.region_words) c.config-config.ensures in
-    omega (arith, words, g.in_range.most_words, end_small g, c.loop-row.invariant.within, located.few_words g c.args.text.now c.requires.whole c.loop-row.row, c.words_of_row-words.ensures)
+    let config = config_of c.args.image.now in
+    let words : c.region_words-region_words.result ≡ config.region_words = c.region_words-region_words.ensures ∙ ap (λ (h : Config). h.region_words) c.config-config.ensures in
+    omega (arith, words, config.in_range.most_words, end_small config, c.loop-row.invariant.within, located.few_words config c.args.text.now c.requires.whole c.loop-row.row, c.words_of_row-words.ensures)
 
 pub overflow_add-end : goal.overflow_add-end
 overflow_add-end c =
-    let g = config_of c.args.image.now in
-    let t = c.args.text.now in
-    let k = c.loop-row.row in
-    let inside : k < length t.rows = omega (arith, c.loop-row-test.true, c.rows-row-end.ensures) in
-    let words : c.region_words-region_words.result ≡ g.region_words = c.region_words-region_words.ensures ∙ ap (λ (h : Config). h.region_words) c.config-config.ensures in
-    let place = located.next_place g t c.requires.whole c.region_words-region_words.result c.loop-row.end c.words_of_row-words.result c.place_behind-address.result k words c.loop-row.invariant.end c.words_of_row-words.ensures
+    let config = config_of c.args.image.now in
+    let text = c.args.text.now in
+    let row = c.loop-row.row in
+    let inside : row < length text.rows = omega (arith, c.loop-row-test.true, c.rows-row-end.ensures) in
+    let words : c.region_words-region_words.result ≡ config.region_words = c.region_words-region_words.ensures ∙ ap (λ (h : Config). h.region_words) c.config-config.ensures in
+    let place = located.next_place config text c.requires.whole c.region_words-region_words.result c.loop-row.end c.words_of_row-words.result c.place_behind-address.result row words c.loop-row.invariant.end c.words_of_row-words.ensures
     c.place_behind-address.ensures in
-    omega (arith, place, c.words_of_row-words.ensures, located.in_heap g t c.requires.whole c.requires.fits k inside, end_small g)
+    omega (arith, place, c.words_of_row-words.ensures, located.in_heap config text c.requires.whole c.requires.fits row inside, end_small config)
 
 -- where the name stands
 name_word_inside : (g h : Config) (t : Text) (whole : IsPlaceable g t) → Fits g t → h ≡ g → (k address : ℕ) → k < length t.rows → address ≡ address_of g t k → IsWord h (Heap (address + 2))
@@ -68,99 +68,99 @@ name_word_inside g h t whole fits same k address inside at =
 
 pub heap_at-requires : goal.heap_at-requires
 heap_at-requires c =
-    let g = config_of c.args.image.now in
-    let t = c.args.text.now in
-    let k = c.loop-row.row in
-    let inside : k < length t.rows = omega (arith, c.loop-row-test.true, c.rows-row-end.ensures) in
-    let words : c.region_words-region_words.result ≡ g.region_words = c.region_words-region_words.ensures ∙ ap (λ (h : Config). h.region_words) c.config-config.ensures in
-    let place = located.next_place g t c.requires.whole c.region_words-region_words.result c.loop-row.end c.words_of_row-words.result c.place_behind-address.result k words c.loop-row.invariant.end c.words_of_row-words.ensures
+    let config = config_of c.args.image.now in
+    let text = c.args.text.now in
+    let row = c.loop-row.row in
+    let inside : row < length text.rows = omega (arith, c.loop-row-test.true, c.rows-row-end.ensures) in
+    let words : c.region_words-region_words.result ≡ config.region_words = c.region_words-region_words.ensures ∙ ap (λ (h : Config). h.region_words) c.config-config.ensures in
+    let place = located.next_place config text c.requires.whole c.region_words-region_words.result c.loop-row.end c.words_of_row-words.result c.place_behind-address.result row words c.loop-row.invariant.end c.words_of_row-words.ensures
     c.place_behind-address.ensures in
-    name_word_inside g c.config-config.result t c.requires.whole c.requires.fits c.config-config.ensures k c.place_behind-address.result inside place
+    name_word_inside config c.config-config.result text c.requires.whole c.requires.fits c.config-config.ensures row c.place_behind-address.result inside place
 
 pub set_word-requires : goal.set_word-requires
 set_word-requires c =
-    let g = config_of c.args.image.now in
-    let t = c.args.text.now in
-    let k = c.loop-row.row in
-    let inside : k < length t.rows = omega (arith, c.loop-row-test.true, c.rows-row-end.ensures) in
-    let words : c.region_words-region_words.result ≡ g.region_words = c.region_words-region_words.ensures ∙ ap (λ (h : Config). h.region_words) c.config-config.ensures in
-    let place = located.next_place g t c.requires.whole c.region_words-region_words.result c.loop-row.end c.words_of_row-words.result c.place_behind-address.result k words c.loop-row.invariant.end c.words_of_row-words.ensures
+    let config = config_of c.args.image.now in
+    let text = c.args.text.now in
+    let row = c.loop-row.row in
+    let inside : row < length text.rows = omega (arith, c.loop-row-test.true, c.rows-row-end.ensures) in
+    let words : c.region_words-region_words.result ≡ config.region_words = c.region_words-region_words.ensures ∙ ap (λ (h : Config). h.region_words) c.config-config.ensures in
+    let place = located.next_place config text c.requires.whole c.region_words-region_words.result c.loop-row.end c.words_of_row-words.result c.place_behind-address.result row words c.loop-row.invariant.end c.words_of_row-words.ensures
     c.place_behind-address.ensures in
     placed_inside (config_of c.loop-row.image) c.config-config.result (Heap (c.place_behind-address.result + 2)) c.heap_at.result (c.loop-row.invariant.config ∙ sym c.config-config.ensures)
-    (name_word_inside g c.config-config.result t c.requires.whole c.requires.fits c.config-config.ensures k c.place_behind-address.result inside place) c.heap_at.ensures
+    (name_word_inside config c.config-config.result text c.requires.whole c.requires.fits c.config-config.ensures row c.place_behind-address.result inside place) c.heap_at.ensures
 
 pub overflow_add-address : goal.overflow_add-address
 overflow_add-address c =
-    let g = config_of c.args.image.now in
-    let t = c.args.text.now in
-    let k = c.loop-row.row in
-    let inside : k < length t.rows = omega (arith, c.loop-row-test.true, c.rows-row-end.ensures) in
-    let words : c.region_words-region_words.result ≡ g.region_words = c.region_words-region_words.ensures ∙ ap (λ (h : Config). h.region_words) c.config-config.ensures in
-    let place = located.next_place g t c.requires.whole c.region_words-region_words.result c.loop-row.end c.words_of_row-words.result c.place_behind-address.result k words c.loop-row.invariant.end c.words_of_row-words.ensures
+    let config = config_of c.args.image.now in
+    let text = c.args.text.now in
+    let row = c.loop-row.row in
+    let inside : row < length text.rows = omega (arith, c.loop-row-test.true, c.rows-row-end.ensures) in
+    let words : c.region_words-region_words.result ≡ config.region_words = c.region_words-region_words.ensures ∙ ap (λ (h : Config). h.region_words) c.config-config.ensures in
+    let place = located.next_place config text c.requires.whole c.region_words-region_words.result c.loop-row.end c.words_of_row-words.result c.place_behind-address.result row words c.loop-row.invariant.end c.words_of_row-words.ensures
     c.place_behind-address.ensures in
-    omega (arith, place, located.in_heap g t c.requires.whole c.requires.fits k inside, located.some_words g t c.requires.whole k, end_small g)
+    omega (arith, place, located.in_heap config text c.requires.whole c.requires.fits row inside, located.some_words config text c.requires.whole row, end_small config)
 
 pub count_one-count-requires-clause-thread : goal.count_one-count-requires-clause-thread
 count_one-count-requires-clause-thread c =
-    let g = config_of c.args.image.now in
-    let t = c.args.text.now in
-    let k = c.loop-row.row in
-    let inside : k < length t.rows = omega (arith, c.loop-row-test.true, c.rows-row-end.ensures) in
-    let below : k < length (names_of t) = omega (arith, inside, names_count t) in
-    let name : get_or (names_of t) k hub ≡ c.name_at-name.result = name_of_row t k hub inside ∙ sym c.name_at-name.ensures in
-    thread_within (config_of c.args.image.now).mutators (names_of t) c.requires.names k below c.loop-row.counts c.loop-row.invariant.counts c.name_at-name.result name
+    let config = config_of c.args.image.now in
+    let text = c.args.text.now in
+    let row = c.loop-row.row in
+    let inside : row < length text.rows = omega (arith, c.loop-row-test.true, c.rows-row-end.ensures) in
+    let below : row < length (names_of text) = omega (arith, inside, names_count text) in
+    let name : get_or (names_of text) row hub ≡ c.name_at-name.result = name_of_row text row hub inside ∙ sym c.name_at-name.ensures in
+    thread_within (config_of c.args.image.now).mutators (names_of text) c.requires.names row below c.loop-row.counts c.loop-row.invariant.counts c.name_at-name.result name
 
 pub count_one-count-requires-clause-few : goal.count_one-count-requires-clause-few
 count_one-count-requires-clause-few c = λ some.
-    let g = config_of c.args.image.now in
-    let t = c.args.text.now in
-    let k = c.loop-row.row in
-    let inside : k < length t.rows = omega (arith, c.loop-row-test.true, c.rows-row-end.ensures) in
-    let below : k < length (names_of t) = omega (arith, inside, names_count t) in
-    let name : get_or (names_of t) k hub ≡ c.name_at-name.result = name_of_row t k hub inside ∙ sym c.name_at-name.ensures in
-    omega (arith, count_is_few g.mutators (names_of t) c.requires.names k below c.loop-row.counts c.loop-row.invariant.counts c.name_at-name.result name some, row_is_small g t c.requires.whole c.requires.fits k inside)
+    let config = config_of c.args.image.now in
+    let text = c.args.text.now in
+    let row = c.loop-row.row in
+    let inside : row < length text.rows = omega (arith, c.loop-row-test.true, c.rows-row-end.ensures) in
+    let below : row < length (names_of text) = omega (arith, inside, names_count text) in
+    let name : get_or (names_of text) row hub ≡ c.name_at-name.result = name_of_row text row hub inside ∙ sym c.name_at-name.ensures in
+    omega (arith, count_is_few config.mutators (names_of text) c.requires.names row below c.loop-row.counts c.loop-row.invariant.counts c.name_at-name.result name some, row_is_small config text c.requires.whole c.requires.fits row inside)
 
 pub loop-row-preserved : goal.loop-row-preserved
 loop-row-preserved c =
-    let g = config_of c.args.image.now in
-    let t = c.args.text.now in
-    let k = c.loop-row.row in
-    let inside : k < length t.rows = omega (arith, c.loop-row-test.true, c.rows-row-end.ensures) in
-    let words : c.region_words-region_words.result ≡ g.region_words = c.region_words-region_words.ensures ∙ ap (λ (h : Config). h.region_words) c.config-config.ensures in
-    let place = located.next_place g t c.requires.whole c.region_words-region_words.result c.loop-row.end c.words_of_row-words.result c.place_behind-address.result k words c.loop-row.invariant.end c.words_of_row-words.ensures
+    let config = config_of c.args.image.now in
+    let text = c.args.text.now in
+    let row = c.loop-row.row in
+    let inside : row < length text.rows = omega (arith, c.loop-row-test.true, c.rows-row-end.ensures) in
+    let words : c.region_words-region_words.result ≡ config.region_words = c.region_words-region_words.ensures ∙ ap (λ (h : Config). h.region_words) c.config-config.ensures in
+    let place = located.next_place config text c.requires.whole c.region_words-region_words.result c.loop-row.end c.words_of_row-words.result c.place_behind-address.result row words c.loop-row.invariant.end c.words_of_row-words.ensures
     c.place_behind-address.ensures in
-    let below : k < length (names_of t) = omega (arith, inside, names_count t) in
-    let name : get_or (names_of t) k hub ≡ c.name_at-name.result = name_of_row t k hub inside ∙ sym c.name_at-name.ensures in
-    let end = located.next_end g t c.requires.whole c.words_of_row-words.result c.place_behind-address.result k c.words_of_row-words.ensures place in
-    let later = located.ends_rise g t c.requires.whole (k + 1) (length t.rows) (omega (arith, inside)) in
-    let count = next_is g.mutators (names_of t) c.requires.names k below c.loop-row.counts c.loop-row.invariant.counts c.name_at-name.result name c.requires.whole.in_order c.count_one-count.result c.count_one-count.ensures.hub c.count_one-count.ensures.count in
-    let named : c.name_at-name.result ≡ (row_of t k).name = c.name_at-name.ensures in
-    let code : c.name_word.result ≡ code_anew t k =
-    c.name_word.ensures ∙ ap (name_code c.name_at-name.result.thread) count ∙ ap (λ (m : Name). name_code m.thread (earlier_names (names_of t) m + 1)) named in
+    let below : row < length (names_of text) = omega (arith, inside, names_count text) in
+    let name : get_or (names_of text) row hub ≡ c.name_at-name.result = name_of_row text row hub inside ∙ sym c.name_at-name.ensures in
+    let end = located.next_end config text c.requires.whole c.words_of_row-words.result c.place_behind-address.result row c.words_of_row-words.ensures place in
+    let later = located.ends_rise config text c.requires.whole (row + 1) (length text.rows) (omega (arith, inside)) in
+    let count = next_is config.mutators (names_of text) c.requires.names row below c.loop-row.counts c.loop-row.invariant.counts c.name_at-name.result name c.requires.whole.in_order c.count_one-count.result c.count_one-count.ensures.hub c.count_one-count.ensures.count in
+    let named : c.name_at-name.result ≡ (row_of text row).name = c.name_at-name.ensures in
+    let code : c.name_word.result ≡ code_anew text row =
+    c.name_word.ensures ∙ ap (name_code c.name_at-name.result.thread) count ∙ ap (λ (m : Name). name_code m.thread (earlier_names (names_of text) m + 1)) named in
     let one : memory_of c.set_word.new.self ≡ write (memory_of c.loop-row.image) (Heap (c.place_behind-address.result + 2)) c.name_word.result =
     stored (config_of c.loop-row.image) c.config-config.result (memory_of c.loop-row.image) (memory_of c.set_word.new.self) (Heap (c.place_behind-address.result + 2)) c.heap_at.result c.name_word.result
     (c.loop-row.invariant.config ∙ sym c.config-config.ensures)
-    (name_word_inside g c.config-config.result t c.requires.whole c.requires.fits c.config-config.ensures k c.place_behind-address.result inside place) c.heap_at.ensures c.set_word.ensures.named in
+    (name_word_inside config c.config-config.result text c.requires.whole c.requires.fits c.config-config.ensures row c.place_behind-address.result inside place) c.heap_at.ensures c.set_word.ensures.named in
     record {
       end = end;
       within = omega (arith, end, later, c.requires.fits);
       config = c.set_word.ensures.config ∙ c.loop-row.invariant.config;
       words = one ∙ ap (λ (m : Word → ℕ). write m (Heap (c.place_behind-address.result + 2)) c.name_word.result) c.loop-row.invariant.words
-          ∙ names_more g t k (memory_of c.args.image.now) c.place_behind-address.result c.name_word.result place code;
-      counts = counted_next g.mutators (names_of t) c.requires.names k below c.loop-row.counts c.loop-row.invariant.counts c.name_at-name.result name c.count_one-count.new.counts
+          ∙ names_more config text row (memory_of c.args.image.now) c.place_behind-address.result c.name_word.result place code;
+      counts = counted_next config.mutators (names_of text) c.requires.names row below c.loop-row.counts c.loop-row.invariant.counts c.name_at-name.result name c.count_one-count.new.counts
           c.count_one-count.ensures.hub_counts c.count_one-count.ensures.counts;
     }
 
 pub returns-clause-words : goal.returns-clause-words
 returns-clause-words c =
-    let g = config_of c.args.image.now in
-    let t = c.args.text.now in
-    let all : c.loop-row.row ≡ length t.rows = omega (arith, c.loop-row-test.false, c.loop-row.auto.row-end, c.rows-row-end.ensures) in
-    c.loop-row.invariant.words ∙ ap (λ (k : ℕ). names_written g t k (memory_of c.args.image.now)) all
+    let config = config_of c.args.image.now in
+    let text = c.args.text.now in
+    let all : c.loop-row.row ≡ length text.rows = omega (arith, c.loop-row-test.false, c.loop-row.auto.row-end, c.rows-row-end.ensures) in
+    c.loop-row.invariant.words ∙ ap (λ (k : ℕ). names_written config text k (memory_of c.args.image.now)) all
 
 pub returns-clause-counts : goal.returns-clause-counts
 returns-clause-counts c =
-    let g = config_of c.args.image.now in
-    let t = c.args.text.now in
-    let all : length (names_of t) ≤ c.loop-row.row = omega (arith, c.loop-row-test.false, c.loop-row.auto.row-end, c.rows-row-end.ensures, names_count t) in
-    subst (λ (ns : List Name). AreCountsOf ns g.mutators c.loop-row.counts) (take_all c.loop-row.row (names_of t) all) c.loop-row.invariant.counts
+    let config = config_of c.args.image.now in
+    let text = c.args.text.now in
+    let all : length (names_of text) ≤ c.loop-row.row = omega (arith, c.loop-row-test.false, c.loop-row.auto.row-end, c.rows-row-end.ensures, names_count text) in
+    subst (λ (ns : List Name). AreCountsOf ns config.mutators c.loop-row.counts) (take_all c.loop-row.row (names_of text) all) c.loop-row.invariant.counts

@@ -20,65 +20,65 @@ word_of_object c t addresses k i whole fits are below inside =
 
 pub overflow_add-address : goal.overflow_add-address
 overflow_add-address c =
-    let g = config_of c.args.image.now in
-    let t = c.args.text.now in
-    let inside : c.loop-index.index < words_of_row t c.args.row = omega (arith, c.loop-index-test.true, c.words_of_row-index-end.ensures.value) in
-    let is = word_of_object g t c.args.addresses.now c.args.row c.loop-index.index c.requires.whole c.requires.fits c.requires.addresses c.requires.row inside in
-    omega (arith, address_small g _ is)
+    let config = config_of c.args.image.now in
+    let text = c.args.text.now in
+    let inside : c.loop-index.index < words_of_row text c.args.row = omega (arith, c.loop-index-test.true, c.words_of_row-index-end.ensures.value) in
+    let is = word_of_object config text c.args.addresses.now c.args.row c.loop-index.index c.requires.whole c.requires.fits c.requires.addresses c.requires.row inside in
+    omega (arith, address_small config _ is)
 
 pub heap_at-requires : goal.heap_at-requires
 heap_at-requires c =
-    let g = config_of c.args.image.now in
-    let t = c.args.text.now in
-    let inside : c.loop-index.index < words_of_row t c.args.row = omega (arith, c.loop-index-test.true, c.words_of_row-index-end.ensures.value) in
+    let config = config_of c.args.image.now in
+    let text = c.args.text.now in
+    let inside : c.loop-index.index < words_of_row text c.args.row = omega (arith, c.loop-index-test.true, c.words_of_row-index-end.ensures.value) in
     subst (λ (h : Config). IsWord h (Heap (get_or c.args.addresses.now c.args.row 0 + c.loop-index.index))) (sym c.config-config.ensures)
-    (word_of_object g t c.args.addresses.now c.args.row c.loop-index.index c.requires.whole c.requires.fits c.requires.addresses c.requires.row inside)
+    (word_of_object config text c.args.addresses.now c.args.row c.loop-index.index c.requires.whole c.requires.fits c.requires.addresses c.requires.row inside)
 
 pub set_word-requires : goal.set_word-requires
 set_word-requires c =
-    let g = config_of c.args.image.now in
-    let t = c.args.text.now in
+    let config = config_of c.args.image.now in
+    let text = c.args.text.now in
     let at = get_or c.args.addresses.now c.args.row 0 + c.loop-index.index in
-    let inside : c.loop-index.index < words_of_row t c.args.row = omega (arith, c.loop-index-test.true, c.words_of_row-index-end.ensures.value) in
+    let inside : c.loop-index.index < words_of_row text c.args.row = omega (arith, c.loop-index-test.true, c.words_of_row-index-end.ensures.value) in
     placed_inside (config_of c.loop-index.image) c.config-config.result (Heap at) c.heap_at.result (c.loop-index.invariant.config ∙ sym c.config-config.ensures)
     (subst (λ (h : Config). IsWord h (Heap at)) (sym c.config-config.ensures)
-    (word_of_object g t c.args.addresses.now c.args.row c.loop-index.index c.requires.whole c.requires.fits c.requires.addresses c.requires.row inside)) c.heap_at.ensures
+    (word_of_object config text c.args.addresses.now c.args.row c.loop-index.index c.requires.whole c.requires.fits c.requires.addresses c.requires.row inside)) c.heap_at.ensures
 
 pub loop-index-init : goal.loop-index-init
 loop-index-init c =
-    let g = config_of c.args.image.now in
-    let t = c.args.text.now in
-    record { config = refl; words = copied_none (address_of g t c.args.row) (words_of_object (word_for g t) (row_of t c.args.row)) (memory_of c.args.image.now) }
+    let config = config_of c.args.image.now in
+    let text = c.args.text.now in
+    record { config = refl; words = copied_none (address_of config text c.args.row) (words_of_object (word_for config text) (row_of text c.args.row)) (memory_of c.args.image.now) }
 
 pub loop-index-preserved : goal.loop-index-preserved
 loop-index-preserved c =
-    let g = config_of c.args.image.now in
-    let t = c.args.text.now in
-    let k = c.args.row in
+    let config = config_of c.args.image.now in
+    let text = c.args.text.now in
+    let row = c.args.row in
     let i = c.loop-index.index in
-    let a = get_or c.args.addresses.now k 0 in
-    let list : List ℕ = words_of_object (word_for g t) (row_of t k) in
-    let same : c.config-config.result ≡ g = c.config-config.ensures in
-    let at : a ≡ address_of g t k = c.requires.addresses.each k c.requires.row in
-    let inside : i < words_of_row t k = omega (arith, c.loop-index-test.true, c.words_of_row-index-end.ensures.value) in
+    let a = get_or c.args.addresses.now row 0 in
+    let list : List ℕ = words_of_object (word_for config text) (row_of text row) in
+    let same : c.config-config.result ≡ config = c.config-config.ensures in
+    let at : a ≡ address_of config text row = c.requires.addresses.each row c.requires.row in
+    let inside : i < words_of_row text row = omega (arith, c.loop-index-test.true, c.words_of_row-index-end.ensures.value) in
     let one : memory_of c.set_word.new.self ≡ write (memory_of c.loop-index.image) (Heap (a + i)) c.object_word-word.result =
     stored (config_of c.loop-index.image) c.config-config.result (memory_of c.loop-index.image) (memory_of c.set_word.new.self) (Heap (a + i)) c.heap_at.result c.object_word-word.result
     (c.loop-index.invariant.config ∙ sym same)
-    (subst (λ (h : Config). IsWord h (Heap (a + i))) (sym same) (word_of_object g t c.args.addresses.now k i c.requires.whole c.requires.fits c.requires.addresses c.requires.row inside))
+    (subst (λ (h : Config). IsWord h (Heap (a + i))) (sym same) (word_of_object config text c.args.addresses.now row i c.requires.whole c.requires.fits c.requires.addresses c.requires.row inside))
     c.heap_at.ensures c.set_word.ensures.named in
-    let word : c.object_word-word.result ≡ get_or list i 0 = c.object_word-word.ensures ∙ ap (λ (h : Config). get_or (words_of_object (word_for h t) (row_of t k)) i 0) same in
+    let word : c.object_word-word.result ≡ get_or list i 0 = c.object_word-word.ensures ∙ ap (λ (h : Config). get_or (words_of_object (word_for h text) (row_of text row)) i 0) same in
     record {
       config = c.set_word.ensures.config ∙ c.loop-index.invariant.config;
       words = one ∙ ap (λ (m : Word → ℕ). write m (Heap (a + i)) c.object_word-word.result) c.loop-index.invariant.words
-          ∙ ap (λ (x : ℕ). write (copied (address_of g t k) i list (memory_of c.args.image.now)) (Heap (x + i)) c.object_word-word.result) at
-          ∙ ap (write (copied (address_of g t k) i list (memory_of c.args.image.now)) (Heap (address_of g t k + i))) word
-          ∙ copied_more (address_of g t k) i list (memory_of c.args.image.now);
+          ∙ ap (λ (x : ℕ). write (copied (address_of config text row) i list (memory_of c.args.image.now)) (Heap (x + i)) c.object_word-word.result) at
+          ∙ ap (write (copied (address_of config text row) i list (memory_of c.args.image.now)) (Heap (address_of config text row + i))) word
+          ∙ copied_more (address_of config text row) i list (memory_of c.args.image.now);
     }
 
 pub returns-clause-words : goal.returns-clause-words
 returns-clause-words c =
-    let g = config_of c.args.image.now in
-    let t = c.args.text.now in
-    let k = c.args.row in
-    let all : c.loop-index.index ≡ words_of_row t k = omega (arith, c.loop-index-test.false, c.loop-index.auto.index-end, c.words_of_row-index-end.ensures.value) in
-    c.loop-index.invariant.words ∙ ap (λ (n : ℕ). copied (address_of g t k) n (words_of_object (word_for g t) (row_of t k)) (memory_of c.args.image.now)) all
+    let config = config_of c.args.image.now in
+    let text = c.args.text.now in
+    let row = c.args.row in
+    let all : c.loop-index.index ≡ words_of_row text row = omega (arith, c.loop-index-test.false, c.loop-index.auto.index-end, c.words_of_row-index-end.ensures.value) in
+    c.loop-index.invariant.words ∙ ap (λ (n : ℕ). copied (address_of config text row) n (words_of_object (word_for config text) (row_of text row)) (memory_of c.args.image.now)) all

@@ -13,19 +13,19 @@ loop-row-init c = record { config = refl; words = rows_none (config_of c.args.im
 
 pub loop-row-preserved : goal.loop-row-preserved
 loop-row-preserved c =
-    let g = config_of c.args.image.now in
-    let t = c.args.text.now in
-    let k = c.loop-row.row in
+    let config = config_of c.args.image.now in
+    let text = c.args.text.now in
+    let row = c.loop-row.row in
     let before = c.loop-row.image in
     let one = c.write_object.new.image in
     let is = c.loop-row.invariant in
-    let written : memory_of one ≡ copied (address_of g t k) (words_of_row t k) (words_of_object (word_for g t) (row_of t k)) (rows_placed g t k) =
+    let written : memory_of one ≡ copied (address_of config text row) (words_of_row text row) (words_of_object (word_for config text) (row_of text row)) (rows_placed config text row) =
     c.write_object.ensures.words
-    ∙ ap (λ (h : Config). copied (address_of h t k) (words_of_row t k) (words_of_object (word_for h t) (row_of t k)) (memory_of before)) is.config
-    ∙ ap (copied (address_of g t k) (words_of_row t k) (words_of_object (word_for g t) (row_of t k))) is.words in
-    let next : suc k ≡ k + 1 = omega arith in
+    ∙ ap (λ (h : Config). copied (address_of h text row) (words_of_row text row) (words_of_object (word_for h text) (row_of text row)) (memory_of before)) is.config
+    ∙ ap (copied (address_of config text row) (words_of_row text row) (words_of_object (word_for config text) (row_of text row))) is.words in
+    let next : suc row ≡ row + 1 = omega arith in
     record {
       config = c.raise_top.ensures.config ∙ c.write_object.ensures.config ∙ is.config;
-      words = c.raise_top.ensures.words ∙ ap (λ (h : Config). with_top h t k (memory_of one)) (c.write_object.ensures.config ∙ is.config) ∙ ap (with_top g t k) written ∙ rows_more g t k
-          ∙ ap (rows_placed g t) next;
+      words = c.raise_top.ensures.words ∙ ap (λ (h : Config). with_top h text row (memory_of one)) (c.write_object.ensures.config ∙ is.config) ∙ ap (with_top config text row) written ∙ rows_more config text row
+          ∙ ap (rows_placed config text) next;
     }

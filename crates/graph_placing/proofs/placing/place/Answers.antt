@@ -12,23 +12,23 @@ use Rattle.graph_placing.proofs.placing.place.Goals as goal
 
 pub returns-clause-placed : goal.returns-clause-placed
 returns-clause-placed c =
-    let g = c.args.config in
-    let t = c.args.text.now in
-    let rooted : Word → ℕ = all_roots_stored g t g.mutators (rows_placed g t (length t.rows)) in
-    let e0 : config_of c.in_ok-image.image ≡ g = c.in_ok-image.ensures.config in
-    let e1 : config_of c.write_objects.new.image ≡ g = c.write_objects.ensures.config ∙ e0 in
-    let e2 : config_of c.store_roots.new.image ≡ g = c.store_roots.ensures.config ∙ e1 in
-    let e3 : config_of c.free_empty.new.image ≡ g = c.free_empty.ensures.config ∙ e2 in
-    let objects : memory_of c.write_objects.new.image ≡ rows_placed g t (length t.rows) = c.write_objects.ensures.words ∙ ap (λ (h : Config). rows_placed h t (length t.rows)) e0 in
+    let config = c.args.config in
+    let text = c.args.text.now in
+    let rooted : Word → ℕ = all_roots_stored config text config.mutators (rows_placed config text (length text.rows)) in
+    let config_first : config_of c.in_ok-image.image ≡ config = c.in_ok-image.ensures.config in
+    let config_objects : config_of c.write_objects.new.image ≡ config = c.write_objects.ensures.config ∙ config_first in
+    let config_roots : config_of c.store_roots.new.image ≡ config = c.store_roots.ensures.config ∙ config_objects in
+    let config_free : config_of c.free_empty.new.image ≡ config = c.free_empty.ensures.config ∙ config_roots in
+    let objects : memory_of c.write_objects.new.image ≡ rows_placed config text (length text.rows) = c.write_objects.ensures.words ∙ ap (λ (h : Config). rows_placed h text (length text.rows)) config_first in
     let roots : memory_of c.store_roots.new.image ≡ rooted =
-    c.store_roots.ensures.words ∙ ap (λ (h : Config). all_roots_stored h t h.mutators (memory_of c.write_objects.new.image)) e1 ∙ ap (all_roots_stored g t g.mutators) objects in
-    let free : memory_of c.free_empty.new.image ≡ write rooted Free (empty_regions (λ r. rooted (Top r)) g.regions) =
+    c.store_roots.ensures.words ∙ ap (λ (h : Config). all_roots_stored h text h.mutators (memory_of c.write_objects.new.image)) config_objects ∙ ap (all_roots_stored config text config.mutators) objects in
+    let free : memory_of c.free_empty.new.image ≡ write rooted Free (empty_regions (λ r. rooted (Top r)) config.regions) =
     c.free_empty.ensures.words
-    ∙ ap (λ (h : Config). write (memory_of c.store_roots.new.image) Free (empty_regions (λ r. memory_of c.store_roots.new.image (Top r)) h.regions)) e2
-    ∙ ap (λ (m : Word → ℕ). write m Free (empty_regions (λ r. m (Top r)) g.regions)) roots in
-    let left = stored (config_of c.free_empty.new.image) g (memory_of c.free_empty.new.image) (memory_of c.set_word.new.self) Left c.left_at.result c.mutators.result e3 tt c.left_at.ensures c.set_word.ensures.named in
-    let all = left ∙ ap (write (memory_of c.free_empty.new.image) Left) c.mutators.ensures ∙ ap (λ (m : Word → ℕ). write m Left g.mutators) free ∙ written_is g t in
-    subst (IsPlaced g t) (sym all) (is_placed g t c.requires)
+    ∙ ap (λ (h : Config). write (memory_of c.store_roots.new.image) Free (empty_regions (λ r. memory_of c.store_roots.new.image (Top r)) h.regions)) config_roots
+    ∙ ap (λ (m : Word → ℕ). write m Free (empty_regions (λ r. m (Top r)) config.regions)) roots in
+    let left = stored (config_of c.free_empty.new.image) config (memory_of c.free_empty.new.image) (memory_of c.set_word.new.self) Left c.left_at.result c.mutators.result config_free tt c.left_at.ensures c.set_word.ensures.named in
+    let all = left ∙ ap (write (memory_of c.free_empty.new.image) Left) c.mutators.ensures ∙ ap (λ (m : Word → ℕ). write m Left config.mutators) free ∙ written_is config text in
+    subst (IsPlaced config text) (sym all) (is_placed config text c.requires)
 
 pub returns-clause-stands : goal.returns-clause-stands
 returns-clause-stands c = λ counts g is.

@@ -25,15 +25,15 @@ write_names-requires-clause-whole c =
 
 pub write_names-requires-clause-fits : goal.write_names-requires-clause-fits
 write_names-requires-clause-fits c =
-    let g = c.args.config in
-    let t = c.args.text.now in
-    let same : config_of c.in-Heap.image ≡ g = rw c.in-Heap.is at c.in_ok-image.ensures.config in
-    let fits : Fits g t = ⊎_elim
-    (λ (over : heap_end g < end_behind g t (length t.rows)).
+    let config = c.args.config in
+    let text = c.args.text.now in
+    let same : config_of c.in-Heap.image ≡ config = rw c.in-Heap.is at c.in_ok-image.ensures.config in
+    let fits : Fits config text = ⊎_elim
+    (λ (over : heap_end config < end_behind config text (length text.rows)).
     absurd (let small = c.in_ok-image.ensures.too_small.1 (λ all. omega (arith, all, over)) in let heap = c.in-Heap.is in cc))
-    (λ (all : Fits g t). all)
-    (cases_lt (heap_end g) (end_behind g t (length t.rows))) in
-    subst (λ (h : Config). Fits h t) (sym same) fits
+    (λ (all : Fits config text). all)
+    (cases_lt (heap_end config) (end_behind config text (length text.rows))) in
+    subst (λ (h : Config). Fits h text) (sym same) fits
 
 pub write_names-requires-clause-names : goal.write_names-requires-clause-names
 write_names-requires-clause-names c =
@@ -47,13 +47,13 @@ write_names-requires-clause-none c =
 
 pub returns-clause-placed : goal.returns-clause-placed
 returns-clause-placed c =
-    let g = c.args.config in
-    let t = c.args.text.now in
-    let same : config_of c.in-Heap.image ≡ g = rw c.in-Heap.is at c.in_ok-image.ensures.config in
-    let placed : IsPlaced g t (memory_of c.in-Heap.image) = rw c.in-Heap.is at c.in_ok-image.ensures.placed in
-    let words : memory_of c.write_names.new.image ≡ names_written g t (length t.rows) (memory_of c.in-Heap.image) =
-    c.write_names.ensures.words ∙ ap (λ (h : Config). names_written h t (length t.rows) (memory_of c.in-Heap.image)) same in
-    subst (IsPlaced g (text_anew t)) (sym words) (placed_anew g t c.requires.whole (memory_of c.in-Heap.image) placed)
+    let config = c.args.config in
+    let text = c.args.text.now in
+    let same : config_of c.in-Heap.image ≡ config = rw c.in-Heap.is at c.in_ok-image.ensures.config in
+    let placed : IsPlaced config text (memory_of c.in-Heap.image) = rw c.in-Heap.is at c.in_ok-image.ensures.placed in
+    let words : memory_of c.write_names.new.image ≡ names_written config text (length text.rows) (memory_of c.in-Heap.image) =
+    c.write_names.ensures.words ∙ ap (λ (h : Config). names_written h text (length text.rows) (memory_of c.in-Heap.image)) same in
+    subst (IsPlaced config (text_anew text)) (sym words) (placed_anew config text c.requires.whole (memory_of c.in-Heap.image) placed)
 
 pub returns-clause-counts : goal.returns-clause-counts
 returns-clause-counts c =
@@ -66,14 +66,14 @@ returns-clause-counts c =
 
 pub returns-clause-stands : goal.returns-clause-stands
 returns-clause-stands c =
-    let g = c.args.config in
-    let t = c.args.text.now in
+    let config = c.args.config in
+    let text = c.args.text.now in
     let new = c.write_names.new.counts in
     let counts : List ℕ = take c.in_ok-counts.counts.len (new ++ drop (length new) c.in_ok-counts.counts.items) in
-    let fits : Fits g t = ⊎_elim
-    (λ (over : heap_end g < end_behind g t (length t.rows)).
+    let fits : Fits config text = ⊎_elim
+    (λ (over : heap_end config < end_behind config text (length text.rows)).
     absurd (let small = c.in_ok-image.ensures.too_small.1 (λ all. omega (arith, all, over)) in let heap = c.in-Heap.is in cc))
-    (λ (all : Fits g t). all)
-    (cases_lt (heap_end g) (end_behind g t (length t.rows))) in
-    stands g (text_anew t) (anew.placeable_anew g t c.requires.whole) (anew.fits_anew g (name_anew (names_of t)) t fits) (memory_of c.write_names.new.image) (returns-clause-placed c)
-    counts (text_graph (text_anew t) counts) (graph_anew g t c.requires.whole c.requires.names counts (returns-clause-counts c) fits)
+    (λ (all : Fits config text). all)
+    (cases_lt (heap_end config) (end_behind config text (length text.rows))) in
+    stands config (text_anew text) (anew.placeable_anew config text c.requires.whole) (anew.fits_anew config (name_anew (names_of text)) text fits) (memory_of c.write_names.new.image) (returns-clause-placed c)
+    counts (text_graph (text_anew text) counts) (graph_anew config text c.requires.whole c.requires.names counts (returns-clause-counts c) fits)

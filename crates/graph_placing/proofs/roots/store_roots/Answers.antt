@@ -11,18 +11,18 @@ loop-mutator-init c = record { config = refl; words = all_none (config_of c.args
 
 pub loop-mutator-preserved : goal.loop-mutator-preserved
 loop-mutator-preserved c =
-    let g = config_of c.args.image.now in
-    let t = c.args.text.now in
-    let m = c.loop-mutator.mutator in
+    let config = config_of c.args.image.now in
+    let text = c.args.text.now in
+    let mutator = c.loop-mutator.mutator in
     let before = c.loop-mutator.image in
     let is = c.loop-mutator.invariant in
     record {
       config = c.store_roots_of.ensures.config ∙ is.config;
-      words = c.store_roots_of.ensures.words ∙ ap (λ (h : Config). roots_stored h t m 16 (memory_of before)) is.config ∙ ap (roots_stored g t m 16) is.words ∙ all_more g t m (memory_of c.args.image.now);
+      words = c.store_roots_of.ensures.words ∙ ap (λ (h : Config). roots_stored h text mutator 16 (memory_of before)) is.config ∙ ap (roots_stored config text mutator 16) is.words ∙ all_more config text mutator (memory_of c.args.image.now);
     }
 
 pub returns-clause-words : goal.returns-clause-words
 returns-clause-words c =
-    let g = config_of c.args.image.now in
-    let all : c.loop-mutator.mutator ≡ g.mutators = omega (arith, c.loop-mutator-test.false, c.loop-mutator.auto.mutator-end, c.mutators-mutator-end.ensures, ap (λ (h : Config). h.mutators) c.config.ensures) in
-    c.loop-mutator.invariant.words ∙ ap (λ (n : ℕ). all_roots_stored g c.args.text.now n (memory_of c.args.image.now)) all
+    let config = config_of c.args.image.now in
+    let all : c.loop-mutator.mutator ≡ config.mutators = omega (arith, c.loop-mutator-test.false, c.loop-mutator.auto.mutator-end, c.mutators-mutator-end.ensures, ap (λ (h : Config). h.mutators) c.config.ensures) in
+    c.loop-mutator.invariant.words ∙ ap (λ (n : ℕ). all_roots_stored config c.args.text.now n (memory_of c.args.image.now)) all

@@ -14,20 +14,20 @@ loop-index-init c = record { config = refl; words = stored_none (config_of c.arg
 
 pub loop-index-preserved : goal.loop-index-preserved
 loop-index-preserved c =
-    let g = config_of c.args.image.now in
-    let t = c.args.text.now in
-    let u = c.args.mutator in
+    let config = config_of c.args.image.now in
+    let text = c.args.text.now in
+    let mutator = c.args.mutator in
     let i = c.loop-index.index in
-    let same : c.config-config.result ≡ g = c.config-config.ensures in
-    let is : IsWord g (Root u i) = (c.requires.mutator, c.loop-index-test.true) in
-    let one : memory_of c.set_word.new.self ≡ write (memory_of c.loop-index.image) (Root u i) c.word_for-word.result =
-    stored (config_of c.loop-index.image) c.config-config.result (memory_of c.loop-index.image) (memory_of c.set_word.new.self) (Root u i) c.root_at.result c.word_for-word.result
-    (c.loop-index.invariant.config ∙ sym same) (subst (λ (h : Config). IsWord h (Root u i)) (sym same) is) c.root_at.ensures c.set_word.ensures.named in
-    let word : c.word_for-word.result ≡ word_for g t (root_of t (u + 1) i) = c.word_for-word.ensures ∙ ap (λ (h : Config). word_for h t c.root_at-root.result) same ∙ ap (word_for g t) c.root_at-root.ensures in
+    let same : c.config-config.result ≡ config = c.config-config.ensures in
+    let is : IsWord config (Root mutator i) = (c.requires.mutator, c.loop-index-test.true) in
+    let one : memory_of c.set_word.new.self ≡ write (memory_of c.loop-index.image) (Root mutator i) c.word_for-word.result =
+    stored (config_of c.loop-index.image) c.config-config.result (memory_of c.loop-index.image) (memory_of c.set_word.new.self) (Root mutator i) c.root_at.result c.word_for-word.result
+    (c.loop-index.invariant.config ∙ sym same) (subst (λ (h : Config). IsWord h (Root mutator i)) (sym same) is) c.root_at.ensures c.set_word.ensures.named in
+    let word : c.word_for-word.result ≡ word_for config text (root_of text (mutator + 1) i) = c.word_for-word.ensures ∙ ap (λ (h : Config). word_for h text c.root_at-root.result) same ∙ ap (word_for config text) c.root_at-root.ensures in
     record {
       config = c.set_word.ensures.config ∙ c.loop-index.invariant.config;
-      words = one ∙ ap (λ (m : Word → ℕ). write m (Root u i) c.word_for-word.result) c.loop-index.invariant.words
-          ∙ ap (write (roots_stored g t u i (memory_of c.args.image.now)) (Root u i)) word ∙ stored_more g t u i (memory_of c.args.image.now);
+      words = one ∙ ap (λ (m : Word → ℕ). write m (Root mutator i) c.word_for-word.result) c.loop-index.invariant.words
+          ∙ ap (write (roots_stored config text mutator i (memory_of c.args.image.now)) (Root mutator i)) word ∙ stored_more config text mutator i (memory_of c.args.image.now);
     }
 
 pub returns-clause-words : goal.returns-clause-words

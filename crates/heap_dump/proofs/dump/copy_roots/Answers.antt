@@ -14,14 +14,14 @@ pub copy_roots_of-requires-clause-sixteen : goal.copy_roots_of-requires-clause-s
 copy_roots_of-requires-clause-sixteen c =
     let xs = c.args.graph.now.roots in
     let ys = c.args.text.now.roots in
-    let i = c.loop-mutator.mutator in
-    let low : i < length xs = omega arith in
-    let back : i + 1 - 1 ≡ i = omega arith in (
-      ap (λ k. length (get_or xs k [])) back ∙ All-get_or (λ (row : List Reference). length row ≡ 16) xs i [] low c.mutators-mutator-end.ensures.sixteen,
+    let mutator = c.loop-mutator.mutator in
+    let low : mutator < length xs = omega arith in
+    let back : mutator + 1 - 1 ≡ mutator = omega arith in (
+      ap (λ k. length (get_or xs k [])) back ∙ All-get_or (λ (row : List Reference). length row ≡ 16) xs mutator [] low c.mutators-mutator-end.ensures.sixteen,
       (ap (λ k. length (get_or c.loop-mutator.text.roots k [])) back
-          ∙ ap (λ t. length (get_or t.roots i [])) c.loop-mutator.invariant
-          ∙ ap length (mixed_next xs ys i [] c.requires.threads low)
-          ∙ All-get_or (λ (row : List Reference). length row ≡ 16) ys i [] (omega arith) c.requires.sixteen),
+          ∙ ap (λ t. length (get_or t.roots mutator [])) c.loop-mutator.invariant
+          ∙ ap length (mixed_next xs ys mutator [] c.requires.threads low)
+          ∙ All-get_or (λ (row : List Reference). length row ≡ 16) ys mutator [] (omega arith) c.requires.sixteen),
     )
 
 pub loop-mutator-preserved : goal.loop-mutator-preserved
@@ -29,13 +29,13 @@ loop-mutator-preserved c =
     let text = c.args.text.now in
     let xs = c.args.graph.now.roots in
     let ys = text.roots in
-    let i = c.loop-mutator.mutator in
-    let low : i < length xs = omega arith in
-    let back : i + 1 - 1 ≡ i = omega arith in
+    let mutator = c.loop-mutator.mutator in
+    let low : mutator < length xs = omega arith in
+    let back : mutator + 1 - 1 ≡ mutator = omega arith in
     c.copy_roots_of.ensures
     ∙ ap (λ (k : ℕ). record c.loop-mutator.text { roots = set c.loop-mutator.text.roots k (get_or xs k []) }) back
-    ∙ ap (λ (t : Text). record t { roots = set t.roots i (get_or xs i []) }) c.loop-mutator.invariant
-    ∙ ap (λ (roots : List (List Reference)). record text { roots = roots }) (mixed_more xs ys i [] c.requires.threads low)
+    ∙ ap (λ (t : Text). record t { roots = set t.roots mutator (get_or xs mutator []) }) c.loop-mutator.invariant
+    ∙ ap (λ (roots : List (List Reference)). record text { roots = roots }) (mixed_more xs ys mutator [] c.requires.threads low)
 
 pub returns : goal.returns
 returns c =

@@ -19,34 +19,34 @@ use Rattle.heap_dump.proofs.goes_on.resume.Goals as goal
 
 pub graph_of-requires-clause-rest : goal.graph_of-requires-clause-rest
 graph_of-requires-clause-rest c =
-    let d = c.args.dump.now in
-    let start : Stage Actor = stage_from d.config (images.words_of c.in-Heap.image) d.counts in
-    let done : HasEndedFrom d.config start c.args.scripts.items c.args.schedule.now c.args.steps c.in-Some.replies c.in-Some.plain = rw c.in-Some.is at c.in_ok-replies.ensures.ended in
-    all_rest_from d.config start (graph_in (dumped d.config d.counts d.graph)) c.in_ok-replies.ensures.begins c.args.scripts.items c.requires.count c.args.schedule.now c.args.steps c.in-Some.replies c.in-Some.plain done
+    let dump = c.args.dump.now in
+    let start : Stage Actor = stage_from dump.config (images.words_of c.in-Heap.image) dump.counts in
+    let done : HasEndedFrom dump.config start c.args.scripts.items c.args.schedule.now c.args.steps c.in-Some.replies c.in-Some.plain = rw c.in-Some.is at c.in_ok-replies.ensures.ended in
+    all_rest_from dump.config start (graph_in (dumped dump.config dump.counts dump.graph)) c.in_ok-replies.ensures.begins c.args.scripts.items c.requires.count c.args.schedule.now c.args.steps c.in-Some.replies c.in-Some.plain done
 
 pub returns-clause-answered : goal.returns-clause-answered
 returns-clause-answered c =
-    let d = c.args.dump.now in
+    let dump = c.args.dump.now in
     let image : Image = c.in-Heap.image in
-    let g : Graph = graph_in (dumped d.config d.counts d.graph) in
-    let start : Stage Actor = stage_from d.config (images.words_of c.in-Heap.image) d.counts in
-    let events : List (Event Order) = schedule_events pause_image d.config c.args.scripts.items c.args.schedule.now c.args.steps start in
-    let done : HasEndedFrom d.config start c.args.scripts.items c.args.schedule.now c.args.steps c.in-Some.replies c.in-Some.plain = rw c.in-Some.is at c.in_ok-replies.ensures.ended in
-    let same : images.config_of image ≡ d.config = rw c.in-Heap.is at c.in_ok-image.ensures.config in
-    let placed : IsPlaced d.config d.graph (images.memory_of image) = rw c.in-Heap.is at c.in_ok-image.ensures.placed in
-    let begins : Begins d.config start g = c.in_ok-replies.ensures.begins in
+    let g : Graph = graph_in (dumped dump.config dump.counts dump.graph) in
+    let start : Stage Actor = stage_from dump.config (images.words_of c.in-Heap.image) dump.counts in
+    let events : List (Event Order) = schedule_events pause_image dump.config c.args.scripts.items c.args.schedule.now c.args.steps start in
+    let done : HasEndedFrom dump.config start c.args.scripts.items c.args.schedule.now c.args.steps c.in-Some.replies c.in-Some.plain = rw c.in-Some.is at c.in_ok-replies.ensures.ended in
+    let same : images.config_of image ≡ dump.config = rw c.in-Heap.is at c.in_ok-image.ensures.config in
+    let placed : IsPlaced dump.config dump.graph (images.memory_of image) = rw c.in-Heap.is at c.in_ok-image.ensures.placed in
+    let begins : Begins dump.config start g = c.in_ok-replies.ensures.begins in
     record {
       words = images.words_of image;
       size = image.all_words ∙ ap table_words same;
-      placed = subst (λ (k : Config). IsPlaced d.config d.graph (view k (images.words_of image))) same placed;
-      whole = whole_from d.config start g begins c.args.scripts.items c.requires.count events done.called done.idle;
-      text = answer_from d.config start g begins c.args.scripts.items c.requires.count c.args.schedule.now c.args.steps c.in-Some.replies c.in-Some.plain done c.in_ok-graph.graph c.in_ok-graph.ensures.threads
-          (c.in_ok-graph.ensures.shows (run_of d.config start g begins events) done.shows);
+      placed = subst (λ (k : Config). IsPlaced dump.config dump.graph (view k (images.words_of image))) same placed;
+      whole = whole_from dump.config start g begins c.args.scripts.items c.requires.count events done.called done.idle;
+      text = answer_from dump.config start g begins c.args.scripts.items c.requires.count c.args.schedule.now c.args.steps c.in-Some.replies c.in-Some.plain done c.in_ok-graph.graph c.in_ok-graph.ensures.threads
+          (c.in_ok-graph.ensures.shows (run_of dump.config start g begins events) done.shows);
     }
 
 pub returns-clause-scripts : goal.returns-clause-scripts
 returns-clause-scripts c = λ mutator below.
-    let d = c.args.dump.now in
-    let start : Stage Actor = stage_from d.config (images.words_of c.in-Heap.image) d.counts in
-    let done : HasEndedFrom d.config start c.args.scripts.items c.args.schedule.now c.args.steps c.in-Some.replies c.in-Some.plain = rw c.in-Some.is at c.in_ok-replies.ensures.ended in
+    let dump = c.args.dump.now in
+    let start : Stage Actor = stage_from dump.config (images.words_of c.in-Heap.image) dump.counts in
+    let done : HasEndedFrom dump.config start c.args.scripts.items c.args.schedule.now c.args.steps c.in-Some.replies c.in-Some.plain = rw c.in-Some.is at c.in_ok-replies.ensures.ended in
     done.jobs_are mutator (omega (arith, below, c.in_ok-graph.ensures.threads))

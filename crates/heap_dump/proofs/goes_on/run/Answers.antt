@@ -28,39 +28,39 @@ begins_by image c held counts g same are can law =
 
 pub run-requires-clause-run : goal.run-requires-clause-run
 run-requires-clause-run c =
-    let d = c.args.dump.now in
+    let dump = c.args.dump.now in
     let image = c.args.image in
     let plain = c.in_ok-plain.plain in
-    let shows = shows_from plain image d.config c.list.result.now d.counts c.requires.heap c.list.ensures c.in_ok-plain.ensures.stage in
+    let shows = shows_from plain image dump.config c.list.result.now dump.counts c.requires.heap c.list.ensures c.in_ok-plain.ensures.stage in
     subst (CanRun plain) (sym c.in-Ok.ensures)
-    (can_run_from d.config (images.words_of image) d.counts plain c.args.scripts.items (c.in_ok-plain.ensures.config ∙ c.requires.heap) shows c.in_ok-plain.ensures.orders c.requires.count c.requires.dump.form.counts c.requires.runnable)
+    (can_run_from dump.config (images.words_of image) dump.counts plain c.args.scripts.items (c.in_ok-plain.ensures.config ∙ c.requires.heap) shows c.in_ok-plain.ensures.orders c.requires.count c.requires.dump.form.counts c.requires.runnable)
 
 pub run-requires-clause-items : goal.run-requires-clause-items
 run-requires-clause-items c = subst (λ (k : Config). All (IsInSeats k) c.args.schedule.now) (sym (c.in_ok-plain.ensures.config ∙ c.requires.heap)) c.requires.items
 
 pub returns-in-Finished-clause-begins : goal.returns-in-Finished-clause-begins
 returns-in-Finished-clause-begins c =
-    let d = c.args.dump.now in
-    begins_by c.args.image d.config c.list.result.now d.counts (graph_in (dumped d.config d.counts d.graph)) c.requires.heap c.list.ensures c.requires.begins c.in_ok-plain.ensures.begins
+    let dump = c.args.dump.now in
+    begins_by c.args.image dump.config c.list.result.now dump.counts (graph_in (dumped dump.config dump.counts dump.graph)) c.requires.heap c.list.ensures c.requires.begins c.in_ok-plain.ensures.begins
 
 pub returns-in-Unfinished-clause-begins : goal.returns-in-Unfinished-clause-begins
 returns-in-Unfinished-clause-begins c =
-    let d = c.args.dump.now in
-    begins_by c.args.image d.config c.list.result.now d.counts (graph_in (dumped d.config d.counts d.graph)) c.requires.heap c.list.ensures c.requires.begins c.in_ok-plain.ensures.begins
+    let dump = c.args.dump.now in
+    begins_by c.args.image dump.config c.list.result.now dump.counts (graph_in (dumped dump.config dump.counts dump.graph)) c.requires.heap c.list.ensures c.requires.begins c.in_ok-plain.ensures.begins
 
 pub returns-in-Finished-clause-ended : goal.returns-in-Finished-clause-ended
 returns-in-Finished-clause-ended c =
-    let d = c.args.dump.now in
+    let dump = c.args.dump.now in
     let image = c.args.image in
     let plain = c.in_ok-plain.plain in
-    ended d.config (images.words_of image) d.counts plain c.run.new.self c.args.scripts.items c.args.schedule.now c.args.steps c.in-Ok.work c.run.new.work (c.in_ok-plain.ensures.config ∙ c.requires.heap)
-    (shows_from plain image d.config c.list.result.now d.counts c.requires.heap c.list.ensures c.in_ok-plain.ensures.stage) c.requires.count c.in-Ok.ensures c.in-Finished.ensures.events c.in-Finished.ensures.config
+    ended dump.config (images.words_of image) dump.counts plain c.run.new.self c.args.scripts.items c.args.schedule.now c.args.steps c.in-Ok.work c.run.new.work (c.in_ok-plain.ensures.config ∙ c.requires.heap)
+    (shows_from plain image dump.config c.list.result.now dump.counts c.requires.heap c.list.ensures c.in_ok-plain.ensures.stage) c.requires.count c.in-Ok.ensures c.in-Finished.ensures.events c.in-Finished.ensures.config
     c.in-Finished.ensures.run
 
 pub returns-in-Unfinished-clause-cut : goal.returns-in-Unfinished-clause-cut
 returns-in-Unfinished-clause-cut c = λ is.
-    let d = c.args.dump.now in
+    let dump = c.args.dump.now in
     let image = c.args.image in
     let plain = c.in_ok-plain.plain in
-    cut d.config (images.words_of image) d.counts plain c.run.new.self c.args.scripts.items c.args.schedule.now c.args.steps c.in-Ok.work c.run.new.work (c.in_ok-plain.ensures.config ∙ c.requires.heap)
-    (shows_from plain image d.config c.list.result.now d.counts c.requires.heap c.list.ensures c.in_ok-plain.ensures.stage) c.requires.count c.in-Ok.ensures c.in-Unfinished.ensures.events
+    cut dump.config (images.words_of image) dump.counts plain c.run.new.self c.args.scripts.items c.args.schedule.now c.args.steps c.in-Ok.work c.run.new.work (c.in_ok-plain.ensures.config ∙ c.requires.heap)
+    (shows_from plain image dump.config c.list.result.now dump.counts c.requires.heap c.list.ensures c.in_ok-plain.ensures.stage) c.requires.count c.in-Ok.ensures c.in-Unfinished.ensures.events

@@ -16,9 +16,9 @@ place-requires c = placeable c.args.dump.now.config c.args.dump.now.counts c.arg
 
 pub returns-clause-begins : goal.returns-clause-begins
 returns-clause-begins c =
-    let d = c.args.dump.now in
-    of_both (λ (image : Image). IsPlaced d.config d.graph (memory_of image))
-    (λ (image : Image). (counts : List ℕ) (g : Graph) → IsGraphOf d.config d.graph counts g → Represents d.config (memory_of image) g (λ t. nothing))
-    (λ (image : Image). CanBeginFrom d.config (memory_of image) d.counts (graph_in (dumped d.config d.counts d.graph)))
-    (λ image placed stands. can_begin d.config d.counts d.graph c.requires (memory_of image) placed stands)
+    let dump = c.args.dump.now in
+    of_both (λ (image : Image). IsPlaced dump.config dump.graph (memory_of image))
+    (λ (image : Image). (counts : List ℕ) (g : Graph) → IsGraphOf dump.config dump.graph counts g → Represents dump.config (memory_of image) g (λ t. nothing))
+    (λ (image : Image). CanBeginFrom dump.config (memory_of image) dump.counts (graph_in (dumped dump.config dump.counts dump.graph)))
+    (λ image placed stands. can_begin dump.config dump.counts dump.graph c.requires (memory_of image) placed stands)
     c.place.result c.place.ensures.placed c.place.ensures.stands

@@ -6,7 +6,7 @@ use Rattle.heap_dump.proofs.reached.reach.Goals as goal
 
 pub returns-in_ok-push : goal.returns-in_ok-push
 returns-in_ok-push c =
-    let t = c.args.graph.now in
+    let graph = c.args.graph.now in
     let marks = c.args.reached.now.marks.items in
     let order = c.args.reached.now.order.items in
     let row = c.in-Some-row_named.row in
@@ -16,8 +16,8 @@ returns-in_ok-push c =
     let items = sym c.in_ok-push.ensures.items in
     record {
       ok = (
-        subst (λ (xs : List ℕ). RowsAreReached t (set marks row true) xs) items (reached_more t marks order row c.in-Some.name c.requires.reached found.0 unset found.1 (c.requires.led c.in-Some.name c.in-Some.is)),
+        subst (λ (xs : List ℕ). RowsAreReached graph (set marks row true) xs) items (reached_more graph marks order row c.in-Some.name c.requires.reached found.0 unset found.1 (c.requires.led c.in-Some.name c.in-Some.is)),
         subst (λ (xs : List ℕ). Grows marks order (set marks row true) xs) items (grows_more marks order row low),
-        subst (IsReachMarked t (set marks row true)) (sym c.in-Some.is) (names_marked t (set marks row true) c.in-Some.name row found.0 found.1 (marked_now marks row low)),
+        subst (IsReachMarked graph (set marks row true)) (sym c.in-Some.is) (names_marked graph (set marks row true) c.in-Some.name row found.0 found.1 (marked_now marks row low)),
       );
     }

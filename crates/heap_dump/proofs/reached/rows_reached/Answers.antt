@@ -7,17 +7,17 @@ use Rattle.heap_dump.proofs.reached.rows_reached.Goals as goal
 
 pub reach_roots-requires-clause-reached : goal.reach_roots-requires-clause-reached
 reach_roots-requires-clause-reached c =
-    let t = c.args.graph.now in
+    let graph = c.args.graph.now in
     let marks = c.in_ok-no_marks.ensures ∙ ap (λ n. replicate n false) c.rows.ensures in
-    subst (λ (xs : List ℕ). RowsAreReached t c.in_ok-no_marks.field-0.items xs) (sym c.new.ensures.items)
-    (subst (λ (bs : List Bool). RowsAreReached t bs []) (sym marks) (none_reached t))
+    subst (λ (xs : List ℕ). RowsAreReached graph c.in_ok-no_marks.field-0.items xs) (sym c.new.ensures.items)
+    (subst (λ (bs : List Bool). RowsAreReached graph bs []) (sym marks) (none_reached graph))
 
 pub returns : goal.returns
 returns c =
-    let t = c.args.graph.now in
+    let graph = c.args.graph.now in
     let a = rw c.if-not-branch.false at c.in_ok-reach_roots.ensures.ok in
     let b = rw c.if-not-branch-2.false at c.in_ok-reach_on.ensures.ok in
     let marks = c.reach_on.new.reached.marks.items in
     let order = c.reach_on.new.reached.order.items in
-    let roots : (m i : ℕ) → m < length t.roots → i < 16 → IsReachMarked t marks (root_of t (m + 1) i) = λ m i low few. still_marked t c.reach_roots.new.reached.marks.items marks (root_of t (m + 1) i) b.1.kept (a.1 m i low few) in
-    marks_reached t marks order c.requires.order a.2 b.0 roots b.2
+    let roots : (m i : ℕ) → m < length graph.roots → i < 16 → IsReachMarked graph marks (root_of graph (m + 1) i) = λ m i low few. still_marked graph c.reach_roots.new.reached.marks.items marks (root_of graph (m + 1) i) b.1.kept (a.1 m i low few) in
+    marks_reached graph marks order c.requires.order a.2 b.0 roots b.2

@@ -10,23 +10,23 @@ use Rattle.heap_dump.proofs.read.resumed_of.Goals as goal
 
 pub returns-in_err-counts-clause-fault : goal.returns-in_err-counts-clause-fault
 returns-in_err-counts-clause-fault c =
-    let p = err_from_is_err_and c.from_residual-in_err-counts.result c.from_residual-in_err-counts.ensures.1 in
+    let fault = err_from_is_err_and c.from_residual-in_err-counts.result c.from_residual-in_err-counts.ensures.1 in
     let config = c.in_ok-config.config in
-    let b1 = c.in_ok-config.rest.now in
-    let e = c.in_err-counts.field-0.0 in
-    let h = counts_fault e c.mutators.result b1 config c.in_err-counts.ensures.err (sym c.mutators.ensures) in
-    rw p.1 (text_fault (Counts config) 4 b1 p.0 e p.2 h)
+    let behind_head = c.in_ok-config.rest.now in
+    let error = c.in_err-counts.field-0.0 in
+    let is_fault = counts_fault error c.mutators.result behind_head config c.in_err-counts.ensures.err (sym c.mutators.ensures) in
+    rw fault.1 (text_fault (Counts config) 4 behind_head fault.0 error fault.2 is_fault)
 
 pub returns-in_err-counts-clause-bad_line : goal.returns-in_err-counts-clause-bad_line
 returns-in_err-counts-clause-bad_line c = λ n why is.
-    let r = c.from_residual-in_err-counts.result in
-    let p = err_from_is_err_and r c.from_residual-in_err-counts.ensures.1 in
+    let outcome = c.from_residual-in_err-counts.result in
+    let fault = err_from_is_err_and outcome c.from_residual-in_err-counts.ensures.1 in
     let config = c.in_ok-config.config in
-    let b0 = c.args.bytes.now in
-    let b1 = c.in_ok-config.rest.now in
-    let e = c.in_err-counts.field-0.0 in
-    let h = counts_fault e c.mutators.result b1 config c.in_err-counts.ensures.err (sym c.mutators.ensures) in
-    refused b0 n why c.requires (stops_behind Version (Counts config) 1 4 b0 b1 3 n why c.in_ok-config.ensures.ok (omega arith) (stop_line r (Counts config) 4 b1 p.0 e p.1 p.2 h n why is))
+    let dump_bytes = c.args.bytes.now in
+    let behind_head = c.in_ok-config.rest.now in
+    let error = c.in_err-counts.field-0.0 in
+    let is_fault = counts_fault error c.mutators.result behind_head config c.in_err-counts.ensures.err (sym c.mutators.ensures) in
+    refused dump_bytes n why c.requires (stops_behind Version (Counts config) 1 4 dump_bytes behind_head 3 n why c.in_ok-config.ensures.ok (omega arith) (stop_line outcome (Counts config) 4 behind_head fault.0 error fault.1 fault.2 is_fault n why is))
 
 pub take_objects-requires-clause-counts : goal.take_objects-requires-clause-counts
 take_objects-requires-clause-counts c =
@@ -38,204 +38,204 @@ take_objects-requires-clause-counts c =
 
 pub returns-in_err-lines-clause-fault : goal.returns-in_err-lines-clause-fault
 returns-in_err-lines-clause-fault c =
-    let p = err_from_is_err_and c.from_residual-in_err-lines.result c.from_residual-in_err-lines.ensures.1 in
+    let fault = err_from_is_err_and c.from_residual-in_err-lines.result c.from_residual-in_err-lines.ensures.1 in
     let config = c.in_ok-config.config in
-    let e = c.in_err-lines.field-0.0 in
+    let error = c.in_err-lines.field-0.0 in
     let counts = c.list.result.now in
-    rw p.1 (text_fault (Listed (listed config counts [] [])) 5 c.in_ok-counts.rest.now p.0 e p.2 (inr (c.in_err-lines.ensures.err config)))
+    rw fault.1 (text_fault (Listed (listed config counts [] [])) 5 c.in_ok-counts.rest.now fault.0 error fault.2 (inr (c.in_err-lines.ensures.err config)))
 
 pub returns-in_err-lines-clause-bad_line : goal.returns-in_err-lines-clause-bad_line
 returns-in_err-lines-clause-bad_line c = λ n why is.
-    let r = c.from_residual-in_err-lines.result in
-    let p = err_from_is_err_and r c.from_residual-in_err-lines.ensures.1 in
+    let outcome = c.from_residual-in_err-lines.result in
+    let fault = err_from_is_err_and outcome c.from_residual-in_err-lines.ensures.1 in
     let config = c.in_ok-config.config in
-    let b0 = c.args.bytes.now in
-    let b1 = c.in_ok-config.rest.now in
-    let b2 = c.in_ok-counts.rest.now in
-    let e = c.in_err-lines.field-0.0 in
+    let dump_bytes = c.args.bytes.now in
+    let behind_head = c.in_ok-config.rest.now in
+    let behind_counts = c.in_ok-counts.rest.now in
+    let error = c.in_err-lines.field-0.0 in
     let counts = c.in_ok-counts.counts in
     let stage = Listed (listed config counts [] []) in
-    let led = to_counts config counts b0 b1 b2 c.in_ok-config.ensures.ok (c.in_ok-counts.ensures.ok config (sym c.mutators.ensures)) in
+    let led = to_counts config counts dump_bytes behind_head behind_counts c.in_ok-config.ensures.ok (c.in_ok-counts.ensures.ok config (sym c.mutators.ensures)) in
     let stop = rw c.list.ensures at c.in_err-lines.ensures.err config in
-    refused b0 n why c.requires (stops_behind Version stage 1 5 b0 b2 4 n why led (omega arith) (stop_line r stage 5 b2 p.0 e p.1 p.2 (inr stop) n why is))
+    refused dump_bytes n why c.requires (stops_behind Version stage 1 5 dump_bytes behind_counts 4 n why led (omega arith) (stop_line outcome stage 5 behind_counts fault.0 error fault.1 fault.2 (inr stop) n why is))
 
 pub returns-in_err-rest-clause-fault : goal.returns-in_err-rest-clause-fault
 returns-in_err-rest-clause-fault c =
-    let p = err_from_is_err_and c.from_residual-in_err-rest.result c.from_residual-in_err-rest.ensures.1 in
+    let fault = err_from_is_err_and c.from_residual-in_err-rest.result c.from_residual-in_err-rest.ensures.1 in
     let config = c.in_ok-config.config in
-    let b2 = c.in_ok-counts.rest.now in
-    let b3 = c.in_ok-lines.rest.now in
-    let e = c.in_err-rest.field-0.0 in
+    let behind_counts = c.in_ok-counts.rest.now in
+    let behind_objects = c.in_ok-lines.rest.now in
+    let error = c.in_err-rest.field-0.0 in
     let counts = c.list.result.now in
     let lines = c.in_ok-lines.lines in
     let rowed = c.in_ok-lines.ensures.ok in
-    let threads = threads_now config counts b2 b3 lines c.in-Ok.graph c.take_objects.new.graph c.separators.result c.mutators-2.result rowed c.in-Ok.ensures c.mutators-2.ensures in
-    let d = listed config counts rowed.rows [] in
-    rw p.1 (text_fault (Listed d) (5 + lines) b3 p.0 e p.2 (inr (c.in_err-rest.ensures.err d refl threads)))
+    let threads = threads_now config counts behind_counts behind_objects lines c.in-Ok.graph c.take_objects.new.graph c.separators.result c.mutators-2.result rowed c.in-Ok.ensures c.mutators-2.ensures in
+    let dump = listed config counts rowed.rows [] in
+    rw fault.1 (text_fault (Listed dump) (5 + lines) behind_objects fault.0 error fault.2 (inr (c.in_err-rest.ensures.err dump refl threads)))
 
 pub returns-in_err-rest-clause-bad_line : goal.returns-in_err-rest-clause-bad_line
 returns-in_err-rest-clause-bad_line c = λ n why is.
-    let r = c.from_residual-in_err-rest.result in
-    let p = err_from_is_err_and r c.from_residual-in_err-rest.ensures.1 in
+    let outcome = c.from_residual-in_err-rest.result in
+    let fault = err_from_is_err_and outcome c.from_residual-in_err-rest.ensures.1 in
     let config = c.in_ok-config.config in
-    let b0 = c.args.bytes.now in
-    let b1 = c.in_ok-config.rest.now in
-    let b2 = c.in_ok-counts.rest.now in
-    let b3 = c.in_ok-lines.rest.now in
-    let e = c.in_err-rest.field-0.0 in
+    let dump_bytes = c.args.bytes.now in
+    let behind_head = c.in_ok-config.rest.now in
+    let behind_counts = c.in_ok-counts.rest.now in
+    let behind_objects = c.in_ok-lines.rest.now in
+    let error = c.in_err-rest.field-0.0 in
     let counts = c.in_ok-counts.counts in
     let lines = c.in_ok-lines.lines in
-    let g0 = c.in-Ok.graph in
-    let g1 = c.take_objects.new.graph in
-    let rowed = subst (λ (ns : List ℕ). HasTakenRows ns b2 b3 lines g0 g1) c.list.ensures c.in_ok-lines.ensures.ok in
-    let threads = threads_now config counts b2 b3 lines g0 g1 c.separators.result c.mutators-2.result rowed c.in-Ok.ensures c.mutators-2.ensures in
-    let d = listed config counts rowed.rows [] in
-    let led = to_rows config counts b0 b1 b2 b3 lines g0 g1 c.in_ok-config.ensures.ok (c.in_ok-counts.ensures.ok config (sym c.mutators.ensures)) rowed in
-    refused b0 n why c.requires
-    (stops_behind Version (Listed d) 1 (5 + lines) b0 b3 (4 + lines) n why led (omega arith) (stop_line r (Listed d) (5 + lines) b3 p.0 e p.1 p.2 (inr (c.in_err-rest.ensures.err d refl threads)) n why is))
+    let opened_text = c.in-Ok.graph in
+    let objects_text = c.take_objects.new.graph in
+    let rowed = subst (λ (ns : List ℕ). HasTakenRows ns behind_counts behind_objects lines opened_text objects_text) c.list.ensures c.in_ok-lines.ensures.ok in
+    let threads = threads_now config counts behind_counts behind_objects lines opened_text objects_text c.separators.result c.mutators-2.result rowed c.in-Ok.ensures c.mutators-2.ensures in
+    let dump = listed config counts rowed.rows [] in
+    let led = to_rows config counts dump_bytes behind_head behind_counts behind_objects lines opened_text objects_text c.in_ok-config.ensures.ok (c.in_ok-counts.ensures.ok config (sym c.mutators.ensures)) rowed in
+    refused dump_bytes n why c.requires
+    (stops_behind Version (Listed dump) 1 (5 + lines) dump_bytes behind_objects (4 + lines) n why led (omega arith) (stop_line outcome (Listed dump) (5 + lines) behind_objects fault.0 error fault.1 fault.2 (inr (c.in_err-rest.ensures.err dump refl threads)) n why is))
 
 pub take_mark-requires-clause-order : goal.take_mark-requires-clause-order
 take_mark-requires-clause-order c =
     let config = c.in_ok-config.config in
-    let b2 = c.in_ok-counts.rest.now in
-    let b3 = c.in_ok-lines.rest.now in
+    let behind_counts = c.in_ok-counts.rest.now in
+    let behind_objects = c.in_ok-lines.rest.now in
     let counts = c.in_ok-counts.counts in
     let lines = c.in_ok-lines.lines in
-    let g0 = c.in-Ok.graph in
-    let g1 = c.take_objects.new.graph in
-    let rowed = subst (λ (ns : List ℕ). HasTakenRows ns b2 b3 lines g0 g1) c.list.ensures c.in_ok-lines.ensures.ok in
-    let threads = threads_now config counts b2 b3 lines g0 g1 c.separators.result c.mutators-2.result rowed c.in-Ok.ensures c.mutators-2.ensures in
-    let o = c.in_ok-rest.ensures.ok in
-    order_now config counts c.args.bytes.now c.in_ok-config.rest.now b2 b3 c.in_ok-rest.rest.now lines g0 g1 c.take_all_roots.new.graph o.0
-    c.in_ok-config.ensures.ok (c.in_ok-counts.ensures.ok config (sym c.mutators.ensures)) rowed o.1 threads (omega (arith, threads, config.in_range.most_mutators)) (omega (arith, threads, config.in_range.least_mutators))
+    let opened_text = c.in-Ok.graph in
+    let objects_text = c.take_objects.new.graph in
+    let rowed = subst (λ (ns : List ℕ). HasTakenRows ns behind_counts behind_objects lines opened_text objects_text) c.list.ensures c.in_ok-lines.ensures.ok in
+    let threads = threads_now config counts behind_counts behind_objects lines opened_text objects_text c.separators.result c.mutators-2.result rowed c.in-Ok.ensures c.mutators-2.ensures in
+    let rooted = c.in_ok-rest.ensures.ok in
+    order_now config counts c.args.bytes.now c.in_ok-config.rest.now behind_counts behind_objects c.in_ok-rest.rest.now lines opened_text objects_text c.take_all_roots.new.graph rooted.0
+    c.in_ok-config.ensures.ok (c.in_ok-counts.ensures.ok config (sym c.mutators.ensures)) rowed rooted.1 threads (omega (arith, threads, config.in_range.most_mutators)) (omega (arith, threads, config.in_range.least_mutators))
 
 pub returns-in_err-rest-2-clause-fault : goal.returns-in_err-rest-2-clause-fault
 returns-in_err-rest-2-clause-fault c =
-    let p = err_from_is_err_and c.from_residual-in_err-rest-2.result c.from_residual-in_err-rest-2.ensures.1 in
+    let fault = err_from_is_err_and c.from_residual-in_err-rest-2.result c.from_residual-in_err-rest-2.ensures.1 in
     let config = c.in_ok-config.config in
-    let b0 = c.args.bytes.now in
-    let b1 = c.in_ok-config.rest.now in
-    let b2 = c.in_ok-counts.rest.now in
-    let b3 = c.in_ok-lines.rest.now in
-    let b4 = c.in_ok-rest.rest.now in
-    let e = c.in_err-rest-2.field-0.0 in
+    let dump_bytes = c.args.bytes.now in
+    let behind_head = c.in_ok-config.rest.now in
+    let behind_counts = c.in_ok-counts.rest.now in
+    let behind_objects = c.in_ok-lines.rest.now in
+    let behind_roots = c.in_ok-rest.rest.now in
+    let error = c.in_err-rest-2.field-0.0 in
     let counts = c.in_ok-counts.counts in
     let lines = c.in_ok-lines.lines in
-    let g0 = c.in-Ok.graph in
-    let g1 = c.take_objects.new.graph in
-    let g2 = c.take_all_roots.new.graph in
+    let opened_text = c.in-Ok.graph in
+    let objects_text = c.take_objects.new.graph in
+    let rooted_text = c.take_all_roots.new.graph in
     let head = c.in_ok-config.ensures.ok in
     let counted = c.in_ok-counts.ensures.ok config (sym c.mutators.ensures) in
-    let rowed = subst (λ (ns : List ℕ). HasTakenRows ns b2 b3 lines g0 g1) c.list.ensures c.in_ok-lines.ensures.ok in
-    let threads = threads_now config counts b2 b3 lines g0 g1 c.separators.result c.mutators-2.result rowed c.in-Ok.ensures c.mutators-2.ensures in
-    let few : length g1.roots ≤ 8 = omega (arith, threads, config.in_range.most_mutators) in
-    let some : 1 ≤ length g1.roots = omega (arith, threads, config.in_range.least_mutators) in
-    let o = c.in_ok-rest.ensures.ok in
-    let d = whole config counts b0 b1 b2 b3 b4 lines g0 g1 g2 o.0 head counted rowed o.1 threads few some in
+    let rowed = subst (λ (ns : List ℕ). HasTakenRows ns behind_counts behind_objects lines opened_text objects_text) c.list.ensures c.in_ok-lines.ensures.ok in
+    let threads = threads_now config counts behind_counts behind_objects lines opened_text objects_text c.separators.result c.mutators-2.result rowed c.in-Ok.ensures c.mutators-2.ensures in
+    let few : length objects_text.roots ≤ 8 = omega (arith, threads, config.in_range.most_mutators) in
+    let some : 1 ≤ length objects_text.roots = omega (arith, threads, config.in_range.least_mutators) in
+    let rooted = c.in_ok-rest.ensures.ok in
+    let dump = whole config counts dump_bytes behind_head behind_counts behind_objects behind_roots lines opened_text objects_text rooted_text rooted.0 head counted rowed rooted.1 threads few some in
     let first = 5 + lines + c.mutators-3.result in
-    let h = mark_fault e first b4 g2 d c.in_err-rest-2.ensures.err (held_now config counts b0 b1 b2 b3 b4 lines g0 g1 g2 o.0 head counted rowed o.1 threads few some)
-    (some_roots config counts b0 b1 b2 b3 b4 lines g0 g1 g2 o.0 head counted rowed o.1 threads few some) in
-    rw p.1 (text_fault (Listed d) first b4 p.0 e p.2 h)
+    let is_fault = mark_fault error first behind_roots rooted_text dump c.in_err-rest-2.ensures.err (held_now config counts dump_bytes behind_head behind_counts behind_objects behind_roots lines opened_text objects_text rooted_text rooted.0 head counted rowed rooted.1 threads few some)
+    (some_roots config counts dump_bytes behind_head behind_counts behind_objects behind_roots lines opened_text objects_text rooted_text rooted.0 head counted rowed rooted.1 threads few some) in
+    rw fault.1 (text_fault (Listed dump) first behind_roots fault.0 error fault.2 is_fault)
 
 pub returns-in_err-rest-2-clause-bad_line : goal.returns-in_err-rest-2-clause-bad_line
 returns-in_err-rest-2-clause-bad_line c = λ n why is.
-    let r = c.from_residual-in_err-rest-2.result in
-    let p = err_from_is_err_and r c.from_residual-in_err-rest-2.ensures.1 in
+    let outcome = c.from_residual-in_err-rest-2.result in
+    let fault = err_from_is_err_and outcome c.from_residual-in_err-rest-2.ensures.1 in
     let config = c.in_ok-config.config in
-    let b0 = c.args.bytes.now in
-    let b1 = c.in_ok-config.rest.now in
-    let b2 = c.in_ok-counts.rest.now in
-    let b3 = c.in_ok-lines.rest.now in
-    let b4 = c.in_ok-rest.rest.now in
-    let e = c.in_err-rest-2.field-0.0 in
+    let dump_bytes = c.args.bytes.now in
+    let behind_head = c.in_ok-config.rest.now in
+    let behind_counts = c.in_ok-counts.rest.now in
+    let behind_objects = c.in_ok-lines.rest.now in
+    let behind_roots = c.in_ok-rest.rest.now in
+    let error = c.in_err-rest-2.field-0.0 in
     let counts = c.in_ok-counts.counts in
     let lines = c.in_ok-lines.lines in
-    let g0 = c.in-Ok.graph in
-    let g1 = c.take_objects.new.graph in
-    let g2 = c.take_all_roots.new.graph in
+    let opened_text = c.in-Ok.graph in
+    let objects_text = c.take_objects.new.graph in
+    let rooted_text = c.take_all_roots.new.graph in
     let head = c.in_ok-config.ensures.ok in
     let counted = c.in_ok-counts.ensures.ok config (sym c.mutators.ensures) in
-    let rowed = subst (λ (ns : List ℕ). HasTakenRows ns b2 b3 lines g0 g1) c.list.ensures c.in_ok-lines.ensures.ok in
-    let threads = threads_now config counts b2 b3 lines g0 g1 c.separators.result c.mutators-2.result rowed c.in-Ok.ensures c.mutators-2.ensures in
-    let few : length g1.roots ≤ 8 = omega (arith, threads, config.in_range.most_mutators) in
-    let some : 1 ≤ length g1.roots = omega (arith, threads, config.in_range.least_mutators) in
-    let o = c.in_ok-rest.ensures.ok in
-    let d = whole config counts b0 b1 b2 b3 b4 lines g0 g1 g2 o.0 head counted rowed o.1 threads few some in
+    let rowed = subst (λ (ns : List ℕ). HasTakenRows ns behind_counts behind_objects lines opened_text objects_text) c.list.ensures c.in_ok-lines.ensures.ok in
+    let threads = threads_now config counts behind_counts behind_objects lines opened_text objects_text c.separators.result c.mutators-2.result rowed c.in-Ok.ensures c.mutators-2.ensures in
+    let few : length objects_text.roots ≤ 8 = omega (arith, threads, config.in_range.most_mutators) in
+    let some : 1 ≤ length objects_text.roots = omega (arith, threads, config.in_range.least_mutators) in
+    let rooted = c.in_ok-rest.ensures.ok in
+    let dump = whole config counts dump_bytes behind_head behind_counts behind_objects behind_roots lines opened_text objects_text rooted_text rooted.0 head counted rowed rooted.1 threads few some in
     let first = 5 + lines + c.mutators-3.result in
-    let h = mark_fault e first b4 g2 d c.in_err-rest-2.ensures.err (held_now config counts b0 b1 b2 b3 b4 lines g0 g1 g2 o.0 head counted rowed o.1 threads few some)
-    (some_roots config counts b0 b1 b2 b3 b4 lines g0 g1 g2 o.0 head counted rowed o.1 threads few some) in
-    let led = to_roots config counts b0 b1 b2 b3 b4 lines g0 g1 g2 o.0 head counted rowed o.1 threads few some in
-    let number : first ≡ 1 + (4 + (lines + length g1.roots)) = omega (arith, threads, c.mutators-3.ensures) in
-    refused b0 n why c.requires (stops_behind Version (Listed d) 1 first b0 b4 (4 + (lines + length g1.roots)) n why led number (stop_line r (Listed d) first b4 p.0 e p.1 p.2 h n why is))
+    let is_fault = mark_fault error first behind_roots rooted_text dump c.in_err-rest-2.ensures.err (held_now config counts dump_bytes behind_head behind_counts behind_objects behind_roots lines opened_text objects_text rooted_text rooted.0 head counted rowed rooted.1 threads few some)
+    (some_roots config counts dump_bytes behind_head behind_counts behind_objects behind_roots lines opened_text objects_text rooted_text rooted.0 head counted rowed rooted.1 threads few some) in
+    let led = to_roots config counts dump_bytes behind_head behind_counts behind_objects behind_roots lines opened_text objects_text rooted_text rooted.0 head counted rowed rooted.1 threads few some in
+    let number : first ≡ 1 + (4 + (lines + length objects_text.roots)) = omega (arith, threads, c.mutators-3.ensures) in
+    refused dump_bytes n why c.requires (stops_behind Version (Listed dump) 1 first dump_bytes behind_roots (4 + (lines + length objects_text.roots)) n why led number (stop_line outcome (Listed dump) first behind_roots fault.0 error fault.1 fault.2 is_fault n why is))
 
 pub trace_behind-requires : goal.trace_behind-requires
 trace_behind-requires c =
     let config = c.in_ok-config.config in
-    let b0 = c.args.bytes.now in
-    let b1 = c.in_ok-config.rest.now in
-    let b2 = c.in_ok-counts.rest.now in
-    let b3 = c.in_ok-lines.rest.now in
-    let b4 = c.in_ok-rest.rest.now in
+    let dump_bytes = c.args.bytes.now in
+    let behind_head = c.in_ok-config.rest.now in
+    let behind_counts = c.in_ok-counts.rest.now in
+    let behind_objects = c.in_ok-lines.rest.now in
+    let behind_roots = c.in_ok-rest.rest.now in
     let counts = c.in_ok-counts.counts in
     let lines = c.in_ok-lines.lines in
-    let g0 = c.in-Ok.graph in
-    let g1 = c.take_objects.new.graph in
+    let opened_text = c.in-Ok.graph in
+    let objects_text = c.take_objects.new.graph in
     let head = c.in_ok-config.ensures.ok in
     let counted = c.in_ok-counts.ensures.ok config (sym c.mutators.ensures) in
     let rowed = c.in_ok-lines.ensures.ok in
-    let one = shorter Version (Counts config) b0 b1 3 head in
-    let two = shorter (Counts config) (Listed (listed config counts [] [])) b1 b2 1 counted in
-    let o = c.in_ok-rest-2.ensures.ok in
-    let last = line_shorter b4 o.0 c.in_ok-rest-2.rest.now o.1 in
+    let one = shorter Version (Counts config) dump_bytes behind_head 3 head in
+    let two = shorter (Counts config) (Listed (listed config counts [] [])) behind_head behind_counts 1 counted in
+    let rooted = c.in_ok-rest-2.ensures.ok in
+    let last = line_shorter behind_roots rooted.0 c.in_ok-rest-2.rest.now rooted.1 in
     omega (arith, one, two, rowed.shorter, c.in_ok-rest.ensures.ok.1.shorter, last, c.mutators-3.ensures, config.in_range.most_mutators, c.requires)
 
 pub returns-in_err-trace-clause-bad_line : goal.returns-in_err-trace-clause-bad_line
 returns-in_err-trace-clause-bad_line c = λ n why is.
-    let p = err_from_is_err_and c.from_residual-in_err-trace.result c.from_residual-in_err-trace.ensures.1 in
+    let fault = err_from_is_err_and c.from_residual-in_err-trace.result c.from_residual-in_err-trace.ensures.1 in
     let config = c.in_ok-config.config in
-    let b0 = c.args.bytes.now in
-    let b1 = c.in_ok-config.rest.now in
-    let b2 = c.in_ok-counts.rest.now in
-    let b3 = c.in_ok-lines.rest.now in
-    let b4 = c.in_ok-rest.rest.now in
+    let dump_bytes = c.args.bytes.now in
+    let behind_head = c.in_ok-config.rest.now in
+    let behind_counts = c.in_ok-counts.rest.now in
+    let behind_objects = c.in_ok-lines.rest.now in
+    let behind_roots = c.in_ok-rest.rest.now in
     let counts = c.in_ok-counts.counts in
     let lines = c.in_ok-lines.lines in
-    let g0 = c.in-Ok.graph in
-    let g1 = c.take_objects.new.graph in
-    let g2 = c.take_all_roots.new.graph in
+    let opened_text = c.in-Ok.graph in
+    let objects_text = c.take_objects.new.graph in
+    let rooted_text = c.take_all_roots.new.graph in
     let head = c.in_ok-config.ensures.ok in
     let counted = c.in_ok-counts.ensures.ok config (sym c.mutators.ensures) in
-    let rowed = subst (λ (ns : List ℕ). HasTakenRows ns b2 b3 lines g0 g1) c.list.ensures c.in_ok-lines.ensures.ok in
-    let threads = threads_now config counts b2 b3 lines g0 g1 c.separators.result c.mutators-2.result rowed c.in-Ok.ensures c.mutators-2.ensures in
-    let few : length g1.roots ≤ 8 = omega (arith, threads, config.in_range.most_mutators) in
-    let some : 1 ≤ length g1.roots = omega (arith, threads, config.in_range.least_mutators) in
-    let o = c.in_ok-rest.ensures.ok in
-    let m = c.in_ok-rest-2.ensures.ok in
+    let rowed = subst (λ (ns : List ℕ). HasTakenRows ns behind_counts behind_objects lines opened_text objects_text) c.list.ensures c.in_ok-lines.ensures.ok in
+    let threads = threads_now config counts behind_counts behind_objects lines opened_text objects_text c.separators.result c.mutators-2.result rowed c.in-Ok.ensures c.mutators-2.ensures in
+    let few : length objects_text.roots ≤ 8 = omega (arith, threads, config.in_range.most_mutators) in
+    let some : 1 ≤ length objects_text.roots = omega (arith, threads, config.in_range.least_mutators) in
+    let rooted = c.in_ok-rest.ensures.ok in
+    let marked = c.in_ok-rest-2.ensures.ok in
     let first = 5 + lines + c.mutators-3.result + 1 in
-    let same : c.in_err-trace.field-0.0 ≡ BadLine n why = let x = p.2 in let y = p.1 in cc in
+    let same : c.in_err-trace.field-0.0 ≡ BadLine n why = let x = fault.2 in let y = fault.1 in cc in
     let stops = c.trace_behind.ensures.bad_line n why (c.in_err-trace.was ∙ ap Err same) in
-    let number : first ≡ 5 + lines + length g1.roots + 1 = omega (arith, threads, c.mutators-3.ensures) in
-    bad_trace config counts b0 b1 b2 b3 b4 lines g0 g1 g2 o.0 head counted rowed o.1 threads few some c.in_ok-rest-2.rest.now m.0 m.1 m.2 m.3 first n why number c.requires stops
+    let number : first ≡ 5 + lines + length objects_text.roots + 1 = omega (arith, threads, c.mutators-3.ensures) in
+    bad_trace config counts dump_bytes behind_head behind_counts behind_objects behind_roots lines opened_text objects_text rooted_text rooted.0 head counted rowed rooted.1 threads few some c.in_ok-rest-2.rest.now marked.0 marked.1 marked.2 marked.3 first n why number c.requires stops
 
 pub returns-clause-ok : goal.returns-clause-ok
 returns-clause-ok c =
     let config = c.in_ok-config.config in
-    let b0 = c.args.bytes.now in
-    let b1 = c.in_ok-config.rest.now in
-    let b2 = c.in_ok-counts.rest.now in
-    let b3 = c.in_ok-lines.rest.now in
-    let b4 = c.in_ok-rest.rest.now in
+    let dump_bytes = c.args.bytes.now in
+    let behind_head = c.in_ok-config.rest.now in
+    let behind_counts = c.in_ok-counts.rest.now in
+    let behind_objects = c.in_ok-lines.rest.now in
+    let behind_roots = c.in_ok-rest.rest.now in
     let counts = c.in_ok-counts.counts in
     let lines = c.in_ok-lines.lines in
-    let g0 = c.in-Ok.graph in
-    let g1 = c.take_objects.new.graph in
-    let g2 = c.take_all_roots.new.graph in
+    let opened_text = c.in-Ok.graph in
+    let objects_text = c.take_objects.new.graph in
+    let rooted_text = c.take_all_roots.new.graph in
     let head = c.in_ok-config.ensures.ok in
     let counted = c.in_ok-counts.ensures.ok config (sym c.mutators.ensures) in
-    let rowed = subst (λ (ns : List ℕ). HasTakenRows ns b2 b3 lines g0 g1) c.list.ensures c.in_ok-lines.ensures.ok in
-    let threads = threads_now config counts b2 b3 lines g0 g1 c.separators.result c.mutators-2.result rowed c.in-Ok.ensures c.mutators-2.ensures in
-    let few : length g1.roots ≤ 8 = omega (arith, threads, config.in_range.most_mutators) in
-    let some : 1 ≤ length g1.roots = omega (arith, threads, config.in_range.least_mutators) in
-    let o = c.in_ok-rest.ensures.ok in
-    let m = c.in_ok-rest-2.ensures.ok in
-    resumes config counts b0 b1 b2 b3 b4 lines g0 g1 g2 o.0 head counted rowed o.1 threads few some c.in_ok-rest-2.rest.now m.0 m.1 m.2 m.3 c.in_ok-trace.trace.scripts c.in_ok-trace.trace.schedule c.requires c.in_ok-trace.ensures.ok
+    let rowed = subst (λ (ns : List ℕ). HasTakenRows ns behind_counts behind_objects lines opened_text objects_text) c.list.ensures c.in_ok-lines.ensures.ok in
+    let threads = threads_now config counts behind_counts behind_objects lines opened_text objects_text c.separators.result c.mutators-2.result rowed c.in-Ok.ensures c.mutators-2.ensures in
+    let few : length objects_text.roots ≤ 8 = omega (arith, threads, config.in_range.most_mutators) in
+    let some : 1 ≤ length objects_text.roots = omega (arith, threads, config.in_range.least_mutators) in
+    let rooted = c.in_ok-rest.ensures.ok in
+    let marked = c.in_ok-rest-2.ensures.ok in
+    resumes config counts dump_bytes behind_head behind_counts behind_objects behind_roots lines opened_text objects_text rooted_text rooted.0 head counted rowed rooted.1 threads few some c.in_ok-rest-2.rest.now marked.0 marked.1 marked.2 marked.3 c.in_ok-trace.trace.scripts c.in_ok-trace.trace.schedule c.requires c.in_ok-trace.ensures.ok

@@ -3,8 +3,8 @@ use Rattle.heap_dump.proofs.whole.is_whole.Goals as goal
 
 pub returns-in-Some : goal.returns-in-Some
 returns-in-Some c =
-    let t = c.args.graph.now in
+    let graph = c.args.graph.now in
     let marks = c.in-Some.marks.items in
     let reached = rw c.in-Some.is at c.in_ok-marks.ensures in
     let all = rw c.deref.ensures.value at c.are_all.ensures in
-    (λ is. whole_reach t marks c.requires.order reached (all.0 is), λ reach. all.1 (not_all_reach t marks c.requires.order reached reach))
+    (λ is. whole_reach graph marks c.requires.order reached (all.0 is), λ reach. all.1 (not_all_reach graph marks c.requires.order reached reach))

@@ -5,7 +5,7 @@ use Rattle.shen_graph.specs.declared.order.Order.TheVariants.{Nothing}
 use Rattle.shen_graph.specs.Order.{hinting}
 use Rattle.image_graph.specs.State.{config_of, memory_of}
 use Rattle.step_core.specs.Actor.{controlling}
-use Rattle.heap_machines.specs.Shown.{shown, order_of, heap_of}
+use Rattle.heap_machines.specs.Shown.{shown, order_of, config_of as machine_config}
 use Rattle.heap_machines.specs.FromImage.{machine_from}
 use Rattle.heap_machines.proofs.FromImages.{machines_more, control_is}
 use Rattle.heap_machines.proofs.from_image.machines_from.Goals as goal
@@ -19,8 +19,8 @@ loop-number-preserved c =
       machines = ap (map shown) grown
           ∙ machines_more heap c.args.counts.now memory c.loop-number.machines.items c.machine_at-machine.result c.loop-number.number c.loop-number.invariant.machines
           (subst (λ k. shown c.machine_at-machine.result ≡ machine_from k c.args.counts.now memory c.loop-number.number) c.config-config.ensures (c.machine_at-machine.ensures.shown memory));
-      heap = subst (λ xs. All (λ m. heap_of m ≡ heap) xs) (sym grown)
-          (All-push (λ m. heap_of m ≡ heap) c.loop-number.machines.items c.machine_at-machine.result c.loop-number.invariant.heap (c.machine_at-machine.ensures.heap ∙ c.config-config.ensures));
+      heap = subst (λ xs. All (λ m. machine_config m ≡ heap) xs) (sym grown)
+          (All-push (λ m. machine_config m ≡ heap) c.loop-number.machines.items c.machine_at-machine.result c.loop-number.invariant.heap (c.machine_at-machine.ensures.heap ∙ c.config-config.ensures));
       orders = subst (λ xs. All (λ m. order_of m ≡ Nothing) xs) (sym grown)
           (All-push (λ m. order_of m ≡ Nothing) c.loop-number.machines.items c.machine_at-machine.result c.loop-number.invariant.orders c.machine_at-machine.ensures.order);
     }
@@ -38,8 +38,8 @@ returns-clause-machines c =
 
 pub returns-clause-heap : goal.returns-clause-heap
 returns-clause-heap c =
-    subst (λ xs. All (λ m. heap_of m ≡ config_of c.args.image) xs) (sym c.in-Ok-push.ensures.items)
-    (All-push (λ m. heap_of m ≡ config_of c.args.image) c.loop-number.machines.items _ c.loop-number.invariant.heap c.new.ensures.config)
+    subst (λ xs. All (λ m. machine_config m ≡ config_of c.args.image) xs) (sym c.in-Ok-push.ensures.items)
+    (All-push (λ m. machine_config m ≡ config_of c.args.image) c.loop-number.machines.items _ c.loop-number.invariant.heap c.new.ensures.config)
 
 pub returns-clause-orders : goal.returns-clause-orders
 returns-clause-orders c =

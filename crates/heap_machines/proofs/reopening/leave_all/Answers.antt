@@ -12,11 +12,11 @@ loop-seat-init c = (c.requires.config, none_out (memory_of c.args.image.now))
 pub loop-seat-preserved : goal.loop-seat-preserved
 loop-seat-preserved c =
     let l = c.loop-seat in
-    let d = c.args.config in
+    let config = c.args.config in
     let inside = c.loop-seat-test.true in
     let end = l.auto.seat-end in (
       c.set_word.ensures.config ∙ l.invariant.0,
-      stored (config_of l.image) d (memory_of l.image) (memory_of c.set_word.new.self) (State l.seat) c.state_at.result 0 l.invariant.0 (omega (arith, inside, end, c.mutators.ensures, c.helpers.ensures)) c.state_at.ensures c.set_word.ensures.named
+      stored (config_of l.image) config (memory_of l.image) (memory_of c.set_word.new.self) (State l.seat) c.state_at.result 0 l.invariant.0 (omega (arith, inside, end, c.mutators.ensures, c.helpers.ensures)) c.state_at.ensures c.set_word.ensures.named
           ∙ ap (λ m. write m (State l.seat) 0) l.invariant.1 ∙ next_out l.seat (memory_of c.args.image.now),
     )
 

@@ -9,9 +9,9 @@ use Rattle.heap_machines.proofs.reopening.reopen_words.Goals as goal
 
 pub returns-clause-words : goal.returns-clause-words
 returns-clause-words c =
-    let i = c.args.image.now in
+    let image = c.args.image.now in
     let d = c.config-config.result in
-    let left = memory_of i in
+    let left = memory_of image in
     let zero = c.leave_all.new.image in
     let one = c.set_word.new.self in
     let two = c.set_word-2.new.self in
@@ -23,7 +23,7 @@ returns-clause-words c =
     let paused : memory_of one ≡ write (memory_of zero) Pause 0 = stored (config_of zero) d (memory_of zero) (memory_of one) Pause c.pause_at.result 0 first tt c.pause_at.ensures c.set_word.ensures.named in
     let nobody : memory_of two ≡ write (memory_of one) Left c.mutators.result = stored (config_of one) d (memory_of one) (memory_of two) Left c.left_at.result c.mutators.result second tt c.left_at.ensures c.set_word-2.ensures.named in
     let goes : memory_of three ≡ write (memory_of two) End 0 = stored (config_of two) d (memory_of two) (memory_of three) End c.end_at.result 0 third tt c.end_at.ensures c.set_word-3.ensures.named in
-    let same : d ≡ config_of i = c.config-config.ensures in
+    let same : d ≡ config_of image = c.config-config.ensures in
     goes ∙ ap (λ (m : Word → ℕ). write m End 0) (nobody ∙ ap (λ (n : ℕ). write (memory_of one) Left n) c.mutators.ensures ∙ ap (λ (m : Word → ℕ). write m Left d.mutators) (paused ∙ ap (λ (m : Word → ℕ). write m Pause 0) outside))
     ∙ ap (λ (k : Config). write (write (write (words_left_out (k.mutators + k.helpers) left) Pause 0) Left k.mutators) End 0) same
-    ∙ all_stored (config_of i) (words_of i)
+    ∙ all_stored (config_of image) (words_of image)

@@ -26,16 +26,16 @@ pub seated-requires-clause-bundles : goal.seated-requires-clause-bundles
 seated-requires-clause-bundles c k b there =
     let opened = c.in_ok-heap.ensures in
     let heap = c.in_ok-heap.heap in
-    let i = c.args.image in
+    let image = c.args.image in
     subst (λ (s : Stage Actor). IsFresh heap b (dealt_in c.config-config.result s k)) (sym opened.start)
-    (subst (λ workers. IsFresh heap b (dealt_to workers k (whole (stage_from (images.config_of i) (images.words_of i) c.args.counts.items).machines))) c.seats.ensures (opened.bundles k b there))
+    (subst (λ workers. IsFresh heap b (dealt_to workers k (whole (stage_from (images.config_of image) (images.words_of image) c.args.counts.items).machines))) c.seats.ensures (opened.bundles k b there))
 
 pub seated-requires-clause-begins : goal.seated-requires-clause-begins
 seated-requires-clause-begins c =
     let opened = c.in_ok-heap.ensures in
-    let i = c.args.image in
+    let image = c.args.image in
     subst (λ (d : Config). ∥ BeginsRenewable d (start_of_heap c.in_ok-heap.heap) ∥₁) (sym c.config-config.ensures)
-    (subst (λ (s : Stage Actor). ∥ BeginsRenewable (images.config_of i) s ∥₁) (sym opened.start)
+    (subst (λ (s : Stage Actor). ∥ BeginsRenewable (images.config_of image) s ∥₁) (sym opened.start)
     (∥∥₁_map c.requires.begins (λ some. record { graph = some.0; begins = opened.begins some.0 some.1; renewable = some.2 })))
 
 pub returns : goal.returns

@@ -16,35 +16,35 @@ use Rattle.heap_seats.proofs.renewing.go_on.Goals as goal
 
 pub renewed_seats-renewed-requires-clause-whole : goal.renewed_seats-renewed-requires-clause-whole
 renewed_seats-renewed-requires-clause-whole c =
-    let h = c.args.closed in
-    subst (λ (d : Config). IsPlaceable d c.graph.new.text) (sym c.requires.sizes) (left_placeable (ends.config_of h) (ends.stage_of h) c.requires.begins c.graph.new.text c.graph.ensures.shows)
+    let closed = c.args.closed in
+    subst (λ (d : Config). IsPlaceable d c.graph.new.text) (sym c.requires.sizes) (left_placeable (ends.config_of closed) (ends.stage_of closed) c.requires.begins c.graph.new.text c.graph.ensures.shows)
 
 pub renewed_seats-renewed-requires-clause-names : goal.renewed_seats-renewed-requires-clause-names
 renewed_seats-renewed-requires-clause-names c =
-    let h = c.args.closed in
-    subst (λ (d : Config). AreOfThreads d.mutators (names_of c.graph.new.text)) (sym c.requires.sizes) (left_threads (ends.config_of h) (ends.stage_of h) c.requires.begins c.graph.new.text c.graph.ensures.shows)
+    let closed = c.args.closed in
+    subst (λ (d : Config). AreOfThreads d.mutators (names_of c.graph.new.text)) (sym c.requires.sizes) (left_threads (ends.config_of closed) (ends.stage_of closed) c.requires.begins c.graph.new.text c.graph.ensures.shows)
 
 pub returns-in-Ok : goal.returns-in-Ok
 returns-in-Ok c =
-    let k = ends.config_of c.args.closed in
+    let config = ends.config_of c.args.closed in
     let left = ends.stage_of c.args.closed in
-    let t = c.graph.new.text in
+    let text = c.graph.new.text in
     let seats = c.in-Ok.seats.items in
-    begin_others k (ShowsGraph t k.mutators) (IsGraphLeft k left) renewals.Renewed seats (left_shown k left t c.graph.ensures.shows)
-    (subst (λ (d : Config). BeginSeats d (ShowsGraph t d.mutators) renewals.Renewed seats) c.requires.sizes c.in-Ok.ensures.renewed)
+    begin_others config (ShowsGraph text config.mutators) (IsGraphLeft config left) renewals.Renewed seats (left_shown config left text c.graph.ensures.shows)
+    (subst (λ (d : Config). BeginSeats d (ShowsGraph text d.mutators) renewals.Renewed seats) c.requires.sizes c.in-Ok.ensures.renewed)
 
 pub returns-in-Ok-reopened_seats : goal.returns-in-Ok-reopened_seats
 returns-in-Ok-reopened_seats c =
-    let k = ends.config_of c.args.closed in
+    let config = ends.config_of c.args.closed in
     let left = ends.stage_of c.args.closed in
     let new = c.graph.new.self in
-    let t = c.graph.new.text in
+    let text = c.graph.new.text in
     let why = c.in-Err.renewal in
     let seats = c.in-Ok-reopened_seats.seats.items in
-    begin_others k (IsLeftKept k left why) (IsGraphLeft k left) why seats
+    begin_others config (IsLeftKept config left why) (IsGraphLeft config left) why seats
     (λ g is_left. record {
       is_left = is_left;
-      keeps = subst (λ (d : Config). KeepsNames why d g) c.requires.sizes (c.in-Err.ensures.kept g (subst (λ (d : Config). ShowsGraph t d.mutators g) (sym c.requires.sizes) (left_shown k left t c.graph.ensures.shows g is_left)));
+      keeps = subst (λ (d : Config). KeepsNames why d g) c.requires.sizes (c.in-Err.ensures.kept g (subst (λ (d : Config). ShowsGraph text d.mutators g) (sym c.requires.sizes) (left_shown config left text c.graph.ensures.shows g is_left)));
     })
-    (subst (λ (s : Stage Actor). BeginSeats k (IsLeftKept k s why) why seats) c.graph.ensures.unchanged.stage
+    (subst (λ (s : Stage Actor). BeginSeats config (IsLeftKept config s why) why seats) c.graph.ensures.unchanged.stage
     (subst (λ (d : Config). BeginSeats d (IsLeftKept d (ends.stage_of new) why) why seats) c.graph.ensures.unchanged.config (c.in-Ok-reopened_seats.ensures why)))

@@ -15,27 +15,27 @@ use Rattle.heap_seats.proofs.renewing.renewed_seats.Goals as goal
 
 pub open_seats_from-requires-clause-begins : goal.open_seats_from-requires-clause-begins
 open_seats_from-requires-clause-begins c =
-    let d = c.args.config in
-    let t = c.args.text.now in
+    let config = c.args.config in
+    let text = c.args.text.now in
     let image = c.in-Ok-Heap.image in
     let counts = c.in-Ok-Heap.counts.items in
-    let sizes : images.config_of image ≡ d = rw c.in-Ok-Heap.field-0-is at c.in-Ok-Heap.ensures.config in
-    let placed : IsPlaced d (text_anew t) (images.memory_of image) = rw c.in-Ok-Heap.field-0-is at c.in-Ok-Heap.ensures.placed in
-    let stands : Represents d (images.memory_of image) (text_graph (text_anew t) counts) (λ m. nothing) = rw c.in-Ok-Heap.field-0-is at c.in-Ok-Heap.ensures.stands in
-    renewed_can d image sizes counts t c.requires.whole c.requires.names placed stands
+    let sizes : images.config_of image ≡ config = rw c.in-Ok-Heap.field-0-is at c.in-Ok-Heap.ensures.config in
+    let placed : IsPlaced config (text_anew text) (images.memory_of image) = rw c.in-Ok-Heap.field-0-is at c.in-Ok-Heap.ensures.placed in
+    let stands : Represents config (images.memory_of image) (text_graph (text_anew text) counts) (λ m. nothing) = rw c.in-Ok-Heap.field-0-is at c.in-Ok-Heap.ensures.stands in
+    renewed_can config image sizes counts text c.requires.whole c.requires.names placed stands
 
 pub returns-in-Ok-clause-renewed : goal.returns-in-Ok-clause-renewed
 returns-in-Ok-clause-renewed c =
-    let d = c.args.config in
-    let t = c.args.text.now in
+    let config = c.args.config in
+    let text = c.args.text.now in
     let image = c.in-Ok-Heap.image in
     let counts = c.in-Ok-Heap.counts.items in
-    let sizes : images.config_of image ≡ d = rw c.in-Ok-Heap.field-0-is at c.in-Ok-Heap.ensures.config in
-    let placed : IsPlaced d (text_anew t) (images.memory_of image) = rw c.in-Ok-Heap.field-0-is at c.in-Ok-Heap.ensures.placed in
-    let stands : Represents d (images.memory_of image) (text_graph (text_anew t) counts) (λ m. nothing) = rw c.in-Ok-Heap.field-0-is at c.in-Ok-Heap.ensures.stands in
-    let are : AreCountsOf (names_of t) d.mutators counts = rw c.in-Ok-Heap.field-0-is at c.in-Ok-Heap.ensures.counts in
-    seats_renewed d image sizes counts t c.requires.whole c.requires.names placed stands are
-    (not_pinned t (λ pinned. let is = c.renew.ensures.pinned.1 pinned in let heap = c.in-Ok-Heap.is in let which = c.in-Ok-Heap.field-0-is in absurd (cc)))
+    let sizes : images.config_of image ≡ config = rw c.in-Ok-Heap.field-0-is at c.in-Ok-Heap.ensures.config in
+    let placed : IsPlaced config (text_anew text) (images.memory_of image) = rw c.in-Ok-Heap.field-0-is at c.in-Ok-Heap.ensures.placed in
+    let stands : Represents config (images.memory_of image) (text_graph (text_anew text) counts) (λ m. nothing) = rw c.in-Ok-Heap.field-0-is at c.in-Ok-Heap.ensures.stands in
+    let are : AreCountsOf (names_of text) config.mutators counts = rw c.in-Ok-Heap.field-0-is at c.in-Ok-Heap.ensures.counts in
+    seats_renewed config image sizes counts text c.requires.whole c.requires.names placed stands are
+    (not_pinned text (λ pinned. let is = c.renew.ensures.pinned.1 pinned in let heap = c.in-Ok-Heap.is in let which = c.in-Ok-Heap.field-0-is in absurd (cc)))
     c.in-Ok.seats.items c.in-Ok.ensures
 
 pub returns-in-Ok-Pinned-clause-kept : goal.returns-in-Ok-Pinned-clause-kept

@@ -32,15 +32,15 @@ first_from c words counts machines is some =
 pub open_from-requires-clause-begins : goal.open_from-requires-clause-begins
 open_from-requires-clause-begins c =
     let g = c.config-config.result in
-    let e0 : images.config_of c.args.image ≡ g = sym c.config-config.ensures in
-    let e1 : images.config_of c.set_word.new.self ≡ g = c.set_word.ensures.config ∙ e0 in
-    let e2 : images.config_of c.set_word-2.new.self ≡ g = c.set_word-2.ensures.config ∙ e1 in
-    let seat : 0 < g.mutators + g.helpers = (let one = ap (λ (k : Config). k.mutators) (sym e0) ∙ c.requires.seats.0 in omega (arith, one)) in
-    let s1 = stored (images.config_of c.args.image) g _ _ Pause c.pause_at.result 0 e0 tt c.pause_at.ensures c.set_word.ensures.named in
-    let s2 = stored (images.config_of c.set_word.new.self) g _ _ (State 0) c.state_at.result 0 e1 seat c.state_at.ensures c.set_word-2.ensures.named in
-    let s3 = stored (images.config_of c.set_word-2.new.self) g _ _ Left c.left_at.result 1 e2 tt c.left_at.ensures c.set_word-3.ensures.named in
-    let words : images.memory_of c.set_word-3.new.self ≡ opened (images.memory_of c.args.image) = s3 ∙ ap (λ n. write n Left 1) (s2 ∙ ap (λ n. write n (State 0) 0) s1) in
-    let config : images.config_of c.set_word-3.new.self ≡ images.config_of c.args.image = c.set_word-3.ensures.config ∙ e2 ∙ sym e0 in
+    let config_before : images.config_of c.args.image ≡ g = sym c.config-config.ensures in
+    let config_pause : images.config_of c.set_word.new.self ≡ g = c.set_word.ensures.config ∙ config_before in
+    let config_state : images.config_of c.set_word-2.new.self ≡ g = c.set_word-2.ensures.config ∙ config_pause in
+    let seat : 0 < g.mutators + g.helpers = (let one = ap (λ (k : Config). k.mutators) (sym config_before) ∙ c.requires.seats.0 in omega (arith, one)) in
+    let stored_pause = stored (images.config_of c.args.image) g _ _ Pause c.pause_at.result 0 config_before tt c.pause_at.ensures c.set_word.ensures.named in
+    let stored_state = stored (images.config_of c.set_word.new.self) g _ _ (State 0) c.state_at.result 0 config_pause seat c.state_at.ensures c.set_word-2.ensures.named in
+    let stored_left = stored (images.config_of c.set_word-2.new.self) g _ _ Left c.left_at.result 1 config_state tt c.left_at.ensures c.set_word-3.ensures.named in
+    let words : images.memory_of c.set_word-3.new.self ≡ opened (images.memory_of c.args.image) = stored_left ∙ ap (λ n. write n Left 1) (stored_state ∙ ap (λ n. write n (State 0) 0) stored_pause) in
+    let config : images.config_of c.set_word-3.new.self ≡ images.config_of c.args.image = c.set_word-3.ensures.config ∙ config_state ∙ sym config_before in
     ∥∥₁_map c.requires.stands (λ (left : LeftGraph (images.config_of c.args.image) (images.memory_of c.args.image) c.args.made). (
       left.0,
       subst (λ (k : Config). CanBeginFrom k (images.memory_of c.set_word-3.new.self) (c.args.made ∷ []) left.0) (sym config)

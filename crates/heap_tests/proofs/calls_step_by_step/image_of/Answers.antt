@@ -12,15 +12,15 @@ use Rattle.heap_tests.proofs.calls_step_by_step.image_of.Goals as goal
 
 pub returns-clause-stands : goal.returns-clause-stands
 returns-clause-stands c =
-    let p = c.args.plain.now in
+    let plain = c.args.plain.now in
     let image = c.loop-at.image in
     let whole = image.all_words ∙ ap table_words c.loop-at.invariant.config in
     let all = ap table_words c.config-config.ensures in
-    let words : images.words_of image ≡ words_of p =
+    let words : images.words_of image ≡ words_of plain =
     sym (take_all c.loop-at.at (images.words_of image) (omega (arith, whole, all, c.loop-at-test.false, c.table_words-at-end.ensures)))
     ∙ c.loop-at.invariant.words
-    ∙ take_all c.loop-at.at (words_of p) (omega (arith, p.all_words, all, c.loop-at-test.false, c.table_words-at-end.ensures)) in
-    let memory : view (config_of p) (words_of p) ≡ images.memory_of image =
-    sym (ap (λ k. view k (images.words_of image)) c.loop-at.invariant.config ∙ ap (view (config_of p)) words) in
-    ∥∥₁_map p.reached (λ (some : IsShownBySome (config_of p) (words_of p) (machines_of p)). subst (λ (m : Word → ℕ). LeftGraph (config_of p) m (made_of_machine (machine_at p 0))) memory
-    (left (config_of p) (words_of p) (machines_of p) (first_free (config_of p).regions) c.requires.seats.0 c.requires.seats.1 c.requires.rest c.requires.control some.run some.shows))
+    ∙ take_all c.loop-at.at (words_of plain) (omega (arith, plain.all_words, all, c.loop-at-test.false, c.table_words-at-end.ensures)) in
+    let memory : view (config_of plain) (words_of plain) ≡ images.memory_of image =
+    sym (ap (λ k. view k (images.words_of image)) c.loop-at.invariant.config ∙ ap (view (config_of plain)) words) in
+    ∥∥₁_map plain.reached (λ (some : IsShownBySome (config_of plain) (words_of plain) (machines_of plain)). subst (λ (m : Word → ℕ). LeftGraph (config_of plain) m (made_of_machine (machine_at plain 0))) memory
+    (left (config_of plain) (words_of plain) (machines_of plain) (first_free (config_of plain).regions) c.requires.seats.0 c.requires.seats.1 c.requires.rest c.requires.control some.run some.shows))

@@ -25,8 +25,8 @@ use Rattle.heap_tests.proofs.renewal.opened.Goals as goal
 -- a machine is that of the opening
 first_at : (p : Plain) (k : ℕ) → Shows p (opening (config_of p)) → k < seat_count (config_of p).mutators (config_of p).helpers → machine_at p k ≡ opening_machine (config_of p) k
 first_at p k shows below =
-    let c = config_of p in
-    ap (λ ms. get_or ms k no_machine) (sym shows.machines_are ∙ first_machines c) ∙ get_or-map-range_with_len (opening_machine c) 0 (seat_count c.mutators c.helpers) k k no_machine below (omega arith)
+    let config = config_of p in
+    ap (λ ms. get_or ms k no_machine) (sym shows.machines_are ∙ first_machines config) ∙ get_or-map-range_with_len (opening_machine config) 0 (seat_count config.mutators config.helpers) k k no_machine below (omega arith)
 
 -- the control has no image
 control_calm : (c : Config) → image_read (opening_machine c (control_number c)) ≡ None
@@ -39,20 +39,20 @@ control_calm c = by_test (nat_lt (control_number c) c.mutators) (nat_lt (control
 
 rests : (p : Plain) → Shows p (opening (config_of p)) → AllRest p
 rests p shows =
-    let c = config_of p in
+    let config = config_of p in
     record {
-      mutators = λ t below. ap is_resting (first_at p t shows (omega arith)) ∙ first_rests c t below;
-      control = ap image_read (first_at p (control_number c) shows (omega arith)) ∙ control_calm c;
+      mutators = λ t below. ap is_resting (first_at p t shows (omega arith)) ∙ first_rests config t below;
+      control = ap image_read (first_at p (control_number config) shows (omega arith)) ∙ control_calm config;
     }
 
 stands : (p : Plain) → Shows p (opening (config_of p)) → StandsRenewable p
 unfolding history
 stands p shows =
-    let c = config_of p in
+    let config = config_of p in
     record {
-      run = record { start = opening c; graph = first_graph c; begins = opening_begins c; events = [] };
-      leads = subst (Shows p) (sym (go-none (kind pause_image c) (opening c))) shows;
-      renewable = opening_renewable c.mutators;
+      run = record { start = opening config; graph = first_graph config; begins = opening_begins config; events = [] };
+      leads = subst (Shows p) (sym (go-none (kind pause_image config) (opening config))) shows;
+      renewable = opening_renewable config.mutators;
     }
 
 of_opened : {E : Type 0} (c : Config) (P : Plain → Type 0) → ((p : Plain) → Shows p (opening (config_of p)) → P p) → (r : Result Plain E) → IfOk r (λ p. config_of p ≡ c) → IfOk r (λ p. Shows p (opening c)) → IfOk r P

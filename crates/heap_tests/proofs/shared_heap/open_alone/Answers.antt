@@ -5,9 +5,9 @@ use Rattle.heap_tests.proofs.shared_heap.open_alone.Goals as goal
 
 pub returns-clause-fresh : goal.returns-clause-fresh
 returns-clause-fresh c =
-    let b = c.in-Some.bundle in
+    let bundle = c.in-Some.bundle in
     let bundles = c.in_ok-heap.bundles.items in
     let one : length bundles ≡ 1 = c.in_ok-heap.ensures.count in
     let long : c.in_ok-heap.bundles.len ≡ 1 = c.in_ok-heap.bundles.ok.0 ∙ one in
-    let there = slice_get-get_or bundles 0 b (omega (arith, one)) ∙ ap (λ k. Some (slice_index_or bundles k b)) (sym (ap (λ n. n - 1) long)) ∙ sym (c.pop.ensures.value b (omega (arith, long))) ∙ c.in-Some.is in
-    c.in_ok-heap.ensures.bundles 0 b there
+    let there = slice_get-get_or bundles 0 bundle (omega (arith, one)) ∙ ap (λ k. Some (slice_index_or bundles k bundle)) (sym (ap (λ n. n - 1) long)) ∙ sym (c.pop.ensures.value bundle (omega (arith, long))) ∙ c.in-Some.is in
+    c.in_ok-heap.ensures.bundles 0 bundle there

@@ -9,11 +9,11 @@ returns-clause-heap c = c.in_ok-heap.ensures.fresh.of
 
 pub returns-clause-start : goal.returns-clause-start
 returns-clause-start c =
-    let b = c.in_ok-heap.bundle in
+    let bundle = c.in_ok-heap.bundle in
     let script = c.in_ok-script.field-0 in
     let jobs : c.in_ok-work.work ≡ opened (script ∷ []) =
     c.in_ok-work.ensures ∙ ap opened (c.deref.ensures.value ∙ c.in_ok-push.ensures.items ∙ ap (λ xs. xs ++ script ∷ []) c.new-scripts.ensures.items) in
-    fresh_can_start c.in_ok-heap.heap b c.in_ok-config.config 1 0 c.in_ok-work.work c.in_ok-heap.ensures.fresh (λ number below dealt.
+    fresh_can_start c.in_ok-heap.heap bundle c.in_ok-config.config 1 0 c.in_ok-work.work c.in_ok-heap.ensures.fresh (λ number below dealt.
     let first : number ≡ 0 = omega (arith, below, c.in_ok-config.ensures.mutators) in
     (script, ap (λ k. progress_of c.in_ok-work.work k) first ∙ ap (λ work. progress_of work 0) jobs, c.in_ok-script.ensures.valid, c.in_ok-script.ensures.few))
 

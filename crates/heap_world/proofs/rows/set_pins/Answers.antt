@@ -16,23 +16,23 @@ loop-position-init c = record {
 
 pub loop-position-preserved : goal.loop-position-preserved
 loop-position-preserved c =
-    let p = c.loop-position.position in
+    let position = c.loop-position.position in
     let rows = c.loop-position.text.pins in
     let shown = λ (k : ℕ). reference_in c.args.first c.args.heap.now (get_or c.args.pins.now k 0) in
-    let low : p / 4 < length rows = omega arith in
-    let place : p ≡ 4 * (p / 4) + p % 4 = omega arith in
-    let within : p % 4 < 4 = omega arith in
-    let back : p / 4 + 1 - 1 ≡ p / 4 = omega arith in
+    let low : position / 4 < length rows = omega arith in
+    let place : position ≡ 4 * (position / 4) + position % 4 = omega arith in
+    let within : position % 4 < 4 = omega arith in
+    let back : position / 4 + 1 - 1 ≡ position / 4 = omega arith in
     let to = c.reference_to.result in
-    let with_slot = λ (i : ℕ). set rows i (set (get_or rows i []) (p % 4) to) in
+    let with_slot = λ (i : ℕ). set rows i (set (get_or rows i []) (position % 4) to) in
     let made = ap (λ t. t.pins) c.pin.ensures ∙ ap with_slot back in
     record {
-      rest = pins_alone c.args.text.now c.loop-position.text c.pin.new.self (with_slot (p / 4 + 1 - 1)) c.loop-position.invariant.rest c.pin.ensures;
+      rest = pins_alone c.args.text.now c.loop-position.text c.pin.new.self (with_slot (position / 4 + 1 - 1)) c.loop-position.invariant.rest c.pin.ensures;
       threads = ap (λ t. length t.roots) c.pin.ensures ∙ c.loop-position.invariant.threads;
-      count = (ap length made ∙ length-set rows (p / 4) (set (get_or rows (p / 4) []) (p % 4) to)
+      count = (ap length made ∙ length-set rows (position / 4) (set (get_or rows (position / 4) []) (position % 4) to)
           ∙ c.loop-position.invariant.count);
-      full = rw made (AreFull-with_cell 4 rows (p / 4) (p % 4) to low c.loop-position.invariant.full);
-      done = (rw made (AreSet-with_cell 4 shown rows p (p / 4) (p % 4) to place within low c.loop-position.invariant.full c.reference_to.ensures
+      full = rw made (AreFull-with_cell 4 rows (position / 4) (position % 4) to low c.loop-position.invariant.full);
+      done = (rw made (AreSet-with_cell 4 shown rows position (position / 4) (position % 4) to place within low c.loop-position.invariant.full c.reference_to.ensures
           c.loop-position.invariant.done));
     }
 

@@ -16,24 +16,24 @@ loop-position-init c = record {
 
 pub loop-position-preserved : goal.loop-position-preserved
 loop-position-preserved c =
-    let p = c.loop-position.position in
+    let position = c.loop-position.position in
     let rows = c.loop-position.text.roots in
     let shown = λ (k : ℕ). reference_in c.args.first c.args.heap.now (get_or c.args.roots.now k 0) in
-    let low : p / 16 < length rows = omega arith in
-    let place : p ≡ 16 * (p / 16) + p % 16 = omega arith in
-    let within : p % 16 < 16 = omega arith in
-    let back : p / 16 + 1 - 1 ≡ p / 16 = omega arith in
+    let low : position / 16 < length rows = omega arith in
+    let place : position ≡ 16 * (position / 16) + position % 16 = omega arith in
+    let within : position % 16 < 16 = omega arith in
+    let back : position / 16 + 1 - 1 ≡ position / 16 = omega arith in
     let to = c.reference_to.result in
     let made = ap (λ t. t.roots) c.root.ensures
-    ∙ ap (λ i. set rows i (set (get_or rows i []) (p % 16) to)) back in
+    ∙ ap (λ i. set rows i (set (get_or rows i []) (position % 16) to)) back in
     record {
       rows = ap (λ t. t.rows) c.root.ensures ∙ c.loop-position.invariant.rows;
       room = ap (λ t. t.room) c.root.ensures ∙ c.loop-position.invariant.room;
       pins = ap (λ t. t.pins) c.root.ensures ∙ c.loop-position.invariant.pins;
-      count = (ap length made ∙ length-set rows (p / 16) (set (get_or rows (p / 16) []) (p % 16) to)
+      count = (ap length made ∙ length-set rows (position / 16) (set (get_or rows (position / 16) []) (position % 16) to)
           ∙ c.loop-position.invariant.count);
-      full = rw made (AreFull-with_cell 16 rows (p / 16) (p % 16) to low c.loop-position.invariant.full);
-      done = (rw made (AreSet-with_cell 16 shown rows p (p / 16) (p % 16) to place within low c.loop-position.invariant.full c.reference_to.ensures
+      full = rw made (AreFull-with_cell 16 rows (position / 16) (position % 16) to low c.loop-position.invariant.full);
+      done = (rw made (AreSet-with_cell 16 shown rows position (position / 16) (position % 16) to place within low c.loop-position.invariant.full c.reference_to.ensures
           c.loop-position.invariant.done));
     }
 

@@ -18,26 +18,26 @@ find_reachable-requires-clause-sound c = sound_some c.args.first c.args.heap.now
 
 pub write_objects-requires-clause-above : goal.write_objects-requires-clause-above
 write_objects-requires-clause-above c =
-    let sound' = sound_some c.args.first c.args.heap.now c.args.roots.now c.args.pins.now c.requires.first c.requires.stand in
-    rw c.deref.ensures.value (all_above c.args.first c.args.heap.now c.args.roots.now c.args.pins.now sound' _ c.find_reachable.ensures.walk)
+    let is_sound = sound_some c.args.first c.args.heap.now c.args.roots.now c.args.pins.now c.requires.first c.requires.stand in
+    rw c.deref.ensures.value (all_above c.args.first c.args.heap.now c.args.roots.now c.args.pins.now is_sound _ c.find_reachable.ensures.walk)
 
 pub write_objects-requires-clause-below : goal.write_objects-requires-clause-below
 write_objects-requires-clause-below c =
-    let sound' = sound_some c.args.first c.args.heap.now c.args.roots.now c.args.pins.now c.requires.first c.requires.stand in
-    rw c.deref.ensures.value (all_below c.args.first c.args.heap.now c.args.roots.now c.args.pins.now sound' _ c.find_reachable.ensures.walk)
+    let is_sound = sound_some c.args.first c.args.heap.now c.args.roots.now c.args.pins.now c.requires.first c.requires.stand in
+    rw c.deref.ensures.value (all_below c.args.first c.args.heap.now c.args.roots.now c.args.pins.now is_sound _ c.find_reachable.ensures.walk)
 
 pub write_objects-requires-clause-named : goal.write_objects-requires-clause-named
 write_objects-requires-clause-named c =
-    let sound' = sound_some c.args.first c.args.heap.now c.args.roots.now c.args.pins.now c.requires.first c.requires.stand in
-    rw c.deref.ensures.value (all_named c.args.first c.args.heap.now c.args.roots.now c.args.pins.now sound' _ c.find_reachable.ensures.walk)
+    let is_sound = sound_some c.args.first c.args.heap.now c.args.roots.now c.args.pins.now c.requires.first c.requires.stand in
+    rw c.deref.ensures.value (all_named c.args.first c.args.heap.now c.args.roots.now c.args.pins.now is_sound _ c.find_reachable.ensures.walk)
 
 pub write_objects-requires-clause-room : goal.write_objects-requires-clause-room
 write_objects-requires-clause-room c =
-    let sound' = sound_some c.args.first c.args.heap.now c.args.roots.now c.args.pins.now c.requires.first c.requires.stand in
+    let is_sound = sound_some c.args.first c.args.heap.now c.args.roots.now c.args.pins.now c.requires.first c.requires.stand in
     let order = c.find_reachable.new.order.items in
     let words = λ (a : ℕ). size_at c.args.heap.now (a - c.args.first) in
     let fit : sum_by words order ≤ length c.args.heap.now =
-    all_fit c.args.first c.args.heap.now c.args.roots.now c.args.pins.now sound' order c.find_reachable.ensures.walk in
+    all_fit c.args.first c.args.heap.now c.args.roots.now c.args.pins.now is_sound order c.find_reachable.ensures.walk in
     let spare : c.clear.new.self.spare ≡ c.args.text.now.room = ap (λ t. t.spare) c.clear.ensures in
     let enough : sum_by words order ≤ c.clear.new.self.spare = omega arith in
     rw c.deref.ensures.value enough

@@ -17,11 +17,11 @@ word-requires c =
 
 pub loop-index-preserved : goal.loop-index-preserved
 loop-index-preserved c =
-    let m : Word → ℕ = memory_of c.args.image.now in
+    let memory : Word → ℕ = memory_of c.args.image.now in
     let i = c.loop-index.index in
-    let word : c.word.result ≡ m (Heap (c.args.address + 3 + i)) =
-    read (config_of c.args.image.now) _ m (Heap (c.args.address + 3 + i)) _ _ c.config-config.ensures (c.requires.inside i c.loop-index-test.true) c.heap_at.ensures c.word.ensures.named in
-    below_more (λ (j : ℕ). IsReference c.args.objects.now (m (Heap (c.args.address + 3 + j)))) i c.loop-index.invariant
+    let word : c.word.result ≡ memory (Heap (c.args.address + 3 + i)) =
+    read (config_of c.args.image.now) _ memory (Heap (c.args.address + 3 + i)) _ _ c.config-config.ensures (c.requires.inside i c.loop-index-test.true) c.heap_at.ensures c.word.ensures.named in
+    below_more (λ (j : ℕ). IsReference c.args.objects.now (memory (Heap (c.args.address + 3 + j)))) i c.loop-index.invariant
     (subst (IsReference c.args.objects.now) word (c.is_reference.ensures c.if-not-is_reference.false))
 
 pub returns : goal.returns

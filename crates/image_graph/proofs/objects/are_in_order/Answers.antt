@@ -52,25 +52,25 @@ word-requires-else-behind-here-2 c =
 
 pub loop-index-preserved : goal.loop-index-preserved
 loop-index-preserved c =
-    let k = config_of c.args.image.now in
-    let m : Word → ℕ = memory_of c.args.image.now in
+    let config = config_of c.args.image.now in
+    let memory : Word → ℕ = memory_of c.args.image.now in
     let i = c.loop-index.index in
     let at : ℕ → ℕ = λ (j : ℕ). get_or c.args.objects.now j 0 in
     let before = c.requires (i - 1) (omega (arith, c.loop-index-test.true)) in
     let here = c.requires i c.loop-index-test.true in
-    let shape : c.word.result ≡ m (Heap (at (i - 1) + 1)) =
-    read k _ m (Heap (at (i - 1) + 1)) _ _ c.config-config.ensures (head _ k _ _ _ 1 refl before (omega arith)) c.heap_at.ensures c.word.ensures.named in
-    let one : c.word-else-behind-here.result ≡ m (Heap (at (i - 1) + 2)) =
-    read k _ m (Heap (at (i - 1) + 2)) _ _ c.config-config.ensures (head _ k _ _ _ 2 refl before (omega arith)) c.heap_at-else-behind-here.ensures c.word-else-behind-here.ensures.named in
-    let two : c.word-else-behind-here-2.result ≡ m (Heap (at i + 2)) =
-    read k _ m (Heap (at i + 2)) _ _ c.config-config.ensures (head _ k _ _ _ 2 refl here (omega arith)) c.heap_at-else-behind-here-2.ensures c.word-else-behind-here-2.ensures.named in
-    let long : c.words_of.result ≡ laid_words m (at (i - 1)) = c.words_of.ensures ∙ ap object_words shape in
+    let shape : c.word.result ≡ memory (Heap (at (i - 1) + 1)) =
+    read config _ memory (Heap (at (i - 1) + 1)) _ _ c.config-config.ensures (head _ config _ _ _ 1 refl before (omega arith)) c.heap_at.ensures c.word.ensures.named in
+    let one : c.word-else-behind-here.result ≡ memory (Heap (at (i - 1) + 2)) =
+    read config _ memory (Heap (at (i - 1) + 2)) _ _ c.config-config.ensures (head _ config _ _ _ 2 refl before (omega arith)) c.heap_at-else-behind-here.ensures c.word-else-behind-here.ensures.named in
+    let two : c.word-else-behind-here-2.result ≡ memory (Heap (at i + 2)) =
+    read config _ memory (Heap (at i + 2)) _ _ c.config-config.ensures (head _ config _ _ _ 2 refl here (omega arith)) c.heap_at-else-behind-here-2.ensures c.word-else-behind-here-2.ensures.named in
+    let long : c.words_of.result ≡ laid_words memory (at (i - 1)) = c.words_of.ensures ∙ ap object_words shape in
     let some : 1 ≤ i = c.loop-index.auto.index in
     record {
-      apart = more (λ (j l : ℕ). at j + laid_words m (at j) ≤ at l) i some c.loop-index.invariant.apart
+      apart = more (λ (j l : ℕ). at j + laid_words memory (at j) ≤ at l) i some c.loop-index.invariant.apart
           (subst (λ (n : ℕ). at (i - 1) + n ≤ at i) long c.if-behind-here.false);
-      named = more (λ (j l : ℕ). m (Heap (at j + 2)) < m (Heap (at l + 2))) i some c.loop-index.invariant.named
-          (subst (λ (n : ℕ). n < m (Heap (at i + 2))) one (subst (λ (n : ℕ). c.word-else-behind-here.result < n) two c.if-word.false));
+      named = more (λ (j l : ℕ). memory (Heap (at j + 2)) < memory (Heap (at l + 2))) i some c.loop-index.invariant.named
+          (subst (λ (n : ℕ). n < memory (Heap (at i + 2))) one (subst (λ (n : ℕ). c.word-else-behind-here.result < n) two c.if-word.false));
     }
 
 pub returns : goal.returns

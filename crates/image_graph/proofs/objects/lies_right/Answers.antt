@@ -45,39 +45,39 @@ word-requires-2 c =
 pub overflow_add-end : goal.overflow_add-end
 overflow_add-end c =
     let r = c.region_of-region.result in
-    let k = config_of c.args.image.now in
-    let below : r < k.regions = subst (λ (j : Config). r < j.regions) c.config-config.ensures c.region_of-region.ensures.below in
+    let config = config_of c.args.image.now in
+    let below : r < config.regions = subst (λ (j : Config). r < j.regions) c.config-config.ensures c.region_of-region.ensures.below in
     let top : c.word-2.result ≡ memory_of c.args.image.now (Top r) =
-    read k _ (memory_of c.args.image.now) (Top r) _ _ c.config-config.ensures below c.top_at.ensures c.word-2.ensures.named in
-    let base : c.base.result ≡ base_of k r = c.base.ensures ∙ ap (λ (j : Config). base_of j r) c.config-config.ensures in
-    omega (arith, top, base, c.requires r below, low_region k r below)
+    read config _ (memory_of c.args.image.now) (Top r) _ _ c.config-config.ensures below c.top_at.ensures c.word-2.ensures.named in
+    let base : c.base.result ≡ base_of config r = c.base.ensures ∙ ap (λ (j : Config). base_of j r) c.config-config.ensures in
+    omega (arith, top, base, c.requires r below, low_region config r below)
 
 pub returns-then-behind-end-2 : goal.returns-then-behind-end-2
 returns-then-behind-end-2 c =
-    let k = config_of c.args.image.now in
-    let m : Word → ℕ = memory_of c.args.image.now in
-    let a = c.args.address in
+    let config = config_of c.args.image.now in
+    let memory : Word → ℕ = memory_of c.args.image.now in
+    let address = c.args.address in
     let r = c.region_of-region.result in
-    let below : r < k.regions = subst (λ (j : Config). r < j.regions) c.config-config.ensures c.region_of-region.ensures.below in
-    let top : c.word-2.result ≡ m (Top r) = read k _ m (Top r) _ _ c.config-config.ensures below c.top_at.ensures c.word-2.ensures.named in
-    let word : IsWord k (Heap (a + 1)) = subst (λ (j : Config). IsWord j (Heap (a + 1))) c.config-config.ensures
+    let below : r < config.regions = subst (λ (j : Config). r < j.regions) c.config-config.ensures c.region_of-region.ensures.below in
+    let top : c.word-2.result ≡ memory (Top r) = read config _ memory (Top r) _ _ c.config-config.ensures below c.top_at.ensures c.word-2.ensures.named in
+    let word : IsWord config (Heap (address + 1)) = subst (λ (j : Config). IsWord j (Heap (address + 1))) c.config-config.ensures
     (between c.config-config.result _ _ _ 1 c.region_words-first.ensures c.heap_size.ensures.value c.if-address-first.false c.if-last-address-lt3.false (omega arith)) in
-    let long : c.words_of.result ≡ laid_words m a = c.words_of.ensures ∙ ap object_words (read k _ m (Heap (a + 1)) _ _ c.config-config.ensures word c.heap_at.ensures c.word.ensures.named) in
-    λ _. lies_by k c.config-config.result m c.args.objects.now a _ _ _ r _ _ c.config-config.ensures c.region_words-first.ensures c.heap_size.ensures.value c.if-address-first.false
+    let long : c.words_of.result ≡ laid_words memory address = c.words_of.ensures ∙ ap object_words (read config _ memory (Heap (address + 1)) _ _ c.config-config.ensures word c.heap_at.ensures c.word.ensures.named) in
+    λ _. lies_by config c.config-config.result memory c.args.objects.now address _ _ _ r _ _ c.config-config.ensures c.region_words-first.ensures c.heap_size.ensures.value c.if-address-first.false
     c.if-last-address-lt3.false long c.region_of-region.ensures.value c.base.ensures top c.if-behind-end.true (λ other. absurd (other c.if-behind-end-2.true))
 
 pub returns-else-behind-end-2 : goal.returns-else-behind-end-2
 returns-else-behind-end-2 c =
-    let k = config_of c.args.image.now in
-    let m : Word → ℕ = memory_of c.args.image.now in
-    let a = c.args.address in
+    let config = config_of c.args.image.now in
+    let memory : Word → ℕ = memory_of c.args.image.now in
+    let address = c.args.address in
     let r = c.region_of-region.result in
-    let below : r < k.regions = subst (λ (j : Config). r < j.regions) c.config-config.ensures c.region_of-region.ensures.below in
-    let top : c.word-2.result ≡ m (Top r) = read k _ m (Top r) _ _ c.config-config.ensures below c.top_at.ensures c.word-2.ensures.named in
-    let word : IsWord k (Heap (a + 1)) = subst (λ (j : Config). IsWord j (Heap (a + 1))) c.config-config.ensures
+    let below : r < config.regions = subst (λ (j : Config). r < j.regions) c.config-config.ensures c.region_of-region.ensures.below in
+    let top : c.word-2.result ≡ memory (Top r) = read config _ memory (Top r) _ _ c.config-config.ensures below c.top_at.ensures c.word-2.ensures.named in
+    let word : IsWord config (Heap (address + 1)) = subst (λ (j : Config). IsWord j (Heap (address + 1))) c.config-config.ensures
     (between c.config-config.result _ _ _ 1 c.region_words-first.ensures c.heap_size.ensures.value c.if-address-first.false c.if-last-address-lt3.false (omega arith)) in
-    let long : c.words_of.result ≡ laid_words m a = c.words_of.ensures ∙ ap object_words (read k _ m (Heap (a + 1)) _ _ c.config-config.ensures word c.heap_at.ensures c.word.ensures.named) in
-    λ yes. lies_by k c.config-config.result m c.args.objects.now a _ _ _ r _ _ c.config-config.ensures c.region_words-first.ensures c.heap_size.ensures.value c.if-address-first.false
+    let long : c.words_of.result ≡ laid_words memory address = c.words_of.ensures ∙ ap object_words (read config _ memory (Heap (address + 1)) _ _ c.config-config.ensures word c.heap_at.ensures c.word.ensures.named) in
+    λ yes. lies_by config c.config-config.result memory c.args.objects.now address _ _ _ r _ _ c.config-config.ensures c.region_words-first.ensures c.heap_size.ensures.value c.if-address-first.false
     c.if-last-address-lt3.false long c.region_of-region.ensures.value c.base.ensures top c.if-behind-end.true (λ _. sym c.is_among.ensures ∙ yes)
 
 pub returns-else-behind-end : goal.returns-else-behind-end

@@ -34,29 +34,29 @@ word-requires-2 c =
 
 pub are_fields_right-requires-clause-inside : goal.are_fields_right-requires-clause-inside
 are_fields_right-requires-clause-inside c =
-    let k = config_of c.args.image.now in
-    let m : Word → ℕ = memory_of c.args.image.now in
-    let shape : c.word-shape.result ≡ m (Heap (c.args.address + 1)) =
-    read k _ m (Heap (c.args.address + 1)) _ _ c.config-config.ensures (head _ k _ _ _ 1 refl c.requires.lies (omega arith)) c.heap_at.ensures c.word-shape.ensures.named in
-    λ i below. field k m _ c.args.address i c.requires.lies c.requires.inside (subst (λ (n : ℕ). i < n) (c.refs_of.ensures ∙ ap refs_in shape) below)
+    let config = config_of c.args.image.now in
+    let memory : Word → ℕ = memory_of c.args.image.now in
+    let shape : c.word-shape.result ≡ memory (Heap (c.args.address + 1)) =
+    read config _ memory (Heap (c.args.address + 1)) _ _ c.config-config.ensures (head _ config _ _ _ 1 refl c.requires.lies (omega arith)) c.heap_at.ensures c.word-shape.ensures.named in
+    λ i below. field config memory _ c.args.address i c.requires.lies c.requires.inside (subst (λ (n : ℕ). i < n) (c.refs_of.ensures ∙ ap refs_in shape) below)
 
 pub are_fields_right-requires-clause-small : goal.are_fields_right-requires-clause-small
 are_fields_right-requires-clause-small c = omega (arith, low _ _ _ _ c.requires.lies, c.refs_of.ensures)
 
 pub returns : goal.returns
 returns c =
-    let k = config_of c.args.image.now in
-    let m : Word → ℕ = memory_of c.args.image.now in
-    let a = c.args.address in
-    let shape : c.word-shape.result ≡ m (Heap (a + 1)) =
-    read k _ m (Heap (a + 1)) _ _ c.config-config.ensures (head _ k _ _ _ 1 refl c.requires.lies (omega arith)) c.heap_at.ensures c.word-shape.ensures.named in
-    let header : c.word.result ≡ m (Heap a) =
-    read k _ m (Heap a) _ _ c.config-config.ensures (first _ k _ _ _ refl c.requires.lies) c.heap_at-2.ensures c.word.ensures.named in
-    let name : c.word-2.result ≡ m (Heap (a + 2)) =
-    read k _ m (Heap (a + 2)) _ _ c.config-config.ensures (head _ k _ _ _ 2 refl c.requires.lies (omega arith)) c.heap_at-3.ensures c.word-2.ensures.named in
+    let config = config_of c.args.image.now in
+    let memory : Word → ℕ = memory_of c.args.image.now in
+    let address = c.args.address in
+    let shape : c.word-shape.result ≡ memory (Heap (address + 1)) =
+    read config _ memory (Heap (address + 1)) _ _ c.config-config.ensures (head _ config _ _ _ 1 refl c.requires.lies (omega arith)) c.heap_at.ensures c.word-shape.ensures.named in
+    let header : c.word.result ≡ memory (Heap address) =
+    read config _ memory (Heap address) _ _ c.config-config.ensures (first _ config _ _ _ refl c.requires.lies) c.heap_at-2.ensures c.word.ensures.named in
+    let name : c.word-2.result ≡ memory (Heap (address + 2)) =
+    read config _ memory (Heap (address + 2)) _ _ c.config-config.ensures (head _ config _ _ _ 2 refl c.requires.lies (omega arith)) c.heap_at-3.ensures c.word-2.ensures.named in
     λ yes. record {
       header = sym header ∙ c.if-word-ne1.false;
       shape = subst IsShape shape (c.is_shape.ensures c.if-not-is_shape.false);
-      name = subst (IsNamedRight k m) name (c.is_named_right.ensures c.if-not-is_named_right.false);
+      name = subst (IsNamedRight config memory) name (c.is_named_right.ensures c.if-not-is_named_right.false);
       fields = λ i below. c.are_fields_right.ensures yes i (subst (λ (n : ℕ). i < n) (sym (c.refs_of.ensures ∙ ap refs_in shape)) below);
     }

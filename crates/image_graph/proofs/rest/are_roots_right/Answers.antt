@@ -15,11 +15,11 @@ word-requires c = placed _ _ (Root c.args.mutator c.loop-index.index) _ c.config
 
 pub loop-index-preserved : goal.loop-index-preserved
 loop-index-preserved c =
-    let m : Word → ℕ = memory_of c.args.image.now in
+    let memory : Word → ℕ = memory_of c.args.image.now in
     let i = c.loop-index.index in
-    let word : c.word.result ≡ m (Root c.args.mutator i) =
-    read (config_of c.args.image.now) _ m (Root c.args.mutator i) _ _ c.config-config.ensures (c.requires, c.loop-index-test.true) c.root_at.ensures c.word.ensures.named in
-    below_more (λ (j : ℕ). IsReference c.args.objects.now (m (Root c.args.mutator j))) i c.loop-index.invariant
+    let word : c.word.result ≡ memory (Root c.args.mutator i) =
+    read (config_of c.args.image.now) _ memory (Root c.args.mutator i) _ _ c.config-config.ensures (c.requires, c.loop-index-test.true) c.root_at.ensures c.word.ensures.named in
+    below_more (λ (j : ℕ). IsReference c.args.objects.now (memory (Root c.args.mutator j))) i c.loop-index.invariant
     (subst (IsReference c.args.objects.now) word (c.is_reference.ensures c.if-not-is_reference.false))
 
 pub returns : goal.returns

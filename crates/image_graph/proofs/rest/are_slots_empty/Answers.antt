@@ -14,11 +14,11 @@ word-requires c = placed _ _ (Pin c.args.mutator c.loop-slot.slot) _ c.config-co
 
 pub loop-slot-preserved : goal.loop-slot-preserved
 loop-slot-preserved c =
-    let m : Word → ℕ = memory_of c.args.image.now in
-    let i = c.loop-slot.slot in
-    let word : c.word.result ≡ m (Pin c.args.mutator i) =
-    read (config_of c.args.image.now) _ m (Pin c.args.mutator i) _ _ c.config-config.ensures (c.requires, c.loop-slot-test.true) c.pin_at.ensures c.word.ensures.named in
-    below_more (λ (j : ℕ). m (Pin c.args.mutator j) ≡ 0) i c.loop-slot.invariant (sym word ∙ c.if-word-ne0.false)
+    let memory : Word → ℕ = memory_of c.args.image.now in
+    let slot = c.loop-slot.slot in
+    let word : c.word.result ≡ memory (Pin c.args.mutator slot) =
+    read (config_of c.args.image.now) _ memory (Pin c.args.mutator slot) _ _ c.config-config.ensures (c.requires, c.loop-slot-test.true) c.pin_at.ensures c.word.ensures.named in
+    below_more (λ (j : ℕ). memory (Pin c.args.mutator j) ≡ 0) slot c.loop-slot.invariant (sym word ∙ c.if-word-ne0.false)
 
 pub returns : goal.returns
 returns c = λ _ i below. c.loop-slot.invariant i (omega (arith, below, c.loop-slot-test.false))

@@ -10,19 +10,19 @@ use Rattle.listing_lines.proofs.scout.made_of.Goals as goal
 
 pub open-requires : goal.open-requires
 open-requires c =
-    let t = c.args.trace.now in
-    let count = count_scripts c.requires.0 t.version t.config t.scripts t.schedule c.requires.1 in
+    let trace = c.args.trace.now in
+    let count = count_scripts c.requires.0 trace.version trace.config trace.scripts trace.schedule c.requires.1 in
     let same = ap (λ (scripts : List (List Command)). length scripts) c.list.ensures in
     omega (arith, count, same)
 
 pub made_before-requires-clause-run : goal.made_before-requires-clause-run
 made_before-requires-clause-run c =
-    let t = c.args.trace.now in
-    can_run c.in-Ok-open.plain t.config t.scripts c.in-Ok.work c.in-Ok-open.ensures.config c.in-Ok-open.ensures.opening c.in-Ok-open.ensures.orders (count_scripts c.requires.0 t.version t.config t.scripts t.schedule c.requires.1)
-    (runnable_scripts c.requires.0 t.version t.config t.scripts t.schedule c.requires.1) (c.in-Ok.ensures ∙ ap opened c.list.ensures)
+    let trace = c.args.trace.now in
+    can_run c.in-Ok-open.plain trace.config trace.scripts c.in-Ok.work c.in-Ok-open.ensures.config c.in-Ok-open.ensures.opening c.in-Ok-open.ensures.orders (count_scripts c.requires.0 trace.version trace.config trace.scripts trace.schedule c.requires.1)
+    (runnable_scripts c.requires.0 trace.version trace.config trace.scripts trace.schedule c.requires.1) (c.in-Ok.ensures ∙ ap opened c.list.ensures)
 
 pub made_before-requires-clause-walk : goal.made_before-requires-clause-walk
 made_before-requires-clause-walk c =
-    let t = c.args.trace.now in
-    let items = subst (All (IsInSeats t.config)) (sym c.in_ok-schedule.ensures) (items_in_seats c.requires.0 t.version t.config t.scripts t.schedule c.requires.1) in
+    let trace = c.args.trace.now in
+    let items = subst (All (IsInSeats trace.config)) (sym c.in_ok-schedule.ensures) (items_in_seats c.requires.0 trace.version trace.config trace.scripts trace.schedule c.requires.1) in
     c.open-walk.ensures.fits (config_of c.in-Ok-open.plain) (subst (λ (d : Config). All (IsInSeats d) c.in_ok-schedule.schedule) (sym c.in-Ok-open.ensures.config) items)

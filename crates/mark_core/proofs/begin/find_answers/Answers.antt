@@ -9,23 +9,23 @@ use Rattle.mark_core.proofs.begin.find_answers.Goals as goal
 
 pub loop-mutator-preserved : goal.loop-mutator-preserved
 loop-mutator-preserved c =
-    let t = c.loop-mutator.mutator in
+    let mutator = c.loop-mutator.mutator in
     let old = c.args.image.now in
     let now = c.loop-mutator.image in
     let after = c.find_answer.new.image in
     let same = c.loop-mutator.invariant.unchanged in
-    let m : Word → ℕ = memory_of old in
-    let answer : memory_of now (Answer t) ≡ m (Answer t) = ap (λ k. k (Answer t)) (memory_same old now same) in
+    let memory : Word → ℕ = memory_of old in
+    let answer : memory_of now (Answer mutator) ≡ memory (Answer mutator) = ap (λ k. k (Answer mutator)) (memory_same old now same) in
     record {
       unchanged = both old now after same c.find_answer.ensures.unchanged;
       found = c.find_answer.ensures.found;
       noted = ⊎_elim
-          (λ (some : 1 < m (Answer t)).
+          (λ (some : 1 < memory (Answer mutator)).
           c.find_answer.ensures.noted (omega (arith, some, answer))
           ∙ ap (with_address (found_of now)) answer
-          ∙ ap (λ xs. with_address xs (m (Answer t))) c.loop-mutator.invariant.noted
-          ∙ answer_more m t (found_of old) some)
-          (λ (none : m (Answer t) ≤ 1).
-          c.find_answer.ensures.none (omega (arith, none, answer)) ∙ c.loop-mutator.invariant.noted ∙ answer_none m t (found_of old) none)
-          (cases_lt 1 (m (Answer t)));
+          ∙ ap (λ xs. with_address xs (memory (Answer mutator))) c.loop-mutator.invariant.noted
+          ∙ answer_more memory mutator (found_of old) some)
+          (λ (none : memory (Answer mutator) ≤ 1).
+          c.find_answer.ensures.none (omega (arith, none, answer)) ∙ c.loop-mutator.invariant.noted ∙ answer_none memory mutator (found_of old) none)
+          (cases_lt 1 (memory (Answer mutator)));
     }

@@ -10,20 +10,20 @@ use Rattle.mark_core.proofs.begin.find_pins.Goals as goal
 
 pub loop-slot-preserved : goal.loop-slot-preserved
 loop-slot-preserved c =
-    let t = c.args.mutator in
-    let i = c.loop-slot.slot in
+    let mutator = c.args.mutator in
+    let slot = c.loop-slot.slot in
     let old = c.args.image.now in
     let now = c.loop-slot.image in
     let same = c.loop-slot.invariant.unchanged in
-    let few : i < 4 = c.loop-slot-test.true in
-    let value : c.word-word.result ≡ memory_of now (Pin t i) =
-    c.word-word.ensures.named (Pin t i) (omega (arith, c.requires.mutator, ap (λ (k : Config). k.mutators) same.config), few)
-    (ap (λ (k : Config). word_at k (Pin t i)) (same.config ∙ sym c.config-config.ensures) ∙ sym c.pin_at.ensures) in
+    let few : slot < 4 = c.loop-slot-test.true in
+    let value : c.word-word.result ≡ memory_of now (Pin mutator slot) =
+    c.word-word.ensures.named (Pin mutator slot) (omega (arith, c.requires.mutator, ap (λ (k : Config). k.mutators) same.config), few)
+    (ap (λ (k : Config). word_at k (Pin mutator slot)) (same.config ∙ sym c.config-config.ensures) ∙ sym c.pin_at.ensures) in
     record {
       unchanged = both old now c.find.new.self same c.find.ensures.unchanged;
       found = c.find.ensures.found;
-      noted = noted_step (found_of old) (found_of now) (found_of c.find.new.self) (λ j. memory_of old (Pin t j)) i c.word-word.result c.loop-slot.invariant.noted
-          (value ∙ ap (λ m. m (Pin t i)) (memory_same old now same)) c.find.ensures.noted;
+      noted = noted_step (found_of old) (found_of now) (found_of c.find.new.self) (λ j. memory_of old (Pin mutator j)) slot c.word-word.result c.loop-slot.invariant.noted
+          (value ∙ ap (λ m. m (Pin mutator slot)) (memory_same old now same)) c.find.ensures.noted;
     }
 
 pub returns-clause-noted : goal.returns-clause-noted

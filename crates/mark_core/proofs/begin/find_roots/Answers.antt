@@ -10,20 +10,20 @@ use Rattle.mark_core.proofs.begin.find_roots.Goals as goal
 
 pub loop-index-preserved : goal.loop-index-preserved
 loop-index-preserved c =
-    let t = c.args.mutator in
+    let mutator = c.args.mutator in
     let i = c.loop-index.index in
     let old = c.args.image.now in
     let now = c.loop-index.image in
     let same = c.loop-index.invariant.unchanged in
     let few : i < 16 = c.loop-index-test.true in
-    let value : c.word-word.result ≡ memory_of now (Root t i) =
-    c.word-word.ensures.named (Root t i) (omega (arith, c.requires.mutator, ap (λ (k : Config). k.mutators) same.config), few)
-    (ap (λ (k : Config). word_at k (Root t i)) (same.config ∙ sym c.config-config.ensures) ∙ sym c.root_at.ensures) in
+    let value : c.word-word.result ≡ memory_of now (Root mutator i) =
+    c.word-word.ensures.named (Root mutator i) (omega (arith, c.requires.mutator, ap (λ (k : Config). k.mutators) same.config), few)
+    (ap (λ (k : Config). word_at k (Root mutator i)) (same.config ∙ sym c.config-config.ensures) ∙ sym c.root_at.ensures) in
     record {
       unchanged = both old now c.find.new.self same c.find.ensures.unchanged;
       found = c.find.ensures.found;
-      noted = noted_step (found_of old) (found_of now) (found_of c.find.new.self) (λ j. memory_of old (Root t j)) i c.word-word.result c.loop-index.invariant.noted
-          (value ∙ ap (λ m. m (Root t i)) (memory_same old now same)) c.find.ensures.noted;
+      noted = noted_step (found_of old) (found_of now) (found_of c.find.new.self) (λ j. memory_of old (Root mutator j)) i c.word-word.result c.loop-index.invariant.noted
+          (value ∙ ap (λ m. m (Root mutator i)) (memory_same old now same)) c.find.ensures.noted;
     }
 
 pub returns-clause-noted : goal.returns-clause-noted

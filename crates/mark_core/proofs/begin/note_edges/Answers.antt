@@ -11,18 +11,18 @@ use Rattle.mark_core.proofs.begin.note_edges.Goals as goal
 pub loop-region-preserved : goal.loop-region-preserved
 loop-region-preserved c =
     let old = c.args.image.now in
-    let g = config_of old in
-    let r = c.loop-region.region in
-    let below : r < g.regions = omega (arith, c.loop-region-test.true, c.regions-region-end.ensures, ap (λ (k : Config). k.regions) c.config-config.ensures) in
-    let edge_is : c.edge-edge.result ≡ edge g (memory_of old) r =
-    c.edge-edge.ensures ∙ ap (λ (k : Config). edge k (memory_of c.loop-region.image) r) c.loop-region.invariant.config
-    ∙ ap (λ (n : Word → ℕ). edge g n r) c.loop-region.invariant.words ∙ edge_noted g r r (memory_of old) in
-    let one = stored (config_of c.loop-region.image) g (memory_of c.loop-region.image) (memory_of c.set_word.new.self) (Tams r) c.tams_at.result c.edge-edge.result
-    c.loop-region.invariant.config below (c.tams_at.ensures ∙ ap (λ (k : Config). word_at k (Tams r)) c.config-config.ensures) c.set_word.ensures.named in
+    let config = config_of old in
+    let region = c.loop-region.region in
+    let below : region < config.regions = omega (arith, c.loop-region-test.true, c.regions-region-end.ensures, ap (λ (k : Config). k.regions) c.config-config.ensures) in
+    let edge_is : c.edge-edge.result ≡ edge config (memory_of old) region =
+    c.edge-edge.ensures ∙ ap (λ (k : Config). edge k (memory_of c.loop-region.image) region) c.loop-region.invariant.config
+    ∙ ap (λ (n : Word → ℕ). edge config n region) c.loop-region.invariant.words ∙ edge_noted config region region (memory_of old) in
+    let one = stored (config_of c.loop-region.image) config (memory_of c.loop-region.image) (memory_of c.set_word.new.self) (Tams region) c.tams_at.result c.edge-edge.result
+    c.loop-region.invariant.config below (c.tams_at.ensures ∙ ap (λ (k : Config). word_at k (Tams region)) c.config-config.ensures) c.set_word.ensures.named in
     record {
       config = c.set_word.ensures.config ∙ c.loop-region.invariant.config;
-      words = one ∙ ap (λ m. write m (Tams r) c.edge-edge.result) c.loop-region.invariant.words
-          ∙ ap (write (noted g r (memory_of old)) (Tams r)) edge_is ∙ noted_next g r (memory_of old);
+      words = one ∙ ap (λ m. write m (Tams region) c.edge-edge.result) c.loop-region.invariant.words
+          ∙ ap (write (noted config region (memory_of old)) (Tams region)) edge_is ∙ noted_next config region (memory_of old);
     }
 
 pub returns-clause-words : goal.returns-clause-words

@@ -9,14 +9,14 @@ use Rattle.mark_core.proofs.clear.empty_buffers.Goals as goal
 
 pub loop-mutator-preserved : goal.loop-mutator-preserved
 loop-mutator-preserved c =
-    let g = config_of c.args.image.now in
-    let t = c.loop-mutator.mutator in
-    let below : t < g.mutators = omega (arith, c.loop-mutator-test.true, c.mutators-mutator-end.ensures, ap (λ (k : Config). k.mutators) c.config-config.ensures) in
-    let one = stored (config_of c.loop-mutator.image) g (memory_of c.loop-mutator.image) (memory_of c.set_word.new.self) (Count t) c.count_at.result 0
-    c.loop-mutator.invariant.config below (c.count_at.ensures ∙ ap (λ (k : Config). word_at k (Count t)) c.config-config.ensures) c.set_word.ensures.named in
+    let config = config_of c.args.image.now in
+    let mutator = c.loop-mutator.mutator in
+    let below : mutator < config.mutators = omega (arith, c.loop-mutator-test.true, c.mutators-mutator-end.ensures, ap (λ (k : Config). k.mutators) c.config-config.ensures) in
+    let one = stored (config_of c.loop-mutator.image) config (memory_of c.loop-mutator.image) (memory_of c.set_word.new.self) (Count mutator) c.count_at.result 0
+    c.loop-mutator.invariant.config below (c.count_at.ensures ∙ ap (λ (k : Config). word_at k (Count mutator)) c.config-config.ensures) c.set_word.ensures.named in
     record {
       config = c.set_word.ensures.config ∙ c.loop-mutator.invariant.config;
-      words = one ∙ ap (λ m. write m (Count t) 0) c.loop-mutator.invariant.words ∙ emptied_next t (memory_of c.args.image.now);
+      words = one ∙ ap (λ m. write m (Count mutator) 0) c.loop-mutator.invariant.words ∙ emptied_next mutator (memory_of c.args.image.now);
     }
 
 pub returns-clause-words : goal.returns-clause-words

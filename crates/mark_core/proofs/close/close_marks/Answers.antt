@@ -20,33 +20,33 @@ find_traced-requires c = can_trace_some (config_of c.args.image.now) (memory_of 
 pub returns-clause-words : goal.returns-clause-words
 returns-clause-words c =
     let old = c.args.image.now in
-    let g = config_of old in
-    let m : Word → ℕ = memory_of old in
+    let config = config_of old in
+    let memory : Word → ℕ = memory_of old in
     let one = c.find_traced.new.image in
     let two = c.mark_found.new.image in
     let same = c.find_traced.ensures.unchanged in
-    let to_two : memory_of two ≡ marked g (has (traced_in g m)) (bit_words g) m =
+    let to_two : memory_of two ≡ marked config (has (traced_in config memory)) (bit_words config) memory =
     c.mark_found.ensures.words
     ∙ ap (λ (k : Config). marked k (has (found_of one)) (bit_words k) (memory_of one)) same.config
-    ∙ ap (λ n. marked g (has (found_of one)) (bit_words g) n) (memory_same old one same)
-    ∙ ap (λ xs. marked g (has xs) (bit_words g) m) c.find_traced.ensures.traced in
+    ∙ ap (λ n. marked config (has (found_of one)) (bit_words config) n) (memory_same old one same)
+    ∙ ap (λ xs. marked config (has xs) (bit_words config) memory) c.find_traced.ensures.traced in
     c.empty_buffers.ensures.words
     ∙ ap (λ (k : Config). emptied k.mutators (memory_of two)) (c.mark_found.ensures.config ∙ same.config)
-    ∙ ap (emptied g.mutators) to_two
-    ∙ closed_is g (words_of old) (can_trace_some g m c.requires)
+    ∙ ap (emptied config.mutators) to_two
+    ∙ closed_is config (words_of old) (can_trace_some config memory c.requires)
 
 pub returns-clause-traced : goal.returns-clause-traced
 returns-clause-traced c = λ block owner p graph holds marking.
-    let g = config_of c.args.image.now in
-    let m : Word → ℕ = memory_of c.args.image.now in
-    subst (λ n. AreClosed g m n) (sym (returns-clause-words c)) (are_closed g m block owner p graph holds marking)
+    let config = config_of c.args.image.now in
+    let memory : Word → ℕ = memory_of c.args.image.now in
+    subst (λ n. AreClosed config memory n) (sym (returns-clause-words c)) (are_closed config memory block owner p graph holds marking)
 
 pub returns-clause-through : goal.returns-clause-through
 returns-clause-through c = λ block owner p graph holds marking.
-    let g = config_of c.args.image.now in
-    let m : Word → ℕ = memory_of c.args.image.now in
-    subst (λ n. HoldsBy g n block owner p graph × IsMarkedThrough g n block) (sym (returns-clause-words c))
-    (closed_holds g m block owner p graph holds marking, closed_through g m block owner p graph holds marking)
+    let config = config_of c.args.image.now in
+    let memory : Word → ℕ = memory_of c.args.image.now in
+    subst (λ n. HoldsBy config n block owner p graph × IsMarkedThrough config n block) (sym (returns-clause-words c))
+    (closed_holds config memory block owner p graph holds marking, closed_through config memory block owner p graph holds marking)
 
 pub returns-clause-holds : goal.returns-clause-holds
 returns-clause-holds c =

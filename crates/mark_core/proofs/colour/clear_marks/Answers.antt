@@ -22,35 +22,35 @@ loop-word-init c = record {
 pub loop-word-preserved : goal.loop-word-preserved
 loop-word-preserved c =
     let old = c.args.image.now in
-    let g = config_of old in
-    let m : Word → ℕ = memory_of old in
+    let config = config_of old in
+    let memory : Word → ℕ = memory_of old in
     let set = has [] in
-    let n = c.loop-word.word in
+    let word = c.loop-word.word in
     let now = c.loop-word.image in
     let one = c.set_word.new.self in
     let two = c.set_word-in-loop-word.new.self in
     let is = c.loop-word.invariant in
-    let same : c.config-config.result ≡ g = c.config-config.ensures in
-    let below : n < bit_words g = omega (arith, c.loop-word-test.true, c.mark_words-word-end.ensures.value, ap bit_words same) in
-    let bits : 0 ≡ mark_bits g set n = sym (bits_none set (g.region_words + 64 * n) 64 (λ k few. refl)) in
-    let to_one = stored (config_of now) g (memory_of now) (memory_of one) (Grey n) c.grey_at.result 0
-    is.config below (c.grey_at.ensures ∙ ap (λ (k : Config). word_at k (Grey n)) same) c.set_word.ensures.named in
-    let to_two = stored (config_of one) g (memory_of one) (memory_of two) (Black n) c.black_at.result 0
-    (c.set_word.ensures.config ∙ is.config) below (c.black_at.ensures ∙ ap (λ (k : Config). word_at k (Black n)) same) c.set_word-in-loop-word.ensures.named in
+    let same : c.config-config.result ≡ config = c.config-config.ensures in
+    let below : word < bit_words config = omega (arith, c.loop-word-test.true, c.mark_words-word-end.ensures.value, ap bit_words same) in
+    let bits : 0 ≡ mark_bits config set word = sym (bits_none set (config.region_words + 64 * word) 64 (λ k few. refl)) in
+    let to_one = stored (config_of now) config (memory_of now) (memory_of one) (Grey word) c.grey_at.result 0
+    is.config below (c.grey_at.ensures ∙ ap (λ (k : Config). word_at k (Grey word)) same) c.set_word.ensures.named in
+    let to_two = stored (config_of one) config (memory_of one) (memory_of two) (Black word) c.black_at.result 0
+    (c.set_word.ensures.config ∙ is.config) below (c.black_at.ensures ∙ ap (λ (k : Config). word_at k (Black word)) same) c.set_word-in-loop-word.ensures.named in
     record {
       config = c.set_word-in-loop-word.ensures.config ∙ c.set_word.ensures.config ∙ is.config;
       same = c.set_word-in-loop-word.ensures.found ∙ c.set_word.ensures.found ∙ is.same;
       found = still_found one two c.set_word-in-loop-word.ensures.config c.set_word-in-loop-word.ensures.marks c.set_word-in-loop-word.ensures.found
           (still_found now one c.set_word.ensures.config c.set_word.ensures.marks c.set_word.ensures.found is.found);
       words = to_two
-          ∙ ap (λ k. write k (Black n) 0) (to_one ∙ ap (λ k. write k (Grey n) 0) is.words ∙ ap (write (greyed g set n m) (Grey n)) bits)
-          ∙ greyed_next g set n m;
+          ∙ ap (λ k. write k (Black word) 0) (to_one ∙ ap (λ k. write k (Grey word) 0) is.words ∙ ap (write (greyed config set word memory) (Grey word)) bits)
+          ∙ greyed_next config set word memory;
     }
 
 pub returns-clause-words : goal.returns-clause-words
 returns-clause-words c =
     let old = c.args.image.now in
-    let g = config_of old in
-    let all : c.loop-word.word ≡ bit_words g =
+    let config = config_of old in
+    let all : c.loop-word.word ≡ bit_words config =
     omega (arith, c.loop-word-test.false, c.loop-word.auto.word-end, c.mark_words-word-end.ensures.value, ap bit_words c.config-config.ensures) in
-    c.loop-word.invariant.words ∙ ap (λ n. greyed g (has []) n (memory_of old)) all
+    c.loop-word.invariant.words ∙ ap (λ n. greyed config (has []) n (memory_of old)) all

@@ -40,40 +40,40 @@ loop-address-smaller c =
 pub loop-address-preserved : goal.loop-address-preserved
 loop-address-preserved c =
     let old = c.args.image.now in
-    let g = config_of old in
-    let m : Word → ℕ = memory_of old in
+    let config = config_of old in
+    let memory : Word → ℕ = memory_of old in
     let xs : List ℕ = found_of old in
     let now = c.loop-address.image in
     let one = c.set_mark.new.image in
     let two = c.set_mark-in-Some.new.image in
     let was = c.loop-address.invariant in
-    let a : ℕ = c.in-Some.address in
-    let n : ℕ = c.loop-address.turn in
-    let at : slice_get xs n ≡ Some a = sym (ap (λ ys. slice_get ys n) was.same) ∙ sym c.in-Some.ensures in
-    let heap : IsWord g (Heap a) = subst (λ (k : Config). IsWord k (Heap a)) was.config (found_inside now n a was.found (sym c.in-Some.ensures)) in
-    let as_one : config_of one ≡ g = c.set_mark.ensures.config ∙ was.config in
+    let address : ℕ = c.in-Some.address in
+    let turn : ℕ = c.loop-address.turn in
+    let at : slice_get xs turn ≡ Some address = sym (ap (λ ys. slice_get ys turn) was.same) ∙ sym c.in-Some.ensures in
+    let heap : IsWord config (Heap address) = subst (λ (k : Config). IsWord k (Heap address)) was.config (found_inside now turn address was.found (sym c.in-Some.ensures)) in
+    let as_one : config_of one ≡ config = c.set_mark.ensures.config ∙ was.config in
     let grey : c.grey_at-grey.result ≡ word_at (config_of now) (Grey 0) = c.grey_at-grey.ensures ∙ ap (λ (k : Config). word_at k (Grey 0)) (c.config-config.ensures ∙ sym was.config) in
     let black : c.black_at-black.result ≡ word_at (config_of one) (Black 0) = c.black_at-black.ensures ∙ ap (λ (k : Config). word_at k (Black 0)) (c.config-config.ensures ∙ sym as_one) in
-    let to_one : memory_of one ≡ grey_besides g a (marked g (has (take n xs)) (bit_words g) m) =
-    c.set_mark.ensures.grey grey ∙ ap (λ (k : Config). grey_besides k a (memory_of now)) was.config ∙ ap (grey_besides g a) was.words in
-    let to_two : memory_of two ≡ black_besides g a (memory_of one) = c.set_mark-in-Some.ensures.black black ∙ ap (λ (k : Config). black_besides k a (memory_of one)) as_one in
-    let within = slice_get_within (found_of now) n a (sym c.in-Some.ensures) in
+    let to_one : memory_of one ≡ grey_besides config address (marked config (has (take turn xs)) (bit_words config) memory) =
+    c.set_mark.ensures.grey grey ∙ ap (λ (k : Config). grey_besides k address (memory_of now)) was.config ∙ ap (grey_besides config address) was.words in
+    let to_two : memory_of two ≡ black_besides config address (memory_of one) = c.set_mark-in-Some.ensures.black black ∙ ap (λ (k : Config). black_besides k address (memory_of one)) as_one in
+    let within = slice_get_within (found_of now) turn address (sym c.in-Some.ensures) in
     let few = marks.few (config_of now).region_words (marks_of now) (found_of now) was.found in
     record {
       config = c.set_mark-in-Some.ensures.config ∙ as_one;
       same = c.set_mark-in-Some.ensures.found ∙ c.set_mark.ensures.found ∙ was.same;
       found = still_found one two c.set_mark-in-Some.ensures.config c.set_mark-in-Some.ensures.marks c.set_mark-in-Some.ensures.found
           (still_found now one c.set_mark.ensures.config c.set_mark.ensures.marks c.set_mark.ensures.found was.found);
-      words = to_two ∙ ap (black_besides g a) to_one
-          ∙ marked_more g (has (take n xs)) (has (take (n + 1) xs)) a heap.0 (has_next xs n a at) (λ q other. has_others xs n a q at other) m (bit_words g) (word_inside g a heap);
+      words = to_two ∙ ap (black_besides config address) to_one
+          ∙ marked_more config (has (take turn xs)) (has (take (turn + 1) xs)) address heap.0 (has_next xs turn address at) (λ q other. has_others xs turn address q at other) memory (bit_words config) (word_inside config address heap);
       few = omega (arith, within, few, now.all_marks, ap heap_size was.config);
     }
 
 pub returns-clause-words : goal.returns-clause-words
 returns-clause-words c =
     let old = c.args.image.now in
-    let g = config_of old in
-    let n : ℕ = c.loop-address.turn in
+    let config = config_of old in
+    let turn : ℕ = c.loop-address.turn in
     let was = c.loop-address.invariant in
-    let none : slice_get (found_of old) n ≡ None = sym (ap (λ ys. slice_get ys n) was.same) ∙ sym c.found_at.ensures ∙ is_none c.found_at.result c.in_default.not-Some in
-    was.words ∙ ap (λ ys. marked g (has ys) (bit_words g) (memory_of old)) (take_all n (found_of old) (none_left (found_of old) n none))
+    let none : slice_get (found_of old) turn ≡ None = sym (ap (λ ys. slice_get ys turn) was.same) ∙ sym c.found_at.ensures ∙ is_none c.found_at.result c.in_default.not-Some in
+    was.words ∙ ap (λ ys. marked config (has ys) (bit_words config) (memory_of old)) (take_all turn (found_of old) (none_left (found_of old) turn none))

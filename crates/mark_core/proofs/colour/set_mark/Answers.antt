@@ -9,28 +9,28 @@ use Rattle.mark_core.proofs.colour.set_mark.Goals as goal
 
 pub returns-clause-grey : goal.returns-clause-grey
 returns-clause-grey c = λ start.
-    let g = config_of c.args.image.now in
-    let m : Word → ℕ = memory_of c.args.image.now in
-    let a : ℕ = c.args.address in
-    let n : ℕ = mark_word g a in
-    let number : c.mark_word.result ≡ n = c.mark_word.ensures.value ∙ ap (λ (k : Config). mark_word k a) c.config-config.ensures in
-    let at : word_at g (Grey n) ≡ c.args.row + c.mark_word.result = omega (arith, start, number) in
-    let inside : n < bit_words g = word_inside g a c.requires.inside in
-    let mask : c.mark_mask.result ≡ mark_mask g a = c.mark_mask.ensures ∙ ap (λ (k : Config). mark_mask k a) c.config-config.ensures in
+    let config = config_of c.args.image.now in
+    let memory : Word → ℕ = memory_of c.args.image.now in
+    let address : ℕ = c.args.address in
+    let n : ℕ = mark_word config address in
+    let number : c.mark_word.result ≡ n = c.mark_word.ensures.value ∙ ap (λ (k : Config). mark_word k address) c.config-config.ensures in
+    let at : word_at config (Grey n) ≡ c.args.row + c.mark_word.result = omega (arith, start, number) in
+    let inside : n < bit_words config = word_inside config address c.requires.inside in
+    let mask : c.mark_mask.result ≡ mark_mask config address = c.mark_mask.ensures ∙ ap (λ (k : Config). mark_mask k address) c.config-config.ensures in
     c.set_word.ensures.named (Grey n) inside at
-    ∙ ap (λ x. write m (Grey n) (bit_or x c.mark_mask.result)) (c.word.ensures.named (Grey n) inside at)
-    ∙ ap (λ x. write m (Grey n) (bit_or (m (Grey n)) x)) mask
+    ∙ ap (λ x. write memory (Grey n) (bit_or x c.mark_mask.result)) (c.word.ensures.named (Grey n) inside at)
+    ∙ ap (λ x. write memory (Grey n) (bit_or (memory (Grey n)) x)) mask
 
 pub returns-clause-black : goal.returns-clause-black
 returns-clause-black c = λ start.
-    let g = config_of c.args.image.now in
-    let m : Word → ℕ = memory_of c.args.image.now in
-    let a : ℕ = c.args.address in
-    let n : ℕ = mark_word g a in
-    let number : c.mark_word.result ≡ n = c.mark_word.ensures.value ∙ ap (λ (k : Config). mark_word k a) c.config-config.ensures in
-    let at : word_at g (Black n) ≡ c.args.row + c.mark_word.result = omega (arith, start, number) in
-    let inside : n < bit_words g = word_inside g a c.requires.inside in
-    let mask : c.mark_mask.result ≡ mark_mask g a = c.mark_mask.ensures ∙ ap (λ (k : Config). mark_mask k a) c.config-config.ensures in
+    let config = config_of c.args.image.now in
+    let memory : Word → ℕ = memory_of c.args.image.now in
+    let address : ℕ = c.args.address in
+    let n : ℕ = mark_word config address in
+    let number : c.mark_word.result ≡ n = c.mark_word.ensures.value ∙ ap (λ (k : Config). mark_word k address) c.config-config.ensures in
+    let at : word_at config (Black n) ≡ c.args.row + c.mark_word.result = omega (arith, start, number) in
+    let inside : n < bit_words config = word_inside config address c.requires.inside in
+    let mask : c.mark_mask.result ≡ mark_mask config address = c.mark_mask.ensures ∙ ap (λ (k : Config). mark_mask k address) c.config-config.ensures in
     c.set_word.ensures.named (Black n) inside at
-    ∙ ap (λ x. write m (Black n) (bit_or x c.mark_mask.result)) (c.word.ensures.named (Black n) inside at)
-    ∙ ap (λ x. write m (Black n) (bit_or (m (Black n)) x)) mask
+    ∙ ap (λ x. write memory (Black n) (bit_or x c.mark_mask.result)) (c.word.ensures.named (Black n) inside at)
+    ∙ ap (λ x. write memory (Black n) (bit_or (memory (Black n)) x)) mask

@@ -14,21 +14,21 @@ loop-region-init c = record { config = refl; words = freed_none (is_dead (config
 pub loop-region-preserved : goal.loop-region-preserved
 loop-region-preserved c =
     let old = c.args.image.now in
-    let g = config_of old in
-    let m : Word → ℕ = memory_of old in
-    let out : ℕ → Bool = is_dead g m in
-    let r = c.loop-region.region in
+    let config = config_of old in
+    let memory : Word → ℕ = memory_of old in
+    let out : ℕ → Bool = is_dead config memory in
+    let region = c.loop-region.region in
     let now = c.loop-region.image in
     let is = c.loop-region.invariant in
-    let few : r < 64 = omega (arith, c.loop-region-test.true, c.regions-region-end.ensures, ap (λ (k : Config). k.regions) c.config-config.ensures, g.in_range.most_regions) in
-    let still : is_dead (config_of now) (memory_of now) r ≡ out r =
-    ap (λ (k : Config). is_dead k (memory_of now) r) is.config ∙ ap (λ n. is_dead g n r) is.words ∙ dead_still out g r m in
+    let few : region < 64 = omega (arith, c.loop-region-test.true, c.regions-region-end.ensures, ap (λ (k : Config). k.regions) c.config-config.ensures, config.in_range.most_regions) in
+    let still : is_dead (config_of now) (memory_of now) region ≡ out region =
+    ap (λ (k : Config). is_dead k (memory_of now) region) is.config ∙ ap (λ n. is_dead config n region) is.words ∙ dead_still out config region memory in
     record {
       config = c.free_if_dead.ensures.config ∙ is.config;
       words = ⊎_elim
-          (λ (yes : out r ≡ true). c.free_if_dead.ensures.freed (still ∙ yes) ∙ ap (freed_one r) is.words ∙ freed_next out r m few yes)
-          (λ (no : out r ≡ false). c.free_if_dead.ensures.left (still ∙ no) ∙ is.words ∙ left_next out r m no)
-          (cases_Bool (out r));
+          (λ (yes : out region ≡ true). c.free_if_dead.ensures.freed (still ∙ yes) ∙ ap (freed_one region) is.words ∙ freed_next out region memory few yes)
+          (λ (no : out region ≡ false). c.free_if_dead.ensures.left (still ∙ no) ∙ is.words ∙ left_next out region memory no)
+          (cases_Bool (out region));
     }
 
 pub returns-clause-words : goal.returns-clause-words

@@ -10,20 +10,20 @@ use Rattle.mark_core.proofs.dead.has_black.Goals as goal
 
 pub returns : goal.returns
 returns c =
-    let g = config_of c.args.image.now in
-    let m : Word → ℕ = memory_of c.args.image.now in
-    let r : ℕ = c.args.region in
+    let config = config_of c.args.image.now in
+    let memory : Word → ℕ = memory_of c.args.image.now in
+    let region : ℕ = c.args.region in
     let next : ℕ = c.next_black.result in
     let end : ℕ = c.base-first.result + c.region_words.result in
     let is = c.next_black.ensures in
-    let first : c.base-first.result ≡ base_of g r = c.base-first.ensures ∙ ap (λ (k : Config). base_of k r) c.config.ensures in
-    let words : c.region_words.result ≡ g.region_words = c.region_words.ensures ∙ ap (λ (k : Config). k.region_words) c.config-2.ensures in
+    let first : c.base-first.result ≡ base_of config region = c.base-first.ensures ∙ ap (λ (k : Config). base_of k region) c.config.ensures in
+    let words : c.region_words.result ≡ config.region_words = c.region_words.ensures ∙ ap (λ (k : Config). k.region_words) c.config-2.ensures in
     ⊎_elim
     (λ (less : next < end).
-    let k : ℕ = next - base_of g r in
-    let at : base_of g r + k ≡ next = omega (arith, is.from, first) in
-    lt-ltb next end less ∙ sym (any_at (is_black g m) (base_of g r) g.region_words k (omega (arith, less, first, words, is.from)) (ap (is_black g m) at ∙ is.black less)))
+    let k : ℕ = next - base_of config region in
+    let at : base_of config region + k ≡ next = omega (arith, is.from, first) in
+    lt-ltb next end less ∙ sym (any_at (is_black config memory) (base_of config region) config.region_words k (omega (arith, less, first, words, is.from)) (ap (is_black config memory) at ∙ is.black less)))
     (λ (none : end ≤ next).
     le-ltb next end none
-    ∙ sym (any_none (is_black g m) (base_of g r) g.region_words (λ k few. is.none (base_of g r + k) (omega (arith, first)) (omega (arith, none, few, first, words)))))
+    ∙ sym (any_none (is_black config memory) (base_of config region) config.region_words (λ k few. is.none (base_of config region + k) (omega (arith, first)) (omega (arith, none, few, first, words)))))
     (cases_lt next end)

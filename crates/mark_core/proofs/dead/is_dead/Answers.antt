@@ -12,38 +12,38 @@ use Rattle.mark_core.proofs.dead.is_dead.Goals.{then-is_in-via-then-is_in, then-
 
 pub returns-then-is_in : goal.returns-then-is_in
 returns-then-is_in c =
-    let g = config_of c.args.image.now in
-    let m : Word → ℕ = memory_of c.args.image.now in
-    let r = c.args.region in
-    let free : c.word.result ≡ m Free = c.word.ensures.named Free tt (ap (λ (k : Config). word_at k Free) (sym c.config-config.ensures) ∙ sym c.free_at.ensures) in
-    sym (false_from_ne_true (is_dead g m r) (λ told.
-    let dead = (dead_is_dead g m r).0 told in
+    let config = config_of c.args.image.now in
+    let memory : Word → ℕ = memory_of c.args.image.now in
+    let region = c.args.region in
+    let free : c.word.result ≡ memory Free = c.word.ensures.named Free tt (ap (λ (k : Config). word_at k Free) (sym c.config-config.ensures) ∙ sym c.free_at.ensures) in
+    sym (false_from_ne_true (is_dead config memory region) (λ told.
+    let dead = (dead_is_dead config memory region).0 told in
     elim c.then-is_in.branch [
       | then-is_in-via-then-is_in w ↦
           let is = c.is_in.ensures.0 w.if-is_in.true in
-          omega (arith, is, ap (λ x. bit_at x r) free, dead.in_use)
+          omega (arith, is, ap (λ x. bit_at x region) free, dead.in_use)
       | then-is_in-via-else-is_in+then-is_current w ↦ dead.nobodys (w.is_current.ensures.yes w.if-is_current.true)
     ]))
 
 pub returns-then-is_pinned : goal.returns-then-is_pinned
 returns-then-is_pinned c =
-    let g = config_of c.args.image.now in
-    let m : Word → ℕ = memory_of c.args.image.now in
-    let r = c.args.region in
-    sym (false_from_ne_true (is_dead g m r) (λ told.
-    let dead = (dead_is_dead g m r).0 told in
+    let config = config_of c.args.image.now in
+    let memory : Word → ℕ = memory_of c.args.image.now in
+    let region = c.args.region in
+    sym (false_from_ne_true (is_dead config memory region) (λ told.
+    let dead = (dead_is_dead config memory region).0 told in
     true≢false (sym c.if-is_pinned.true ∙ c.is_pinned.ensures ∙ dead.unpinned)))
 
 pub returns : goal.returns
 returns c =
-    let g = config_of c.args.image.now in
-    let m : Word → ℕ = memory_of c.args.image.now in
-    let r = c.args.region in
-    let free : c.word.result ≡ m Free = c.word.ensures.named Free tt (ap (λ (k : Config). word_at k Free) (sym c.config-config.ensures) ∙ sym c.free_at.ensures) in
-    let tams : c.word-2.result ≡ m (Tams r) =
-    c.word-2.ensures.named (Tams r) c.requires (ap (λ (k : Config). word_at k (Tams r)) (sym c.config-config.ensures) ∙ sym c.tams_at.ensures) in
-    let outside : bit_at (m Free) r ≢ 1 = λ is. true≢false (sym (c.is_in.ensures.1 (ap (λ x. bit_at x r) free ∙ is)) ∙ c.if-is_in.false) in
-    let unset : bit_at (m Free) r ≡ 0 = omega (arith, outside, bit_at-lt (m Free) r) in
-    let unseated : is_current g m r ≡ false = false_from_ne_true (is_current g m r) (λ is. c.is_current.ensures.no c.if-is_current.false (current_is g m r is)) in
-    let top : m (Top r) ≡ m (Tams r) = omega (arith, c.top.ensures, tams, c.if-top-word.false) in
-    ap not c.has_black.ensures ∙ sym (marks_decide g m r unset (sym c.is_pinned.ensures ∙ c.if-is_pinned.false) unseated top)
+    let config = config_of c.args.image.now in
+    let memory : Word → ℕ = memory_of c.args.image.now in
+    let region = c.args.region in
+    let free : c.word.result ≡ memory Free = c.word.ensures.named Free tt (ap (λ (k : Config). word_at k Free) (sym c.config-config.ensures) ∙ sym c.free_at.ensures) in
+    let tams : c.word-2.result ≡ memory (Tams region) =
+    c.word-2.ensures.named (Tams region) c.requires (ap (λ (k : Config). word_at k (Tams region)) (sym c.config-config.ensures) ∙ sym c.tams_at.ensures) in
+    let outside : bit_at (memory Free) region ≢ 1 = λ is. true≢false (sym (c.is_in.ensures.1 (ap (λ x. bit_at x region) free ∙ is)) ∙ c.if-is_in.false) in
+    let unset : bit_at (memory Free) region ≡ 0 = omega (arith, outside, bit_at-lt (memory Free) region) in
+    let unseated : is_current config memory region ≡ false = false_from_ne_true (is_current config memory region) (λ is. c.is_current.ensures.no c.if-is_current.false (current_is config memory region is)) in
+    let top : memory (Top region) ≡ memory (Tams region) = omega (arith, c.top.ensures, tams, c.if-top-word.false) in
+    ap not c.has_black.ensures ∙ sym (marks_decide config memory region unset (sym c.is_pinned.ensures ∙ c.if-is_pinned.false) unseated top)

@@ -20,28 +20,28 @@ returns-clause-words c =
 
 pub returns-clause-freed : goal.returns-clause-freed
 returns-clause-freed c = λ r below.
-    let g = config_of c.args.image.now in
-    let m : Word → ℕ = memory_of c.args.image.now in
+    let config = config_of c.args.image.now in
+    let memory : Word → ℕ = memory_of c.args.image.now in
     let words = ap (λ n. n Free) (returns-clause-words c) in (
       (λ is. ⊎_elim
-          (λ (was : IsIn (m Free) r). inl was)
-          (λ (dead : dead_in g m r ≡ true). inr ((dead_is_dead g (closed g m) r).0 dead))
-          (free_was g (dead_in g m) (closed g m) r below (subst (λ set. IsIn set r) words is))),
+          (λ (was : IsIn (memory Free) r). inl was)
+          (λ (dead : dead_in config memory r ≡ true). inr ((dead_is_dead config (closed config memory) r).0 dead))
+          (free_was config (dead_in config memory) (closed config memory) r below (subst (λ set. IsIn set r) words is))),
       (λ is. subst (λ set. IsIn set r) (sym words)
-          (free_is g (dead_in g m) (closed g m) r below (⊎_elim
-          (λ (was : IsIn (m Free) r). inl was)
-          (λ (dead : IsDead g (closed g m) r). inr ((dead_is_dead g (closed g m) r).1 dead))
+          (free_is config (dead_in config memory) (closed config memory) r below (⊎_elim
+          (λ (was : IsIn (memory Free) r). inl was)
+          (λ (dead : IsDead config (closed config memory) r). inr ((dead_is_dead config (closed config memory) r).1 dead))
           is))),
     )
 
 pub returns-clause-ends : goal.returns-clause-ends
 returns-clause-ends c = λ block owner p graph holds marking.
-    let g = config_of c.args.image.now in
-    let m : Word → ℕ = memory_of c.args.image.now in
-    let out = dead_in g m in
-    let seats = no_more_seats g (words_of c.args.image.now) in
-    subst (λ n. HoldsBy g n (freed_block g out block) (freed_owner out owner) p graph × IsMarkedThrough g n (freed_block g out block)) (sym (returns-clause-words c))
-    (ended_holds g m block owner p graph holds marking seats, ended_through g m block owner p graph holds marking seats)
+    let config = config_of c.args.image.now in
+    let memory : Word → ℕ = memory_of c.args.image.now in
+    let out = dead_in config memory in
+    let seats = no_more_seats config (words_of c.args.image.now) in
+    subst (λ n. HoldsBy config n (freed_block config out block) (freed_owner out owner) p graph × IsMarkedThrough config n (freed_block config out block)) (sym (returns-clause-words c))
+    (ended_holds config memory block owner p graph holds marking seats, ended_through config memory block owner p graph holds marking seats)
 
 pub returns-clause-holds : goal.returns-clause-holds
 returns-clause-holds c =

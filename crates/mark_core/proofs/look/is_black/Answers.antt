@@ -23,14 +23,14 @@ is_marked_in-requires c = subst (λ (k : Config). IsWord k (Heap c.args.address)
 
 pub returns : goal.returns
 returns c =
-    let g = config_of c.args.image.now in
-    let m : Word → ℕ = memory_of c.args.image.now in
-    let a = c.args.address in
+    let config = config_of c.args.image.now in
+    let memory : Word → ℕ = memory_of c.args.image.now in
+    let address = c.args.address in
     let n = c.mark_word.result in
-    let at : n ≡ mark_word g a = c.mark_word.ensures.value ∙ ap (λ (j : Config). mark_word j a) c.config-config.ensures in
-    let word : c.word-word.result ≡ m (Black n) =
-    read g _ m (Black n) _ _ c.config-config.ensures (subst (λ (j : Config). n < bit_words j) c.config-config.ensures c.mark_word.ensures.inside) c.black_at.ensures c.word-word.ensures.named in
+    let at : n ≡ mark_word config address = c.mark_word.ensures.value ∙ ap (λ (j : Config). mark_word j address) c.config-config.ensures in
+    let word : c.word-word.result ≡ memory (Black n) =
+    read config _ memory (Black n) _ _ c.config-config.ensures (subst (λ (j : Config). n < bit_words j) c.config-config.ensures c.mark_word.ensures.inside) c.black_at.ensures c.word-word.ensures.named in
     c.is_marked_in.ensures
-    ∙ ap (λ (j : Config). bit_at c.word-word.result (mark_bit j a) == 1) c.config-config.ensures
-    ∙ ap (λ (w : ℕ). bit_at w (mark_bit g a) == 1) (word ∙ ap (λ (q : ℕ). m (Black q)) at)
-    ∙ ap (λ (b : Bool). b && (bit_at (m (Black (mark_word g a))) (mark_bit g a) == 1)) (sym (le-leb g.region_words a c.requires.0))
+    ∙ ap (λ (j : Config). bit_at c.word-word.result (mark_bit j address) == 1) c.config-config.ensures
+    ∙ ap (λ (w : ℕ). bit_at w (mark_bit config address) == 1) (word ∙ ap (λ (q : ℕ). memory (Black q)) at)
+    ∙ ap (λ (b : Bool). b && (bit_at (memory (Black (mark_word config address))) (mark_bit config address) == 1)) (sym (le-leb config.region_words address c.requires.0))

@@ -8,44 +8,44 @@ use Rattle.mark_core.proofs.look.next_marked.Goals as goal
 
 pub returns-then-bits-ne0-clause-none : goal.returns-then-bits-ne0-clause-none
 returns-then-bits-ne0-clause-none c = λ a from below.
-    let g = config_of c.args.image.now in
+    let config = config_of c.args.image.now in
     let at : ℕ = c.loop-at.at in
     let marks : ℕ → ℕ = λ n. slice_index (words_of c.args.image.now) (c.args.row + n) in
-    let same : c.config-config.result ≡ g = c.config-config.ensures in
-    let first : c.region_words-first.result ≡ g.region_words = c.region_words-first.ensures ∙ ap (λ (k : Config). k.region_words) same in
-    let above : g.region_words ≤ at = omega (arith, c.requires.above, c.loop-at.invariant.from) in
-    let word : c.word.result ≡ marks (mark_word g at) = c.word.ensures.value ∙ ap marks (c.mark_word.ensures.value ∙ ap (λ (k : Config). mark_word k at) same) in
-    let place : (at - c.region_words-first.result) % 64 ≡ mark_bit g at = ap (λ x. (at - x) % 64) first in
-    let found = first_found g marks at above c.word.result ((at - c.region_words-first.result) % 64) c.args.end c.min.result word place c.word.type_inv c.if-bits-ne0.true c.min.ensures in
+    let same : c.config-config.result ≡ config = c.config-config.ensures in
+    let first : c.region_words-first.result ≡ config.region_words = c.region_words-first.ensures ∙ ap (λ (k : Config). k.region_words) same in
+    let above : config.region_words ≤ at = omega (arith, c.requires.above, c.loop-at.invariant.from) in
+    let word : c.word.result ≡ marks (mark_word config at) = c.word.ensures.value ∙ ap marks (c.mark_word.ensures.value ∙ ap (λ (k : Config). mark_word k at) same) in
+    let place : (at - c.region_words-first.result) % 64 ≡ mark_bit config at = ap (λ x. (at - x) % 64) first in
+    let found = first_found config marks at above c.word.result ((at - c.region_words-first.result) % 64) c.args.end c.min.result word place c.word.type_inv c.if-bits-ne0.true c.min.ensures in
     ⊎_elim (λ (before : a < at). c.loop-at.invariant.none a from before) (λ (behind : at ≤ a). found.0 a behind below) (cases_lt a at)
 
 pub returns-then-bits-ne0-clause-marked : goal.returns-then-bits-ne0-clause-marked
 returns-then-bits-ne0-clause-marked c = λ less.
-    let g = config_of c.args.image.now in
+    let config = config_of c.args.image.now in
     let at : ℕ = c.loop-at.at in
     let marks : ℕ → ℕ = λ n. slice_index (words_of c.args.image.now) (c.args.row + n) in
-    let same : c.config-config.result ≡ g = c.config-config.ensures in
-    let first : c.region_words-first.result ≡ g.region_words = c.region_words-first.ensures ∙ ap (λ (k : Config). k.region_words) same in
-    let above : g.region_words ≤ at = omega (arith, c.requires.above, c.loop-at.invariant.from) in
-    let word : c.word.result ≡ marks (mark_word g at) = c.word.ensures.value ∙ ap marks (c.mark_word.ensures.value ∙ ap (λ (k : Config). mark_word k at) same) in
-    let place : (at - c.region_words-first.result) % 64 ≡ mark_bit g at = ap (λ x. (at - x) % 64) first in
-    let found = first_found g marks at above c.word.result ((at - c.region_words-first.result) % 64) c.args.end c.min.result word place c.word.type_inv c.if-bits-ne0.true c.min.ensures in
+    let same : c.config-config.result ≡ config = c.config-config.ensures in
+    let first : c.region_words-first.result ≡ config.region_words = c.region_words-first.ensures ∙ ap (λ (k : Config). k.region_words) same in
+    let above : config.region_words ≤ at = omega (arith, c.requires.above, c.loop-at.invariant.from) in
+    let word : c.word.result ≡ marks (mark_word config at) = c.word.ensures.value ∙ ap marks (c.mark_word.ensures.value ∙ ap (λ (k : Config). mark_word k at) same) in
+    let place : (at - c.region_words-first.result) % 64 ≡ mark_bit config at = ap (λ x. (at - x) % 64) first in
+    let found = first_found config marks at above c.word.result ((at - c.region_words-first.result) % 64) c.args.end c.min.result word place c.word.type_inv c.if-bits-ne0.true c.min.ensures in
     found.1 less
 
 pub loop-at-preserved : goal.loop-at-preserved
 loop-at-preserved c =
-    let g = config_of c.args.image.now in
+    let config = config_of c.args.image.now in
     let at : ℕ = c.loop-at.at in
     let marks : ℕ → ℕ = λ n. slice_index (words_of c.args.image.now) (c.args.row + n) in
-    let same : c.config-config.result ≡ g = c.config-config.ensures in
-    let first : c.region_words-first.result ≡ g.region_words = c.region_words-first.ensures ∙ ap (λ (k : Config). k.region_words) same in
-    let above : g.region_words ≤ at = omega (arith, c.requires.above, c.loop-at.invariant.from) in
-    let word : c.word.result ≡ marks (mark_word g at) = c.word.ensures.value ∙ ap marks (c.mark_word.ensures.value ∙ ap (λ (k : Config). mark_word k at) same) in
-    let place : (at - c.region_words-first.result) % 64 ≡ mark_bit g at = ap (λ x. (at - x) % 64) first in
+    let same : c.config-config.result ≡ config = c.config-config.ensures in
+    let first : c.region_words-first.result ≡ config.region_words = c.region_words-first.ensures ∙ ap (λ (k : Config). k.region_words) same in
+    let above : config.region_words ≤ at = omega (arith, c.requires.above, c.loop-at.invariant.from) in
+    let word : c.word.result ≡ marks (mark_word config at) = c.word.ensures.value ∙ ap marks (c.mark_word.ensures.value ∙ ap (λ (k : Config). mark_word k at) same) in
+    let place : (at - c.region_words-first.result) % 64 ≡ mark_bit config at = ap (λ x. (at - x) % 64) first in
     record {
       from = omega (arith, c.loop-at.invariant.from);
       none = λ a from below. ⊎_elim
           (λ (before : a < at). c.loop-at.invariant.none a from before)
-          (λ (behind : at ≤ a). none_left g marks at above c.word.result ((at - c.region_words-first.result) % 64) word place c.if-bits-ne0.false a behind below)
+          (λ (behind : at ≤ a). none_left config marks at above c.word.result ((at - c.region_words-first.result) % 64) word place c.if-bits-ne0.false a behind below)
           (cases_lt a at);
     }

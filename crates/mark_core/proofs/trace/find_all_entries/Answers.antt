@@ -9,16 +9,16 @@ use Rattle.mark_core.proofs.trace.find_all_entries.Goals as goal
 
 pub loop-mutator-preserved : goal.loop-mutator-preserved
 loop-mutator-preserved c =
-    let t = c.loop-mutator.mutator in
+    let mutator = c.loop-mutator.mutator in
     let old = c.args.image.now in
     let now = c.loop-mutator.image in
     let same = c.loop-mutator.invariant.unchanged in
-    let m : Word → ℕ = memory_of old in
+    let memory : Word → ℕ = memory_of old in
     record {
       unchanged = both old now c.find_entries.new.image same c.find_entries.ensures.unchanged;
       found = c.find_entries.ensures.found;
       noted = c.find_entries.ensures.noted
-          ∙ ap (λ (k : Word → ℕ). with_addresses (found_of now) (map (λ i. k (Buffer t i)) (range_with_len 0 (k (Count t))))) (memory_same old now same)
-          ∙ ap (λ xs. with_addresses xs (map (λ i. m (Buffer t i)) (range_with_len 0 (m (Count t))))) c.loop-mutator.invariant.noted
-          ∙ entries_more m t (found_of old);
+          ∙ ap (λ (k : Word → ℕ). with_addresses (found_of now) (map (λ i. k (Buffer mutator i)) (range_with_len 0 (k (Count mutator))))) (memory_same old now same)
+          ∙ ap (λ xs. with_addresses xs (map (λ i. memory (Buffer mutator i)) (range_with_len 0 (memory (Count mutator))))) c.loop-mutator.invariant.noted
+          ∙ entries_more memory mutator (found_of old);
     }

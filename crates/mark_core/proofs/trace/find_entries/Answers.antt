@@ -12,50 +12,50 @@ use Rattle.mark_core.proofs.trace.find_entries.Goals as goal
 
 pub find-requires-clause-inside : goal.find-requires-clause-inside
 find-requires-clause-inside c =
-    let t = c.args.mutator in
-    let i = c.loop-entry.entry in
+    let mutator = c.args.mutator in
+    let entry = c.loop-entry.entry in
     let old = c.args.image.now in
-    let g = config_of old in
-    let m : Word → ℕ = memory_of old in
+    let config = config_of old in
+    let memory : Word → ℕ = memory_of old in
     let now = c.loop-entry.image in
     let same = c.loop-entry.invariant.unchanged in
-    let count : c.word-count.result ≡ m (Count t) =
-    c.word-count.ensures.named (Count t) c.requires.mutator (ap (λ (k : Config). word_at k (Count t)) (sym c.config-config.ensures) ∙ sym c.count_at.ensures) in
-    let below : i < m (Count t) = omega (arith, count, c.loop-entry-test.true) in
-    let few : i < 8 = omega (arith, below, c.requires.can.counts t c.requires.mutator) in
-    let value : c.word-word.result ≡ memory_of now (Buffer t i) =
-    c.word-word.ensures.named (Buffer t i) (omega (arith, c.requires.mutator, ap (λ (k : Config). k.mutators) same.config), few)
-    (ap (λ (k : Config). word_at k (Buffer t i)) (same.config ∙ sym c.config-config.ensures) ∙ sym c.buffer_at.ensures) in
+    let count : c.word-count.result ≡ memory (Count mutator) =
+    c.word-count.ensures.named (Count mutator) c.requires.mutator (ap (λ (k : Config). word_at k (Count mutator)) (sym c.config-config.ensures) ∙ sym c.count_at.ensures) in
+    let below : entry < memory (Count mutator) = omega (arith, count, c.loop-entry-test.true) in
+    let few : entry < 8 = omega (arith, below, c.requires.can.counts mutator c.requires.mutator) in
+    let value : c.word-word.result ≡ memory_of now (Buffer mutator entry) =
+    c.word-word.ensures.named (Buffer mutator entry) (omega (arith, c.requires.mutator, ap (λ (k : Config). k.mutators) same.config), few)
+    (ap (λ (k : Config). word_at k (Buffer mutator entry)) (same.config ∙ sym c.config-config.ensures) ∙ sym c.buffer_at.ensures) in
     subst (IsNullOrInside (config_of now)) (sym value)
-    (carried (λ k n. IsNullOrInside k (n (Buffer t i))) old now same (entry_inside g m c.requires.can t i c.requires.mutator below))
+    (carried (λ k n. IsNullOrInside k (n (Buffer mutator entry))) old now same (entry_inside config memory c.requires.can mutator entry c.requires.mutator below))
 
 pub loop-entry-preserved : goal.loop-entry-preserved
 loop-entry-preserved c =
-    let t = c.args.mutator in
-    let i = c.loop-entry.entry in
+    let mutator = c.args.mutator in
+    let entry = c.loop-entry.entry in
     let old = c.args.image.now in
-    let m : Word → ℕ = memory_of old in
+    let memory : Word → ℕ = memory_of old in
     let now = c.loop-entry.image in
     let same = c.loop-entry.invariant.unchanged in
-    let count : c.word-count.result ≡ m (Count t) =
-    c.word-count.ensures.named (Count t) c.requires.mutator (ap (λ (k : Config). word_at k (Count t)) (sym c.config-config.ensures) ∙ sym c.count_at.ensures) in
-    let few : i < 8 = omega (arith, count, c.loop-entry-test.true, c.requires.can.counts t c.requires.mutator) in
-    let value : c.word-word.result ≡ memory_of now (Buffer t i) =
-    c.word-word.ensures.named (Buffer t i) (omega (arith, c.requires.mutator, ap (λ (k : Config). k.mutators) same.config), few)
-    (ap (λ (k : Config). word_at k (Buffer t i)) (same.config ∙ sym c.config-config.ensures) ∙ sym c.buffer_at.ensures) in
+    let count : c.word-count.result ≡ memory (Count mutator) =
+    c.word-count.ensures.named (Count mutator) c.requires.mutator (ap (λ (k : Config). word_at k (Count mutator)) (sym c.config-config.ensures) ∙ sym c.count_at.ensures) in
+    let few : entry < 8 = omega (arith, count, c.loop-entry-test.true, c.requires.can.counts mutator c.requires.mutator) in
+    let value : c.word-word.result ≡ memory_of now (Buffer mutator entry) =
+    c.word-word.ensures.named (Buffer mutator entry) (omega (arith, c.requires.mutator, ap (λ (k : Config). k.mutators) same.config), few)
+    (ap (λ (k : Config). word_at k (Buffer mutator entry)) (same.config ∙ sym c.config-config.ensures) ∙ sym c.buffer_at.ensures) in
     record {
       unchanged = both old now c.find.new.self same c.find.ensures.unchanged;
       found = c.find.ensures.found;
-      noted = noted_step (found_of old) (found_of now) (found_of c.find.new.self) (λ j. m (Buffer t j)) i c.word-word.result c.loop-entry.invariant.noted
-          (value ∙ ap (λ n. n (Buffer t i)) (memory_same old now same)) c.find.ensures.noted;
+      noted = noted_step (found_of old) (found_of now) (found_of c.find.new.self) (λ j. memory (Buffer mutator j)) entry c.word-word.result c.loop-entry.invariant.noted
+          (value ∙ ap (λ n. n (Buffer mutator entry)) (memory_same old now same)) c.find.ensures.noted;
     }
 
 pub returns-clause-noted : goal.returns-clause-noted
 returns-clause-noted c =
-    let t = c.args.mutator in
+    let mutator = c.args.mutator in
     let old = c.args.image.now in
-    let m : Word → ℕ = memory_of old in
-    let count : c.word-count.result ≡ m (Count t) =
-    c.word-count.ensures.named (Count t) c.requires.mutator (ap (λ (k : Config). word_at k (Count t)) (sym c.config-config.ensures) ∙ sym c.count_at.ensures) in
-    let all : c.loop-entry.entry ≡ m (Count t) = omega (arith, count, c.loop-entry-test.false, c.loop-entry.auto.entry-end) in
-    c.loop-entry.invariant.noted ∙ ap (λ n. with_addresses (found_of old) (map (λ i. m (Buffer t i)) (range_with_len 0 n))) all
+    let memory : Word → ℕ = memory_of old in
+    let count : c.word-count.result ≡ memory (Count mutator) =
+    c.word-count.ensures.named (Count mutator) c.requires.mutator (ap (λ (k : Config). word_at k (Count mutator)) (sym c.config-config.ensures) ∙ sym c.count_at.ensures) in
+    let all : c.loop-entry.entry ≡ memory (Count mutator) = omega (arith, count, c.loop-entry-test.false, c.loop-entry.auto.entry-end) in
+    c.loop-entry.invariant.noted ∙ ap (λ n. with_addresses (found_of old) (map (λ i. memory (Buffer mutator i)) (range_with_len 0 n))) all

@@ -13,61 +13,61 @@ use Rattle.mark_core.proofs.trace.find_fields.Goals as goal
 
 pub find-requires-clause-inside : goal.find-requires-clause-inside
 find-requires-clause-inside c =
-    let a = c.args.address in
+    let address = c.args.address in
     let i = c.loop-index.index in
     let old = c.args.image.now in
-    let g = config_of old in
-    let m : Word → ℕ = memory_of old in
-    let shape : c.word.result ≡ m (Heap (a + 1)) =
-    c.word.ensures.named (Heap (a + 1)) (part_inside g m c.requires.can a 1 c.requires.traced (omega arith))
-    (ap (λ (k : Config). word_at k (Heap (a + 1))) (sym c.config-config.ensures) ∙ sym c.heap_at.ensures) in
-    let refs : c.refs_of-refs.result ≡ refs_in (m (Heap (a + 1))) = c.refs_of-refs.ensures ∙ ap refs_in shape in
-    let few : i < refs_in (m (Heap (a + 1))) = omega (arith, refs, c.loop-index-test.true) in
-    let index : a + (3 + i) ≡ a + 3 + i = omega arith in
-    let is : IsWord g (Heap (a + 3 + i)) = subst (λ x. IsWord g (Heap x)) index (part_inside g m c.requires.can a (3 + i) c.requires.traced (omega (arith, few))) in
+    let config = config_of old in
+    let memory : Word → ℕ = memory_of old in
+    let shape : c.word.result ≡ memory (Heap (address + 1)) =
+    c.word.ensures.named (Heap (address + 1)) (part_inside config memory c.requires.can address 1 c.requires.traced (omega arith))
+    (ap (λ (k : Config). word_at k (Heap (address + 1))) (sym c.config-config.ensures) ∙ sym c.heap_at.ensures) in
+    let refs : c.refs_of-refs.result ≡ refs_in (memory (Heap (address + 1))) = c.refs_of-refs.ensures ∙ ap refs_in shape in
+    let few : i < refs_in (memory (Heap (address + 1))) = omega (arith, refs, c.loop-index-test.true) in
+    let index : address + (3 + i) ≡ address + 3 + i = omega arith in
+    let is : IsWord config (Heap (address + 3 + i)) = subst (λ x. IsWord config (Heap x)) index (part_inside config memory c.requires.can address (3 + i) c.requires.traced (omega (arith, few))) in
     let now = c.loop-index.image in
     let same = c.loop-index.invariant.unchanged in
-    let value : c.word-word.result ≡ memory_of now (Heap (a + 3 + i)) =
-    c.word-word.ensures.named (Heap (a + 3 + i)) (subst (λ k. IsWord k (Heap (a + 3 + i))) (sym same.config) is)
-    (ap (λ (k : Config). word_at k (Heap (a + 3 + i))) (same.config ∙ sym c.config-config.ensures) ∙ sym c.heap_at-in-loop-index.ensures) in
+    let value : c.word-word.result ≡ memory_of now (Heap (address + 3 + i)) =
+    c.word-word.ensures.named (Heap (address + 3 + i)) (subst (λ k. IsWord k (Heap (address + 3 + i))) (sym same.config) is)
+    (ap (λ (k : Config). word_at k (Heap (address + 3 + i))) (same.config ∙ sym c.config-config.ensures) ∙ sym c.heap_at-in-loop-index.ensures) in
     subst (IsNullOrInside (config_of now)) (sym value)
-    (carried (λ k n. IsNullOrInside k (n (Heap (a + 3 + i)))) old now same (field_inside g m c.requires.can a i c.requires.traced c.requires.open few))
+    (carried (λ k n. IsNullOrInside k (n (Heap (address + 3 + i)))) old now same (field_inside config memory c.requires.can address i c.requires.traced c.requires.open few))
 
 pub loop-index-preserved : goal.loop-index-preserved
 loop-index-preserved c =
-    let a = c.args.address in
+    let address = c.args.address in
     let i = c.loop-index.index in
     let old = c.args.image.now in
-    let g = config_of old in
-    let m : Word → ℕ = memory_of old in
-    let shape : c.word.result ≡ m (Heap (a + 1)) =
-    c.word.ensures.named (Heap (a + 1)) (part_inside g m c.requires.can a 1 c.requires.traced (omega arith))
-    (ap (λ (k : Config). word_at k (Heap (a + 1))) (sym c.config-config.ensures) ∙ sym c.heap_at.ensures) in
-    let refs : c.refs_of-refs.result ≡ refs_in (m (Heap (a + 1))) = c.refs_of-refs.ensures ∙ ap refs_in shape in
-    let few : i < refs_in (m (Heap (a + 1))) = omega (arith, refs, c.loop-index-test.true) in
-    let index : a + (3 + i) ≡ a + 3 + i = omega arith in
-    let is : IsWord g (Heap (a + 3 + i)) = subst (λ x. IsWord g (Heap x)) index (part_inside g m c.requires.can a (3 + i) c.requires.traced (omega (arith, few))) in
+    let config = config_of old in
+    let memory : Word → ℕ = memory_of old in
+    let shape : c.word.result ≡ memory (Heap (address + 1)) =
+    c.word.ensures.named (Heap (address + 1)) (part_inside config memory c.requires.can address 1 c.requires.traced (omega arith))
+    (ap (λ (k : Config). word_at k (Heap (address + 1))) (sym c.config-config.ensures) ∙ sym c.heap_at.ensures) in
+    let refs : c.refs_of-refs.result ≡ refs_in (memory (Heap (address + 1))) = c.refs_of-refs.ensures ∙ ap refs_in shape in
+    let few : i < refs_in (memory (Heap (address + 1))) = omega (arith, refs, c.loop-index-test.true) in
+    let index : address + (3 + i) ≡ address + 3 + i = omega arith in
+    let is : IsWord config (Heap (address + 3 + i)) = subst (λ x. IsWord config (Heap x)) index (part_inside config memory c.requires.can address (3 + i) c.requires.traced (omega (arith, few))) in
     let now = c.loop-index.image in
     let same = c.loop-index.invariant.unchanged in
-    let value : c.word-word.result ≡ memory_of now (Heap (a + 3 + i)) =
-    c.word-word.ensures.named (Heap (a + 3 + i)) (subst (λ k. IsWord k (Heap (a + 3 + i))) (sym same.config) is)
-    (ap (λ (k : Config). word_at k (Heap (a + 3 + i))) (same.config ∙ sym c.config-config.ensures) ∙ sym c.heap_at-in-loop-index.ensures) in
+    let value : c.word-word.result ≡ memory_of now (Heap (address + 3 + i)) =
+    c.word-word.ensures.named (Heap (address + 3 + i)) (subst (λ k. IsWord k (Heap (address + 3 + i))) (sym same.config) is)
+    (ap (λ (k : Config). word_at k (Heap (address + 3 + i))) (same.config ∙ sym c.config-config.ensures) ∙ sym c.heap_at-in-loop-index.ensures) in
     record {
       unchanged = both old now c.find.new.self same c.find.ensures.unchanged;
       found = c.find.ensures.found;
-      noted = noted_step (found_of old) (found_of now) (found_of c.find.new.self) (λ j. m (Heap (a + 3 + j))) i c.word-word.result c.loop-index.invariant.noted
-          (value ∙ ap (λ n. n (Heap (a + 3 + i))) (memory_same old now same)) c.find.ensures.noted;
+      noted = noted_step (found_of old) (found_of now) (found_of c.find.new.self) (λ j. memory (Heap (address + 3 + j))) i c.word-word.result c.loop-index.invariant.noted
+          (value ∙ ap (λ n. n (Heap (address + 3 + i))) (memory_same old now same)) c.find.ensures.noted;
     }
 
 pub returns-clause-noted : goal.returns-clause-noted
 returns-clause-noted c =
-    let a = c.args.address in
+    let address = c.args.address in
     let old = c.args.image.now in
-    let g = config_of old in
-    let m : Word → ℕ = memory_of old in
-    let shape : c.word.result ≡ m (Heap (a + 1)) =
-    c.word.ensures.named (Heap (a + 1)) (part_inside g m c.requires.can a 1 c.requires.traced (omega arith))
-    (ap (λ (k : Config). word_at k (Heap (a + 1))) (sym c.config-config.ensures) ∙ sym c.heap_at.ensures) in
-    let refs : c.refs_of-refs.result ≡ refs_in (m (Heap (a + 1))) = c.refs_of-refs.ensures ∙ ap refs_in shape in
-    let all : c.loop-index.index ≡ refs_in (m (Heap (a + 1))) = omega (arith, refs, c.loop-index-test.false, c.loop-index.auto.index-end) in
-    c.loop-index.invariant.noted ∙ ap (λ n. with_addresses (found_of old) (map (λ i. m (Heap (a + 3 + i))) (range_with_len 0 n))) all
+    let config = config_of old in
+    let memory : Word → ℕ = memory_of old in
+    let shape : c.word.result ≡ memory (Heap (address + 1)) =
+    c.word.ensures.named (Heap (address + 1)) (part_inside config memory c.requires.can address 1 c.requires.traced (omega arith))
+    (ap (λ (k : Config). word_at k (Heap (address + 1))) (sym c.config-config.ensures) ∙ sym c.heap_at.ensures) in
+    let refs : c.refs_of-refs.result ≡ refs_in (memory (Heap (address + 1))) = c.refs_of-refs.ensures ∙ ap refs_in shape in
+    let all : c.loop-index.index ≡ refs_in (memory (Heap (address + 1))) = omega (arith, refs, c.loop-index-test.false, c.loop-index.auto.index-end) in
+    c.loop-index.invariant.noted ∙ ap (λ n. with_addresses (found_of old) (map (λ i. memory (Heap (address + 3 + i))) (range_with_len 0 n))) all

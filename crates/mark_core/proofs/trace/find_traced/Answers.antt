@@ -21,27 +21,27 @@ find_all_entries-requires-clause-can c =
 pub loop-address-init : goal.loop-address-init
 loop-address-init c =
     let old = c.args.image.now in
-    let g = config_of old in
-    let m : Word → ℕ = memory_of old in
+    let config = config_of old in
+    let memory : Word → ℕ = memory_of old in
     let one = c.forget_found.new.self in
     let two = c.find_greys.new.image in
     let three = c.find_all_entries.new.image in
     let to_one = c.forget_found.ensures.unchanged in
     let to_two = both old one two to_one c.find_greys.ensures.unchanged in
-    let greys : found_of two ≡ with_addresses [] (greys_below g m (heap_size g)) =
+    let greys : found_of two ≡ with_addresses [] (greys_below config memory (heap_size config)) =
     c.find_greys.ensures.noted
     ∙ ap (λ (k : Word → ℕ). with_addresses (found_of one) (greys_below (config_of one) k (heap_size (config_of one)))) (memory_same old one to_one)
-    ∙ ap (λ (k : Config). with_addresses (found_of one) (greys_below k m (heap_size k))) to_one.config
-    ∙ ap (λ xs. with_addresses xs (greys_below g m (heap_size g))) c.forget_found.ensures.none in
+    ∙ ap (λ (k : Config). with_addresses (found_of one) (greys_below k memory (heap_size k))) to_one.config
+    ∙ ap (λ xs. with_addresses xs (greys_below config memory (heap_size config))) c.forget_found.ensures.none in
     record {
       unchanged = both old two three to_two c.find_all_entries.ensures.unchanged;
       found = c.find_all_entries.ensures.found;
       turns = c.find_all_entries.ensures.noted
           ∙ ap (λ (k : Word → ℕ). with_addresses (found_of two) (entries_below k (config_of two).mutators)) (memory_same old two to_two)
-          ∙ ap (λ (k : Config). with_addresses (found_of two) (entries_below m k.mutators)) to_two.config
-          ∙ ap (λ xs. with_addresses xs (entries_below m g.mutators)) greys
-          ∙ noted_both [] (greys_below g m (heap_size g)) (entries_below m g.mutators)
-          ∙ no_turn (open_fields g m) (starts_in g m);
+          ∙ ap (λ (k : Config). with_addresses (found_of two) (entries_below memory k.mutators)) to_two.config
+          ∙ ap (λ xs. with_addresses xs (entries_below memory config.mutators)) greys
+          ∙ noted_both [] (greys_below config memory (heap_size config)) (entries_below memory config.mutators)
+          ∙ no_turn (open_fields config memory) (starts_in config memory);
       few = omega arith;
     }
 
@@ -51,12 +51,12 @@ trace_one-requires-clause-can c = carried CanTrace c.args.image.now c.loop-addre
 pub trace_one-requires-clause-traced : goal.trace_one-requires-clause-traced
 trace_one-requires-clause-traced c =
     let old = c.args.image.now in
-    let a = c.in-Some.address in
-    let n = c.loop-address.turn in
-    let at : slice_get (traced_by (config_of old) (memory_of old) n) n ≡ Some a =
-    sym (ap (λ xs. slice_get xs n) c.loop-address.invariant.turns) ∙ sym c.in-Some.ensures in
-    carried (λ k m. IsTraced k m a) old c.loop-address.image c.loop-address.invariant.unchanged
-    (listed_traced (config_of old) (memory_of old) n a (has_at (traced_by (config_of old) (memory_of old) n) n a at))
+    let address = c.in-Some.address in
+    let turn = c.loop-address.turn in
+    let at : slice_get (traced_by (config_of old) (memory_of old) turn) turn ≡ Some address =
+    sym (ap (λ xs. slice_get xs turn) c.loop-address.invariant.turns) ∙ sym c.in-Some.ensures in
+    carried (λ k m. IsTraced k m address) old c.loop-address.image c.loop-address.invariant.unchanged
+    (listed_traced (config_of old) (memory_of old) turn address (has_at (traced_by (config_of old) (memory_of old) turn) turn address at))
 
 pub loop-address-smaller : goal.loop-address-smaller
 loop-address-smaller c =
@@ -68,32 +68,32 @@ loop-address-smaller c =
 pub loop-address-preserved : goal.loop-address-preserved
 loop-address-preserved c =
     let old = c.args.image.now in
-    let g = config_of old in
+    let config = config_of old in
     let now = c.loop-address.image in
-    let a = c.in-Some.address in
-    let n = c.loop-address.turn in
-    let m : Word → ℕ = memory_of old in
+    let address = c.in-Some.address in
+    let turn = c.loop-address.turn in
+    let memory : Word → ℕ = memory_of old in
     let same = c.loop-address.invariant.unchanged in
-    let at : slice_get (traced_by g m n) n ≡ Some a = sym (ap (λ xs. slice_get xs n) c.loop-address.invariant.turns) ∙ sym c.in-Some.ensures in
-    let within = slice_get_within (found_of now) n a (sym c.in-Some.ensures) in
+    let at : slice_get (traced_by config memory turn) turn ≡ Some address = sym (ap (λ xs. slice_get xs turn) c.loop-address.invariant.turns) ∙ sym c.in-Some.ensures in
+    let within = slice_get_within (found_of now) turn address (sym c.in-Some.ensures) in
     let few = marks.few (config_of now).region_words (marks_of now) (found_of now) c.loop-address.invariant.found in
     record {
       unchanged = both old now c.trace_one.new.image same c.trace_one.ensures.unchanged;
       found = c.trace_one.ensures.found;
       turns = c.trace_one.ensures.noted
-          ∙ ap (λ (k : Word → ℕ). with_addresses (found_of now) (open_fields (config_of now) k a)) (memory_same old now same)
-          ∙ ap (λ (k : Config). with_addresses (found_of now) (open_fields k m a)) same.config
-          ∙ ap (λ xs. with_addresses xs (open_fields g m a)) c.loop-address.invariant.turns
-          ∙ next_turn (open_fields g m) (starts_in g m) n a at;
+          ∙ ap (λ (k : Word → ℕ). with_addresses (found_of now) (open_fields (config_of now) k address)) (memory_same old now same)
+          ∙ ap (λ (k : Config). with_addresses (found_of now) (open_fields k memory address)) same.config
+          ∙ ap (λ xs. with_addresses xs (open_fields config memory address)) c.loop-address.invariant.turns
+          ∙ next_turn (open_fields config memory) (starts_in config memory) turn address at;
       few = omega (arith, within, few, now.all_marks, ap heap_size same.config);
     }
 
 pub returns-clause-traced : goal.returns-clause-traced
 returns-clause-traced c =
     let old = c.args.image.now in
-    let g = config_of old in
-    let m : Word → ℕ = memory_of old in
-    let n = c.loop-address.turn in
+    let config = config_of old in
+    let memory : Word → ℕ = memory_of old in
+    let turn = c.loop-address.turn in
     let turns = c.loop-address.invariant.turns in
-    let none : slice_get (found_of c.loop-address.image) n ≡ None = sym c.found_at.ensures ∙ is_none c.found_at.result c.in_default.not-Some in
-    turns ∙ last_turn (open_fields g m) (starts_in g m) n (heap_size g) (none_left (traced_by g m n) n (ap (λ xs. slice_get xs n) (sym turns) ∙ none)) c.loop-address.invariant.few
+    let none : slice_get (found_of c.loop-address.image) turn ≡ None = sym c.found_at.ensures ∙ is_none c.found_at.result c.in_default.not-Some in
+    turns ∙ last_turn (open_fields config memory) (starts_in config memory) turn (heap_size config) (none_left (traced_by config memory turn) turn (ap (λ xs. slice_get xs turn) (sym turns) ∙ none)) c.loop-address.invariant.few

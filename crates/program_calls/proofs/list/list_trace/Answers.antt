@@ -17,20 +17,20 @@ of-requires g c =
 
 pub list-listed-requires-clause-run : goal.list-listed-requires-clause-run
 list-listed-requires-clause-run g c =
-    let t = c.args.trace in
-    can_run c.in-Ok-open.plain t.config t.scripts c.in-Ok.work c.in-Ok-open.ensures.config c.in-Ok-open.ensures.opening c.in-Ok-open.ensures.orders (count_scripts c.requires.0 t.version t.config t.scripts t.schedule c.requires.1)
-    (runnable_scripts c.requires.0 t.version t.config t.scripts t.schedule c.requires.1) (c.in-Ok.ensures ∙ ap opened c.into_vec.ensures)
+    let trace = c.args.trace in
+    can_run c.in-Ok-open.plain trace.config trace.scripts c.in-Ok.work c.in-Ok-open.ensures.config c.in-Ok-open.ensures.opening c.in-Ok-open.ensures.orders (count_scripts c.requires.0 trace.version trace.config trace.scripts trace.schedule c.requires.1)
+    (runnable_scripts c.requires.0 trace.version trace.config trace.scripts trace.schedule c.requires.1) (c.in-Ok.ensures ∙ ap opened c.into_vec.ensures)
 
 pub list-listed-requires-clause-items : goal.list-listed-requires-clause-items
 list-listed-requires-clause-items g c =
-    let t = c.args.trace in
-    subst (λ (d : Config). All (IsInSeats d) t.schedule) (sym c.in-Ok-open.ensures.config) (items_in_seats c.requires.0 t.version t.config t.scripts t.schedule c.requires.1)
+    let trace = c.args.trace in
+    subst (λ (d : Config). All (IsInSeats d) trace.schedule) (sym c.in-Ok-open.ensures.config) (items_in_seats c.requires.0 trace.version trace.config trace.scripts trace.schedule c.requires.1)
 
 pub list_graph-requires : goal.list_graph-requires
 list_graph-requires g c =
-    let t = c.args.trace in
+    let trace = c.args.trace in
     let steps = c.limit_of-steps.result in
-    let runs = subst (λ ran. RunsSchedule c.in-Ok-open.plain c.in-Ok.work t.schedule steps c.list-listed.new.plain c.list-listed.new.work ran) c.in-Finished.is c.list-listed.ensures.events in
-    all_rest t.config t.scripts t.schedule steps c.list-listed.new.work c.list-listed.new.plain
-    (finished c.in-Ok-open.plain c.list-listed.new.plain t.config t.scripts t.schedule steps c.in-Ok.work c.list-listed.new.work c.in-Ok-open.ensures.config c.in-Ok-open.ensures.opening
-    (count_scripts c.requires.0 t.version t.config t.scripts t.schedule c.requires.1) (c.in-Ok.ensures ∙ ap opened c.into_vec.ensures) runs c.list-listed.ensures.config c.list-listed.ensures.run)
+    let runs = subst (λ ran. RunsSchedule c.in-Ok-open.plain c.in-Ok.work trace.schedule steps c.list-listed.new.plain c.list-listed.new.work ran) c.in-Finished.is c.list-listed.ensures.events in
+    all_rest trace.config trace.scripts trace.schedule steps c.list-listed.new.work c.list-listed.new.plain
+    (finished c.in-Ok-open.plain c.list-listed.new.plain trace.config trace.scripts trace.schedule steps c.in-Ok.work c.list-listed.new.work c.in-Ok-open.ensures.config c.in-Ok-open.ensures.opening
+    (count_scripts c.requires.0 trace.version trace.config trace.scripts trace.schedule c.requires.1) (c.in-Ok.ensures ∙ ap opened c.into_vec.ensures) runs c.list-listed.ensures.config c.list-listed.ensures.run)

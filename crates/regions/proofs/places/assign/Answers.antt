@@ -13,18 +13,18 @@ use Rattle.regions.proofs.places.assign.Goals.{then-marked+then-is_shut, then-ma
 
 pub loop-index-init : goal.loop-index-init
 loop-index-init c =
-    let w = c.args.region_words in
+    let region_words = c.args.region_words in
     let shut = is_shut c.args.shut in
-    let kept = kept_of w c.args.heap.now c.args.marks.now in
-    let none : (a : ℕ) → a < w + 0 → kept a ≡ 0 = λ a below. kept_below w c.args.heap.now c.args.marks.now a (omega (arith, below)) in
+    let kept = kept_of region_words c.args.heap.now c.args.marks.now in
+    let none : (a : ℕ) → a < region_words + 0 → kept a ≡ 0 = λ a below. kept_below region_words c.args.heap.now c.args.marks.now a (omega (arith, below)) in
     record {
       table = refl;
       regions = c.clear_open.ensures.length;
-      end = sym (end_of_none w shut kept (w + 0) none);
+      end = sym (end_of_none region_words shut kept (region_words + 0) none);
       places = λ a below some. absurd (omega (arith, none a below, some));
       tops = λ r below.
           c.clear_open.ensures.tops r (omega (arith, below, c.clear_open.ensures.length))
-          ∙ ap (λ t. if shut (r + 1) then get_or c.args.tops.now r 0 else t) (sym (top_of_none w shut kept r (w + 0) none));
+          ∙ ap (λ t. if shut (r + 1) then get_or c.args.tops.now r 0 else t) (sym (top_of_none region_words shut kept r (region_words + 0) none));
     }
 
 pub bounds-heap-index : goal.bounds-heap-index

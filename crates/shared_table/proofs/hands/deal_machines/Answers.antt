@@ -18,15 +18,15 @@ loop-number-preserved g c =
     let out_within : l.number < length l.dealt.items = omega (arith, c.len-number-end.ensures) in
     elim c.if-number-bundles.branch [
       | then-number-bundles w ↦
-          (let z1 = w.if-number-bundles.true in
-          let passes : is_dealt_to c.args.bundles c.args.bundle l.number ≡ true = grind (arith, nat_tests, z1) in
+          (let is_its_turn = w.if-number-bundles.true in
+          let passes : is_dealt_to c.args.bundles c.args.bundle l.number ≡ true = grind (arith, nat_tests, is_its_turn) in
           taking_swap (is_dealt_to c.args.bundles c.args.bundle) c.args.machines.now.items l.number l.machines.items l.dealt.items c.if-number-bundles.machines.items c.if-number-bundles.dealt.items
           w.index_mut-then-number-bundles.result.now w.index_mut.result.now l.invariant within out_within w.index_mut-then-number-bundles.ensures.value w.index_mut.ensures.value passes
           (ap (λ v. v.items) w.machines-is ∙ ap (λ (x : Option g.row.T.Denot). slice_set l.machines.items l.number x) w.swap.ensures.y_after)
           (ap (λ v. v.items) w.dealt-is ∙ ap (λ (x : Option g.row.T.Denot). slice_set l.dealt.items l.number x) w.swap.ensures.x_after))
       | else-number-bundles w ↦
-          (let z2 = w.if-number-bundles.false in
-          let fails : is_dealt_to c.args.bundles c.args.bundle l.number ≡ false = grind (arith, nat_tests, z2) in
+          (let is_not_its_turn = w.if-number-bundles.false in
+          let fails : is_dealt_to c.args.bundles c.args.bundle l.number ≡ false = grind (arith, nat_tests, is_not_its_turn) in
           subst (λ (v : View g.row.T.Denot). TakingOut (is_dealt_to c.args.bundles c.args.bundle) c.args.machines.now.items (l.number + 1) v c.if-number-bundles.dealt.items) (ap (λ v. v.items) (sym w.machines-is))
           (subst (λ (v : View g.row.T.Denot). TakingOut (is_dealt_to c.args.bundles c.args.bundle) c.args.machines.now.items (l.number + 1) l.machines.items v) (ap (λ v. v.items) (sym w.dealt-is))
           (taking_none (is_dealt_to c.args.bundles c.args.bundle) c.args.machines.now.items l.number l.machines.items l.dealt.items l.invariant fails)))

@@ -10,16 +10,16 @@ pub loop-rest-preserved : goal.loop-rest-preserved
 loop-rest-preserved g c =
     let (done, appended, split, few) = c.loop-rest.invariant.done in
     let rest = c.loop-rest.rest.now in
-    let n = c.in-Ok.count in
+    let count = c.in-Ok.count in
     let some : 1 ≤ length rest = grind (arith, common_steps, c.loop-rest-test.ensures) in
-    let took : 1 ≤ n = grind (arith, some, c.in-Ok.ensures.none_only_of_empty) in
-    let size : length (take n rest) ≡ n = length-take-le n rest c.in-Ok.ensures.within in
+    let took : 1 ≤ count = grind (arith, some, c.in-Ok.ensures.none_only_of_empty) in
+    let size : length (take count rest) ≡ count = length-take-le count rest c.in-Ok.ensures.within in
     record {
       done = (
-        done ++ take n rest,
+        done ++ take count rest,
         Appends-trans _ _ _ _ _ appended c.in-Ok.ensures.appended,
-        front_moves _ done rest n split,
-        omega (arith, few, c.write.ensures.one_call, took, length-append done (take n rest), size),
+        front_moves _ done rest count split,
+        omega (arith, few, c.write.ensures.one_call, took, length-append done (take count rest), size),
       );
       never_fell = omega (arith, c.write.ensures.faults_never_fall, c.loop-rest.invariant.never_fell);
     }

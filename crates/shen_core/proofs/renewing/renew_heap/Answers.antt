@@ -25,74 +25,74 @@ use Rattle.shen_core.proofs.renewing.renew_heap.Goals as goal
 
 pub renew-requires-clause-whole : goal.renew-requires-clause-whole
 renew-requires-clause-whole c =
-    let p = c.args.plain.now in
-    let d = config_of p in
-    let t = c.in_ok-text.text in
-    let same : c.config-config.result ≡ d = c.config-config.ensures in
+    let plain = c.args.plain.now in
+    let config = config_of plain in
+    let text = c.in_ok-text.text in
+    let same : c.config-config.result ≡ config = c.config-config.ensures in
     let run = c.requires.renewable.run in
     let shows = c.in_ok-text.ensures.shows run c.requires.renewable.leads in
-    subst (λ (k : Config). IsPlaceable k t) (sym same) (placeable d t (graph_after pause_image d run) c.requires.renewable.renewable shows)
+    subst (λ (k : Config). IsPlaceable k text) (sym same) (placeable config text (graph_after pause_image config run) c.requires.renewable.renewable shows)
 
 pub renew-requires-clause-names : goal.renew-requires-clause-names
 renew-requires-clause-names c =
-    let p = c.args.plain.now in
-    let d = config_of p in
-    let t = c.in_ok-text.text in
-    let same : c.config-config.result ≡ d = c.config-config.ensures in
+    let plain = c.args.plain.now in
+    let config = config_of plain in
+    let text = c.in_ok-text.text in
+    let same : c.config-config.result ≡ config = c.config-config.ensures in
     let run = c.requires.renewable.run in
     let shows = c.in_ok-text.ensures.shows run c.requires.renewable.leads in
-    subst (λ (k : Config). AreOfThreads k.mutators (names_of t)) (sym same) (of_threads d t (graph_after pause_image d run) c.requires.renewable.renewable shows)
+    subst (λ (k : Config). AreOfThreads k.mutators (names_of text)) (sym same) (of_threads config text (graph_after pause_image config run) c.requires.renewable.renewable shows)
 
 pub open_from-requires-clause-begins : goal.open_from-requires-clause-begins
 open_from-requires-clause-begins c =
-    let t = c.in_ok-text.text in
+    let text = c.in_ok-text.text in
     let image = c.in-Heap.image in
     let counts = c.in-Heap.counts.items in
     let sizes : images.config_of image ≡ c.config-config.result = rw c.in-Heap.is at c.in_ok-image.ensures.config in
-    let placed : IsPlaced c.config-config.result (text_anew t) (images.memory_of image) = rw c.in-Heap.is at c.in_ok-image.ensures.placed in
-    let stands : Represents c.config-config.result (images.memory_of image) (text_graph (text_anew t) counts) (λ m. nothing) = rw c.in-Heap.is at c.in_ok-image.ensures.stands in
-    let can = placed_can_begin c.config-config.result t counts (images.memory_of image) placed stands in
+    let placed : IsPlaced c.config-config.result (text_anew text) (images.memory_of image) = rw c.in-Heap.is at c.in_ok-image.ensures.placed in
+    let stands : Represents c.config-config.result (images.memory_of image) (text_graph (text_anew text) counts) (λ m. nothing) = rw c.in-Heap.is at c.in_ok-image.ensures.stands in
+    let can = placed_can_begin c.config-config.result text counts (images.memory_of image) placed stands in
     ∣ (
-      text_graph (text_anew t) counts,
-      subst (λ (xs : List ℕ). CanBeginFrom (images.config_of image) (images.memory_of image) xs (text_graph (text_anew t) counts)) (sym c.deref.ensures.value)
-          (subst (λ (k : Config). CanBeginFrom k (images.memory_of image) counts (text_graph (text_anew t) counts)) (sym sizes) can),
+      text_graph (text_anew text) counts,
+      subst (λ (xs : List ℕ). CanBeginFrom (images.config_of image) (images.memory_of image) xs (text_graph (text_anew text) counts)) (sym c.deref.ensures.value)
+          (subst (λ (k : Config). CanBeginFrom k (images.memory_of image) counts (text_graph (text_anew text) counts)) (sym sizes) can),
     ) ∣₁
 
 pub returns-in-Heap-clause-renewed : goal.returns-in-Heap-clause-renewed
 returns-in-Heap-clause-renewed c = λ now leads.
-    let p = c.args.plain.now in
-    let d = config_of p in
-    let t = c.in_ok-text.text in
-    let same : c.config-config.result ≡ d = c.config-config.ensures in
+    let plain = c.args.plain.now in
+    let config = config_of plain in
+    let text = c.in_ok-text.text in
+    let same : c.config-config.result ≡ config = c.config-config.ensures in
     let run = c.requires.renewable.run in
     let shows = c.in_ok-text.ensures.shows run c.requires.renewable.leads in
     let image = c.in-Heap.image in
     let counts = c.in-Heap.counts.items in
     let sizes : images.config_of image ≡ c.config-config.result = rw c.in-Heap.is at c.in_ok-image.ensures.config in
-    let placed : IsPlaced c.config-config.result (text_anew t) (images.memory_of image) = rw c.in-Heap.is at c.in_ok-image.ensures.placed in
-    let stands : Represents c.config-config.result (images.memory_of image) (text_graph (text_anew t) counts) (λ m. nothing) = rw c.in-Heap.is at c.in_ok-image.ensures.stands in
-    let can = placed_can_begin c.config-config.result t counts (images.memory_of image) placed stands in
-    let whole = placeable d t (graph_after pause_image d run) c.requires.renewable.renewable shows in
-    let threads = of_threads d t (graph_after pause_image d run) c.requires.renewable.renewable shows in
-    let are : AreCountsOf (names_of t) c.config-config.result.mutators counts = rw c.in-Heap.is at c.in_ok-image.ensures.counts in
+    let placed : IsPlaced c.config-config.result (text_anew text) (images.memory_of image) = rw c.in-Heap.is at c.in_ok-image.ensures.placed in
+    let stands : Represents c.config-config.result (images.memory_of image) (text_graph (text_anew text) counts) (λ m. nothing) = rw c.in-Heap.is at c.in_ok-image.ensures.stands in
+    let can = placed_can_begin c.config-config.result text counts (images.memory_of image) placed stands in
+    let whole = placeable config text (graph_after pause_image config run) c.requires.renewable.renewable shows in
+    let threads = of_threads config text (graph_after pause_image config run) c.requires.renewable.renewable shows in
+    let are : AreCountsOf (names_of text) c.config-config.result.mutators counts = rw c.in-Heap.is at c.in_ok-image.ensures.counts in
     let new = c.in_ok-plain-in-Heap.plain in
-    begins_anew d t whole threads (graph_after pause_image d now) (c.in_ok-text.ensures.shows now leads) counts (subst (λ (k : Config). AreCountsOf (names_of t) k.mutators counts) same are) new image
+    begins_anew config text whole threads (graph_after pause_image config now) (c.in_ok-text.ensures.shows now leads) counts (subst (λ (k : Config). AreCountsOf (names_of text) k.mutators counts) same are) new image
     (c.in_ok-plain-in-Heap.ensures.config ∙ sizes ∙ same) (sizes ∙ same)
     (subst (λ (xs : List ℕ). Shows new (stage_from (images.config_of image) (images.words_of image) xs)) c.deref.ensures.value c.in_ok-plain-in-Heap.ensures.stage)
     (subst (λ (xs : List ℕ). (h : Graph) → CanBeginFrom (images.config_of image) (images.memory_of image) xs h → Begins (images.config_of image) (stage_from (images.config_of image) (images.words_of image) xs) h) c.deref.ensures.value
     c.in_ok-plain-in-Heap.ensures.begins)
-    (subst (λ (k : Config). CanBeginFrom k (images.memory_of image) counts (text_graph (text_anew t) counts)) same can)
-    (nothing_pinned t d.mutators (graph_after pause_image d now) (c.in_ok-text.ensures.shows now leads) c.in_ok-text.ensures.threads
-    (not_pinned t (λ pinned. let is = c.in_ok-image.ensures.pinned.1 pinned in let heap = c.in-Heap.is in absurd (cc))))
+    (subst (λ (k : Config). CanBeginFrom k (images.memory_of image) counts (text_graph (text_anew text) counts)) same can)
+    (nothing_pinned text config.mutators (graph_after pause_image config now) (c.in_ok-text.ensures.shows now leads) c.in_ok-text.ensures.threads
+    (not_pinned text (λ pinned. let is = c.in_ok-image.ensures.pinned.1 pinned in let heap = c.in-Heap.is in absurd (cc))))
 
 pub returns-in-Pinned-clause-pinned : goal.returns-in-Pinned-clause-pinned
 returns-in-Pinned-clause-pinned c = λ told now leads none.
-    let d = config_of c.args.plain.now in
-    let t = c.in_ok-text.text in
-    c.in_ok-image.ensures.pinned.0 (ap (λ (r : Renewed). Ok r) c.in-Pinned.is) (nothing_held t d.mutators (graph_after pause_image d now) (c.in_ok-text.ensures.shows now leads) c.in_ok-text.ensures.threads none)
+    let config = config_of c.args.plain.now in
+    let text = c.in_ok-text.text in
+    c.in_ok-image.ensures.pinned.0 (ap (λ (r : Renewed). Ok r) c.in-Pinned.is) (nothing_held text config.mutators (graph_after pause_image config now) (c.in_ok-text.ensures.shows now leads) c.in_ok-text.ensures.threads none)
 
 pub returns-clause-too_small : goal.returns-clause-too_small
 returns-clause-too_small c = λ told now leads.
-    let d = config_of c.args.plain.now in
-    let t = c.in_ok-text.text in
-    (t, c.in_ok-text.ensures.shows now leads, subst (λ (k : Config). Fits k t → ⊥) c.config-config.ensures (c.in_ok-image.ensures.too_small.0 (ap (λ (r : Renewed). Ok r) c.in-TooSmall.is)).1)
+    let config = config_of c.args.plain.now in
+    let text = c.in_ok-text.text in
+    (text, c.in_ok-text.ensures.shows now leads, subst (λ (k : Config). Fits k text → ⊥) c.config-config.ensures (c.in_ok-image.ensures.too_small.0 (ap (λ (r : Renewed). Ok r) c.in-TooSmall.is)).1)

@@ -4,7 +4,7 @@ use Rattle.std.proofs.lemmas.Option.{same_Some}
 use Rattle.shared_table.specs.Views.{machine_of}
 use Rattle.shared_table.proofs.ChangeHands.{machine_of-index, here_within}
 use Rattle.heap_machines.specs.declared.machine.Machine.{Machine}
-use Rattle.heap_machines.specs.Shown.{shown, heap_of}
+use Rattle.heap_machines.specs.Shown.{shown, config_of}
 use Rattle.step_core.specs.Machines.{control_in}
 use Rattle.step_core.specs.Settled.{control_number}
 use Rattle.table_heap.proofs.closed.control_image.Goals as goal
@@ -39,4 +39,4 @@ returns c =
     let inside = here_within items (control_number c.args.config) (ap is_some c.requires.here) in
     let found = c.index_mut.ensures.value ∙ sym (machine_of-index items (c.seats-number.result - 1) c.index_mut.result.now (omega (arith, number, inside))) ∙ ap (machine_of items) number ∙ c.requires.here in
     let same : c.requires.machine ≡ c.in-Some.control = same_Some c.requires.machine c.in-Some.control (sym found ∙ sym c.take.ensures.value ∙ c.in-Some.is) in
-    c.into_image.ensures.heap ∙ ap heap_of (sym same) ∙ c.requires.heap
+    c.into_image.ensures.heap ∙ ap config_of (sym same) ∙ c.requires.heap

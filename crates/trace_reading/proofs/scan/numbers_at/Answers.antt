@@ -7,10 +7,10 @@ use Rattle.trace_reading.proofs.scan.numbers_at.Goals as goal
 pub loop-i-preserved : goal.loop-i-preserved
 loop-i-preserved c =
     let i = c.loop-i.i in
-    let n = c.in_ok-number.number in
-    let front = take_more_set c.loop-i.numbers i n (omega arith) in (
+    let number = c.in_ok-number.number in
+    let front = take_more_set c.loop-i.numbers i number (omega arith) in (
       omega (arith, length-set {A = ℕ}),
-      rw front (number_goes_on (take i c.loop-i.numbers) c.args.limits.now i c.loop-i.rest.now n c.in_ok-number.after.now _ c.loop-i-test.true (sym c.in_ok-number.ensures) c.loop-i.invariant.1),
+      rw front (number_goes_on (take i c.loop-i.numbers) c.args.limits.now i c.loop-i.rest.now number c.in_ok-number.after.now _ c.loop-i-test.true (sym c.in_ok-number.ensures) c.loop-i.invariant.1),
     )
 
 pub returns-in_err-number : goal.returns-in_err-number

@@ -14,49 +14,49 @@ graph_of-requires-clause-rest g c = come_rest c.churn_heap-config.result c.in-Ok
 
 pub summarize-requires-clause-commands : goal.summarize-requires-clause-commands
 summarize-requires-clause-commands g c =
-    let w = c.args.workload in
+    let workload = c.args.workload in
     let config = c.churn_heap-config.result in
     let scripts = c.in-Ok.scripts.items in
     let jobs = c.in_ok-replies.replies in
     let end = c.in_ok-replies.heap in
     let text = c.in_ok-graph.graph in
     let done = c.in_ok-replies.ensures in
-    let can = churn_can w.seed w.count config scripts jobs end c.churn_heap-config.ensures c.in-Ok.ensures done text (c.in_ok-graph.ensures.shows (opening_run config done.reached.events) done.reached.ends) in
+    let can = churn_can workload.seed workload.count config scripts jobs end c.churn_heap-config.ensures c.in-Ok.ensures done text (c.in_ok-graph.ensures.shows (opening_run config done.reached.events) done.reached.ends) in
     omega (arith, can.commands, c.requires.count)
 
 pub summarize-requires-clause-sum : goal.summarize-requires-clause-sum
 summarize-requires-clause-sum g c =
-    let w = c.args.workload in
+    let workload = c.args.workload in
     let config = c.churn_heap-config.result in
     let scripts = c.in-Ok.scripts.items in
     let jobs = c.in_ok-replies.replies in
     let end = c.in_ok-replies.heap in
     let text = c.in_ok-graph.graph in
     let done = c.in_ok-replies.ensures in
-    let can = churn_can w.seed w.count config scripts jobs end c.churn_heap-config.ensures c.in-Ok.ensures done text (c.in_ok-graph.ensures.shows (opening_run config done.reached.events) done.reached.ends) in
-    omega (arith, can.sum, small_sum w.seed w.count c.requires.seed c.requires.count)
+    let can = churn_can workload.seed workload.count config scripts jobs end c.churn_heap-config.ensures c.in-Ok.ensures done text (c.in_ok-graph.ensures.shows (opening_run config done.reached.events) done.reached.ends) in
+    omega (arith, can.sum, small_sum workload.seed workload.count c.requires.seed c.requires.count)
 
 pub summarize-requires-clause-words : goal.summarize-requires-clause-words
 summarize-requires-clause-words g c =
-    let w = c.args.workload in
+    let workload = c.args.workload in
     let config = c.churn_heap-config.result in
     let scripts = c.in-Ok.scripts.items in
     let jobs = c.in_ok-replies.replies in
     let end = c.in_ok-replies.heap in
     let text = c.in_ok-graph.graph in
     let done = c.in_ok-replies.ensures in
-    let can = churn_can w.seed w.count config scripts jobs end c.churn_heap-config.ensures c.in-Ok.ensures done text (c.in_ok-graph.ensures.shows (opening_run config done.reached.events) done.reached.ends) in
+    let can = churn_can workload.seed workload.count config scripts jobs end c.churn_heap-config.ensures c.in-Ok.ensures done text (c.in_ok-graph.ensures.shows (opening_run config done.reached.events) done.reached.ends) in
     omega (arith, can.words)
 
 pub returns : goal.returns
 returns g c =
-    let w = c.args.workload in
+    let workload = c.args.workload in
     let config = c.churn_heap-config.result in
     let scripts = c.in-Ok.scripts.items in
     let jobs = c.in_ok-replies.replies in
     let end = c.in_ok-replies.heap in
     let text = c.in_ok-graph.graph in
     let done = c.in_ok-replies.ensures in
-    c.summarize.ensures.turns (entries w.seed w.count config scripts jobs end c.churn_heap-config.ensures c.in-Ok.ensures done)
-    (churn_run w.seed w.count config scripts jobs end c.churn_heap-config.ensures c.in-Ok.ensures done)
-    (churn_tells w.seed w.count config scripts jobs end c.churn_heap-config.ensures c.in-Ok.ensures done text (c.in_ok-graph.ensures.shows (opening_run config done.reached.events) done.reached.ends))
+    c.summarize.ensures.turns (entries workload.seed workload.count config scripts jobs end c.churn_heap-config.ensures c.in-Ok.ensures done)
+    (churn_run workload.seed workload.count config scripts jobs end c.churn_heap-config.ensures c.in-Ok.ensures done)
+    (churn_tells workload.seed workload.count config scripts jobs end c.churn_heap-config.ensures c.in-Ok.ensures done text (c.in_ok-graph.ensures.shows (opening_run config done.reached.events) done.reached.ends))

@@ -18,20 +18,20 @@ graph_of-requires-clause-rest c =
 
 pub dump_of-requires-clause-history : goal.dump_of-requires-clause-history
 dump_of-requires-clause-history c =
-    let t = c.args.trace in
+    let trace = c.args.trace in
     let ran = c.in_ok-replies in
-    noted_dumpable c.requires.0 t.version t.config t.scripts t.schedule c.args.steps ran.replies ran.plain ran.history.list c.requires.1 ran.ensures.finished ran.ensures.history
+    noted_dumpable c.requires.0 trace.version trace.config trace.scripts trace.schedule c.args.steps ran.replies ran.plain ran.history.list c.requires.1 ran.ensures.finished ran.ensures.history
 
 pub dump_of-requires-clause-graph : goal.dump_of-requires-clause-graph
 dump_of-requires-clause-graph c =
-    let t = c.args.trace in
+    let trace = c.args.trace in
     let ran = c.in_ok-replies in
-    noted_shown c.requires.0 t.version t.config t.scripts t.schedule c.args.steps ran.replies ran.plain ran.history.list c.requires.1 ran.ensures.finished ran.ensures.history c.in_ok-graph.graph
-    (c.in_ok-graph.ensures.shows (opening_run t.config (events_of t.config t.scripts t.schedule c.args.steps)) ran.ensures.finished.shows)
+    noted_shown c.requires.0 trace.version trace.config trace.scripts trace.schedule c.args.steps ran.replies ran.plain ran.history.list c.requires.1 ran.ensures.finished ran.ensures.history c.in_ok-graph.graph
+    (c.in_ok-graph.ensures.shows (opening_run trace.config (events_of trace.config trace.scripts trace.schedule c.args.steps)) ran.ensures.finished.shows)
 
 pub returns-in-Ok-clause-ok : goal.returns-in-Ok-clause-ok
 returns-in-Ok-clause-ok c = λ bytes reads.
-    let t = c.args.trace in
+    let trace = c.args.trace in
     let ran = c.in_ok-replies in
-    let d = c.in-Ok.dump in
-    replayed_to_dump bytes t.version t.config t.scripts t.schedule c.args.steps ran.replies ran.plain ran.history.list reads ran.ensures.finished ran.ensures.history (dumped d.config d.counts d.graph) c.in-Ok.ensures.dump c.in-Ok.ensures.counts
+    let dump = c.in-Ok.dump in
+    replayed_to_dump bytes trace.version trace.config trace.scripts trace.schedule c.args.steps ran.replies ran.plain ran.history.list reads ran.ensures.finished ran.ensures.history (dumped dump.config dump.counts dump.graph) c.in-Ok.ensures.dump c.in-Ok.ensures.counts

@@ -10,18 +10,18 @@ use Rattle.trace_runs.proofs.parts.dealt.Goals as goal
 
 pub loop-bundle-preserved : goal.loop-bundle-preserved
 loop-bundle-preserved c =
-    let h = c.args.heap.now in
+    let heap = c.args.heap.now in
     let was = c.loop-bundle.invariant in
     let old = c.loop-bundle.parts.items in
     let now = c.loop-bundle.work in
     let workers = c.len-workers.result in
-    let b = c.in-Some.bundle in
+    let bundle = c.in-Some.bundle in
     let step = c.in-Some.ensures.steps in
     let grown = c.in-Ok-push.ensures.items in
     let count = ap length grown ∙ longer old _ in
     let place : c.len.result ≡ length old = search rules in
-    let here : slice_get c.args.bundles.items (length old) ≡ Some b =
-    ap (slice_get c.args.bundles.items) (let e : length old ≡ length old + 0 = omega arith in e) ∙ was.left 0 b (ap (λ xs. slice_get xs 0) step.0) in
+    let here : slice_get c.args.bundles.items (length old) ≡ Some bundle =
+    ap (slice_get c.args.bundles.items) (let e : length old ≡ length old + 0 = omega arith in e) ∙ was.left 0 bundle (ap (λ xs. slice_get xs 0) step.0) in
     record {
       workers_are = was.workers_are;
       count = omega (arith, was.count, step.1, count);
@@ -32,9 +32,9 @@ loop-bundle-preserved c =
           c.part.ensures.left ∙ ap (λ n. left_over workers n now) place ∙ ap (left_over workers (length old)) (was.work_left scripts can)
           ∙ one_less workers (length old) scripts ∙ ap (λ n. left_after workers n scripts) (sym count);
       ready = λ scripts can.
-          more_ready h (by_scripts scripts) workers old c.push.new.self.items _ grown (was.ready scripts can)
-          (subst (λ w. PartIsReady h (by_scripts scripts) workers (length old) (length old + 1) (record { bundle = b; load = Scripted w })) (sym (c.part.ensures.parted ∙ ap (λ n. parted workers n now) place))
-          (ready_part h scripts c.args.work c.args.bundles.items can workers (length old) b now was.workers_are here (was.work_left scripts can)));
+          more_ready heap (by_scripts scripts) workers old c.push.new.self.items _ grown (was.ready scripts can)
+          (subst (λ w. PartIsReady heap (by_scripts scripts) workers (length old) (length old + 1) (record { bundle = bundle; load = Scripted w })) (sym (c.part.ensures.parted ∙ ap (λ n. parted workers n now) place))
+          (ready_part heap scripts c.args.work c.args.bundles.items can workers (length old) bundle now was.workers_are here (was.work_left scripts can)));
     }
 
 pub returns-clause-ready : goal.returns-clause-ready

@@ -6,15 +6,15 @@ use Rattle.trace_runs.proofs.parts.together.Goals as goal
 
 pub loop-part-init : goal.loop-part-init
 loop-part-init c =
-    let h = c.args.heap.now in
+    let heap = c.args.heap.now in
     let old = c.args.parts.items in
     let new = c.pop.new.self.items in
     let own = c.in-Some.own in
     let is = c.in-Some.ensures.items in
     record {
       fewer = omega (arith, ap length is ∙ longer new own);
-      left = λ assigned workers ready. others_ready h assigned workers old new own is ready;
-      ready = λ assigned workers ready. to_length h assigned workers old new own is (last_ready h assigned workers old new own is ready);
+      left = λ assigned workers ready. others_ready heap assigned workers old new own is ready;
+      ready = λ assigned workers ready. to_length heap assigned workers old new own is (last_ready heap assigned workers old new own is ready);
     }
 
 pub join-own-requires-clause-this : goal.join-own-requires-clause-this
@@ -25,31 +25,31 @@ join-own-requires-clause-this c =
 pub join-own-requires-clause-apart : goal.join-own-requires-clause-apart
 join-own-requires-clause-apart c =
     let r = c.requires.ready in
-    let h = c.args.heap.now in
+    let heap = c.args.heap.now in
     let old = c.loop-part.parts.items in
     let new = c.pop-in-loop-part.new.self.items in
-    let p = c.in-Some-pop.part in
+    let part = c.in-Some-pop.part in
     let is = c.in-Some-pop.ensures.items in
-    let count = ap length is ∙ longer new p in
+    let count = ap length is ∙ longer new part in
     let fewer = c.loop-part.invariant.fewer in
-    apart_before h r.0 r.1 (length new) (length old) (length c.args.parts.items) p c.loop-part.own (omega (arith, count)) (omega (arith, fewer))
-    (to_length h r.0 r.1 old new p is (last_ready h r.0 r.1 old new p is (c.loop-part.invariant.left r.0 r.1 r.2))) (c.loop-part.invariant.ready r.0 r.1 r.2)
+    apart_before heap r.0 r.1 (length new) (length old) (length c.args.parts.items) part c.loop-part.own (omega (arith, count)) (omega (arith, fewer))
+    (to_length heap r.0 r.1 old new part is (last_ready heap r.0 r.1 old new part is (c.loop-part.invariant.left r.0 r.1 r.2))) (c.loop-part.invariant.ready r.0 r.1 r.2)
 
 pub loop-part-preserved : goal.loop-part-preserved
 loop-part-preserved c =
-    let h = c.args.heap.now in
+    let heap = c.args.heap.now in
     let old = c.loop-part.parts.items in
     let new = c.pop-in-loop-part.new.self.items in
-    let p = c.in-Some-pop.part in
+    let part = c.in-Some-pop.part in
     let is = c.in-Some-pop.ensures.items in
     let was = c.loop-part.invariant in
-    let count : length old ≡ length new + 1 = ap length is ∙ longer new p in
+    let count : length old ≡ length new + 1 = ap length is ∙ longer new part in
     record {
       fewer = omega (arith, count, was.fewer);
-      left = λ assigned workers ready. others_ready h assigned workers old new p is (was.left assigned workers ready);
+      left = λ assigned workers ready. others_ready heap assigned workers old new part is (was.left assigned workers ready);
       ready = λ assigned workers ready.
           c.join-own.ensures.ready assigned workers (length new) (length old) (length c.args.parts.items)
-          (to_length h assigned workers old new p is (last_ready h assigned workers old new p is (was.left assigned workers ready)))
+          (to_length heap assigned workers old new part is (last_ready heap assigned workers old new part is (was.left assigned workers ready)))
           (was.ready assigned workers ready) (omega (arith, count)) (omega (arith, was.fewer));
     }
 

@@ -15,128 +15,128 @@ use Rattle.trace_runs.proofs.queues.got_of.Goals as goal
 
 pub run_parts-requires-clause-some : goal.run_parts-requires-clause-some
 run_parts-requires-clause-some g c κs within =
-    let h = c.in_ok-heap.heap in
-    let n = c.args.count in
+    let heap = c.in_ok-heap.heap in
+    let count = c.args.count in
     let bundles = c.in_ok-heap.bundles.items in
     let parts = c.in_ok-parts.parts.items in
-    let can : CanBeCrewed h bundles =
-    can_be_crewed h c.queue_heap-config.result bundles c.seats.result c.in_ok-heap.ensures.config c.queue_heap-config.ensures c.in_ok-heap.ensures.count c.seats.ensures c.in_ok-heap.ensures.bundles in
-    let ready : AreReady h (users (queue_users n)) (length parts) parts = subst (λ k. AreReady h (users (queue_users n)) k parts) (sym c.in_ok-parts.ensures.count) (c.in_ok-parts.ensures.ready h can) in
+    let can : CanBeCrewed heap bundles =
+    can_be_crewed heap c.queue_heap-config.result bundles c.seats.result c.in_ok-heap.ensures.config c.queue_heap-config.ensures c.in_ok-heap.ensures.count c.seats.ensures c.in_ok-heap.ensures.bundles in
+    let ready : AreReady heap (users (queue_users count)) (length parts) parts = subst (λ k. AreReady heap (users (queue_users count)) k parts) (sym c.in_ok-parts.ensures.count) (c.in_ok-parts.ensures.ready heap can) in
     omega (arith, c.in_ok-parts.ensures.count, c.in_ok-heap.ensures.count, c.seats.ensures)
 
 pub run_parts-requires-clause-ready : goal.run_parts-requires-clause-ready
 run_parts-requires-clause-ready g c κs within =
-    let h = c.in_ok-heap.heap in
-    let n = c.args.count in
+    let heap = c.in_ok-heap.heap in
+    let count = c.args.count in
     let bundles = c.in_ok-heap.bundles.items in
     let parts = c.in_ok-parts.parts.items in
-    let can : CanBeCrewed h bundles =
-    can_be_crewed h c.queue_heap-config.result bundles c.seats.result c.in_ok-heap.ensures.config c.queue_heap-config.ensures c.in_ok-heap.ensures.count c.seats.ensures c.in_ok-heap.ensures.bundles in
-    let ready : AreReady h (users (queue_users n)) (length parts) parts = subst (λ k. AreReady h (users (queue_users n)) k parts) (sym c.in_ok-parts.ensures.count) (c.in_ok-parts.ensures.ready h can) in
-    let it : (assigned : Assigned) × AreReady h assigned (length parts) parts = (users (queue_users n), ready) in
+    let can : CanBeCrewed heap bundles =
+    can_be_crewed heap c.queue_heap-config.result bundles c.seats.result c.in_ok-heap.ensures.config c.queue_heap-config.ensures c.in_ok-heap.ensures.count c.seats.ensures c.in_ok-heap.ensures.bundles in
+    let ready : AreReady heap (users (queue_users count)) (length parts) parts = subst (λ k. AreReady heap (users (queue_users count)) k parts) (sym c.in_ok-parts.ensures.count) (c.in_ok-parts.ensures.ready heap can) in
+    let it : (assigned : Assigned) × AreReady heap assigned (length parts) parts = (users (queue_users count), ready) in
     it
 
 pub close-closed-requires-clause-heap : goal.close-closed-requires-clause-heap
 close-closed-requires-clause-heap g c =
-    let h = c.in_ok-heap.heap in
-    let n = c.args.count in
+    let heap = c.in_ok-heap.heap in
+    let count = c.args.count in
     let bundles = c.in_ok-heap.bundles.items in
     let parts = c.in_ok-parts.parts.items in
-    let can : CanBeCrewed h bundles =
-    can_be_crewed h c.queue_heap-config.result bundles c.seats.result c.in_ok-heap.ensures.config c.queue_heap-config.ensures c.in_ok-heap.ensures.count c.seats.ensures c.in_ok-heap.ensures.bundles in
-    let ready : AreReady h (users (queue_users n)) (length parts) parts = subst (λ k. AreReady h (users (queue_users n)) k parts) (sym c.in_ok-parts.ensures.count) (c.in_ok-parts.ensures.ready h can) in
+    let can : CanBeCrewed heap bundles =
+    can_be_crewed heap c.queue_heap-config.result bundles c.seats.result c.in_ok-heap.ensures.config c.queue_heap-config.ensures c.in_ok-heap.ensures.count c.seats.ensures c.in_ok-heap.ensures.bundles in
+    let ready : AreReady heap (users (queue_users count)) (length parts) parts = subst (λ k. AreReady heap (users (queue_users count)) k parts) (sym c.in_ok-parts.ensures.count) (c.in_ok-parts.ensures.ready heap can) in
     let all : Part = c.in_ok-bundle.field-0 in
-    let done : IsDone h (users (queue_users n)) (length parts) 0 (length parts) all = c.in_ok-bundle.ensures (users (queue_users n)) ready in
+    let done : IsDone heap (users (queue_users count)) (length parts) 0 (length parts) all = c.in_ok-bundle.ensures (users (queue_users count)) ready in
     let some : 0 < length parts = omega (arith, c.in_ok-parts.ensures.count, c.in_ok-heap.ensures.count, c.seats.ensures) in
     done.has.of
 
 pub close-closed-requires-clause-all : goal.close-closed-requires-clause-all
 close-closed-requires-clause-all g c =
-    let h = c.in_ok-heap.heap in
-    let n = c.args.count in
+    let heap = c.in_ok-heap.heap in
+    let count = c.args.count in
     let bundles = c.in_ok-heap.bundles.items in
     let parts = c.in_ok-parts.parts.items in
-    let can : CanBeCrewed h bundles =
-    can_be_crewed h c.queue_heap-config.result bundles c.seats.result c.in_ok-heap.ensures.config c.queue_heap-config.ensures c.in_ok-heap.ensures.count c.seats.ensures c.in_ok-heap.ensures.bundles in
-    let ready : AreReady h (users (queue_users n)) (length parts) parts = subst (λ k. AreReady h (users (queue_users n)) k parts) (sym c.in_ok-parts.ensures.count) (c.in_ok-parts.ensures.ready h can) in
+    let can : CanBeCrewed heap bundles =
+    can_be_crewed heap c.queue_heap-config.result bundles c.seats.result c.in_ok-heap.ensures.config c.queue_heap-config.ensures c.in_ok-heap.ensures.count c.seats.ensures c.in_ok-heap.ensures.bundles in
+    let ready : AreReady heap (users (queue_users count)) (length parts) parts = subst (λ k. AreReady heap (users (queue_users count)) k parts) (sym c.in_ok-parts.ensures.count) (c.in_ok-parts.ensures.ready heap can) in
     let all : Part = c.in_ok-bundle.field-0 in
-    let done : IsDone h (users (queue_users n)) (length parts) 0 (length parts) all = c.in_ok-bundle.ensures (users (queue_users n)) ready in
+    let done : IsDone heap (users (queue_users count)) (length parts) 0 (length parts) all = c.in_ok-bundle.ensures (users (queue_users count)) ready in
     let some : 0 < length parts = omega (arith, c.in_ok-parts.ensures.count, c.in_ok-heap.ensures.count, c.seats.ensures) in
-    has_all h (users (queue_users n)) (length parts) all some done
+    has_all heap (users (queue_users count)) (length parts) all some done
 
 pub close-closed-requires-clause-control : goal.close-closed-requires-clause-control
 close-closed-requires-clause-control g c =
-    let h = c.in_ok-heap.heap in
-    let n = c.args.count in
+    let heap = c.in_ok-heap.heap in
+    let count = c.args.count in
     let bundles = c.in_ok-heap.bundles.items in
     let parts = c.in_ok-parts.parts.items in
-    let can : CanBeCrewed h bundles =
-    can_be_crewed h c.queue_heap-config.result bundles c.seats.result c.in_ok-heap.ensures.config c.queue_heap-config.ensures c.in_ok-heap.ensures.count c.seats.ensures c.in_ok-heap.ensures.bundles in
-    let ready : AreReady h (users (queue_users n)) (length parts) parts = subst (λ k. AreReady h (users (queue_users n)) k parts) (sym c.in_ok-parts.ensures.count) (c.in_ok-parts.ensures.ready h can) in
+    let can : CanBeCrewed heap bundles =
+    can_be_crewed heap c.queue_heap-config.result bundles c.seats.result c.in_ok-heap.ensures.config c.queue_heap-config.ensures c.in_ok-heap.ensures.count c.seats.ensures c.in_ok-heap.ensures.bundles in
+    let ready : AreReady heap (users (queue_users count)) (length parts) parts = subst (λ k. AreReady heap (users (queue_users count)) k parts) (sym c.in_ok-parts.ensures.count) (c.in_ok-parts.ensures.ready heap can) in
     let all : Part = c.in_ok-bundle.field-0 in
-    let done : IsDone h (users (queue_users n)) (length parts) 0 (length parts) all = c.in_ok-bundle.ensures (users (queue_users n)) ready in
+    let done : IsDone heap (users (queue_users count)) (length parts) 0 (length parts) all = c.in_ok-bundle.ensures (users (queue_users count)) ready in
     let some : 0 < length parts = omega (arith, c.in_ok-parts.ensures.count, c.in_ok-heap.ensures.count, c.seats.ensures) in
-    control_idle h (users (queue_users n)) (length parts) all some done
+    control_idle heap (users (queue_users count)) (length parts) all some done
 
 pub unreachable-requires : goal.unreachable-requires
 unreachable-requires g c =
-    let h = c.in_ok-heap.heap in
-    let n = c.args.count in
+    let heap = c.in_ok-heap.heap in
+    let count = c.args.count in
     let bundles = c.in_ok-heap.bundles.items in
     let parts = c.in_ok-parts.parts.items in
-    let can : CanBeCrewed h bundles =
-    can_be_crewed h c.queue_heap-config.result bundles c.seats.result c.in_ok-heap.ensures.config c.queue_heap-config.ensures c.in_ok-heap.ensures.count c.seats.ensures c.in_ok-heap.ensures.bundles in
-    let ready : AreReady h (users (queue_users n)) (length parts) parts = subst (λ k. AreReady h (users (queue_users n)) k parts) (sym c.in_ok-parts.ensures.count) (c.in_ok-parts.ensures.ready h can) in
+    let can : CanBeCrewed heap bundles =
+    can_be_crewed heap c.queue_heap-config.result bundles c.seats.result c.in_ok-heap.ensures.config c.queue_heap-config.ensures c.in_ok-heap.ensures.count c.seats.ensures c.in_ok-heap.ensures.bundles in
+    let ready : AreReady heap (users (queue_users count)) (length parts) parts = subst (λ k. AreReady heap (users (queue_users count)) k parts) (sym c.in_ok-parts.ensures.count) (c.in_ok-parts.ensures.ready heap can) in
     let all : Part = c.in_ok-bundle.field-0 in
-    let done : IsDone h (users (queue_users n)) (length parts) 0 (length parts) all = c.in_ok-bundle.ensures (users (queue_users n)) ready in
+    let done : IsDone heap (users (queue_users count)) (length parts) 0 (length parts) all = c.in_ok-bundle.ensures (users (queue_users count)) ready in
     let some : 0 < length parts = omega (arith, c.in_ok-parts.ensures.count, c.in_ok-heap.ensures.count, c.seats.ensures) in
-    subst (λ l. LoadIsDone (config_of h) (users (queue_users n)) (length parts) 0 (length parts) (view_of all.bundle) l) c.in-Scripted.is done.load
+    subst (λ l. LoadIsDone (config_of heap) (users (queue_users count)) (length parts) 0 (length parts) (view_of all.bundle) l) c.in-Scripted.is done.load
 
 pub taken_by-requires : goal.taken_by-requires
 taken_by-requires g c =
-    let h = c.in_ok-heap.heap in
-    let n = c.args.count in
+    let heap = c.in_ok-heap.heap in
+    let count = c.args.count in
     let bundles = c.in_ok-heap.bundles.items in
     let parts = c.in_ok-parts.parts.items in
-    let can : CanBeCrewed h bundles =
-    can_be_crewed h c.queue_heap-config.result bundles c.seats.result c.in_ok-heap.ensures.config c.queue_heap-config.ensures c.in_ok-heap.ensures.count c.seats.ensures c.in_ok-heap.ensures.bundles in
-    let ready : AreReady h (users (queue_users n)) (length parts) parts = subst (λ k. AreReady h (users (queue_users n)) k parts) (sym c.in_ok-parts.ensures.count) (c.in_ok-parts.ensures.ready h can) in
+    let can : CanBeCrewed heap bundles =
+    can_be_crewed heap c.queue_heap-config.result bundles c.seats.result c.in_ok-heap.ensures.config c.queue_heap-config.ensures c.in_ok-heap.ensures.count c.seats.ensures c.in_ok-heap.ensures.bundles in
+    let ready : AreReady heap (users (queue_users count)) (length parts) parts = subst (λ k. AreReady heap (users (queue_users count)) k parts) (sym c.in_ok-parts.ensures.count) (c.in_ok-parts.ensures.ready heap can) in
     let all : Part = c.in_ok-bundle.field-0 in
-    let done : IsDone h (users (queue_users n)) (length parts) 0 (length parts) all = c.in_ok-bundle.ensures (users (queue_users n)) ready in
+    let done : IsDone heap (users (queue_users count)) (length parts) 0 (length parts) all = c.in_ok-bundle.ensures (users (queue_users count)) ready in
     let some : 0 < length parts = omega (arith, c.in_ok-parts.ensures.count, c.in_ok-heap.ensures.count, c.seats.ensures) in
     let crew : ArrayVec Use = c.in-Driven.crew in
-    let sizes : IsQueueHeap (config_of h) = can.heap in
+    let sizes : IsQueueHeap (config_of heap) = can.heap in
     let view = c.close-closed.ensures.machines in
-    let leads = reached_from_opening h c.queue_heap-config.result (stage_of c.close-closed.result) c.in_ok-heap.ensures.config c.in_ok-heap.ensures.opening c.close-closed.ensures.reached in
-    let two = taker_there h n (length parts) all crew some done c.in-Driven.is sizes c.close-closed.result view leads 2 (omega arith) in
+    let leads = reached_from_opening heap c.queue_heap-config.result (stage_of c.close-closed.result) c.in_ok-heap.ensures.config c.in_ok-heap.ensures.opening c.close-closed.ensures.reached in
+    let two = taker_there heap count (length parts) all crew some done c.in-Driven.is sizes c.close-closed.result view leads 2 (omega arith) in
     let slice = c.as_slice.ensures.value in
-    let three = taker_there h n (length parts) all crew some done c.in-Driven.is sizes c.close-closed.result view leads 3 (omega arith) in (
+    let three = taker_there heap count (length parts) all crew some done c.in-Driven.is sizes c.close-closed.result view leads 3 (omega arith) in (
       _,
       _,
       ap (λ (us : List Use). slice_get us 2) slice ∙ two,
       ap (λ (us : List Use). slice_get us 3) slice ∙ three,
-      small_items h n (length parts) all crew some done c.in-Driven.is sizes c.close-closed.result view leads c.requires,
-      small_sum h n (length parts) all crew some done c.in-Driven.is sizes c.close-closed.result view leads c.requires,
+      small_items heap count (length parts) all crew some done c.in-Driven.is sizes c.close-closed.result view leads c.requires,
+      small_sum heap count (length parts) all crew some done c.in-Driven.is sizes c.close-closed.result view leads c.requires,
     )
 
 pub returns : goal.returns
 returns g c =
-    let h = c.in_ok-heap.heap in
-    let n = c.args.count in
+    let heap = c.in_ok-heap.heap in
+    let count = c.args.count in
     let bundles = c.in_ok-heap.bundles.items in
     let parts = c.in_ok-parts.parts.items in
-    let can : CanBeCrewed h bundles =
-    can_be_crewed h c.queue_heap-config.result bundles c.seats.result c.in_ok-heap.ensures.config c.queue_heap-config.ensures c.in_ok-heap.ensures.count c.seats.ensures c.in_ok-heap.ensures.bundles in
-    let ready : AreReady h (users (queue_users n)) (length parts) parts = subst (λ k. AreReady h (users (queue_users n)) k parts) (sym c.in_ok-parts.ensures.count) (c.in_ok-parts.ensures.ready h can) in
+    let can : CanBeCrewed heap bundles =
+    can_be_crewed heap c.queue_heap-config.result bundles c.seats.result c.in_ok-heap.ensures.config c.queue_heap-config.ensures c.in_ok-heap.ensures.count c.seats.ensures c.in_ok-heap.ensures.bundles in
+    let ready : AreReady heap (users (queue_users count)) (length parts) parts = subst (λ k. AreReady heap (users (queue_users count)) k parts) (sym c.in_ok-parts.ensures.count) (c.in_ok-parts.ensures.ready heap can) in
     let all : Part = c.in_ok-bundle.field-0 in
-    let done : IsDone h (users (queue_users n)) (length parts) 0 (length parts) all = c.in_ok-bundle.ensures (users (queue_users n)) ready in
+    let done : IsDone heap (users (queue_users count)) (length parts) 0 (length parts) all = c.in_ok-bundle.ensures (users (queue_users count)) ready in
     let some : 0 < length parts = omega (arith, c.in_ok-parts.ensures.count, c.in_ok-heap.ensures.count, c.seats.ensures) in
     let crew : ArrayVec Use = c.in-Driven.crew in
-    let sizes : IsQueueHeap (config_of h) = can.heap in
+    let sizes : IsQueueHeap (config_of heap) = can.heap in
     let view = c.close-closed.ensures.machines in
-    let leads = reached_from_opening h c.queue_heap-config.result (stage_of c.close-closed.result) c.in_ok-heap.ensures.config c.in_ok-heap.ensures.opening c.close-closed.ensures.reached in
-    let two = taker_there h n (length parts) all crew some done c.in-Driven.is sizes c.close-closed.result view leads 2 (omega arith) in
+    let leads = reached_from_opening heap c.queue_heap-config.result (stage_of c.close-closed.result) c.in_ok-heap.ensures.config c.in_ok-heap.ensures.opening c.close-closed.ensures.reached in
+    let two = taker_there heap count (length parts) all crew some done c.in-Driven.is sizes c.close-closed.result view leads 2 (omega arith) in
     let slice = c.as_slice.ensures.value in
-    let three = taker_there h n (length parts) all crew some done c.in-Driven.is sizes c.close-closed.result view leads 3 (omega arith) in
+    let three = taker_there heap count (length parts) all crew some done c.in-Driven.is sizes c.close-closed.result view leads 3 (omega arith) in
     let told = c.taken_by.ensures _ _ (ap (λ (us : List Use). slice_get us 2) slice ∙ two) (ap (λ (us : List Use). slice_get us 3) slice ∙ three) in
-    queued h n (length parts) all crew some done c.in-Driven.is sizes c.close-closed.result view leads c.requires c.taken_by.result.items c.taken_by.result.sum told.0 told.1
+    queued heap count (length parts) all crew some done c.in-Driven.is sizes c.close-closed.result view leads c.requires c.taken_by.result.items c.taken_by.result.sum told.0 told.1

@@ -29,14 +29,14 @@ returns-clause-scripts c = λ mutator below. c.in_ok-replies.ensures.finished.jo
 
 pub returns-clause-whole : goal.returns-clause-whole
 returns-clause-whole c =
-    let t = c.args.trace in
+    let trace = c.args.trace in
     let done = c.in_ok-replies.ensures.finished in
-    whole t.config t.scripts (events_of t.config t.scripts t.schedule c.args.steps) (count_scripts c.requires.0 t.version t.config t.scripts t.schedule c.requires.1) done.idle done.called
+    whole trace.config trace.scripts (events_of trace.config trace.scripts trace.schedule c.args.steps) (count_scripts c.requires.0 trace.version trace.config trace.scripts trace.schedule c.requires.1) done.idle done.called
 
 pub returns-clause-history : goal.returns-clause-history
 returns-clause-history c = c.in_ok-replies.ensures.history
 
 pub returns-clause-graph : goal.returns-clause-graph
 returns-clause-graph c =
-    let t = c.args.trace in
-    c.in_ok-graph.ensures.shows (opening_run t.config (events_of t.config t.scripts t.schedule c.args.steps)) c.in_ok-replies.ensures.finished.shows
+    let trace = c.args.trace in
+    c.in_ok-graph.ensures.shows (opening_run trace.config (events_of trace.config trace.scripts trace.schedule c.args.steps)) c.in_ok-replies.ensures.finished.shows

@@ -15,36 +15,36 @@ of-requires c =
 
 pub run_noted-requires-clause-run : goal.run_noted-requires-clause-run
 run_noted-requires-clause-run c =
-    let t = c.args.trace in
-    can_run c.in-Ok-open.plain t.config t.scripts c.in-Ok-of.work c.in-Ok-open.ensures.config c.in-Ok-open.ensures.opening c.in-Ok-open.ensures.orders (count_scripts c.requires.0 t.version t.config t.scripts t.schedule c.requires.1)
-    (runnable_scripts c.requires.0 t.version t.config t.scripts t.schedule c.requires.1) (c.in-Ok-of.ensures ∙ ap opened c.into_vec.ensures)
+    let trace = c.args.trace in
+    can_run c.in-Ok-open.plain trace.config trace.scripts c.in-Ok-of.work c.in-Ok-open.ensures.config c.in-Ok-open.ensures.opening c.in-Ok-open.ensures.orders (count_scripts c.requires.0 trace.version trace.config trace.scripts trace.schedule c.requires.1)
+    (runnable_scripts c.requires.0 trace.version trace.config trace.scripts trace.schedule c.requires.1) (c.in-Ok-of.ensures ∙ ap opened c.into_vec.ensures)
 
 pub run_noted-requires-clause-items : goal.run_noted-requires-clause-items
 run_noted-requires-clause-items c =
-    let t = c.args.trace in
-    subst (λ (d : Config). All (IsInSeats d) t.schedule) (sym c.in-Ok-open.ensures.config) (items_in_seats c.requires.0 t.version t.config t.scripts t.schedule c.requires.1)
+    let trace = c.args.trace in
+    subst (λ (d : Config). All (IsInSeats d) trace.schedule) (sym c.in-Ok-open.ensures.config) (items_in_seats c.requires.0 trace.version trace.config trace.scripts trace.schedule c.requires.1)
 
 pub returns-in-Finished-clause-finished : goal.returns-in-Finished-clause-finished
 returns-in-Finished-clause-finished c =
-    let t = c.args.trace in
-    finished c.in-Ok-open.plain c.run_noted.new.self t.config t.scripts t.schedule c.args.steps c.in-Ok-of.work c.run_noted.new.work c.in-Ok-open.ensures.config c.in-Ok-open.ensures.opening (count_scripts c.requires.0 t.version t.config t.scripts t.schedule c.requires.1)
+    let trace = c.args.trace in
+    finished c.in-Ok-open.plain c.run_noted.new.self trace.config trace.scripts trace.schedule c.args.steps c.in-Ok-of.work c.run_noted.new.work c.in-Ok-open.ensures.config c.in-Ok-open.ensures.opening (count_scripts c.requires.0 trace.version trace.config trace.scripts trace.schedule c.requires.1)
     (c.in-Ok-of.ensures ∙ ap opened c.into_vec.ensures) c.in-Finished.ensures.events c.in-Finished.ensures.config c.in-Finished.ensures.run
 
 pub returns-clause-unfinished : goal.returns-clause-unfinished
 returns-clause-unfinished c = λ h bytes reads.
-    let t = c.args.trace in
-    unfinished c.in-Ok-open.plain c.run_noted.new.self bytes t.version t.config t.scripts t.schedule c.args.steps c.in-Ok-of.work c.run_noted.new.work c.in-Ok-open.ensures.config c.in-Ok-open.ensures.opening (count_scripts bytes t.version t.config t.scripts t.schedule reads)
+    let trace = c.args.trace in
+    unfinished c.in-Ok-open.plain c.run_noted.new.self bytes trace.version trace.config trace.scripts trace.schedule c.args.steps c.in-Ok-of.work c.run_noted.new.work c.in-Ok-open.ensures.config c.in-Ok-open.ensures.opening (count_scripts bytes trace.version trace.config trace.scripts trace.schedule reads)
     (c.in-Ok-of.ensures ∙ ap opened c.into_vec.ensures) c.in-Unfinished.ensures.events reads
 
 pub run_noted-requires-clause-spare : goal.run_noted-requires-clause-spare
 run_noted-requires-clause-spare c =
-    let t = c.args.trace in
-    let total = commands_first t.config _ t.scripts c.in-Ok-of.work c.in-Ok-open.ensures.config (count_scripts c.requires.0 t.version t.config t.scripts t.schedule c.requires.1) (c.in-Ok-of.ensures ∙ ap opened c.into_vec.ensures) in
+    let trace = c.args.trace in
+    let total = commands_first trace.config _ trace.scripts c.in-Ok-of.work c.in-Ok-open.ensures.config (count_scripts c.requires.0 trace.version trace.config trace.scripts trace.schedule c.requires.1) (c.in-Ok-of.ensures ∙ ap opened c.into_vec.ensures) in
     let spare = c.in-Ok.ensures.spare in
     omega (arith, total, spare)
 
 pub returns-in-Finished-clause-history : goal.returns-in-Finished-clause-history
 returns-in-Finished-clause-history c =
-    let t = c.args.trace in
-    noted_history c.in-Ok-open.plain t.config t.scripts t.schedule c.args.steps c.in-Ok-of.work c.in-Ok.history c.run_noted.new.history c.in-Ok-open.ensures.config c.in-Ok-open.ensures.opening (count_scripts c.requires.0 t.version t.config t.scripts t.schedule c.requires.1)
+    let trace = c.args.trace in
+    noted_history c.in-Ok-open.plain trace.config trace.scripts trace.schedule c.args.steps c.in-Ok-of.work c.in-Ok.history c.run_noted.new.history c.in-Ok-open.ensures.config c.in-Ok-open.ensures.opening (count_scripts c.requires.0 trace.version trace.config trace.scripts trace.schedule c.requires.1)
     (c.in-Ok-of.ensures ∙ ap opened c.into_vec.ensures) c.in-Ok.ensures.none c.in-Finished.ensures.history

@@ -9,13 +9,13 @@ use Rattle.trace_runs.proofs.runs.run_answer.Goals as goal
 
 pub run_scripts-requires-clause-count : goal.run_scripts-requires-clause-count
 run_scripts-requires-clause-count g c κs within =
-    let t = c.args.trace in
-    ap (λ (ss : Scripts). length ss) c.into_vec-scripts.ensures ∙ count_scripts c.requires.reads.0 t.version t.config t.scripts t.schedule c.requires.reads.1
+    let trace = c.args.trace in
+    ap (λ (ss : Scripts). length ss) c.into_vec-scripts.ensures ∙ count_scripts c.requires.reads.0 trace.version trace.config trace.scripts trace.schedule c.requires.reads.1
 
 pub run_scripts-requires-clause-runnable : goal.run_scripts-requires-clause-runnable
 run_scripts-requires-clause-runnable g c κs within =
-    let t = c.args.trace in
-    subst (λ (ss : Scripts). All IsRunnable ss) (sym c.into_vec-scripts.ensures) (runnable_scripts c.requires.reads.0 t.version t.config t.scripts t.schedule c.requires.reads.1)
+    let trace = c.args.trace in
+    subst (λ (ss : Scripts). All IsRunnable ss) (sym c.into_vec-scripts.ensures) (runnable_scripts c.requires.reads.0 trace.version trace.config trace.scripts trace.schedule c.requires.reads.1)
 
 pub graph_of-requires-clause-rest : goal.graph_of-requires-clause-rest
 graph_of-requires-clause-rest g c = come_rest c.args.trace.config c.into_vec-scripts.result.items c.in_ok-replies.replies c.in_ok-replies.heap c.in_ok-replies.ensures

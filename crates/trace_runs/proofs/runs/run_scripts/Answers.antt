@@ -19,24 +19,24 @@ of-requires g c = omega (arith, c.requires.count)
 pub run_parts-requires-clause-ready : goal.run_parts-requires-clause-ready
 run_parts-requires-clause-ready g c κs within =
     let scripts = c.args.scripts.items in
-    let h = c.in_ok-heap.heap in
+    let heap = c.in_ok-heap.heap in
     let bundles = c.in_ok-heap.bundles.items in
     let parts = c.in_ok-parts.parts.items in
-    let can = can_be_dealt h c.args.config scripts c.in-Ok.work bundles c.min-bundles.result c.in_ok-heap.ensures.config c.in_ok-heap.ensures.count c.in_ok-heap.ensures.bundles c.in-Ok.ensures c.requires.count c.requires.runnable in
-    let ready : AreReady h (by_scripts scripts) (length parts) parts = subst (λ n. AreReady h (by_scripts scripts) n parts) (sym c.in_ok-parts.ensures.count) (c.in_ok-parts.ensures.ready scripts can) in
-    let some : (assigned : Assigned) × AreReady h assigned (length parts) parts = (by_scripts scripts, ready) in
+    let can = can_be_dealt heap c.args.config scripts c.in-Ok.work bundles c.min-bundles.result c.in_ok-heap.ensures.config c.in_ok-heap.ensures.count c.in_ok-heap.ensures.bundles c.in-Ok.ensures c.requires.count c.requires.runnable in
+    let ready : AreReady heap (by_scripts scripts) (length parts) parts = subst (λ n. AreReady heap (by_scripts scripts) n parts) (sym c.in_ok-parts.ensures.count) (c.in_ok-parts.ensures.ready scripts can) in
+    let some : (assigned : Assigned) × AreReady heap assigned (length parts) parts = (by_scripts scripts, ready) in
     some
 
 pub close-closed-requires-clause-heap : goal.close-closed-requires-clause-heap
 close-closed-requires-clause-heap g c =
     let scripts = c.args.scripts.items in
-    let h = c.in_ok-heap.heap in
+    let heap = c.in_ok-heap.heap in
     let bundles = c.in_ok-heap.bundles.items in
     let parts = c.in_ok-parts.parts.items in
-    let can = can_be_dealt h c.args.config scripts c.in-Ok.work bundles c.min-bundles.result c.in_ok-heap.ensures.config c.in_ok-heap.ensures.count c.in_ok-heap.ensures.bundles c.in-Ok.ensures c.requires.count c.requires.runnable in
-    let ready : AreReady h (by_scripts scripts) (length parts) parts = subst (λ n. AreReady h (by_scripts scripts) n parts) (sym c.in_ok-parts.ensures.count) (c.in_ok-parts.ensures.ready scripts can) in
+    let can = can_be_dealt heap c.args.config scripts c.in-Ok.work bundles c.min-bundles.result c.in_ok-heap.ensures.config c.in_ok-heap.ensures.count c.in_ok-heap.ensures.bundles c.in-Ok.ensures c.requires.count c.requires.runnable in
+    let ready : AreReady heap (by_scripts scripts) (length parts) parts = subst (λ n. AreReady heap (by_scripts scripts) n parts) (sym c.in_ok-parts.ensures.count) (c.in_ok-parts.ensures.ready scripts can) in
     let all : Part = c.in_ok-bundle.field-0 in
-    let done : IsDone h (by_scripts scripts) (length parts) 0 (length parts) all = c.in_ok-bundle.ensures (by_scripts scripts) ready in
+    let done : IsDone heap (by_scripts scripts) (length parts) 0 (length parts) all = c.in_ok-bundle.ensures (by_scripts scripts) ready in
     let least : 1 ≤ c.min-bundles.result = search rules in
     let some : 0 < length parts = omega (arith, c.in_ok-parts.ensures.count, c.in_ok-heap.ensures.count, least) in
     done.has.of
@@ -44,60 +44,60 @@ close-closed-requires-clause-heap g c =
 pub close-closed-requires-clause-all : goal.close-closed-requires-clause-all
 close-closed-requires-clause-all g c =
     let scripts = c.args.scripts.items in
-    let h = c.in_ok-heap.heap in
+    let heap = c.in_ok-heap.heap in
     let bundles = c.in_ok-heap.bundles.items in
     let parts = c.in_ok-parts.parts.items in
-    let can = can_be_dealt h c.args.config scripts c.in-Ok.work bundles c.min-bundles.result c.in_ok-heap.ensures.config c.in_ok-heap.ensures.count c.in_ok-heap.ensures.bundles c.in-Ok.ensures c.requires.count c.requires.runnable in
-    let ready : AreReady h (by_scripts scripts) (length parts) parts = subst (λ n. AreReady h (by_scripts scripts) n parts) (sym c.in_ok-parts.ensures.count) (c.in_ok-parts.ensures.ready scripts can) in
+    let can = can_be_dealt heap c.args.config scripts c.in-Ok.work bundles c.min-bundles.result c.in_ok-heap.ensures.config c.in_ok-heap.ensures.count c.in_ok-heap.ensures.bundles c.in-Ok.ensures c.requires.count c.requires.runnable in
+    let ready : AreReady heap (by_scripts scripts) (length parts) parts = subst (λ n. AreReady heap (by_scripts scripts) n parts) (sym c.in_ok-parts.ensures.count) (c.in_ok-parts.ensures.ready scripts can) in
     let all : Part = c.in_ok-bundle.field-0 in
-    let done : IsDone h (by_scripts scripts) (length parts) 0 (length parts) all = c.in_ok-bundle.ensures (by_scripts scripts) ready in
+    let done : IsDone heap (by_scripts scripts) (length parts) 0 (length parts) all = c.in_ok-bundle.ensures (by_scripts scripts) ready in
     let least : 1 ≤ c.min-bundles.result = search rules in
     let some : 0 < length parts = omega (arith, c.in_ok-parts.ensures.count, c.in_ok-heap.ensures.count, least) in
-    has_all h (by_scripts scripts) (length parts) all some done
+    has_all heap (by_scripts scripts) (length parts) all some done
 
 pub close-closed-requires-clause-control : goal.close-closed-requires-clause-control
 close-closed-requires-clause-control g c =
     let scripts = c.args.scripts.items in
-    let h = c.in_ok-heap.heap in
+    let heap = c.in_ok-heap.heap in
     let bundles = c.in_ok-heap.bundles.items in
     let parts = c.in_ok-parts.parts.items in
-    let can = can_be_dealt h c.args.config scripts c.in-Ok.work bundles c.min-bundles.result c.in_ok-heap.ensures.config c.in_ok-heap.ensures.count c.in_ok-heap.ensures.bundles c.in-Ok.ensures c.requires.count c.requires.runnable in
-    let ready : AreReady h (by_scripts scripts) (length parts) parts = subst (λ n. AreReady h (by_scripts scripts) n parts) (sym c.in_ok-parts.ensures.count) (c.in_ok-parts.ensures.ready scripts can) in
+    let can = can_be_dealt heap c.args.config scripts c.in-Ok.work bundles c.min-bundles.result c.in_ok-heap.ensures.config c.in_ok-heap.ensures.count c.in_ok-heap.ensures.bundles c.in-Ok.ensures c.requires.count c.requires.runnable in
+    let ready : AreReady heap (by_scripts scripts) (length parts) parts = subst (λ n. AreReady heap (by_scripts scripts) n parts) (sym c.in_ok-parts.ensures.count) (c.in_ok-parts.ensures.ready scripts can) in
     let all : Part = c.in_ok-bundle.field-0 in
-    let done : IsDone h (by_scripts scripts) (length parts) 0 (length parts) all = c.in_ok-bundle.ensures (by_scripts scripts) ready in
+    let done : IsDone heap (by_scripts scripts) (length parts) 0 (length parts) all = c.in_ok-bundle.ensures (by_scripts scripts) ready in
     let least : 1 ≤ c.min-bundles.result = search rules in
     let some : 0 < length parts = omega (arith, c.in_ok-parts.ensures.count, c.in_ok-heap.ensures.count, least) in
-    control_idle h (by_scripts scripts) (length parts) all some done
+    control_idle heap (by_scripts scripts) (length parts) all some done
 
 pub unreachable-requires : goal.unreachable-requires
 unreachable-requires g c =
     let scripts = c.args.scripts.items in
-    let h = c.in_ok-heap.heap in
+    let heap = c.in_ok-heap.heap in
     let bundles = c.in_ok-heap.bundles.items in
     let parts = c.in_ok-parts.parts.items in
-    let can = can_be_dealt h c.args.config scripts c.in-Ok.work bundles c.min-bundles.result c.in_ok-heap.ensures.config c.in_ok-heap.ensures.count c.in_ok-heap.ensures.bundles c.in-Ok.ensures c.requires.count c.requires.runnable in
-    let ready : AreReady h (by_scripts scripts) (length parts) parts = subst (λ n. AreReady h (by_scripts scripts) n parts) (sym c.in_ok-parts.ensures.count) (c.in_ok-parts.ensures.ready scripts can) in
+    let can = can_be_dealt heap c.args.config scripts c.in-Ok.work bundles c.min-bundles.result c.in_ok-heap.ensures.config c.in_ok-heap.ensures.count c.in_ok-heap.ensures.bundles c.in-Ok.ensures c.requires.count c.requires.runnable in
+    let ready : AreReady heap (by_scripts scripts) (length parts) parts = subst (λ n. AreReady heap (by_scripts scripts) n parts) (sym c.in_ok-parts.ensures.count) (c.in_ok-parts.ensures.ready scripts can) in
     let all : Part = c.in_ok-bundle.field-0 in
-    let done : IsDone h (by_scripts scripts) (length parts) 0 (length parts) all = c.in_ok-bundle.ensures (by_scripts scripts) ready in
+    let done : IsDone heap (by_scripts scripts) (length parts) 0 (length parts) all = c.in_ok-bundle.ensures (by_scripts scripts) ready in
     let least : 1 ≤ c.min-bundles.result = search rules in
     let some : 0 < length parts = omega (arith, c.in_ok-parts.ensures.count, c.in_ok-heap.ensures.count, least) in
-    subst (λ l. LoadIsDone (config_of h) (by_scripts scripts) (length parts) 0 (length parts) (view_of all.bundle) l) c.in-Driven.is done.load
+    subst (λ l. LoadIsDone (config_of heap) (by_scripts scripts) (length parts) 0 (length parts) (view_of all.bundle) l) c.in-Driven.is done.load
 
 pub returns : goal.returns
 returns g c =
     let scripts = c.args.scripts.items in
-    let h = c.in_ok-heap.heap in
+    let heap = c.in_ok-heap.heap in
     let bundles = c.in_ok-heap.bundles.items in
     let parts = c.in_ok-parts.parts.items in
-    let can = can_be_dealt h c.args.config scripts c.in-Ok.work bundles c.min-bundles.result c.in_ok-heap.ensures.config c.in_ok-heap.ensures.count c.in_ok-heap.ensures.bundles c.in-Ok.ensures c.requires.count c.requires.runnable in
-    let ready : AreReady h (by_scripts scripts) (length parts) parts = subst (λ n. AreReady h (by_scripts scripts) n parts) (sym c.in_ok-parts.ensures.count) (c.in_ok-parts.ensures.ready scripts can) in
+    let can = can_be_dealt heap c.args.config scripts c.in-Ok.work bundles c.min-bundles.result c.in_ok-heap.ensures.config c.in_ok-heap.ensures.count c.in_ok-heap.ensures.bundles c.in-Ok.ensures c.requires.count c.requires.runnable in
+    let ready : AreReady heap (by_scripts scripts) (length parts) parts = subst (λ n. AreReady heap (by_scripts scripts) n parts) (sym c.in_ok-parts.ensures.count) (c.in_ok-parts.ensures.ready scripts can) in
     let all : Part = c.in_ok-bundle.field-0 in
-    let done : IsDone h (by_scripts scripts) (length parts) 0 (length parts) all = c.in_ok-bundle.ensures (by_scripts scripts) ready in
+    let done : IsDone heap (by_scripts scripts) (length parts) 0 (length parts) all = c.in_ok-bundle.ensures (by_scripts scripts) ready in
     let least : 1 ≤ c.min-bundles.result = search rules in
     let some : 0 < length parts = omega (arith, c.in_ok-parts.ensures.count, c.in_ok-heap.ensures.count, least) in
     let work : Jobs = c.in-Scripted.work in
-    let did : LoadIsDone (config_of h) (by_scripts scripts) (length parts) 0 (length parts) (view_of all.bundle) (Scripted work) =
-    subst (λ l. LoadIsDone (config_of h) (by_scripts scripts) (length parts) 0 (length parts) (view_of all.bundle) l) c.in-Scripted.is done.load in
+    let did : LoadIsDone (config_of heap) (by_scripts scripts) (length parts) 0 (length parts) (view_of all.bundle) (Scripted work) =
+    subst (λ l. LoadIsDone (config_of heap) (by_scripts scripts) (length parts) 0 (length parts) (view_of all.bundle) l) c.in-Scripted.is done.load in
     subst (λ (k : Config). HasCome k scripts work c.close-closed.result) c.in_ok-heap.ensures.config
-    (come h (by_scripts scripts) (length parts) all some done c.close-closed.result c.close-closed.ensures.machines scripts work did c.close-closed.ensures.config
-    (reached_from_opening h c.args.config (stage_of c.close-closed.result) c.in_ok-heap.ensures.config c.in_ok-heap.ensures.opening c.close-closed.ensures.reached))
+    (come heap (by_scripts scripts) (length parts) all some done c.close-closed.result c.close-closed.ensures.machines scripts work did c.close-closed.ensures.config
+    (reached_from_opening heap c.args.config (stage_of c.close-closed.result) c.in_ok-heap.ensures.config c.in_ok-heap.ensures.opening c.close-closed.ensures.reached))

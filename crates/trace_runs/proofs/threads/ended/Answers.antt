@@ -7,18 +7,18 @@ use Rattle.trace_runs.proofs.threads.ended.Goals as goal
 
 pub returns-then-not-ran : goal.returns-then-not-ran
 returns-then-not-ran g c = λ assigned workers k is.
-    let h = c.args.heap.now in
-    let ready : PartIsReady h assigned workers k (k + 1) c.in-Running.handle.promise.0.value = subst (IsThread h assigned workers k) c.in-Running.is is in
+    let heap = c.args.heap.now in
+    let ready : PartIsReady heap assigned workers k (k + 1) c.in-Running.handle.promise.0.value = subst (IsThread heap assigned workers k) c.in-Running.is is in
     let unran : c.join-part.result.ran ≡ false = search rules in
-    ended_done h assigned workers k (k + 1) c.join-part.result.part c.run.new.self (omega arith)
-    (subst (PartIsReady h assigned workers k (k + 1)) (sym (as_given c.in-Running.handle.promise.0.value c.join-part.result c.join-part.ensures unran)) ready) c.run.ensures
+    ended_done heap assigned workers k (k + 1) c.join-part.result.part c.run.new.self (omega arith)
+    (subst (PartIsReady heap assigned workers k (k + 1)) (sym (as_given c.in-Running.handle.promise.0.value c.join-part.result c.join-part.ensures unran)) ready) c.run.ensures
 
 pub returns-else-not-ran : goal.returns-else-not-ran
 returns-else-not-ran g c = λ assigned workers k is.
-    let h = c.args.heap.now in
-    let ready : PartIsReady h assigned workers k (k + 1) c.in-Running.handle.promise.0.value = subst (IsThread h assigned workers k) c.in-Running.is is in
+    let heap = c.args.heap.now in
+    let ready : PartIsReady heap assigned workers k (k + 1) c.in-Running.handle.promise.0.value = subst (IsThread heap assigned workers k) c.in-Running.is is in
     let ran : c.join-part.result.ran ≡ true = search rules in
-    ran_already h assigned workers k (k + 1) c.in-Running.handle.promise.0.value c.join-part.result (omega arith) ready c.join-part.ensures ran
+    ran_already heap assigned workers k (k + 1) c.in-Running.handle.promise.0.value c.join-part.result (omega arith) ready c.join-part.ensures ran
 
 pub run-requires-after_bounds : goal.run-requires-after_bounds
 run-requires-after_bounds g c κs within =
@@ -29,6 +29,6 @@ run-requires-after_bounds g c κs within =
 
 pub returns-in-Over : goal.returns-in-Over
 returns-in-Over g c = λ assigned workers k is.
-    let h = c.args.heap.now in
-    let done : IsDone h assigned workers k (k + 1) c.in-Over.part = subst (IsThread h assigned workers k) c.in-Over.is is in
+    let heap = c.args.heap.now in
+    let done : IsDone heap assigned workers k (k + 1) c.in-Over.part = subst (IsThread heap assigned workers k) c.in-Over.is is in
     done

@@ -47,23 +47,23 @@ join-own-requires-clause-apart g c =
 
 pub loop-thread-preserved : goal.loop-thread-preserved
 loop-thread-preserved g c =
-    let h = c.args.heap.now in
+    let heap = c.args.heap.now in
     let old = c.loop-thread.threads.items in
     let new = c.pop.new.self.items in
-    let t = c.in-Some.thread in
+    let thread = c.in-Some.thread in
     let is = c.in-Some.ensures.items in
     let was = c.loop-thread.invariant in
-    let count : length old ≡ length new + 1 = ap length is ∙ longer new t in
+    let count : length old ≡ length new + 1 = ap length is ∙ longer new thread in
     record {
       fewer = omega (arith, count, was.fewer);
-      left = λ assigned workers run. others_run h assigned workers old new t is (was.left assigned workers run);
+      left = λ assigned workers run. others_run heap assigned workers old new thread is (was.left assigned workers run);
       done = λ assigned first done run.
           let w = first + length c.args.threads.items in
           let fewer = was.fewer in
           let next : w - length old + 1 ≡ w - length new = omega (arith, count, fewer) in
-          subst (λ n. IsDone h assigned w 0 n c.join-own.result) next
+          subst (λ n. IsDone heap assigned w 0 n c.join-own.result) next
           (c.join-own.ensures.done assigned w 0 (w - length old) (w - length old + 1) (was.done assigned first done run)
-          (c.ended-part.ensures assigned w (w - length old) (last_runs h assigned w old new t is (was.left assigned w run))) (omega arith) (omega arith));
+          (c.ended-part.ensures assigned w (w - length old) (last_runs heap assigned w old new thread is (was.left assigned w run))) (omega arith) (omega arith));
     }
 
 pub returns : goal.returns

@@ -19,24 +19,24 @@ run-requires-after_bounds g c κs within =
 
 pub join_all-requires-after_bounds : goal.join_all-requires-after_bounds
 join_all-requires-after_bounds g c κs within =
-    let h = c.args.heap.now in
+    let heap = c.args.heap.now in
     let r = c.requires.ready in
     let w = length c.args.parts.items in
     let split = c.start_all.ensures r.0 r.1 in
     let n = length c.start_all.new.parts.items in
     let threads = c.start_all.new.threads.items in
-    let done = ended_done h r.0 w 0 n c.together-own.result c.run.new.self (omega arith) (c.together-own.ensures r.0 w split.here) c.run.ensures in
-    let some : (assigned : Assigned) × (first : ℕ) × IsDone h assigned (first + length threads) 0 first c.run.new.self × AreThreads h assigned (first + length threads) threads =
-    (r.0, n, subst (λ k. IsDone h r.0 k 0 n c.run.new.self) (sym split.count) done, subst (λ k. AreThreads h r.0 k threads) (sym split.count) split.there) in
+    let done = ended_done heap r.0 w 0 n c.together-own.result c.run.new.self (omega arith) (c.together-own.ensures r.0 w split.here) c.run.ensures in
+    let some : (assigned : Assigned) × (first : ℕ) × IsDone heap assigned (first + length threads) 0 first c.run.new.self × AreThreads heap assigned (first + length threads) threads =
+    (r.0, n, subst (λ k. IsDone heap r.0 k 0 n c.run.new.self) (sym split.count) done, subst (λ k. AreThreads heap r.0 k threads) (sym split.count) split.there) in
     some
 
 pub returns : goal.returns
 returns g c = λ assigned all.
-    let h = c.args.heap.now in
+    let heap = c.args.heap.now in
     let w = length c.args.parts.items in
     let split = c.start_all.ensures assigned all in
     let n = length c.start_all.new.parts.items in
     let threads = c.start_all.new.threads.items in
-    let done = ended_done h assigned w 0 n c.together-own.result c.run.new.self (omega arith) (c.together-own.ensures assigned w split.here) c.run.ensures in
-    subst (λ k. IsDone h assigned k 0 k c.join_all.result) split.count
-    (c.join_all.ensures assigned n (subst (λ k. IsDone h assigned k 0 n c.run.new.self) (sym split.count) done) (subst (λ k. AreThreads h assigned k threads) (sym split.count) split.there))
+    let done = ended_done heap assigned w 0 n c.together-own.result c.run.new.self (omega arith) (c.together-own.ensures assigned w split.here) c.run.ensures in
+    subst (λ k. IsDone heap assigned k 0 k c.join_all.result) split.count
+    (c.join_all.ensures assigned n (subst (λ k. IsDone heap assigned k 0 n c.run.new.self) (sym split.count) done) (subst (λ k. AreThreads heap assigned k threads) (sym split.count) split.there))

@@ -13,18 +13,18 @@ start-requires-after_bounds g c κs within =
 
 pub loop-parts-preserved : goal.loop-parts-preserved
 loop-parts-preserved g c =
-    let h = c.args.heap.now in
+    let heap = c.args.heap.now in
     let w = length c.args.parts.now.items in
     let was = c.loop-parts.invariant in
     let old = c.loop-parts.parts.items in
     let new = c.pop.new.self.items in
-    let p = c.in-Some.part in
+    let part = c.in-Some.part in
     let is = c.in-Some.ensures.items in
     let threads = c.loop-parts.threads.items in
     let more = c.push.new.self.items in
     let grown = c.in-Ok-push.ensures.items in
     let two : 1 < length old = search rules in
-    let one : length old ≡ length new + 1 = ap length is ∙ longer new p in
+    let one : length old ≡ length new + 1 = ap length is ∙ longer new part in
     let count : length more ≡ length threads + 1 = ap length grown ∙ longer threads c.in-Ok.thread in
     record {
       some = omega (arith, two, one);
@@ -32,8 +32,8 @@ loop-parts-preserved g c =
       room = search rules;
       split = λ assigned ready.
           let split = was.split assigned ready in
-          next_split h assigned w old new p threads more c.in-Ok.thread two is grown
-          (c.in-Ok.ensures.ok assigned w (length new) (last_ready h assigned w old new p is split.here)) split;
+          next_split heap assigned w old new part threads more c.in-Ok.thread two is grown
+          (c.in-Ok.ensures.ok assigned w (length new) (last_ready heap assigned w old new part is split.here)) split;
     }
 
 pub returns-in-Err : goal.returns-in-Err

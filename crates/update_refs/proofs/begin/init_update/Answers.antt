@@ -15,6 +15,6 @@ returns-clause-words c =
 
 pub returns-clause-holds : goal.returns-clause-holds
 returns-clause-holds c =
-    let g = config_of c.args.image.now in
-    let m : Word → ℕ = memory_of c.args.image.now in
-    subst (λ (n : Word → ℕ). LimitsHold g m n) (sym (returns-clause-words c)) (limits_hold g m (no_more_seats g (words_of c.args.image.now)))
+    let config = config_of c.args.image.now in
+    let memory : Word → ℕ = memory_of c.args.image.now in
+    subst (λ (n : Word → ℕ). LimitsHold config memory n) (sym (returns-clause-words c)) (limits_hold config memory (no_more_seats config (words_of c.args.image.now)))

@@ -13,19 +13,19 @@ loop-region-init c = record { config = refl; words = none_limited (config_of c.a
 pub loop-region-preserved : goal.loop-region-preserved
 loop-region-preserved c =
     let old = c.args.image.now in
-    let g = config_of old in
-    let m : Word → ℕ = memory_of old in
-    let r = c.loop-region.region in
-    let below : r < g.regions = omega (arith, c.loop-region-test.true, c.regions-region-end.ensures, ap (λ (k : Config). k.regions) c.config-config.ensures) in
-    let is : c.limit-limit.result ≡ limit_in g m r =
-    c.limit-limit.ensures ∙ ap (λ (k : Config). limit_in k (memory_of c.loop-region.image) r) c.loop-region.invariant.config
-    ∙ ap (λ (n : Word → ℕ). limit_in g n r) c.loop-region.invariant.words ∙ limit_limited g r r m in
-    let one = stored (config_of c.loop-region.image) g (memory_of c.loop-region.image) (memory_of c.set_word.new.self) (Limit r) c.limit_at.result c.limit-limit.result
-    c.loop-region.invariant.config below (c.limit_at.ensures ∙ ap (λ (k : Config). word_at k (Limit r)) c.config-config.ensures) c.set_word.ensures.named in
+    let config = config_of old in
+    let memory : Word → ℕ = memory_of old in
+    let region = c.loop-region.region in
+    let below : region < config.regions = omega (arith, c.loop-region-test.true, c.regions-region-end.ensures, ap (λ (k : Config). k.regions) c.config-config.ensures) in
+    let is : c.limit-limit.result ≡ limit_in config memory region =
+    c.limit-limit.ensures ∙ ap (λ (k : Config). limit_in k (memory_of c.loop-region.image) region) c.loop-region.invariant.config
+    ∙ ap (λ (n : Word → ℕ). limit_in config n region) c.loop-region.invariant.words ∙ limit_limited config region region memory in
+    let one = stored (config_of c.loop-region.image) config (memory_of c.loop-region.image) (memory_of c.set_word.new.self) (Limit region) c.limit_at.result c.limit-limit.result
+    c.loop-region.invariant.config below (c.limit_at.ensures ∙ ap (λ (k : Config). word_at k (Limit region)) c.config-config.ensures) c.set_word.ensures.named in
     record {
       config = c.set_word.ensures.config ∙ c.loop-region.invariant.config;
-      words = one ∙ ap (λ n. write n (Limit r) c.limit-limit.result) c.loop-region.invariant.words
-          ∙ ap (write (limited g r m) (Limit r)) is ∙ limited_next g r m;
+      words = one ∙ ap (λ n. write n (Limit region) c.limit-limit.result) c.loop-region.invariant.words
+          ∙ ap (write (limited config region memory) (Limit region)) is ∙ limited_next config region memory;
     }
 
 pub returns-clause-words : goal.returns-clause-words

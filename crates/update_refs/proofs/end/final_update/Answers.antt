@@ -11,6 +11,6 @@ returns-clause-words c = c.end_updating.ensures.words ∙ ap cycle_ended c.free_
 
 pub returns-clause-holds : goal.returns-clause-holds
 returns-clause-holds c =
-    let g = config_of c.args.image.now in
-    let m : Word → ℕ = memory_of c.args.image.now in
-    subst (λ (n : Word → ℕ). EndingHolds g m n) (sym (returns-clause-words c)) (ending_holds g m)
+    let config = config_of c.args.image.now in
+    let memory : Word → ℕ = memory_of c.args.image.now in
+    subst (λ (n : Word → ℕ). EndingHolds config memory n) (sym (returns-clause-words c)) (ending_holds config memory)

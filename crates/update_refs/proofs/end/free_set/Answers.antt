@@ -14,26 +14,26 @@ loop-region-init c = record { config = refl; words = freed_none (is_chosen (memo
 pub loop-region-preserved : goal.loop-region-preserved
 loop-region-preserved c =
     let old = c.args.image.now in
-    let g = config_of old in
-    let m : Word → ℕ = memory_of old in
-    let out : ℕ → Bool = is_chosen m in
-    let r = c.loop-region.region in
+    let config = config_of old in
+    let memory : Word → ℕ = memory_of old in
+    let out : ℕ → Bool = is_chosen memory in
+    let region = c.loop-region.region in
     let is = c.loop-region.invariant in
-    let few : r < 64 = omega (arith, c.loop-region-test.true, c.regions-region-end.ensures, ap (λ (k : Config). k.regions) c.config-config.ensures, g.in_range.most_regions) in
-    let still : is_chosen (memory_of c.loop-region.image) r ≡ out r = ap (λ n. is_chosen n r) is.words in
+    let few : region < 64 = omega (arith, c.loop-region-test.true, c.regions-region-end.ensures, ap (λ (k : Config). k.regions) c.config-config.ensures, config.in_range.most_regions) in
+    let still : is_chosen (memory_of c.loop-region.image) region ≡ out region = ap (λ n. is_chosen n region) is.words in
     record {
       config = c.free_if_chosen.ensures.config ∙ is.config;
       words = ⊎_elim
-          (λ (yes : out r ≡ true). c.free_if_chosen.ensures.freed (still ∙ yes) ∙ ap (freed_one r) is.words ∙ freed_next out r m few yes)
-          (λ (no : out r ≡ false). c.free_if_chosen.ensures.left (still ∙ no) ∙ is.words ∙ left_next out r m no)
-          (cases_Bool (out r));
+          (λ (yes : out region ≡ true). c.free_if_chosen.ensures.freed (still ∙ yes) ∙ ap (freed_one region) is.words ∙ freed_next out region memory few yes)
+          (λ (no : out region ≡ false). c.free_if_chosen.ensures.left (still ∙ no) ∙ is.words ∙ left_next out region memory no)
+          (cases_Bool (out region));
     }
 
 pub returns-clause-words : goal.returns-clause-words
 returns-clause-words c =
     let old = c.args.image.now in
-    let g = config_of old in
-    let all : c.loop-region.region ≡ g.regions =
+    let config = config_of old in
+    let all : c.loop-region.region ≡ config.regions =
     omega (arith, c.loop-region-test.false, c.loop-region.auto.region-end, c.regions-region-end.ensures, ap (λ (k : Config). k.regions) c.config-config.ensures) in
     c.loop-region.invariant.words ∙ ap (λ n. freed_below (is_chosen (memory_of old)) n (memory_of old)) all
-    ∙ freed_all g (words_of old) (is_chosen (memory_of old))
+    ∙ freed_all config (words_of old) (is_chosen (memory_of old))

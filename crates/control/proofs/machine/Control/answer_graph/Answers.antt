@@ -17,27 +17,27 @@ loaded d i table config image = ap (λ e. drop (image_start e) (words_of i)) (sy
 
 pub answer_graph-requires-clause-stand : goal.answer_graph-requires-clause-stand
 answer_graph-requires-clause-stand c =
-    let i = c.load.new.image in
-    let d = config_in c.args.self.now in
-    subst (λ (e : Config). StandsForSome e (words_of i)) (sym c.load.ensures.config)
-    (stands_same d (words_of i) c.args.words.now (loaded d i c.args.words.now c.load.ensures.config c.load.ensures.image) c.requires.stand)
+    let image = c.load.new.image in
+    let config = config_in c.args.self.now in
+    subst (λ (e : Config). StandsForSome e (words_of image)) (sym c.load.ensures.config)
+    (stands_same config (words_of image) c.args.words.now (loaded config image c.args.words.now c.load.ensures.config c.load.ensures.image) c.requires.stand)
 
 pub returns-clause-shows : goal.returns-clause-shows
 returns-clause-shows c =
-    let i = c.load.new.image in
-    let d = config_in c.args.self.now in
-    shows_same d (words_of i) c.args.words.now (loaded d i c.args.words.now c.load.ensures.config c.load.ensures.image) c.answer_graph.new.text
-    (subst (λ (e : Config). ShowsTheGraph e (words_of i) c.answer_graph.new.text) c.load.ensures.config c.answer_graph.ensures.shows)
+    let image = c.load.new.image in
+    let config = config_in c.args.self.now in
+    shows_same config (words_of image) c.args.words.now (loaded config image c.args.words.now c.load.ensures.config c.load.ensures.image) c.answer_graph.new.text
+    (subst (λ (e : Config). ShowsTheGraph e (words_of image) c.answer_graph.new.text) c.load.ensures.config c.answer_graph.ensures.shows)
 
 pub returns-clause-same : goal.returns-clause-same
 returns-clause-same c =
-    let k = c.args.self.now in
-    let d = config_in k in
+    let control = c.args.self.now in
+    let config = config_in control in
     let table = c.args.words.now in
     let i = c.answer_graph.new.self in
-    let config : config_of i ≡ d = c.answer_graph.ensures.unchanged.config ∙ c.load.ensures.config in
-    let image : image_in i ≡ image_from d table =
-    ap (λ e. drop (image_start e) (words_of i)) config ∙ ap (drop (image_start d)) c.answer_graph.ensures.unchanged.words ∙ loaded d c.load.new.image table c.load.ensures.config c.load.ensures.image in
-    let Seen : List ℕ → Controlling = λ xs. record { spot = k.spot; seen = k.last.seen; phase = k.last.phase; cset = k.last.cset; image = xs; hints = k.hints } in
-    ap (λ e. Seen (words_seen e k.spot k.starts (image_in i))) config ∙ ap (λ xs. Seen (words_seen d k.spot k.starts xs)) image
-    ∙ ap Seen (loaded_same d k.starts (image_from d table) (image_in k.image) k.spot c.requires.loaded)
+    let same_config : config_of i ≡ config = c.answer_graph.ensures.unchanged.config ∙ c.load.ensures.config in
+    let image : image_in i ≡ image_from config table =
+    ap (λ e. drop (image_start e) (words_of i)) same_config ∙ ap (drop (image_start config)) c.answer_graph.ensures.unchanged.words ∙ loaded config c.load.new.image table c.load.ensures.config c.load.ensures.image in
+    let Seen : List ℕ → Controlling = λ xs. record { spot = control.spot; seen = control.last.seen; phase = control.last.phase; cset = control.last.cset; image = xs; hints = control.hints } in
+    ap (λ e. Seen (words_seen e control.spot control.starts (image_in i))) same_config ∙ ap (λ xs. Seen (words_seen config control.spot control.starts xs)) image
+    ∙ ap Seen (loaded_same config control.starts (image_from config table) (image_in control.image) control.spot c.requires.loaded)

@@ -12,21 +12,21 @@ use Rattle.control.proofs.machine.Control.goes_on_in_image.Goals as goal
 
 pub returns-in-LoadWord-default-Whole-clause-row : goal.returns-in-LoadWord-default-Whole-clause-row
 returns-in-LoadWord-default-Whole-clause-row c = λ yes.
-    let k = c.args.self.now in
-    let d = config_in k in
+    let control = c.args.self.now in
+    let config = config_in control in
     let index = c.in-LoadWord-default-Whole.index in
     let extent : c.in-LoadWord-default-Whole.extent ≡ Whole = rw c.in-LoadWord-default-Whole.is at c.in-LoadWord-default-Whole.extent-is in
-    let spot : k.spot ≡ LoadWord index Whole = c.in-LoadWord-default-Whole.is ∙ ap (LoadWord index) extent in
-    let more : index + 1 < image_words d = (let last = k.last_is in omega (arith, last)) in
-    loads_on collect_image d k.last.seen k.last.phase k.last.cset k.hints (image_in k.image) (length-image_in k.image) index c.args.got more k.starts k.spot
+    let spot : control.spot ≡ LoadWord index Whole = c.in-LoadWord-default-Whole.is ∙ ap (LoadWord index) extent in
+    let more : index + 1 < image_words config = (let last = control.last_is in omega (arith, last)) in
+    loads_on collect_image config control.last.seen control.last.phase control.last.cset control.hints (image_in control.image) (length-image_in control.image) index c.args.got more control.starts control.spot
     (image_in c.put_word.new.image) spot c.put_word.ensures.image
 
 pub returns-in-StoreWord-default-Whole-clause-row : goal.returns-in-StoreWord-default-Whole-clause-row
 returns-in-StoreWord-default-Whole-clause-row c = λ yes.
-    let k = c.args.self.now in
-    let d = config_in k in
+    let control = c.args.self.now in
+    let config = config_in control in
     let index = c.in-StoreWord-default-Whole.index in
     let extent : c.in-StoreWord-default-Whole.extent ≡ Whole = rw c.in-StoreWord-default-Whole.is at c.in-StoreWord-default-Whole.extent-is in
-    let spot : k.spot ≡ StoreWord index Whole = c.in-StoreWord-default-Whole.is ∙ ap (StoreWord index) extent in
-    let more : index + 1 < image_words d = (let last = k.last_is in omega (arith, last)) in
-    stores_on collect_image d k.last.seen k.last.phase k.last.cset k.hints (image_in k.image) (length-image_in k.image) index c.args.got more k.starts k.spot spot
+    let spot : control.spot ≡ StoreWord index Whole = c.in-StoreWord-default-Whole.is ∙ ap (StoreWord index) extent in
+    let more : index + 1 < image_words config = (let last = control.last_is in omega (arith, last)) in
+    stores_on collect_image config control.last.seen control.last.phase control.last.cset control.hints (image_in control.image) (length-image_in control.image) index c.args.got more control.starts control.spot spot

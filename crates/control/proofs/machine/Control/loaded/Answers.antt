@@ -14,13 +14,13 @@ use Rattle.control.proofs.machine.Control.loaded.Goals as goal
 
 pub returns-clause-row : goal.returns-clause-row
 returns-clause-row c =
-    let k = c.args.self.now in
-    let d = config_in k in
+    let control = c.args.self.now in
+    let config = config_in control in
     let index = c.in-LoadWord-default-Whole.index in
     let extent : c.in-LoadWord-default-Whole.extent ≡ Whole = c.in-LoadWord-default-Whole.extent-is in
-    let spot : k.spot ≡ LoadWord index Whole = c.in-LoadWord-default-Whole.is ∙ ap (LoadWord index) extent in
-    let some : 0 < image_words d - (index + 1) = subst (λ (s : ControlSpot). 0 < loads_left d s) spot c.requires in
-    let more : index + 1 < image_words d = omega (arith, some) in
+    let spot : control.spot ≡ LoadWord index Whole = c.in-LoadWord-default-Whole.is ∙ ap (LoadWord index) extent in
+    let some : 0 < image_words config - (index + 1) = subst (λ (s : ControlSpot). 0 < loads_left config s) spot c.requires in
+    let more : index + 1 < image_words config = omega (arith, some) in
     let ys = image_in c.put_word.new.image in
-    ap (λ (e : Extent). record { spot = LoadWord (index + 1) e; seen = k.last.seen; phase = k.last.phase; cset = k.last.cset; image = words_seen (config_of c.put_word.new.image) (LoadWord (index + 1) e) k.starts ys; hints = k.hints }) extent
-    ∙ loads_on collect_image d k.last.seen k.last.phase k.last.cset k.hints (image_in k.image) (length-image_in k.image) index c.args.got more k.starts k.spot ys spot c.put_word.ensures.image
+    ap (λ (e : Extent). record { spot = LoadWord (index + 1) e; seen = control.last.seen; phase = control.last.phase; cset = control.last.cset; image = words_seen (config_of c.put_word.new.image) (LoadWord (index + 1) e) control.starts ys; hints = control.hints }) extent
+    ∙ loads_on collect_image config control.last.seen control.last.phase control.last.cset control.hints (image_in control.image) (length-image_in control.image) index c.args.got more control.starts control.spot ys spot c.put_word.ensures.image

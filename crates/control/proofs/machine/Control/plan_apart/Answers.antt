@@ -12,15 +12,15 @@ use Rattle.control.proofs.machine.Control.plan_apart.Goals as goal
 
 pub returns-in-StoreWord-clause-row : goal.returns-in-StoreWord-clause-row
 returns-in-StoreWord-clause-row c =
-    let k = c.args.self.now in
-    let d = config_in k in
+    let control = c.args.self.now in
+    let config = config_in control in
     let index = c.in-StoreWord.index in
     let extent = c.in-StoreWord.extent in
     let hinted = sym c.goes_on_at.ensures.row ∙ c.in-StoreWord.is in
-    let spot = unhinted d index extent (hint_of k) k.spot hinted in
+    let spot = unhinted config index extent (hint_of control) control.spot hinted in
     let start = c.image_start-in-StoreWord.ensures.value ∙ ap image_start c.config-config.ensures in
-    let own = subst (λ s. SeesOwn d s k.starts) c.in-StoreWord.is c.goes_on_at.ensures.own in
-    let read = c.word.ensures.value ∙ ap (λ n. slice_index (words_of k.image) (n + index)) start ∙ sym (get_or-drop (image_start d) (words_of k.image) index 0)
-    ∙ sym (seen_reads d extent k.starts (image_in k.image) index own)
-    ∙ ap (λ s. slice_index (words_seen d s k.starts (image_in k.image)) index) (sym spot) in
-    ap (λ n. Store (n + index) c.word.result) start ∙ stored_row d index extent (hint_of k) (seen_control k) c.word.result hinted read
+    let own = subst (λ s. SeesOwn config s control.starts) c.in-StoreWord.is c.goes_on_at.ensures.own in
+    let read = c.word.ensures.value ∙ ap (λ n. slice_index (words_of control.image) (n + index)) start ∙ sym (get_or-drop (image_start config) (words_of control.image) index 0)
+    ∙ sym (seen_reads config extent control.starts (image_in control.image) index own)
+    ∙ ap (λ s. slice_index (words_seen config s control.starts (image_in control.image)) index) (sym spot) in
+    ap (λ n. Store (n + index) c.word.result) start ∙ stored_row config index extent (hint_of control) (seen_control control) c.word.result hinted read

@@ -19,50 +19,50 @@ use Rattle.control.proofs.machine.Control.step_inside_image.Goals as goal
 
 pub returns-in-LoadWord-default-Whole-clause-words : goal.returns-in-LoadWord-default-Whole-clause-words
 returns-in-LoadWord-default-Whole-clause-words c =
-    let k = c.args.self.now in
-    let d = config_in k in
+    let control = c.args.self.now in
+    let config = config_in control in
     let index = c.in-LoadWord-default-Whole.index in
     let extent : c.in-LoadWord-default-Whole.extent ≡ Whole = c.in-LoadWord-default-Whole.extent-is in
-    let spot : k.spot ≡ LoadWord index Whole = c.in-LoadWord-default-Whole.is ∙ ap (LoadWord index) extent in
-    load_leaves d index Whole (seen_control k) c.args.words.now.items spot
+    let spot : control.spot ≡ LoadWord index Whole = c.in-LoadWord-default-Whole.is ∙ ap (LoadWord index) extent in
+    load_leaves config index Whole (seen_control control) c.args.words.now.items spot
 
 pub returns-in-LoadWord-default-Whole-clause-row : goal.returns-in-LoadWord-default-Whole-clause-row
 returns-in-LoadWord-default-Whole-clause-row c =
-    let k = c.args.self.now in
-    let d = config_in k in
+    let control = c.args.self.now in
+    let config = config_in control in
     let index = c.in-LoadWord-default-Whole.index in
     let table = c.args.words.now.items in
     let extent : c.in-LoadWord-default-Whole.extent ≡ Whole = c.in-LoadWord-default-Whole.extent-is in
-    let spot : k.spot ≡ LoadWord index Whole = c.in-LoadWord-default-Whole.is ∙ ap (LoadWord index) extent in
-    let more : index + 1 < image_words d = ltb-true (index + 1) (image_words d) (ap (is_inside_image d) (sym spot) ∙ c.requires.inside) in
+    let spot : control.spot ≡ LoadWord index Whole = c.in-LoadWord-default-Whole.is ∙ ap (LoadWord index) extent in
+    let more : index + 1 < image_words config = ltb-true (index + 1) (image_words config) (ap (is_inside_image config) (sym spot) ∙ c.requires.inside) in
     let start = c.image_start.ensures.value ∙ ap image_start c.config.ensures in
     let inside : c.image_start.result + index < length table = omega (arith, start, more, c.requires.words) in
-    let found = get_or_read table (c.image_start.result + index) c.index.result.now inside c.index.ensures 0 ∙ ap (λ n. slice_index table (n + index)) start ∙ load_finds d index Whole (seen_control k) table spot in
+    let found = get_or_read table (c.image_start.result + index) c.index.result.now inside c.index.ensures 0 ∙ ap (λ n. slice_index table (n + index)) start ∙ load_finds config index Whole (seen_control control) table spot in
     let ys = image_in c.put_word.new.image in
-    ap (λ (e : Extent). record {spot = LoadWord (index + 1) e; seen = k.last.seen; phase = k.last.phase; cset = k.last.cset; image = words_seen (config_of c.put_word.new.image) (LoadWord (index + 1) e) k.starts ys; hints = k.hints}) extent
-    ∙ loads_on collect_image d k.last.seen k.last.phase k.last.cset k.hints (image_in k.image) (length-image_in k.image) index c.index.result.now more k.starts k.spot ys spot c.put_word.ensures.image ∙ ap (control_next collect_image d (seen_control k)) found
+    ap (λ (e : Extent). record { spot = LoadWord (index + 1) e; seen = control.last.seen; phase = control.last.phase; cset = control.last.cset; image = words_seen (config_of c.put_word.new.image) (LoadWord (index + 1) e) control.starts ys; hints = control.hints }) extent
+    ∙ loads_on collect_image config control.last.seen control.last.phase control.last.cset control.hints (image_in control.image) (length-image_in control.image) index c.index.result.now more control.starts control.spot ys spot c.put_word.ensures.image ∙ ap (control_next collect_image config (seen_control control)) found
 
 pub returns-in-StoreWord-default-Whole-clause-words : goal.returns-in-StoreWord-default-Whole-clause-words
 returns-in-StoreWord-default-Whole-clause-words c =
-    let k = c.args.self.now in
-    let d = config_in k in
+    let control = c.args.self.now in
+    let config = config_in control in
     let index = c.in-StoreWord-default-Whole.index in
     let table = c.args.words.now.items in
     let extent : c.in-StoreWord-default-Whole.extent ≡ Whole = c.in-StoreWord-default-Whole.extent-is in
-    let spot : k.spot ≡ StoreWord index Whole = c.in-StoreWord-default-Whole.is ∙ ap (StoreWord index) extent in
+    let spot : control.spot ≡ StoreWord index Whole = c.in-StoreWord-default-Whole.is ∙ ap (StoreWord index) extent in
     let start = c.image_start-in-StoreWord-default-Whole.ensures.value ∙ ap image_start c.config-in-StoreWord-default-Whole.ensures in
-    let read = c.word.ensures.value ∙ ap (λ n. slice_index (words_of k.image) (n + index)) start ∙ sym (get_or-drop (image_start d) (words_of k.image) index 0) in
+    let read = c.word.ensures.value ∙ ap (λ n. slice_index (words_of control.image) (n + index)) start ∙ sym (get_or-drop (image_start config) (words_of control.image) index 0) in
     ap (λ n. set table (n + index) c.word.result) start
-    ∙ store_puts d index Whole (seen_control k) table c.word.result spot (read ∙ ap (λ s. slice_index (words_seen d s k.starts (image_in k.image)) index) (sym spot))
+    ∙ store_puts config index Whole (seen_control control) table c.word.result spot (read ∙ ap (λ s. slice_index (words_seen config s control.starts (image_in control.image)) index) (sym spot))
 
 pub returns-in-StoreWord-default-Whole-clause-row : goal.returns-in-StoreWord-default-Whole-clause-row
 returns-in-StoreWord-default-Whole-clause-row c =
-    let k = c.args.self.now in
-    let d = config_in k in
+    let control = c.args.self.now in
+    let config = config_in control in
     let index = c.in-StoreWord-default-Whole.index in
     let table = c.args.words.now.items in
     let extent : c.in-StoreWord-default-Whole.extent ≡ Whole = c.in-StoreWord-default-Whole.extent-is in
-    let spot : k.spot ≡ StoreWord index Whole = c.in-StoreWord-default-Whole.is ∙ ap (StoreWord index) extent in
-    let more : index + 1 < image_words d = ltb-true (index + 1) (image_words d) (ap (is_inside_image d) (sym spot) ∙ c.requires.inside) in
-    ap (λ (e : Extent). record {spot = StoreWord (index + 1) e; seen = k.last.seen; phase = k.last.phase; cset = k.last.cset; image = words_seen d (StoreWord (index + 1) e) k.starts (image_in k.image); hints = k.hints}) extent
-    ∙ stores_on collect_image d k.last.seen k.last.phase k.last.cset k.hints (image_in k.image) (length-image_in k.image) index (slice_index table (table_index (control_access d (seen_control k)))) more k.starts k.spot spot
+    let spot : control.spot ≡ StoreWord index Whole = c.in-StoreWord-default-Whole.is ∙ ap (StoreWord index) extent in
+    let more : index + 1 < image_words config = ltb-true (index + 1) (image_words config) (ap (is_inside_image config) (sym spot) ∙ c.requires.inside) in
+    ap (λ (e : Extent). record { spot = StoreWord (index + 1) e; seen = control.last.seen; phase = control.last.phase; cset = control.last.cset; image = words_seen config (StoreWord (index + 1) e) control.starts (image_in control.image); hints = control.hints }) extent
+    ∙ stores_on collect_image config control.last.seen control.last.phase control.last.cset control.hints (image_in control.image) (length-image_in control.image) index (slice_index table (table_index (control_access config (seen_control control)))) more control.starts control.spot spot

@@ -13,12 +13,12 @@ use Rattle.control.proofs.machine.Control.stored.Goals as goal
 
 pub returns-clause-row : goal.returns-clause-row
 returns-clause-row c = λ got.
-    let k = c.args.self.now in
-    let d = config_in k in
+    let control = c.args.self.now in
+    let config = config_in control in
     let index = c.in-StoreWord-default-Whole.index in
     let extent : c.in-StoreWord-default-Whole.extent ≡ Whole = c.in-StoreWord-default-Whole.extent-is in
-    let spot : k.spot ≡ StoreWord index Whole = c.in-StoreWord-default-Whole.is ∙ ap (StoreWord index) extent in
-    let some : 0 < image_words d - (index + 1) = subst (λ (s : ControlSpot). 0 < stores_left d s) spot c.requires in
-    let more : index + 1 < image_words d = omega (arith, some) in
-    ap (λ (e : Extent). record { spot = StoreWord (index + 1) e; seen = k.last.seen; phase = k.last.phase; cset = k.last.cset; image = words_seen d (StoreWord (index + 1) e) k.starts (image_in k.image); hints = k.hints }) extent
-    ∙ stores_on collect_image d k.last.seen k.last.phase k.last.cset k.hints (image_in k.image) (length-image_in k.image) index got more k.starts k.spot spot
+    let spot : control.spot ≡ StoreWord index Whole = c.in-StoreWord-default-Whole.is ∙ ap (StoreWord index) extent in
+    let some : 0 < image_words config - (index + 1) = subst (λ (s : ControlSpot). 0 < stores_left config s) spot c.requires in
+    let more : index + 1 < image_words config = omega (arith, some) in
+    ap (λ (e : Extent). record { spot = StoreWord (index + 1) e; seen = control.last.seen; phase = control.last.phase; cset = control.last.cset; image = words_seen config (StoreWord (index + 1) e) control.starts (image_in control.image); hints = control.hints }) extent
+    ∙ stores_on collect_image config control.last.seen control.last.phase control.last.cset control.hints (image_in control.image) (length-image_in control.image) index got more control.starts control.spot spot

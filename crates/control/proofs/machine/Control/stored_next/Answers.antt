@@ -7,7 +7,7 @@ use Rattle.control.proofs.machine.Control.stored_next.Goals as goal
 
 pub returns-in-StoreWord : goal.returns-in-StoreWord
 returns-in-StoreWord c =
-    let k = c.args.self.now in
-    let d = config_in k in
-    let Next : ControlSpot → Type 0 = λ s. c.next_stored.result ≡ stored_next d s (words_seen d s k.starts (image_in k.image)) in
+    let control = c.args.self.now in
+    let config = config_in control in
+    let Next : ControlSpot → Type 0 = λ s. c.next_stored.result ≡ stored_next config s (words_seen config s control.starts (image_in control.image)) in
     subst Next (sym c.in-StoreWord.is) c.next_stored.ensures

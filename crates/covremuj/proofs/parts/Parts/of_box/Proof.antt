@@ -96,21 +96,21 @@ module _ (box : Bx) (let_go : Dict) where
         calls_at ! (fm_of 𝓤 H 𝓛.laws 𝓣) TakesApart met at_call (and_then ! (get ! refl) (no_more !)) (λ got.
         use1 𝓛 (later (some (λ (pair : Ptr × box.al.row.Denot). (tokens ⊛ ‵ ((Tuple (RawPtr ∷ P box ∷ [])).own_val pair (got ∷ []))) ⊛ some (λ (_ : (Unit {0} × (Unit {0} × Unit {0})) × Unit {0}). ‵ (fsep (fsep ftrue (fsep ftrue ftrue)) ftrue) ⊛ Told given.alloc given.value pair)))) (id⊢ 𝓤 _) $
         await ! tt $ pick ! (λ pair. split ! $ move ! (1 ∷ []) $ pick ! (λ _. split3 ! $ drop ! $ heard ! (pair.1 ≡ given.alloc) (λ same_allocator.
-        in_a_block ! pair.0 (λ p. box_owns (token box.al given.alloc) (R box) p given.value) (fst∗ 𝓤 (never 𝓤) (sem 𝓛 (token box.al given.alloc (bare (τ box)) null_ptr))) (λ block' at' pointer_is.
+        in_a_block ! pair.0 (λ p. box_owns (token box.al given.alloc) (R box) p given.value) (fst∗ 𝓤 (never 𝓤) (sem 𝓛 (token box.al given.alloc (bare (τ box)) null_ptr))) (λ block_there offset pointer_is.
         -- the pair's words are those of its fields
         move ! (1 ∷ []) $ split ! $ move ! (1 ∷ []) $ fpick ! (λ fields. fsplit ! $ feq_l ! (λ got_is. fsplit ! $ feq_l ! (λ address_is. fsplit ! $
-        rewrite ! 0 (λ (s : box.al.row.Denot). ‵ (box.al.row.own_val s fields.1.0)) same_allocator refl $ handle_tells box.al ! given.alloc fields.1.0 (λ handle' handle_is fits'.
-        let reached : D box = record { ptr = block_ptr block' at'; alloc = given.alloc; value = given.value } in
-        let made : Result.Denot = record { address = block_ptr block' at'; allocator = given.alloc; inside = given.value } in
-        let out = word box handle' block' at' in
-        let out_typed = box_typed box handle' block' at' fits' in
+        rewrite ! 0 (λ (s : box.al.row.Denot). ‵ (box.al.row.own_val s fields.1.0)) same_allocator refl $ handle_tells box.al ! given.alloc fields.1.0 (λ its_handle handle_is its_handle_fits.
+        let reached : D box = record { ptr = block_ptr block_there offset; alloc = given.alloc; value = given.value } in
+        let made : Result.Denot = record { address = block_ptr block_there offset; allocator = given.alloc; inside = given.value } in
+        let out = word box its_handle block_there offset in
+        let out_typed = box_typed box its_handle block_there offset its_handle_fits in
         lands_as ! (ap only (got_is ∙ (λ j. vstruct (of_list ((address_is ∙ ap (λ (p : Ptr). ptr_val p ∷ []) pointer_is) j ++ (handle_is j ++ []))) ∷ []))) refl out_typed $
         sets ! (of_opd ! (get_in ! (fld ! refl (stop !)) (sub ! 0 refl (whole !)))) refl (tt, tt) $
-        sets ! (of_opd ! (get_in ! (fld ! refl (stop !)) (sub ! 1 refl (whole !)))) refl fits' $
-        sets ! (of_opd ! (get ! refl)) refl fits' $
+        sets ! (of_opd ! (get_in ! (fld ! refl (stop !)) (sub ! 1 refl (whole !)))) refl its_handle_fits $
+        sets ! (of_opd ! (get ! refl)) refl its_handle_fits $
         sets ! (agg ! (and_then ! (get ! refl) (and_then ! (get ! refl) (no_more !)))) refl out_typed $ returns ! (look_at ! 0 refl) $ free_all ! refl $
         -- what is owned is what a box of these fields would own, and that is what the parts own
-        move ! (3 ∷ []) $ fsplit ! $ box_in box ! reached block' at' given.value refl refl $ use1 𝓛 (‵ (Result.own_val made (out ∷ []))) (id⊢ 𝓤 _) $ move ! (1 ∷ []) $ drop ! $
+        move ! (3 ∷ []) $ fsplit ! $ box_in box ! reached block_there offset given.value refl refl $ use1 𝓛 (‵ (Result.own_val made (out ∷ []))) (id⊢ 𝓤 _) $ move ! (1 ∷ []) $ drop ! $
         suffices ! _ (ends_at 𝓛 owed kept clauses z out made ((tt, (tt, tt)), tt) (tt, tt)) $ says ! refl $
         nothing ! $ nothing ! $ fjoin ! $ join ! $ move ! (1 ∷ 0 ∷ []) $ join ! $ done !)))))))))))))
 

@@ -98,8 +98,8 @@ module _ (box : Bx) where
         use1 𝓛 (later (some (λ (made : D box). (tokens ⊛ ‵ ((B box).own_val made (got ∷ []))) ⊛ some (λ (_ : Unit {0} × (Unit {0} × Unit {0})). ‵ (fsep ftrue (fsep ftrue ftrue)) ⊛ (raw (fact 𝓤 (made.value ≡ given.inside)) ⊛ raw (fact 𝓤 (made.alloc ≡ given.allocator))))))) (id⊢ 𝓤 _) $
         await ! tt $ pick ! (λ made. split ! $ move ! (1 ∷ []) $ pick ! (λ _. split3 ! $ drop ! $ heard ! (made.value ≡ given.inside) (λ same_inside. drop ! $ split ! $ move ! (1 ∷ []) $
         -- its word is that of a box
-        box_out box ! made (got ∷ []) (λ block' at' handle' at_is' got_is fits'. box_in box ! made block' at' made.value at_is' refl $ rewrite ! 0 (λ (ws : List Val). ‵ ((B box).own_val made ws)) (sym got_is) refl $
-        let got_typed : T (has_ty (box_ty box) got) × WT got = subst (λ (s : Val). T (has_ty (box_ty box) s) × WT s) (sym (ap only got_is)) (box_typed box handle' block' at' fits') in
+        box_out box ! made (got ∷ []) (λ block_there offset its_handle offset_is got_is its_handle_fits. box_in box ! made block_there offset made.value offset_is refl $ rewrite ! 0 (λ (ws : List Val). ‵ ((B box).own_val made ws)) (sym got_is) refl $
+        let got_typed : T (has_ty (box_ty box) got) × WT got = subst (λ (s : Val). T (has_ty (box_ty box) s) × WT s) (sym (ap only got_is)) (box_typed box its_handle block_there offset its_handle_fits) in
         lands_last ! refl got_typed $ exec ! 𝓣.C 𝓣.Λ here behind (at_ret here Post) $
         sets ! (of_opd ! (get ! refl)) refl got_typed $ returns ! (look_at ! 0 refl) $ free_all ! refl $
         suffices ! _ (ends_at 𝓛 owed kept clauses z got made ((tt, (tt, tt)), tt) (tt, tt)) $ says ! same_inside $

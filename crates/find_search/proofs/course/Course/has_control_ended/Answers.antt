@@ -7,6 +7,6 @@ use Rattle.find_search.proofs.course.Course.has_control_ended.Goals as goal
 
 pub returns-in-None : goal.returns-in-None
 returns-in-None c = λ _.
-    let p = c.args.self.now.plain in
-    let same : c.seats.result - 1 ≡ control_number (config_of p) = omega (arith, c.seats.ensures) in
-    subst (λ n. image_read (machine_at p n) ≡ None) same (stores_none p c.args.self.now.work (c.seats.result - 1) c.args.self.now.can_run (c.in-None.ensures.none.0 refl))
+    let plain = c.args.self.now.plain in
+    let same : c.seats.result - 1 ≡ control_number (config_of plain) = omega (arith, c.seats.ensures) in
+    subst (λ n. image_read (machine_at plain n) ≡ None) same (stores_none plain c.args.self.now.work (c.seats.result - 1) c.args.self.now.can_run (c.in-None.ensures.none.0 refl))

@@ -13,9 +13,9 @@ use Rattle.heap_machines.proofs.machine.Machine.is_at_place.Goals as goal
 
 pub returns-then-not-is_idle : goal.returns-then-not-is_idle
 returns-then-not-is_idle c =
-    let m = c.in-Mutator-2.mutator in
+    let mutator = c.in-Mutator-2.mutator in
     let place = c.args.place in
-    let none : order_of m ≡ Nothing = subst (λ (k : Machine). machines.order_of k ≡ Nothing) c.in-Mutator-2.is c.requires in
-    let busy : is_between_calls m.spot ≡ false = busy_without_order (is_between_calls m.spot) (order_of m) none (sym c.is_idle.ensures.idle ∙ c.if-not-is_idle.true) in
+    let none : order_of mutator ≡ Nothing = subst (λ (k : Machine). machines.order_of k ≡ Nothing) c.in-Mutator-2.is c.requires in
+    let busy : is_between_calls mutator.spot ≡ false = busy_without_order (is_between_calls mutator.spot) (order_of mutator) none (sym c.is_idle.ensures.idle ∙ c.if-not-is_idle.true) in
     subst (λ (k : Machine). c.is-then-not-is_idle.result ≡ is_machine_at place (machines.shown k) (order_for c.args.next (machines.shown k))) (sym c.in-Mutator-2.is)
-    (c.is-then-not-is_idle.ensures.test ∙ ap (λ p. same_place p place) (c.place.ensures ∙ ap (λ o. place_at o m.spot) none) ∙ sym (stands_in_call (seen m) c.args.next place busy))
+    (c.is-then-not-is_idle.ensures.test ∙ ap (λ p. same_place p place) (c.place.ensures ∙ ap (λ o. place_at o mutator.spot) none) ∙ sym (stands_in_call (seen mutator) c.args.next place busy))

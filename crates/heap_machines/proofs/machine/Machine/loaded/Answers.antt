@@ -6,20 +6,20 @@ use Rattle.step_core.specs.Machines.{machine_after}
 use Rattle.heap_machines.specs.declared.machine.Machine.{Machine}
 use Rattle.heap_machines.specs.Inside.{loads_left}
 use Rattle.heap_machines.specs.Pause.{pause_image}
-use Rattle.heap_machines.specs.Shown.{shown, order_of, heap_of}
+use Rattle.heap_machines.specs.Shown.{shown, order_of, config_of}
 use Rattle.heap_machines.proofs.machine.Machine.loaded.Goals as goal
 
 pub returns-clause-shown : goal.returns-clause-shown
 returns-clause-shown c =
     ap controlling c.loaded.ensures.row
     ∙ ap (λ o. machine_after pause_image (config_in c.in-Control.control) (hinting o) c.args.got (controlling (seen_control c.in-Control.control))) (sym c.loaded.ensures.none)
-    ∙ ap (λ (m : Machine). machine_after pause_image (heap_of m) (order_of m) c.args.got (shown m)) (sym c.in-Control.is)
+    ∙ ap (λ (m : Machine). machine_after pause_image (config_of m) (order_of m) c.args.got (shown m)) (sym c.in-Control.is)
 
 pub returns-clause-heap : goal.returns-clause-heap
-returns-clause-heap c = c.loaded.ensures.config ∙ ap heap_of (sym c.in-Control.is)
+returns-clause-heap c = c.loaded.ensures.config ∙ ap config_of (sym c.in-Control.is)
 
 pub returns-clause-order : goal.returns-clause-order
 returns-clause-order c = ap hinting c.loaded.ensures.hint
 
 pub returns-clause-left : goal.returns-clause-left
-returns-clause-left c = c.loaded.ensures.left ∙ ap (λ (m : Machine). loads_left (heap_of m) (shown m)) (sym c.in-Control.is)
+returns-clause-left c = c.loaded.ensures.left ∙ ap (λ (m : Machine). loads_left (config_of m) (shown m)) (sym c.in-Control.is)

@@ -5,17 +5,17 @@ use Rattle.control.specs.Seen.{config_in, seen_control}
 use Rattle.step_core.specs.Actor.{controlling}
 use Rattle.step_core.specs.Machines.{plan_of}
 use Rattle.heap_machines.specs.declared.machine.Machine.{Machine}
-use Rattle.heap_machines.specs.Shown.{shown, order_of, heap_of}
+use Rattle.heap_machines.specs.Shown.{shown, order_of, config_of}
 use Rattle.heap_machines.proofs.machine.Machine.next_to_load.Goals as goal
 
 pub returns-clause-row : goal.returns-clause-row
 returns-clause-row c =
     c.next_to_load.ensures.row
     ∙ ap (λ o. plan_of (config_in c.in-Control.control) (hinting o) (controlling (seen_control c.in-Control.control))) (sym c.next_to_load.ensures.none)
-    ∙ ap (λ (m : Machine). plan_of (heap_of m) (order_of m) (shown m)) (sym c.in-Control.is)
+    ∙ ap (λ (m : Machine). plan_of (config_of m) (order_of m) (shown m)) (sym c.in-Control.is)
 
 pub returns-clause-inside : goal.returns-clause-inside
-returns-clause-inside c = subst (λ (m : Machine). c.next_to_load.result < table_words (heap_of m)) (sym c.in-Control.is) c.next_to_load.ensures.inside
+returns-clause-inside c = subst (λ (m : Machine). c.next_to_load.result < table_words (config_of m)) (sym c.in-Control.is) c.next_to_load.ensures.inside
 
 pub returns-clause-none : goal.returns-clause-none
 returns-clause-none c = ap order_of c.in-Control.is ∙ ap hinting c.next_to_load.ensures.none

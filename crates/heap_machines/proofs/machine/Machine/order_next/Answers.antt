@@ -9,9 +9,9 @@ use Rattle.heap_machines.proofs.machine.Machine.order_next.Goals as goal
 
 pub returns-then-not-may_begin-clause-turn : goal.returns-then-not-may_begin-clause-turn
 returns-then-not-may_begin-clause-turn c =
-    let m = c.args.self.now in
-    let busy : may_begin (shown m) ≡ false = sym c.may_begin.ensures ∙ c.if-not-may_begin.true in
-    let takes : takes_of (shown m) Nothing ≡ not c.is_idle.result = ap (takes_of (shown m)) (sym c.requires.none) ∙ c.is_idle.ensures in
-    turn_in_call (shown m) c.args.next busy
+    let machine = c.args.self.now in
+    let busy : may_begin (shown machine) ≡ false = sym c.may_begin.ensures ∙ c.if-not-may_begin.true in
+    let takes : takes_of (shown machine) Nothing ≡ not c.is_idle.result = ap (takes_of (shown machine)) (sym c.requires.none) ∙ c.is_idle.ensures in
+    turn_in_call (shown machine) c.args.next busy
     ∙ ap (λ (b : Bool). if◌then◌else◌ {A = Option Order} b (Some Nothing) None) takes
     ∙ ap (λ (o : Order). if◌then◌else◌ {A = Option Order} (not c.is_idle.result) (Some o) None) (sym c.requires.none)

@@ -14,23 +14,23 @@ use Rattle.step_core.specs.Machines.{place_in, IsFitFor}
 use Rattle.step_core.proofs.Helpers.GoOn.{goes_on}
 use Rattle.heap_machines.specs.declared.machine.Machine.{Machine}
 use Rattle.heap_machines.specs.Roles.{is_mutating}
-use Rattle.heap_machines.specs.Shown.{shown, order_of, heap_of, word_found}
+use Rattle.heap_machines.specs.Shown.{shown, order_of, config_of, word_found}
 use Rattle.heap_machines.proofs.Fit.{fit_for_control}
 use Rattle.heap_machines.proofs.Hinting.{controlled, whole_with_hint}
 use Rattle.heap_machines.proofs.machine.Machine.step.Goals as goal
 
 pub step-requires-in-Control-clause-fit : goal.step-requires-in-Control-clause-fit
 step-requires-in-Control-clause-fit c =
-    let h = config_in c.in-Control.control in
+    let config = config_in c.in-Control.control in
     let hint = hint_of c.in-Control.control in
     let words = c.args.words.now.items in
     let k : Controlling = past_hint c.in-Control.control in
     let got : ℕ = controls.word_found c.in-Control.control words in
-    let same = controlled h hint (seen_control c.in-Control.control) in
-    let fit = subst (λ (x : Controlling). IsFitFor h (hinting hint) (slice_index words (table_index (control_access h x))) (controlling (seen_control c.in-Control.control))) same
-    (subst (λ (m : Machine). IsFitFor (heap_of m) (order_of m) (word_found m words) (shown m)) c.in-Control.is c.requires.fit) in
-    fit_for_control h k.phase k.spot k.image got (whole_with_hint h hint (seen_control c.in-Control.control) got fit.0)
-    (subst (λ (x : Controlling). UnitGoesOn h x.spot got) same fit.1)
+    let same = controlled config hint (seen_control c.in-Control.control) in
+    let fit = subst (λ (x : Controlling). IsFitFor config (hinting hint) (slice_index words (table_index (control_access config x))) (controlling (seen_control c.in-Control.control))) same
+    (subst (λ (m : Machine). IsFitFor (config_of m) (order_of m) (word_found m words) (shown m)) c.in-Control.is c.requires.fit) in
+    fit_for_control config k.phase k.spot k.image got (whole_with_hint config hint (seen_control c.in-Control.control) got fit.0)
+    (subst (λ (x : Controlling). UnitGoesOn config x.spot got) same fit.1)
 
 pub returns-in-Control-clause-done : goal.returns-in-Control-clause-done
 returns-in-Control-clause-done c =

@@ -12,5 +12,5 @@ invariant_of-result c = record { fits = c.of.ensures.heap (arc_value c.args.seat
 
 pub returns-clause-given : goal.returns-clause-given
 returns-clause-given c =
-    let s = c.args.seat in
-    record { machines = subst (λ (v : View Actor). AreMachinesOf (s ∷ []) v) (sym c.of.ensures.view) (machines_one s); long = ap length c.of.ensures.view ∙ places s }
+    let seat = c.args.seat in
+    record { machines = subst (λ (v : View Actor). AreMachinesOf (seat ∷ []) v) (sym c.of.ensures.view) (machines_one seat); long = ap length c.of.ensures.view ∙ places seat }

@@ -9,7 +9,7 @@ use Rattle.heap_seats.proofs.gathering.Begun.with.Goals as goal
 pub returns-clause-given : goal.returns-clause-given
 returns-clause-given c before given same absent =
     let b = c.args.self in
-    let s = c.args.seat in
-    let fits : IsBundleOf s.bundle c.deref.result.now = subst (IsBundleOf s.bundle) (same ∙ sym c.deref.ensures) s.fits in
+    let seat = c.args.seat in
+    let fits : IsBundleOf seat.bundle c.deref.result.now = subst (IsBundleOf seat.bundle) (same ∙ sym c.deref.ensures) seat.fits in
     let moved : IsBundleOf c.into_bundle.result c.deref.result.now = subst (λ (x : Bundle). IsBundleOf x c.deref.result.now) (sym c.into_bundle.ensures) fits in
-    together_more before s b _ refl given same absent (c.with-machines.ensures.view moved ∙ ap (λ (x : Bundle). merged (view_of b.machines) (bundle_view x)) c.into_bundle.ensures)
+    together_more before seat b _ refl given same absent (c.with-machines.ensures.view moved ∙ ap (λ (x : Bundle). merged (view_of b.machines) (bundle_view x)) c.into_bundle.ensures)

@@ -8,14 +8,14 @@ use Rattle.heap_seats.proofs.gathering.Gathering.with.Goals.{in-None, in-Some}
 
 pub returns : goal.returns
 returns c before given =
-    let s = c.args.seat in
+    let seat = c.args.seat in
     elim c.match-begun.branch [
       | in-None w ↦
           let none : before ≡ [] = subst (AreGatheredIn before) w.in-None.is given in
-          subst (λ (xs : List Seat). AreBegun (xs ++ s ∷ []) c.match-begun.begun) (sym none)
-          (subst (λ (b : Begun). AreBegun (s ∷ []) b) (sym w.begun-is) (begun_one s w.of-begun.result w.of-begun.ensures.heap w.of-begun.ensures.given))
+          subst (λ (xs : List Seat). AreBegun (xs ++ seat ∷ []) c.match-begun.begun) (sym none)
+          (subst (λ (b : Begun). AreBegun (seat ∷ []) b) (sym w.begun-is) (begun_one seat w.of-begun.result w.of-begun.ensures.heap w.of-begun.ensures.given))
       | in-Some w ↦
           let begun : AreBegun before w.in-Some.begun = subst (AreGatheredIn before) w.in-Some.is given in
-          subst (λ (b : Begun). AreBegun (before ++ s ∷ []) b) (sym w.begun-is)
-          (begun_more before s w.in-Some.begun w.with-begun.result begun w.with-begun.ensures.heap (w.with-begun.ensures.given before))
+          subst (λ (b : Begun). AreBegun (before ++ seat ∷ []) b) (sym w.begun-is)
+          (begun_more before seat w.in-Some.begun w.with-begun.result begun w.with-begun.ensures.heap (w.with-begun.ensures.given before))
     ]

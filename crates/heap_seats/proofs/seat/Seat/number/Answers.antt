@@ -6,7 +6,7 @@ use Rattle.heap_seats.proofs.seat.Seat.number.Goals as goal
 
 pub returns-clause-inside : goal.returns-clause-inside
 returns-clause-inside c =
-    let s = c.args.self.now in
-    let below = within shown s.bundle.machines.items s.number s.here in
-    let count = s.bundle.seats ∙ ap (λ k. seat_count k.mutators k.helpers) s.same_config in
+    let seat = c.args.self.now in
+    let below = within shown seat.bundle.machines.items seat.number seat.here in
+    let count = seat.bundle.seats ∙ ap (λ k. seat_count k.mutators k.helpers) seat.same_config in
     omega (arith, below, count)

@@ -12,27 +12,27 @@ use Rattle.heap_seats.proofs.seat.Seat.order_end.Goals as goal
 
 pub invariant_of-self : goal.invariant_of-self
 invariant_of-self c =
-    let s = c.args.self.now in
+    let seat = c.args.self.now in
     let b = c.finish.new.self in
     let made = c.finish.ensures.unmoved in
     record {
-      fits = stays_of (arc_value s.heap) s.bundle b made.same s.fits;
-      here = stays_here s.bundle b s.number made.same s.here;
-      only = stays_only s.bundle b s.number made.same s.only;
-      same_config = made.same.config ∙ s.same_config;
-      reached = unmoved_run s.bundle b made s.reached;
-      renewable = stays_renewable s.config s.bundle b made.same s.renewable;
+      fits = stays_of (arc_value seat.heap) seat.bundle b made.same seat.fits;
+      here = stays_here seat.bundle b seat.number made.same seat.here;
+      only = stays_only seat.bundle b seat.number made.same seat.only;
+      same_config = made.same.config ∙ seat.same_config;
+      reached = unmoved_run seat.bundle b made seat.reached;
+      renewable = stays_renewable seat.config seat.bundle b made.same seat.renewable;
     }
 
 pub returns : goal.returns
 returns c =
-    let s = c.args.self.now in
+    let seat = c.args.self.now in
     let b = c.finish.new.self in
     let made = c.finish.ensures in
     record {
       same = record { config = refl; number = refl; heap = refl };
-      given = given_order s.bundle b s.number End made.unmoved made.order s.here;
-      actor = ap (λ v. unwrap_or (machine_of v s.number) nobody) made.unmoved.view;
-      steps = ap (λ v. unwrap_or (machine_of v s.number) 0) made.unmoved.steps;
-      state = ap (λ turn. state_by turn (may_begin (machine_at b s.number))) (takes_turn s.bundle b s.number End made.unmoved made.order s.here made.takes);
+      given = given_order seat.bundle b seat.number End made.unmoved made.order seat.here;
+      actor = ap (λ v. unwrap_or (machine_of v seat.number) nobody) made.unmoved.view;
+      steps = ap (λ v. unwrap_or (machine_of v seat.number) 0) made.unmoved.steps;
+      state = ap (λ turn. state_by turn (may_begin (machine_at b seat.number))) (takes_turn seat.bundle b seat.number End made.unmoved made.order seat.here made.takes);
     }

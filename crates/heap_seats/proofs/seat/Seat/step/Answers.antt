@@ -17,31 +17,31 @@ has_one false said idle moved = absurd (moved (idle refl))
 
 pub invariant_of-self : goal.invariant_of-self
 invariant_of-self c =
-    let s = c.args.self.now in
+    let seat = c.args.self.now in
     let b = c.step.new.self in
     let made = c.step.ensures in
     record {
-      fits = stays_of (arc_value s.heap) s.bundle b made.same s.fits;
-      here = stays_here s.bundle b s.number made.same s.here;
-      only = stays_only s.bundle b s.number made.same s.only;
-      same_config = made.same.config ∙ s.same_config;
-      reached = goes_run s.bundle b s.number c.step.result made.same made.unchanged made.event s.reached;
-      renewable = stays_renewable s.config s.bundle b made.same s.renewable;
+      fits = stays_of (arc_value seat.heap) seat.bundle b made.same seat.fits;
+      here = stays_here seat.bundle b seat.number made.same seat.here;
+      only = stays_only seat.bundle b seat.number made.same seat.only;
+      same_config = made.same.config ∙ seat.same_config;
+      reached = goes_run seat.bundle b seat.number c.step.result made.same made.unchanged made.event seat.reached;
+      renewable = stays_renewable seat.config seat.bundle b made.same seat.renewable;
     }
 
 pub returns-clause-stepped : goal.returns-clause-stepped
 returns-clause-stepped c moved =
-    let s = c.args.self.now in
+    let seat = c.args.self.now in
     let b = c.step.new.self in
-    let step = c.step.ensures.event (has_one (has_turn s.bundle s.number) c.step.result c.step.ensures.idle.1 moved) in
-    let was = machine_at s.bundle s.number in
-    let order = order_at s.bundle s.number in
+    let step = c.step.ensures.event (has_one (has_turn seat.bundle seat.number) c.step.result c.step.ensures.idle.1 moved) in
+    let was = machine_at seat.bundle seat.number in
+    let order = order_at seat.bundle seat.number in
     record {
       got = step.got;
-      machine = subst (λ (k : Config). machine_at b s.number ≡ machine_after pause_image k order step.got was) s.same_config (machine_goes s.bundle b s.number c.step.result step);
-      answers = subst (λ (k : Config). c.step.result ≡ said_of_step k order was step.got) s.same_config (answers_then s.bundle b s.number c.step.result step);
-      calls = calls_go s.bundle b s.number c.step.result step;
-      doing = doing_goes s.bundle b s.number c.step.result step;
-      order = order_then s.bundle b s.number c.step.result step;
-      steps = steps_then s.bundle b s.number c.step.result step;
+      machine = subst (λ (k : Config). machine_at b seat.number ≡ machine_after pause_image k order step.got was) seat.same_config (machine_goes seat.bundle b seat.number c.step.result step);
+      answers = subst (λ (k : Config). c.step.result ≡ said_of_step k order was step.got) seat.same_config (answers_then seat.bundle b seat.number c.step.result step);
+      calls = calls_go seat.bundle b seat.number c.step.result step;
+      doing = doing_goes seat.bundle b seat.number c.step.result step;
+      order = order_then seat.bundle b seat.number c.step.result step;
+      steps = steps_then seat.bundle b seat.number c.step.result step;
     }

@@ -13,10 +13,10 @@ loop-seat-init c = c.top-edge.ensures ∙ edge_first (config_of c.args.self.now)
 
 pub loop-seat-preserved : goal.loop-seat-preserved
 loop-seat-preserved c =
-    let k = config_of c.args.self.now in
-    let m : Word → ℕ = memory_of c.args.self.now in
-    let r = c.args.region in
+    let config = config_of c.args.self.now in
+    let memory : Word → ℕ = memory_of c.args.self.now in
+    let region = c.args.region in
     let seat = c.loop-seat.seat in
     c.edge_with-edge.ensures
-    ∙ ap (λ e. if is_last_in k m r seat && nat_lt (next_in (m (Current seat)) - base_of k r) e then next_in (m (Current seat)) - base_of k r else e) c.loop-seat.invariant
-    ∙ edge_next k m r seat
+    ∙ ap (λ e. if is_last_in config memory region seat && nat_lt (next_in (memory (Current seat)) - base_of config region) e then next_in (memory (Current seat)) - base_of config region else e) c.loop-seat.invariant
+    ∙ edge_next config memory region seat

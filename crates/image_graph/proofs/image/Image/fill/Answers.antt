@@ -10,15 +10,15 @@ use Rattle.image_graph.proofs.image.Image.fill.Goals as goal
 
 pub returns-then-next-end-clause-words : goal.returns-then-next-end-clause-words
 returns-then-next-end-clause-words c =
-    let k = config_of c.args.self.now in
-    let m : Word → ℕ = memory_of c.args.self.now in
+    let config = config_of c.args.self.now in
+    let memory : Word → ℕ = memory_of c.args.self.now in
     let word = c.args.word in
     let next = c.next_of-next.ensures in
     let end = c.end_of-end.ensures in
     let some : next_in word < end_in word = omega (arith, c.if-next-end.true, next, end) in
-    let is : IsWord k (Heap (next_in word)) =
-    regions_tile.in_heap k (buffer_region k word) (next_in word) c.requires.region (record { from = c.requires.from_base; before = omega (arith, some, c.requires.to_end) }) in
-    let place : word_at k (Heap (next_in word)) ≡ c.heap_at-at.result = sym (c.heap_at-at.ensures ∙ ap (λ a. word_at k (Heap a)) next) in
+    let is : IsWord config (Heap (next_in word)) =
+    regions_tile.in_heap config (buffer_region config word) (next_in word) c.requires.region (record { from = c.requires.from_base; before = omega (arith, some, c.requires.to_end) }) in
+    let place : word_at config (Heap (next_in word)) ≡ c.heap_at-at.result = sym (c.heap_at-at.ensures ∙ ap (λ a. word_at config (Heap a)) next) in
     let value : c.filler.result ≡ filler_header (end_in word - next_in word) = c.filler.ensures ∙ ap (λ e. filler_header (e - c.next_of-next.result)) end ∙ ap (λ n. filler_header (end_in word - n)) next in
-    c.set_word.ensures.named (Heap (next_in word)) is place ∙ ap (λ v. write m (Heap (next_in word)) v) value
-    ∙ sym (cond-true (nat_lt (next_in word) (end_in word)) (write m (Heap (next_in word)) (filler_header (end_in word - next_in word))) m (lt-ltb _ _ some))
+    c.set_word.ensures.named (Heap (next_in word)) is place ∙ ap (λ v. write memory (Heap (next_in word)) v) value
+    ∙ sym (cond-true (nat_lt (next_in word) (end_in word)) (write memory (Heap (next_in word)) (filler_header (end_in word - next_in word))) memory (lt-ltb _ _ some))

@@ -9,9 +9,9 @@ use Rattle.image_graph.proofs.image.Image.fill_if_left.Goals as goal
 
 pub returns-then-is_left_over-clause-words : goal.returns-then-is_left_over-clause-words
 returns-then-is_left_over-clause-words c =
-    let m : Word → ℕ = memory_of c.args.self.now in
-    let a = c.args.address in
-    let left = is_left_over m (found_of c.args.self.now) c.args.left a in
-    let both = and_from (c.args.object == a) left (eq-eqb c.args.object a c.if-object-address.false) (sym c.is_left_over.ensures ∙ c.if-is_left_over.true) in
+    let memory : Word → ℕ = memory_of c.args.self.now in
+    let address = c.args.address in
+    let left = is_left_over memory (found_of c.args.self.now) c.args.left address in
+    let both = and_from (c.args.object == address) left (eq-eqb c.args.object address c.if-object-address.false) (sym c.is_left_over.ensures ∙ c.if-is_left_over.true) in
     c.fill_object.ensures.words
-    ∙ fun_ext (λ w. sym (cond-true ((c.args.object == a) && left) (write m (Heap a) (filler_header (object_words (m (Heap (a + 1))))) w) (m w) both))
+    ∙ fun_ext (λ w. sym (cond-true ((c.args.object == address) && left) (write memory (Heap address) (filler_header (object_words (memory (Heap (address + 1))))) w) (memory w) both))

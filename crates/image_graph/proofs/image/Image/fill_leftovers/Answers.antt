@@ -47,11 +47,11 @@ module _ (g d : Config) (m now : Word → ℕ) (found : List ℕ) (left : Leftov
 
     begun_here : (told : Bool) → told ≡ (object + stride_at (λ a. now (Heap a)) object == first + i) → told ≡ true
         → first + i ≡ base_of g r + start_of (λ a. m (Heap a)) (base_of g r) i
-    begun_here told is yes' = ap (λ b. b + i) base ∙ ends_here g m r below can lost objects i some object at (test_is told is ∙ yes')
+    begun_here told is passes = ap (λ b. b + i) base ∙ ends_here g m r below can lost objects i some object at (test_is told is ∙ passes)
 
     goes_on_here : (told : Bool) → told ≡ (object + stride_at (λ a. now (Heap a)) object == first + i) → told ≡ false
         → object ≡ base_of g r + start_of (λ a. m (Heap a)) (base_of g r) i
-    goes_on_here told is no' = goes_on g m r below can lost objects i some object at (test_is told is ∙ no')
+    goes_on_here told is fails = goes_on g m r below can lost objects i some object at (test_is told is ∙ fails)
 
   module _ (object : ℕ) (at : object ≡ base_of g r + start_of (λ a. m (Heap a)) (base_of g r) i) where
     place_is : object ≡ first + i → is_filler (now (Heap (first + i))) ≡ false → IsWord d (Heap (first + i + 1))
@@ -72,59 +72,59 @@ module _ (g d : Config) (m now : Word → ℕ) (found : List ℕ) (left : Leftov
 
 pub loop-offset-init : goal.loop-offset-init
 loop-offset-init c =
-    let g = config_of c.args.self.now in
-    let m : Word → ℕ = memory_of c.args.self.now in
+    let config = config_of c.args.self.now in
+    let memory : Word → ℕ = memory_of c.args.self.now in
     let found = found_of c.args.self.now in
-    let r = c.args.region in
+    let region = c.args.region in
     record {
       config = refl;
       places = refl;
       found = refl;
       marks = refl;
-      words = filled_none g m r c.requires.region c.requires.can (is_left_over m found c.args.left) (left_is_object m found c.args.left);
+      words = filled_none config memory region c.requires.region c.requires.can (is_left_over memory found c.args.left) (left_is_object memory found c.args.left);
       object = c.base-first.ensures
-          ∙ (let none = start_first (λ a. m (Heap a)) (base_of g r) in let first : base_of g r ≡ base_of g r + start_of (λ a. m (Heap a)) (base_of g r) 0 = omega (arith, none) in first);
+          ∙ (let none = start_first (λ a. memory (Heap a)) (base_of config region) in let first : base_of config region ≡ base_of config region + start_of (λ a. memory (Heap a)) (base_of config region) 0 = omega (arith, none) in first);
     }
 
 pub ends_at-requires-clause-header : goal.ends_at-requires-clause-header
 ends_at-requires-clause-header c =
-    let g = config_of c.args.self.now in
-    let m : Word → ℕ = memory_of c.args.self.now in
+    let config = config_of c.args.self.now in
+    let memory : Word → ℕ = memory_of c.args.self.now in
     let is = c.loop-offset.invariant in
-    (first_is g (config_of c.loop-offset.self) m (memory_of c.loop-offset.self) (found_of c.args.self.now) c.args.left c.args.region c.loop-offset.offset c.requires.region c.requires.can
+    (first_is config (config_of c.loop-offset.self) memory (memory_of c.loop-offset.self) (found_of c.args.self.now) c.args.left c.args.region c.loop-offset.offset c.requires.region c.requires.can
     (omega (arith, c.loop-offset-test.true, c.top-top.ensures)) is.config is.words c.base-first.result c.base-first.ensures c.loop-offset.object is.object).0
 
 pub ends_at-requires-clause-shape : goal.ends_at-requires-clause-shape
 ends_at-requires-clause-shape c =
-    let g = config_of c.args.self.now in
-    let m : Word → ℕ = memory_of c.args.self.now in
+    let config = config_of c.args.self.now in
+    let memory : Word → ℕ = memory_of c.args.self.now in
     let is = c.loop-offset.invariant in
-    (first_is g (config_of c.loop-offset.self) m (memory_of c.loop-offset.self) (found_of c.args.self.now) c.args.left c.args.region c.loop-offset.offset c.requires.region c.requires.can
+    (first_is config (config_of c.loop-offset.self) memory (memory_of c.loop-offset.self) (found_of c.args.self.now) c.args.left c.args.region c.loop-offset.offset c.requires.region c.requires.can
     (omega (arith, c.loop-offset-test.true, c.top-top.ensures)) is.config is.words c.base-first.result c.base-first.ensures c.loop-offset.object is.object).1
 
 pub fill_if_left-requires-clause-inside : goal.fill_if_left-requires-clause-inside
 fill_if_left-requires-clause-inside c =
-    let g = config_of c.args.self.now in
-    let m : Word → ℕ = memory_of c.args.self.now in
+    let config = config_of c.args.self.now in
+    let memory : Word → ℕ = memory_of c.args.self.now in
     let is = c.loop-offset.invariant in
-    inside g (config_of c.loop-offset.self) m (memory_of c.loop-offset.self) (found_of c.args.self.now) c.args.left c.args.region c.loop-offset.offset c.requires.region c.requires.can
+    inside config (config_of c.loop-offset.self) memory (memory_of c.loop-offset.self) (found_of c.args.self.now) c.args.left c.args.region c.loop-offset.offset c.requires.region c.requires.can
     (omega (arith, c.loop-offset-test.true, c.top-top.ensures)) is.config is.words c.base-first.result c.base-first.ensures
 
 pub fill_if_left-requires-clause-shape : goal.fill_if_left-requires-clause-shape
 fill_if_left-requires-clause-shape c =
-    let g = config_of c.args.self.now in
-    let m : Word → ℕ = memory_of c.args.self.now in
+    let config = config_of c.args.self.now in
+    let memory : Word → ℕ = memory_of c.args.self.now in
     let found = found_of c.args.self.now in
-    let r = c.args.region in
-    let i = c.loop-offset.offset in
+    let region = c.args.region in
+    let offset = c.loop-offset.offset in
     let now = c.loop-offset.self in
     let is = c.loop-offset.invariant in
-    let some : i < m (Top r) = omega (arith, c.loop-offset-test.true, c.top-top.ensures) in
-    place_is g (config_of now) m (memory_of now) found c.args.left r i c.requires.region c.requires.can some is.config is.words c.base-first.result c.base-first.ensures c.if-ends_at.object
+    let some : offset < memory (Top region) = omega (arith, c.loop-offset-test.true, c.top-top.ensures) in
+    place_is config (config_of now) memory (memory_of now) found c.args.left region offset c.requires.region c.requires.can some is.config is.words c.base-first.result c.base-first.ensures c.if-ends_at.object
     (elim c.if-ends_at.branch [
-      | then-ends_at w ↦ w.object-is ∙ begun_here g (config_of now) m (memory_of now) found c.args.left r i c.requires.region c.requires.can some is.config is.words c.base-first.result c.base-first.ensures
+      | then-ends_at w ↦ w.object-is ∙ begun_here config (config_of now) memory (memory_of now) found c.args.left region offset c.requires.region c.requires.can some is.config is.words c.base-first.result c.base-first.ensures
           c.loop-offset.object is.object c.ends_at.result c.ends_at.ensures w.if-ends_at.true
-      | else-ends_at w ↦ w.object-is ∙ goes_on_here g (config_of now) m (memory_of now) found c.args.left r i c.requires.region c.requires.can some is.config is.words c.base-first.result c.base-first.ensures
+      | else-ends_at w ↦ w.object-is ∙ goes_on_here config (config_of now) memory (memory_of now) found c.args.left region offset c.requires.region c.requires.can some is.config is.words c.base-first.result c.base-first.ensures
           c.loop-offset.object is.object c.ends_at.result c.ends_at.ensures w.if-ends_at.false
     ])
 
@@ -133,37 +133,37 @@ fill_if_left-requires-clause-found c = λ which. found_same c.args.self.now c.lo
 
 pub loop-offset-preserved : goal.loop-offset-preserved
 loop-offset-preserved c =
-    let g = config_of c.args.self.now in
-    let m : Word → ℕ = memory_of c.args.self.now in
+    let config = config_of c.args.self.now in
+    let memory : Word → ℕ = memory_of c.args.self.now in
     let found = found_of c.args.self.now in
-    let r = c.args.region in
-    let i = c.loop-offset.offset in
+    let region = c.args.region in
+    let offset = c.loop-offset.offset in
     let now = c.loop-offset.self in
     let is = c.loop-offset.invariant in
-    let some : i < m (Top r) = omega (arith, c.loop-offset-test.true, c.top-top.ensures) in
-    let object : c.if-ends_at.object ≡ base_of g r + start_of (λ a. m (Heap a)) (base_of g r) i = elim c.if-ends_at.branch [
-      | then-ends_at w ↦ w.object-is ∙ begun_here g (config_of now) m (memory_of now) found c.args.left r i c.requires.region c.requires.can some is.config is.words c.base-first.result c.base-first.ensures
+    let some : offset < memory (Top region) = omega (arith, c.loop-offset-test.true, c.top-top.ensures) in
+    let object : c.if-ends_at.object ≡ base_of config region + start_of (λ a. memory (Heap a)) (base_of config region) offset = elim c.if-ends_at.branch [
+      | then-ends_at w ↦ w.object-is ∙ begun_here config (config_of now) memory (memory_of now) found c.args.left region offset c.requires.region c.requires.can some is.config is.words c.base-first.result c.base-first.ensures
           c.loop-offset.object is.object c.ends_at.result c.ends_at.ensures w.if-ends_at.true
-      | else-ends_at w ↦ w.object-is ∙ goes_on_here g (config_of now) m (memory_of now) found c.args.left r i c.requires.region c.requires.can some is.config is.words c.base-first.result c.base-first.ensures
+      | else-ends_at w ↦ w.object-is ∙ goes_on_here config (config_of now) memory (memory_of now) found c.args.left region offset c.requires.region c.requires.can some is.config is.words c.base-first.result c.base-first.ensures
           c.loop-offset.object is.object c.ends_at.result c.ends_at.ensures w.if-ends_at.false
     ] in
-    let last : i ≡ i + 1 - 1 = omega arith in
+    let last : offset ≡ offset + 1 - 1 = omega arith in
     record {
       config = c.fill_if_left.ensures.config ∙ is.config;
       places = c.fill_if_left.ensures.places ∙ is.places;
       found = c.fill_if_left.ensures.found ∙ is.found;
       marks = c.fill_if_left.ensures.marks ∙ is.marks;
       words = c.fill_if_left.ensures.words
-          ∙ turn_is g (config_of now) m (memory_of now) found c.args.left r i c.requires.region c.requires.can some is.config is.words c.base-first.result c.base-first.ensures c.if-ends_at.object object (found_of now) is.found;
-      object = object ∙ ap (λ k. base_of g r + start_of (λ a. m (Heap a)) (base_of g r) k) last;
+          ∙ turn_is config (config_of now) memory (memory_of now) found c.args.left region offset c.requires.region c.requires.can some is.config is.words c.base-first.result c.base-first.ensures c.if-ends_at.object object (found_of now) is.found;
+      object = object ∙ ap (λ k. base_of config region + start_of (λ a. memory (Heap a)) (base_of config region) k) last;
     }
 
 pub returns-clause-words : goal.returns-clause-words
 returns-clause-words c =
-    let g = config_of c.args.self.now in
-    let m : Word → ℕ = memory_of c.args.self.now in
+    let config = config_of c.args.self.now in
+    let memory : Word → ℕ = memory_of c.args.self.now in
     let found = found_of c.args.self.now in
-    let r = c.args.region in
-    let all : c.loop-offset.offset ≡ m (Top r) = omega (arith, c.loop-offset-test.false, c.loop-offset.auto.offset-end, c.top-top.ensures) in
-    c.loop-offset.invariant.words ∙ ap (λ k. filled_at g (is_below g r k) (is_left_over m found c.args.left) m) all
-    ∙ filled_all g m r c.requires.region c.requires.can (is_left_over m found c.args.left) (left_is_object m found c.args.left)
+    let region = c.args.region in
+    let all : c.loop-offset.offset ≡ memory (Top region) = omega (arith, c.loop-offset-test.false, c.loop-offset.auto.offset-end, c.top-top.ensures) in
+    c.loop-offset.invariant.words ∙ ap (λ k. filled_at config (is_below config region k) (is_left_over memory found c.args.left) memory) all
+    ∙ filled_all config memory region c.requires.region c.requires.can (is_left_over memory found c.args.left) (left_is_object memory found c.args.left)

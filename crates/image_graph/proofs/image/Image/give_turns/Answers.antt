@@ -24,28 +24,28 @@ serve_one-requires-clause-mutator c =
 
 pub loop-mutator-preserved : goal.loop-mutator-preserved
 loop-mutator-preserved c =
-    let g = config_of c.args.self.now in
-    let m : Word → ℕ = memory_of c.args.self.now in
-    let t = c.loop-mutator.mutator in
+    let config = config_of c.args.self.now in
+    let memory : Word → ℕ = memory_of c.args.self.now in
+    let mutator = c.loop-mutator.mutator in
     let before : Word → ℕ = memory_of c.loop-mutator.self in
-    let same : config_of c.loop-mutator.self ≡ g = c.loop-mutator.invariant.config in
-    let so_far : before ≡ served g m t = c.loop-mutator.invariant.words in
-    let below : t < g.mutators = omega (arith, c.loop-mutator-test.true, c.mutators-mutator-end.ensures, ap (λ (k : Config). k.mutators) c.config.ensures) in
-    let after : memory_of c.serve_one.new.self ≡ served g m (t + 1) =
-    turned g m (memory_of c.serve_one.new.self) t
-    (λ none. c.serve_one.ensures.idle (ap (λ k. k (Wait t)) so_far ∙ none) ∙ so_far)
-    (λ some. c.serve_one.ensures.waits (λ e. some (ap (λ k. k (Wait t)) (sym so_far) ∙ e))
-    ∙ ap (λ (k : Config). served_in k before t (room_for k before t)) same
-    ∙ ap (λ k. served_in g k t (room_for g k t)) so_far) in
+    let same : config_of c.loop-mutator.self ≡ config = c.loop-mutator.invariant.config in
+    let so_far : before ≡ served config memory mutator = c.loop-mutator.invariant.words in
+    let below : mutator < config.mutators = omega (arith, c.loop-mutator-test.true, c.mutators-mutator-end.ensures, ap (λ (k : Config). k.mutators) c.config.ensures) in
+    let after : memory_of c.serve_one.new.self ≡ served config memory (mutator + 1) =
+    turned config memory (memory_of c.serve_one.new.self) mutator
+    (λ none. c.serve_one.ensures.idle (ap (λ k. k (Wait mutator)) so_far ∙ none) ∙ so_far)
+    (λ some. c.serve_one.ensures.waits (λ e. some (ap (λ k. k (Wait mutator)) (sym so_far) ∙ e))
+    ∙ ap (λ (k : Config). served_in k before mutator (room_for k before mutator)) same
+    ∙ ap (λ k. served_in config k mutator (room_for config k mutator)) so_far) in
     -- what a turn without room says, over the words by the definition
-    let no_room : (before (Wait t) ≢ 0) × NoneHasRoom (config_of c.loop-mutator.self).region_words (λ r. before (Top r)) (object_words (request_shape_in (before (Wait t)))) (config_of c.loop-mutator.self).regions
-    → (served g m t (Wait t) ≢ 0) × NoneHasRoom g.region_words (λ r. served g m t (Top r)) (object_words (request_shape_in (served g m t (Wait t)))) g.regions =
-    λ h. subst (λ (k : Word → ℕ). (k (Wait t) ≢ 0) × NoneHasRoom g.region_words (λ r. k (Top r)) (object_words (request_shape_in (k (Wait t)))) g.regions) so_far
-    (subst (λ (k : Config). (before (Wait t) ≢ 0) × NoneHasRoom k.region_words (λ r. before (Top r)) (object_words (request_shape_in (before (Wait t)))) k.regions) same h) in
-    let and_back : (served g m t (Wait t) ≢ 0) × NoneHasRoom g.region_words (λ r. served g m t (Top r)) (object_words (request_shape_in (served g m t (Wait t)))) g.regions
-    → (before (Wait t) ≢ 0) × NoneHasRoom (config_of c.loop-mutator.self).region_words (λ r. before (Top r)) (object_words (request_shape_in (before (Wait t)))) (config_of c.loop-mutator.self).regions =
-    λ h. subst (λ (k : Config). (before (Wait t) ≢ 0) × NoneHasRoom k.region_words (λ r. before (Top r)) (object_words (request_shape_in (before (Wait t)))) k.regions) (sym same)
-    (subst (λ (k : Word → ℕ). (k (Wait t) ≢ 0) × NoneHasRoom g.region_words (λ r. k (Top r)) (object_words (request_shape_in (k (Wait t)))) g.regions) (sym so_far) h) in
+    let no_room : (before (Wait mutator) ≢ 0) × NoneHasRoom (config_of c.loop-mutator.self).region_words (λ r. before (Top r)) (object_words (request_shape_in (before (Wait mutator)))) (config_of c.loop-mutator.self).regions
+    → (served config memory mutator (Wait mutator) ≢ 0) × NoneHasRoom config.region_words (λ r. served config memory mutator (Top r)) (object_words (request_shape_in (served config memory mutator (Wait mutator)))) config.regions =
+    λ h. subst (λ (k : Word → ℕ). (k (Wait mutator) ≢ 0) × NoneHasRoom config.region_words (λ r. k (Top r)) (object_words (request_shape_in (k (Wait mutator)))) config.regions) so_far
+    (subst (λ (k : Config). (before (Wait mutator) ≢ 0) × NoneHasRoom k.region_words (λ r. before (Top r)) (object_words (request_shape_in (before (Wait mutator)))) k.regions) same h) in
+    let and_back : (served config memory mutator (Wait mutator) ≢ 0) × NoneHasRoom config.region_words (λ r. served config memory mutator (Top r)) (object_words (request_shape_in (served config memory mutator (Wait mutator)))) config.regions
+    → (before (Wait mutator) ≢ 0) × NoneHasRoom (config_of c.loop-mutator.self).region_words (λ r. before (Top r)) (object_words (request_shape_in (before (Wait mutator)))) (config_of c.loop-mutator.self).regions =
+    λ h. subst (λ (k : Config). (before (Wait mutator) ≢ 0) × NoneHasRoom k.region_words (λ r. before (Top r)) (object_words (request_shape_in (before (Wait mutator)))) k.regions) (sym same)
+    (subst (λ (k : Word → ℕ). (k (Wait mutator) ≢ 0) × NoneHasRoom config.region_words (λ r. k (Top r)) (object_words (request_shape_in (k (Wait mutator)))) config.regions) (sym so_far) h) in
     record {
       config = c.serve_one.ensures.config ∙ same;
       words = after;
@@ -54,11 +54,11 @@ loop-mutator-preserved c =
         | then-not-serve_one w ↦
             let no : c.serve_one.result ≡ false = cc in
             let left = no_room (c.serve_one.ensures.left.0 no) in
-            subst (IsTold g m (t + 1)) (sym w.all-is) (told_left g m t (left_at g m t below left.0 left.1))
+            subst (IsTold config memory (mutator + 1)) (sym w.all-is) (told_left config memory mutator (left_at config memory mutator below left.0 left.1))
         | else-not-serve_one w ↦
             let yes : c.serve_one.result ≡ true = cc in
-            subst (IsTold g m (t + 1)) (sym w.all-is)
-            (told_served g m t c.loop-mutator.all
-            (λ left. true≢false (sym yes ∙ c.serve_one.ensures.left.1 (and_back (left_from g m t left)))) c.loop-mutator.invariant.told)
+            subst (IsTold config memory (mutator + 1)) (sym w.all-is)
+            (told_served config memory mutator c.loop-mutator.all
+            (λ left. true≢false (sym yes ∙ c.serve_one.ensures.left.1 (and_back (left_from config memory mutator left)))) c.loop-mutator.invariant.told)
       ];
     }

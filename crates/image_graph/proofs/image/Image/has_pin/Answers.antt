@@ -9,22 +9,22 @@ use Rattle.image_graph.proofs.image.Image.has_pin.Goals as goal
 
 pub loop-slot-preserved : goal.loop-slot-preserved
 loop-slot-preserved c =
-    let g = config_of c.args.self.now in
-    let m : Word → ℕ = memory_of c.args.self.now in
-    let t = c.args.mutator in
-    let word : c.word-word.result ≡ m (Pin t c.loop-slot.slot) = c.word-word.ensures.named (Pin t c.loop-slot.slot) (c.requires.mutator, c.loop-slot-test.true) (sym c.pin_at.ensures) in
+    let config = config_of c.args.self.now in
+    let memory : Word → ℕ = memory_of c.args.self.now in
+    let mutator = c.args.mutator in
+    let word : c.word-word.result ≡ memory (Pin mutator c.loop-slot.slot) = c.word-word.ensures.named (Pin mutator c.loop-slot.slot) (c.requires.mutator, c.loop-slot-test.true) (sym c.pin_at.ensures) in
     λ i below. ⊎_elim
-    (λ (last : i ≡ c.loop-slot.slot). ap (λ k. lies_in g c.args.region (m (Pin t k))) last ∙ ap (lies_in g c.args.region) (sym word) ∙ sym c.lies_in.ensures ∙ c.if-lies_in.false)
+    (λ (last : i ≡ c.loop-slot.slot). ap (λ k. lies_in config c.args.region (memory (Pin mutator k))) last ∙ ap (lies_in config c.args.region) (sym word) ∙ sym c.lies_in.ensures ∙ c.if-lies_in.false)
     (λ other. c.loop-slot.invariant i (omega (arith, below, other)))
     (cases_eq i c.loop-slot.slot)
 
 pub returns-then-lies_in : goal.returns-then-lies_in
 returns-then-lies_in c =
-    let g = config_of c.args.self.now in
-    let m : Word → ℕ = memory_of c.args.self.now in
-    let t = c.args.mutator in
-    let word : c.word-word.result ≡ m (Pin t c.loop-slot.slot) = c.word-word.ensures.named (Pin t c.loop-slot.slot) (c.requires.mutator, c.loop-slot-test.true) (sym c.pin_at.ensures) in
-    sym (range_has_any (λ i. lies_in g c.args.region (m (Pin t i))) 4 c.loop-slot.slot c.loop-slot-test.true (ap (lies_in g c.args.region) (sym word) ∙ sym c.lies_in.ensures ∙ c.if-lies_in.true))
+    let config = config_of c.args.self.now in
+    let memory : Word → ℕ = memory_of c.args.self.now in
+    let mutator = c.args.mutator in
+    let word : c.word-word.result ≡ memory (Pin mutator c.loop-slot.slot) = c.word-word.ensures.named (Pin mutator c.loop-slot.slot) (c.requires.mutator, c.loop-slot-test.true) (sym c.pin_at.ensures) in
+    sym (range_has_any (λ i. lies_in config c.args.region (memory (Pin mutator i))) 4 c.loop-slot.slot c.loop-slot-test.true (ap (lies_in config c.args.region) (sym word) ∙ sym c.lies_in.ensures ∙ c.if-lies_in.true))
 
 pub returns : goal.returns
 returns c = sym (none_passes (λ i. lies_in (config_of c.args.self.now) c.args.region (memory_of c.args.self.now (Pin c.args.mutator i))) 4 (λ i few. c.loop-slot.invariant i (omega (arith, few, c.loop-slot-test.false))))

@@ -14,10 +14,10 @@ loop-mutator-preserved c = λ t below. ⊎_elim
 
 pub returns-then-has_pin : goal.returns-then-has_pin
 returns-then-has_pin c =
-    let g = config_of c.args.self.now in
-    sym (range_has_any (has_pin g (memory_of c.args.self.now) c.args.region) g.mutators c.loop-mutator.mutator (omega (arith, c.loop-mutator-test.true, c.mutators-mutator-end.ensures)) (sym c.has_pin.ensures ∙ c.if-has_pin.true))
+    let config = config_of c.args.self.now in
+    sym (range_has_any (has_pin config (memory_of c.args.self.now) c.args.region) config.mutators c.loop-mutator.mutator (omega (arith, c.loop-mutator-test.true, c.mutators-mutator-end.ensures)) (sym c.has_pin.ensures ∙ c.if-has_pin.true))
 
 pub returns : goal.returns
 returns c =
-    let g = config_of c.args.self.now in
-    sym (none_passes (has_pin g (memory_of c.args.self.now) c.args.region) g.mutators (λ t below. c.loop-mutator.invariant t (omega (arith, below, c.loop-mutator-test.false, c.mutators-mutator-end.ensures))))
+    let config = config_of c.args.self.now in
+    sym (none_passes (has_pin config (memory_of c.args.self.now) c.args.region) config.mutators (λ t below. c.loop-mutator.invariant t (omega (arith, below, c.loop-mutator-test.false, c.mutators-mutator-end.ensures))))

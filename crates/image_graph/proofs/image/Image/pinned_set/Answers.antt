@@ -16,6 +16,6 @@ with_if-set-requires-clause-below c =
 pub loop-region-preserved : goal.loop-region-preserved
 loop-region-preserved c =
     let test = is_pinned (config_of c.args.self.now) (memory_of c.args.self.now) in
-    let r = c.loop-region.region in
-    c.with_if-set.ensures ∙ ap (λ b. (if b then 1 else 0) * 2 ^ r + c.loop-region.set) c.is_pinned.ensures
-    ∙ ap (λ k. (if test r then 1 else 0) * 2 ^ r + k) c.loop-region.invariant ∙ set_more test r
+    let region = c.loop-region.region in
+    c.with_if-set.ensures ∙ ap (λ b. (if b then 1 else 0) * 2 ^ region + c.loop-region.set) c.is_pinned.ensures
+    ∙ ap (λ k. (if test region then 1 else 0) * 2 ^ region + k) c.loop-region.invariant ∙ set_more test region

@@ -9,10 +9,10 @@ use Rattle.image_graph.proofs.image.Image.room_for.Goals as goal
 
 pub returns : goal.returns
 returns c =
-    let m = memory_of c.args.self.now in
+    let memory = memory_of c.args.self.now in
     let same = c.config.ensures in
-    subst (λ (k : Config). c.first_with_room.result ≡ lowest_room k.region_words (λ r. m (Top r)) c.args.words k.regions) same
-    (room_found c.config.result m c.tops.result.now c.args.words c.first_with_room.result
-    (subst (λ (k : Config). (r : ℕ) → r < k.regions → slice_index c.tops.result.now r ≡ m (Top r)) (sym same) c.tops.ensures.tops)
-    (subst (λ (k : Config). AreWithin k m) (sym same) c.requires)
+    subst (λ (k : Config). c.first_with_room.result ≡ lowest_room k.region_words (λ r. memory (Top r)) c.args.words k.regions) same
+    (room_found c.config.result memory c.tops.result.now c.args.words c.first_with_room.result
+    (subst (λ (k : Config). (r : ℕ) → r < k.regions → slice_index c.tops.result.now r ≡ memory (Top r)) (sym same) c.tops.ensures.tops)
+    (subst (λ (k : Config). AreWithin k memory) (sym same) c.requires)
     c.first_with_room.ensures.none c.first_with_room.ensures.first)

@@ -15,12 +15,12 @@ give_turns-requires c = holds_within (config_of c.args.self.now) (memory_of c.ar
 pub returns-clause-graph : goal.returns-clause-graph
 returns-clause-graph c = λ block g p stands asking.
     let config = config_of c.args.self.now in
-    let m : Word → ℕ = memory_of c.args.self.now in
-    subst (λ (k : Word → ℕ). ImageStands config k (served_block config m block config.mutators) g (served_promises config m p config.mutators)) (sym c.give_turns.ensures.words)
-    (served_stands config g m block p stands asking config.mutators (omega arith))
+    let memory : Word → ℕ = memory_of c.args.self.now in
+    subst (λ (k : Word → ℕ). ImageStands config k (served_block config memory block config.mutators) g (served_promises config memory p config.mutators)) (sym c.give_turns.ensures.words)
+    (served_stands config g memory block p stands asking config.mutators (omega arith))
 
 pub returns-clause-holds : goal.returns-clause-holds
 returns-clause-holds c = λ block owner p g holds.
     let config = config_of c.args.self.now in
-    let m : Word → ℕ = memory_of c.args.self.now in
-    subst (λ (k : Word → ℕ). HoldsServed config m k block owner p g) (sym c.give_turns.ensures.words) (serving_holds config m block owner p g holds)
+    let memory : Word → ℕ = memory_of c.args.self.now in
+    subst (λ (k : Word → ℕ). HoldsServed config memory k block owner p g) (sym c.give_turns.ensures.words) (serving_holds config memory block owner p g holds)

@@ -15,29 +15,29 @@ loop-seat-init c = record { config = refl; words = settled_first (config_of c.ar
 
 pub settle_one-requires-clause-inside : goal.settle_one-requires-clause-inside
 settle_one-requires-clause-inside c =
-    let k = config_of c.args.self.now in
-    let m : Word → ℕ = memory_of c.args.self.now in
+    let config = config_of c.args.self.now in
+    let memory : Word → ℕ = memory_of c.args.self.now in
     let seat = c.loop-seat.seat in
-    let same : config_of c.loop-seat.self ≡ k = c.loop-seat.invariant.config in
-    let word : memory_of c.loop-seat.self (Current seat) ≡ m (Current seat) = ap (λ (n : Word → ℕ). n (Current seat)) c.loop-seat.invariant.words ∙ settled_later k m seat seat (omega arith) in
-    let below : seat < seat_count k.mutators k.helpers = omega (arith, c.loop-seat-test.true, c.seats-seat-end.ensures) in
-    λ some. subst (λ (n : ℕ). IsInside (config_of c.loop-seat.self) n) (sym word) (subst (λ (j : Config). IsInside j (m (Current seat))) (sym same) (c.requires seat below (λ none. some (word ∙ none))))
+    let same : config_of c.loop-seat.self ≡ config = c.loop-seat.invariant.config in
+    let word : memory_of c.loop-seat.self (Current seat) ≡ memory (Current seat) = ap (λ (n : Word → ℕ). n (Current seat)) c.loop-seat.invariant.words ∙ settled_later config memory seat seat (omega arith) in
+    let below : seat < seat_count config.mutators config.helpers = omega (arith, c.loop-seat-test.true, c.seats-seat-end.ensures) in
+    λ some. subst (λ (n : ℕ). IsInside (config_of c.loop-seat.self) n) (sym word) (subst (λ (j : Config). IsInside j (memory (Current seat))) (sym same) (c.requires seat below (λ none. some (word ∙ none))))
 
 pub loop-seat-preserved : goal.loop-seat-preserved
 loop-seat-preserved c =
-    let k = config_of c.args.self.now in
-    let m : Word → ℕ = memory_of c.args.self.now in
+    let config = config_of c.args.self.now in
+    let memory : Word → ℕ = memory_of c.args.self.now in
     let seat = c.loop-seat.seat in
     record {
       config = c.settle_one.ensures.config ∙ c.loop-seat.invariant.config;
       words = c.settle_one.ensures.words ∙ ap (λ (j : Config). settled_at j (memory_of c.loop-seat.self) seat) c.loop-seat.invariant.config
-          ∙ ap (λ (n : Word → ℕ). settled_at k n seat) c.loop-seat.invariant.words ∙ settled_next k m seat;
+          ∙ ap (λ (n : Word → ℕ). settled_at config n seat) c.loop-seat.invariant.words ∙ settled_next config memory seat;
     }
 
 pub returns-clause-holds : goal.returns-clause-holds
 returns-clause-holds c =
-    let k = config_of c.args.self.now in
-    let m : Word → ℕ = memory_of c.args.self.now in
-    let all : c.loop-seat.seat ≡ seat_count k.mutators k.helpers = omega (arith, c.loop-seat-test.false, c.loop-seat.auto.seat-end, c.seats-seat-end.ensures) in
-    let words : memory_of c.loop-seat.self ≡ buffers_settled k m = c.loop-seat.invariant.words ∙ ap (settled_below k m) all in
-    subst (SettlingHolds k m) (sym words) (settling_holds k m (no_more_seats k (words_of c.args.self.now)))
+    let config = config_of c.args.self.now in
+    let memory : Word → ℕ = memory_of c.args.self.now in
+    let all : c.loop-seat.seat ≡ seat_count config.mutators config.helpers = omega (arith, c.loop-seat-test.false, c.loop-seat.auto.seat-end, c.seats-seat-end.ensures) in
+    let words : memory_of c.loop-seat.self ≡ buffers_settled config memory = c.loop-seat.invariant.words ∙ ap (settled_below config memory) all in
+    subst (SettlingHolds config memory) (sym words) (settling_holds config memory (no_more_seats config (words_of c.args.self.now)))

@@ -8,12 +8,12 @@ use Rattle.image_graph.proofs.image.Image.settle_one.Goals as goal
 
 pub returns-clause-words : goal.returns-clause-words
 returns-clause-words c =
-    let k = config_of c.args.self.now in
-    let m : Word → ℕ = memory_of c.args.self.now in
+    let config = config_of c.args.self.now in
+    let memory : Word → ℕ = memory_of c.args.self.now in
     let seat = c.args.seat in
-    let word : c.word-word.result ≡ m (Current seat) = c.word-word.ensures.named (Current seat) c.requires.seat (sym c.cur_at-at.ensures) in
-    let inner : is_last k m (m (Current seat)) ≡ false = ap (is_last k m) (sym word) ∙ sym c.is_last.ensures ∙ cc in
-    let some : m (Current seat) ≢ 0 = λ none. c.if-word-eq0.false (word ∙ none) in
-    stored (config_of c.fill.new.self) k _ _ (Current seat) c.cur_at-at.result 0 c.fill.ensures.config c.requires.seat c.cur_at-at.ensures c.set_word.ensures.named
-    ∙ ap (λ (n : Word → ℕ). write n (Current seat) 0) (c.fill.ensures.words ∙ ap (filled_over m) word)
-    ∙ settled_gone k m seat some inner
+    let word : c.word-word.result ≡ memory (Current seat) = c.word-word.ensures.named (Current seat) c.requires.seat (sym c.cur_at-at.ensures) in
+    let inner : is_last config memory (memory (Current seat)) ≡ false = ap (is_last config memory) (sym word) ∙ sym c.is_last.ensures ∙ cc in
+    let some : memory (Current seat) ≢ 0 = λ none. c.if-word-eq0.false (word ∙ none) in
+    stored (config_of c.fill.new.self) config _ _ (Current seat) c.cur_at-at.result 0 c.fill.ensures.config c.requires.seat c.cur_at-at.ensures c.set_word.ensures.named
+    ∙ ap (λ (n : Word → ℕ). write n (Current seat) 0) (c.fill.ensures.words ∙ ap (filled_over memory) word)
+    ∙ settled_gone config memory seat some inner

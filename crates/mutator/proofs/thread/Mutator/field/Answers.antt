@@ -14,16 +14,16 @@ at_spot m spot = record m { spot = spot }
 
 pub after-self-requires : goal.after-self-requires
 after-self-requires c =
-    let m = c.args.self.now in
-    part_at m.config m.mutator m.kept m.spot (OnField c.args.object c.args.at) c.args.got c.requires.at c.requires.fit.1
+    let mutator = c.args.self.now in
+    part_at mutator.config mutator.mutator mutator.kept mutator.spot (OnField c.args.object c.args.at) c.args.got c.requires.at c.requires.fit.1
 
 pub invariant_of-self : goal.invariant_of-self
 invariant_of-self c =
-    let m = c.args.self.now in
+    let mutator = c.args.self.now in
     record {
-      is_mutator = m.is_mutator;
+      is_mutator = mutator.is_mutator;
       allowed = pending _ _ _ c.requires.order;
-      ready = ready_next m.config (seen m) Nothing c.args.got (OnField c.args.object c.args.at) (at_spot (seen m) c.after-self.result) c.requires.at (ap (at_spot (seen m)) (sym c.after-self.ensures)) c.requires.fit.0;
+      ready = ready_next mutator.config (seen mutator) Nothing c.args.got (OnField c.args.object c.args.at) (at_spot (seen mutator) c.after-self.result) c.requires.at (ap (at_spot (seen mutator)) (sym c.after-self.ensures)) c.requires.fit.0;
     }
 
 pub returns-clause-again : goal.returns-clause-again

@@ -6,6 +6,6 @@ use Rattle.mutator.proofs.thread.Mutator.found.Goals as goal
 
 pub returns : goal.returns
 returns c =
-    let m = c.args.self.now in
-    touch_found m.config c.args.words.now m.mutator m.made m.kept m.order m.spot (and_parts _ _ (and_parts _ _ m.ready).0).0
+    let mutator = c.args.self.now in
+    touch_found mutator.config c.args.words.now mutator.mutator mutator.made mutator.kept mutator.order mutator.spot (and_parts _ _ (and_parts _ _ mutator.ready).0).0
     ∙ sym (ap (λ k. get_or c.args.words.now k 0) (c.at.ensures ∙ ap table_index c.plan.ensures.row))

@@ -15,48 +15,48 @@ at_spot m spot = record m { spot = spot }
 
 pub invariant_of-self : goal.invariant_of-self
 invariant_of-self c =
-    let m = c.args.self.now in
+    let mutator = c.args.self.now in
     let row = sym (c.after-self.ensures ∙ ap (after_enter c.in-Entering.then) c.after.ensures.row) in
     record {
-      is_mutator = m.is_mutator;
+      is_mutator = mutator.is_mutator;
       allowed = pending _ _ _ c.requires.none;
-      ready = ready_next m.config (seen m) Nothing c.args.got (Entering c.in-Entering.at c.in-Entering.then) (at_spot (seen m) c.after-self.result) (c.requires.at ∙ c.in-Entering.is) (ap (at_spot (seen m)) row) c.requires.fit.0;
+      ready = ready_next mutator.config (seen mutator) Nothing c.args.got (Entering c.in-Entering.at c.in-Entering.then) (at_spot (seen mutator) c.after-self.result) (c.requires.at ∙ c.in-Entering.is) (ap (at_spot (seen mutator)) row) c.requires.fit.0;
     }
 
 pub invariant_of-self-in-LoadPhase : goal.invariant_of-self-in-LoadPhase
 invariant_of-self-in-LoadPhase c =
-    let m = c.args.self.now in
+    let mutator = c.args.self.now in
     record {
-      is_mutator = m.is_mutator;
-      allowed = pending LoadSet m.made m.order c.requires.none;
-      ready = ready_next m.config (seen m) Nothing c.args.got LoadPhase (record (seen m) { kept = record m.kept { phase = c.args.got }; spot = LoadSet }) (c.requires.at ∙ c.in-LoadPhase.is) refl c.requires.fit.0;
+      is_mutator = mutator.is_mutator;
+      allowed = pending LoadSet mutator.made mutator.order c.requires.none;
+      ready = ready_next mutator.config (seen mutator) Nothing c.args.got LoadPhase (record (seen mutator) { kept = record mutator.kept { phase = c.args.got }; spot = LoadSet }) (c.requires.at ∙ c.in-LoadPhase.is) refl c.requires.fit.0;
     }
 
 pub invariant_of-self-in-Loading : goal.invariant_of-self-in-Loading
 invariant_of-self-in-Loading c =
-    let m = c.args.self.now in
+    let mutator = c.args.self.now in
     record {
-      is_mutator = m.is_mutator;
+      is_mutator = mutator.is_mutator;
       allowed = pending _ _ _ c.requires.none;
-      ready = ready_next m.config (seen m) Nothing c.args.got (Loading c.in-Loading.at) (at_spot (seen m) c.after-self-in-Loading.result) (c.requires.at ∙ c.in-Loading.is) (ap (at_spot (seen m)) (sym c.after-self-in-Loading.ensures)) c.requires.fit.0;
+      ready = ready_next mutator.config (seen mutator) Nothing c.args.got (Loading c.in-Loading.at) (at_spot (seen mutator) c.after-self-in-Loading.result) (c.requires.at ∙ c.in-Loading.is) (ap (at_spot (seen mutator)) (sym c.after-self-in-Loading.ensures)) c.requires.fit.0;
     }
 
 pub invariant_of-self-in-OnNumber : goal.invariant_of-self-in-OnNumber
 invariant_of-self-in-OnNumber c =
-    let m = c.args.self.now in
+    let mutator = c.args.self.now in
     record {
-      is_mutator = m.is_mutator;
+      is_mutator = mutator.is_mutator;
       allowed = pending _ _ _ c.requires.none;
-      ready = ready_next m.config (seen m) Nothing c.args.got (OnNumber c.in-OnNumber.object c.in-OnNumber.refs c.in-OnNumber.at) (at_spot (seen m) c.after-self-in-OnNumber.result) (c.requires.at ∙ c.in-OnNumber.is) (ap (at_spot (seen m)) (sym c.after-self-in-OnNumber.ensures)) c.requires.fit.0;
+      ready = ready_next mutator.config (seen mutator) Nothing c.args.got (OnNumber c.in-OnNumber.object c.in-OnNumber.refs c.in-OnNumber.at) (at_spot (seen mutator) c.after-self-in-OnNumber.result) (c.requires.at ∙ c.in-OnNumber.is) (ap (at_spot (seen mutator)) (sym c.after-self-in-OnNumber.ensures)) c.requires.fit.0;
     }
 
 pub invariant_of-self-in-Showing : goal.invariant_of-self-in-Showing
 invariant_of-self-in-Showing c =
-    let m = c.args.self.now in
+    let mutator = c.args.self.now in
     record {
-      is_mutator = m.is_mutator;
+      is_mutator = mutator.is_mutator;
       allowed = pending _ _ _ c.requires.none;
-      ready = ready_next m.config (seen m) Nothing c.args.got (Showing c.in-Showing.value c.in-Showing.at) (at_spot (seen m) c.after-self-in-Showing.result) (c.requires.at ∙ c.in-Showing.is) (ap (at_spot (seen m)) (sym c.after-self-in-Showing.ensures)) c.requires.fit.0;
+      ready = ready_next mutator.config (seen mutator) Nothing c.args.got (Showing c.in-Showing.value c.in-Showing.at) (at_spot (seen mutator) c.after-self-in-Showing.result) (c.requires.at ∙ c.in-Showing.is) (ap (at_spot (seen mutator)) (sym c.after-self-in-Showing.ensures)) c.requires.fit.0;
     }
 
 pub returns-in-Entering-clause-again : goal.returns-in-Entering-clause-again
@@ -64,21 +64,21 @@ returns-in-Entering-clause-again c = rw ((c.requires.at ∙ c.in-Entering.is), c
 
 pub invariant_of-self-in-LoadSet : goal.invariant_of-self-in-LoadSet
 invariant_of-self-in-LoadSet c =
-    let m = c.args.self.now in
-    let there : Spot → Mutating = λ spot. record (seen m) { kept = record m.kept { cset = c.args.got }; spot = spot } in
+    let mutator = c.args.self.now in
+    let there : Spot → Mutating = λ spot. record (seen mutator) { kept = record mutator.kept { cset = c.args.got }; spot = spot } in
     record {
-      is_mutator = m.is_mutator;
-      allowed = pending c.first_spot-self.result m.made m.order c.requires.none;
-      ready = ready_next m.config (seen m) Nothing c.args.got LoadSet (there c.first_spot-self.result) (c.requires.at ∙ c.in-LoadSet.is) (ap there (sym c.first_spot-self.ensures)) c.requires.fit.0;
+      is_mutator = mutator.is_mutator;
+      allowed = pending c.first_spot-self.result mutator.made mutator.order c.requires.none;
+      ready = ready_next mutator.config (seen mutator) Nothing c.args.got LoadSet (there c.first_spot-self.result) (c.requires.at ∙ c.in-LoadSet.is) (ap there (sym c.first_spot-self.ensures)) c.requires.fit.0;
     }
 
 pub invariant_of-self-in-Leave : goal.invariant_of-self-in-Leave
 invariant_of-self-in-Leave c =
-    let m = c.args.self.now in
+    let mutator = c.args.self.now in
     record {
-      is_mutator = m.is_mutator;
-      allowed = pending (Ended c.in-Leave.reply) m.made m.order c.requires.none;
-      ready = ready_next m.config (seen m) Nothing c.args.got (Leave c.in-Leave.reply) (at_spot (seen m) (Ended c.in-Leave.reply)) (c.requires.at ∙ c.in-Leave.is) refl c.requires.fit.0;
+      is_mutator = mutator.is_mutator;
+      allowed = pending (Ended c.in-Leave.reply) mutator.made mutator.order c.requires.none;
+      ready = ready_next mutator.config (seen mutator) Nothing c.args.got (Leave c.in-Leave.reply) (at_spot (seen mutator) (Ended c.in-Leave.reply)) (c.requires.at ∙ c.in-Leave.is) refl c.requires.fit.0;
     }
 
 pub returns-in-LoadPhase-clause-again : goal.returns-in-LoadPhase-clause-again

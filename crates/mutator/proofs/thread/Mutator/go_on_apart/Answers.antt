@@ -14,28 +14,28 @@ at_spot m spot = record m { spot = spot }
 
 pub invariant_of-self : goal.invariant_of-self
 invariant_of-self c =
-    let m = c.args.self.now in
+    let mutator = c.args.self.now in
     let row = sym (c.remember-self.ensures ∙ ap (after_remember c.in-Recording.address c.in-Recording.next) c.after.ensures.row) in
     record {
-      is_mutator = m.is_mutator;
+      is_mutator = mutator.is_mutator;
       allowed = pending _ _ _ c.requires.none;
-      ready = ready_next m.config (seen m) Nothing c.args.got (Recording c.in-Recording.at c.in-Recording.address c.in-Recording.next) (at_spot (seen m) c.remember-self.result) c.in-Recording.is (ap (at_spot (seen m)) row) c.requires.fit.0;
+      ready = ready_next mutator.config (seen mutator) Nothing c.args.got (Recording c.in-Recording.at c.in-Recording.address c.in-Recording.next) (at_spot (seen mutator) c.remember-self.result) c.in-Recording.is (ap (at_spot (seen mutator)) row) c.requires.fit.0;
     }
 
 pub invariant_of-self-in-Pinning : goal.invariant_of-self-in-Pinning
 invariant_of-self-in-Pinning c =
-    let m = c.args.self.now in
+    let mutator = c.args.self.now in
     record {
-      is_mutator = m.is_mutator;
+      is_mutator = mutator.is_mutator;
       allowed = pending _ _ _ c.requires.none;
-      ready = ready_next m.config (seen m) Nothing c.args.got (Pinning c.in-Pinning.value c.in-Pinning.at) (at_spot (seen m) c.after-self.result) c.in-Pinning.is (ap (at_spot (seen m)) (sym c.after-self.ensures)) c.requires.fit.0;
+      ready = ready_next mutator.config (seen mutator) Nothing c.args.got (Pinning c.in-Pinning.value c.in-Pinning.at) (at_spot (seen mutator) c.after-self.result) c.in-Pinning.is (ap (at_spot (seen mutator)) (sym c.after-self.ensures)) c.requires.fit.0;
     }
 
 pub returns-in-Waiting-clause-again : goal.returns-in-Waiting-clause-again
 returns-in-Waiting-clause-again c = rw (c.in-Waiting.is, c.wait.ensures.answer) (polls_where_it_waits c.in-Waiting.at c.args.got)
 
 pub returns-in-Making-clause-again : goal.returns-in-Making-clause-again
-returns-in-Making-clause-again c = let m = c.args.self.now in rw (c.in-Making.is, c.make.ensures.answer) (makes_where_it_waits m.config m.kept.command c.in-Making.at c.args.got)
+returns-in-Making-clause-again c = let mutator = c.args.self.now in rw (c.in-Making.is, c.make.ensures.answer) (makes_where_it_waits mutator.config mutator.kept.command c.in-Making.at c.args.got)
 
 pub resolve-requires-clause-at : goal.resolve-requires-clause-at
 resolve-requires-clause-at c = c.in-Resolving.is

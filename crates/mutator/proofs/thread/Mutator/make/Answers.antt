@@ -15,14 +15,14 @@ pub after-next-requires-clause-seat : goal.after-next-requires-clause-seat
 after-next-requires-clause-seat c = c.args.self.now.is_mutator
 
 pub after-next-requires-clause-fits : goal.after-next-requires-clause-fits
-after-next-requires-clause-fits c = let m = c.args.self.now in let ready = ready_at m.config m.mutator m.made m.kept m.spot (Making c.args.at) c.requires.at m.ready in ready.0
+after-next-requires-clause-fits c = let mutator = c.args.self.now in let ready = ready_at mutator.config mutator.mutator mutator.made mutator.kept mutator.spot (Making c.args.at) c.requires.at mutator.ready in ready.0
 
 pub after-next-requires-clause-make : goal.after-next-requires-clause-make
-after-next-requires-clause-make c = let m = c.args.self.now in let ready = ready_at m.config m.mutator m.made m.kept m.spot (Making c.args.at) c.requires.at m.ready in (and_parts _ _ ready.1).0
+after-next-requires-clause-make c = let mutator = c.args.self.now in let ready = ready_at mutator.config mutator.mutator mutator.made mutator.kept mutator.spot (Making c.args.at) c.requires.at mutator.ready in (and_parts _ _ ready.1).0
 
 pub after-next-requires-clause-numbers : goal.after-next-requires-clause-numbers
-after-next-requires-clause-numbers c = let m = c.args.self.now in let ready = ready_at m.config m.mutator m.made m.kept m.spot (Making c.args.at) c.requires.at m.ready in (and_parts _ _ ready.1).1
+after-next-requires-clause-numbers c = let mutator = c.args.self.now in let ready = ready_at mutator.config mutator.mutator mutator.made mutator.kept mutator.spot (Making c.args.at) c.requires.at mutator.ready in (and_parts _ _ ready.1).1
 
 pub after-next-requires-clause-fit : goal.after-next-requires-clause-fit
-after-next-requires-clause-fit c = let m = c.args.self.now in
-    making_goes m.config (seen m) c.args.at c.args.got (ready_next m.config (seen m) Nothing c.args.got (Making c.args.at) _ c.requires.at refl c.requires.fit.0)
+after-next-requires-clause-fit c = let mutator = c.args.self.now in
+    making_goes mutator.config (seen mutator) c.args.at c.args.got (ready_next mutator.config (seen mutator) Nothing c.args.got (Making c.args.at) _ c.requires.at refl c.requires.fit.0)

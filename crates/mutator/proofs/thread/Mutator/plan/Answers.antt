@@ -7,6 +7,6 @@ use Rattle.mutator.proofs.thread.Mutator.plan.Goals as goal
 
 pub returns-clause-inside : goal.returns-clause-inside
 returns-clause-inside c =
-    let m = c.args.self.now in
-    subst (λ access. table_index access < table_words m.config) (sym c.access.ensures)
-    (touch_inside m.config m.mutator m.made m.kept m.order m.spot (and_parts _ _ (and_parts _ _ m.ready).0).0)
+    let mutator = c.args.self.now in
+    subst (λ access. table_index access < table_words mutator.config) (sym c.access.ensures)
+    (touch_inside mutator.config mutator.mutator mutator.made mutator.kept mutator.order mutator.spot (and_parts _ _ (and_parts _ _ mutator.ready).0).0)

@@ -5,13 +5,13 @@ use Rattle.mutator.proofs.thread.Mutator.resolve.Goals as goal
 
 pub after-at-requires-clause-ready : goal.after-at-requires-clause-ready
 after-at-requires-clause-ready c =
-    let m = c.args.self.now in
-    part_ready m.config m.mutator m.made m.kept m.spot c.args.address c.args.at c.args.next c.requires.at m.ready
+    let mutator = c.args.self.now in
+    part_ready mutator.config mutator.mutator mutator.made mutator.kept mutator.spot c.args.address c.args.at c.args.next c.requires.at mutator.ready
 
 pub after-at-requires-clause-fit : goal.after-at-requires-clause-fit
 after-at-requires-clause-fit c =
-    let m = c.args.self.now in
-    part_goes m.config m.mutator m.kept m.spot c.args.address c.args.at c.args.next c.args.got c.requires.at c.requires.fit.1
+    let mutator = c.args.self.now in
+    part_goes mutator.config mutator.mutator mutator.kept mutator.spot c.args.address c.args.at c.args.next c.args.got c.requires.at c.requires.fit.1
 
 pub returns-clause-answer : goal.returns-clause-answer
 returns-clause-answer c = c.call_says.ensures ∙ ap call_says c.after-at.ensures.says

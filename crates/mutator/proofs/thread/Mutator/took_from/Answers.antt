@@ -15,54 +15,54 @@ use Rattle.mutator.proofs.thread.Mutator.took_from.Goals as goal
 
 pub go_on-requires-clause-none : goal.go_on-requires-clause-none
 go_on-requires-clause-none c =
-    let m = c.args.self.now in
-    in_progress m.spot m.made m.order (ap takes_commands c.requires.at ∙ sym c.takes_commands.ensures ∙ c.if-takes_commands.false) (takes_where_busy _ _ _ c.requires.busy m.allowed)
+    let mutator = c.args.self.now in
+    in_progress mutator.spot mutator.made mutator.order (ap takes_commands c.requires.at ∙ sym c.takes_commands.ensures ∙ c.if-takes_commands.false) (takes_where_busy _ _ _ c.requires.busy mutator.allowed)
 
 pub go_on-requires-clause-takes : goal.go_on-requires-clause-takes
 go_on-requires-clause-takes c =
-    let m = c.args.self.now in
-    let takes = takes_where_busy _ _ _ c.requires.busy m.allowed in
-    subst (λ (o : Order). takes_at m.spot m.made o ≡ true) (in_progress m.spot m.made m.order (ap takes_commands c.requires.at ∙ sym c.takes_commands.ensures ∙ c.if-takes_commands.false) takes) takes
+    let mutator = c.args.self.now in
+    let takes = takes_where_busy _ _ _ c.requires.busy mutator.allowed in
+    subst (λ (o : Order). takes_at mutator.spot mutator.made o ≡ true) (in_progress mutator.spot mutator.made mutator.order (ap takes_commands c.requires.at ∙ sym c.takes_commands.ensures ∙ c.if-takes_commands.false) takes) takes
 
 pub go_on-requires-clause-fit : goal.go_on-requires-clause-fit
 go_on-requires-clause-fit c =
-    let m = c.args.self.now in
-    let none = in_progress m.spot m.made m.order (ap takes_commands c.requires.at ∙ sym c.takes_commands.ensures ∙ c.if-takes_commands.false) (takes_where_busy _ _ _ c.requires.busy m.allowed) in
-    subst (λ (o : Order). IsFit m.config (seen m) o c.args.got) none c.requires.fit
+    let mutator = c.args.self.now in
+    let none = in_progress mutator.spot mutator.made mutator.order (ap takes_commands c.requires.at ∙ sym c.takes_commands.ensures ∙ c.if-takes_commands.false) (takes_where_busy _ _ _ c.requires.busy mutator.allowed) in
+    subst (λ (o : Order). IsFit mutator.config (seen mutator) o c.args.got) none c.requires.fit
 
 pub returns-clause-seen : goal.returns-clause-seen
 returns-clause-seen c =
-    let m = c.args.self.now in
-    let none = in_progress m.spot m.made m.order (ap takes_commands c.requires.at ∙ sym c.takes_commands.ensures ∙ c.if-takes_commands.false) (takes_where_busy _ _ _ c.requires.busy m.allowed) in
-    c.go_on.ensures.seen ∙ ap (λ (o : Order). next_of m.config (seen m) o c.args.got) (sym none)
+    let mutator = c.args.self.now in
+    let none = in_progress mutator.spot mutator.made mutator.order (ap takes_commands c.requires.at ∙ sym c.takes_commands.ensures ∙ c.if-takes_commands.false) (takes_where_busy _ _ _ c.requires.busy mutator.allowed) in
+    c.go_on.ensures.seen ∙ ap (λ (o : Order). next_of mutator.config (seen mutator) o c.args.got) (sym none)
 
 pub returns-clause-done : goal.returns-clause-done
-returns-clause-done c = let m = c.args.self.now in rw c.go_on.ensures.answer (ends m.config m.kept m.order m.spot c.args.got)
+returns-clause-done c = let mutator = c.args.self.now in rw c.go_on.ensures.answer (ends mutator.config mutator.kept mutator.order mutator.spot c.args.got)
 
 pub returns-clause-replied : goal.returns-clause-replied
 returns-clause-replied c =
-    let m = c.args.self.now in
-    λ is none. replies m.config (seen m) Nothing c.args.got m.spot (sym c.go_on.ensures.answer ∙ is) (sym (ap (λ n. reply_at n.spot) c.go_on.ensures.seen) ∙ none)
+    let mutator = c.args.self.now in
+    λ is none. replies mutator.config (seen mutator) Nothing c.args.got mutator.spot (sym c.go_on.ensures.answer ∙ is) (sym (ap (λ n. reply_at n.spot) c.go_on.ensures.seen) ∙ none)
 
 pub returns-then-takes_commands-clause-seen : goal.returns-then-takes_commands-clause-seen
 returns-then-takes_commands-clause-seen c =
-    let m = c.args.self.now in
-    c.obey.ensures.seen ∙ sym (begins m.config (seen m) m.order c.args.got m.spot (ap takes_commands c.requires.at ∙ sym c.takes_commands.ensures ∙ c.if-takes_commands.true))
+    let mutator = c.args.self.now in
+    c.obey.ensures.seen ∙ sym (begins mutator.config (seen mutator) mutator.order c.args.got mutator.spot (ap takes_commands c.requires.at ∙ sym c.takes_commands.ensures ∙ c.if-takes_commands.true))
 
 pub returns-then-takes_commands-clause-answer : goal.returns-then-takes_commands-clause-answer
 returns-then-takes_commands-clause-answer c =
-    let m = c.args.self.now in
-    sym (says_more m.config m.kept m.spot c.args.got (ap takes_commands c.requires.at ∙ sym c.takes_commands.ensures ∙ c.if-takes_commands.true))
+    let mutator = c.args.self.now in
+    sym (says_more mutator.config mutator.kept mutator.spot c.args.got (ap takes_commands c.requires.at ∙ sym c.takes_commands.ensures ∙ c.if-takes_commands.true))
 
 pub returns-then-takes_commands-clause-done : goal.returns-then-takes_commands-clause-done
 returns-then-takes_commands-clause-done c =
-    let m = c.args.self.now in
-    subst (λ (said : Took). (said ≡ Done) ↔ (place_at m.order m.spot ≡ LV)) (says_more m.config m.kept m.spot c.args.got (ap takes_commands c.requires.at ∙ sym c.takes_commands.ensures ∙ c.if-takes_commands.true)) (ends m.config m.kept m.order m.spot c.args.got)
+    let mutator = c.args.self.now in
+    subst (λ (said : Took). (said ≡ Done) ↔ (place_at mutator.order mutator.spot ≡ LV)) (says_more mutator.config mutator.kept mutator.spot c.args.got (ap takes_commands c.requires.at ∙ sym c.takes_commands.ensures ∙ c.if-takes_commands.true)) (ends mutator.config mutator.kept mutator.order mutator.spot c.args.got)
 
 pub returns-then-takes_commands-clause-replied : goal.returns-then-takes_commands-clause-replied
 returns-then-takes_commands-clause-replied c = λ is. absurd (cc (is))
 
 pub returns-then-takes_commands-clause-again : goal.returns-then-takes_commands-clause-again
 returns-then-takes_commands-clause-again c =
-    let m = c.args.self.now in
-    (λ is. absurd (cc (is)), λ waits. absurd (waits_nowhere m.spot c.args.got (ap takes_commands c.requires.at ∙ sym c.takes_commands.ensures ∙ c.if-takes_commands.true) waits))
+    let mutator = c.args.self.now in
+    (λ is. absurd (cc (is)), λ waits. absurd (waits_nowhere mutator.spot c.args.got (ap takes_commands c.requires.at ∙ sym c.takes_commands.ensures ∙ c.if-takes_commands.true) waits))

@@ -4,6 +4,7 @@ use Rattle.shen_graph.specs.Noting.{seen}
 use Rattle.shen_graph.specs.History.{Entry, of_thread}
 use Rattle.shen_graph.specs.PlainGraph.{graph_of}
 use Rattle.shen_graph.specs.Work.{Progress, script_in, replies_of, with_reply}
+use Rattle.shen_graph.specs.Valid.{most_objects}
 use Rattle.shen_check.specs.Judged.{MayFollow}
 use Rattle.shen_check.specs.Judging.{HasJudged, HasPinsOf}
 use Rattle.shen_check.proofs.Taking.{one_more, one_longer, next_of_thread, no_next, may_answer, may_follow, next_valid, count_few}
@@ -35,7 +36,7 @@ may_answer-requires-clause-count c =
     let thread = c.entry-entry.result.thread in
     let next = c.if-not-is_next.ensures in
     let high : thread ≤ length scripts = omega (arith, next.1, c.mutators.ensures, c.requires.count) in
-    count_few scripts before c.args.self.now.graph c.args.self.now.work 4294967295 thread c.entry-entry.result.command c.requires.judged c.requires.few next.0 high
+    count_few scripts before c.args.self.now.graph c.args.self.now.work most_objects thread c.entry-entry.result.command c.requires.judged c.requires.few next.0 high
     (sym (next_of_thread scripts before c.args.self.now.graph c.args.self.now.work c.requires.judged thread next.0 high) ∙ next.2)
 
 pub may_answer-requires-clause-pins : goal.may_answer-requires-clause-pins

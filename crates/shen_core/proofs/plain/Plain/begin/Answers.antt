@@ -1,4 +1,5 @@
 use Rattle.shen_graph.specs.declared.order.Order.TheVariants.{Begin}
+use Rattle.shen_graph.specs.Valid.{most_objects}
 use Rattle.std.proofs.Common.{sym, ap, ◌∙◌, subst, arith, ◌<◌, refl}
 use Rattle.std.proofs.lemmas.List.{length-set}
 use Rattle.std.proofs.Math.Logic.{∥∥₁_map}
@@ -14,14 +15,14 @@ begin-requires-clause-rest c =
 
 pub invariant_of-self : goal.invariant_of-self
 invariant_of-self c =
-    let p = c.args.self.now in
-    let here = from_read p.machines.items c.args.number c.index_mut.result.now (omega (arith, p.all_machines, c.requires.number)) c.index_mut.ensures.value in
+    let plain = c.args.self.now in
+    let here = from_read plain.machines.items c.args.number c.index_mut.result.now (omega (arith, plain.all_machines, c.requires.number)) c.index_mut.ensures.value in
     record {
-      all_words = p.all_words;
-      all_machines = length-set p.machines.items _ _ ∙ p.all_machines;
-      one_heap = ordered_heap p.config p.machines.items c.args.number c.index_mut.result.now c.begin.new.self here c.begin.ensures.heap p.one_heap;
-      reached = ∥∥₁_map p.reached (subst (λ machines. IsShownBySome p.config p.words.items machines)
-          (sym (ordered_machines p.machines.items c.args.number c.index_mut.result.now c.begin.new.self here c.begin.ensures.shown)));
+      all_words = plain.all_words;
+      all_machines = length-set plain.machines.items _ _ ∙ plain.all_machines;
+      one_heap = ordered_heap plain.config plain.machines.items c.args.number c.index_mut.result.now c.begin.new.self here c.begin.ensures.heap plain.one_heap;
+      reached = ∥∥₁_map plain.reached (subst (λ machines. IsShownBySome plain.config plain.words.items machines)
+          (sym (ordered_machines plain.machines.items c.args.number c.index_mut.result.now c.begin.new.self here c.begin.ensures.shown)));
     }
 
 pub returns-clause-order : goal.returns-clause-order
@@ -34,8 +35,8 @@ returns-clause-machines c =
 
 pub index_mut-requires : goal.index_mut-requires
 index_mut-requires c =
-    let p = c.args.self.now in
-    omega (arith, p.all_machines, c.requires.number)
+    let plain = c.args.self.now in
+    omega (arith, plain.all_machines, c.requires.number)
 
 pub begin-requires-clause-valid : goal.begin-requires-clause-valid
 begin-requires-clause-valid c = c.requires.valid
@@ -43,7 +44,7 @@ begin-requires-clause-valid c = c.requires.valid
 pub begin-requires-clause-made : goal.begin-requires-clause-made
 begin-requires-clause-made c =
     let here = from_read c.args.self.now.machines.items c.args.number c.index_mut.result.now (omega (arith, c.args.self.now.all_machines, c.requires.number)) c.index_mut.ensures.value in
-    subst (λ n. n < 4294967295) (ap made_of_machine (machine_here c.args.self.now.machines.items c.args.number c.index_mut.result.now here)) c.requires.made
+    subst (λ n. n < most_objects) (ap made_of_machine (machine_here c.args.self.now.machines.items c.args.number c.index_mut.result.now here)) c.requires.made
 
 pub returns-clause-takes : goal.returns-clause-takes
 returns-clause-takes c =

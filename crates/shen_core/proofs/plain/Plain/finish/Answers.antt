@@ -14,14 +14,14 @@ finish-requires c =
 
 pub invariant_of-self : goal.invariant_of-self
 invariant_of-self c =
-    let p = c.args.self.now in
-    let here = from_read p.machines.items c.args.number c.index_mut.result.now (omega (arith, p.all_machines, c.requires.number)) c.index_mut.ensures.value in
+    let plain = c.args.self.now in
+    let here = from_read plain.machines.items c.args.number c.index_mut.result.now (omega (arith, plain.all_machines, c.requires.number)) c.index_mut.ensures.value in
     record {
-      all_words = p.all_words;
-      all_machines = length-set p.machines.items _ _ ∙ p.all_machines;
-      one_heap = ordered_heap p.config p.machines.items c.args.number c.index_mut.result.now c.finish.new.self here c.finish.ensures.heap p.one_heap;
-      reached = ∥∥₁_map p.reached (subst (λ machines. IsShownBySome p.config p.words.items machines)
-          (sym (ordered_machines p.machines.items c.args.number c.index_mut.result.now c.finish.new.self here c.finish.ensures.shown)));
+      all_words = plain.all_words;
+      all_machines = length-set plain.machines.items _ _ ∙ plain.all_machines;
+      one_heap = ordered_heap plain.config plain.machines.items c.args.number c.index_mut.result.now c.finish.new.self here c.finish.ensures.heap plain.one_heap;
+      reached = ∥∥₁_map plain.reached (subst (λ machines. IsShownBySome plain.config plain.words.items machines)
+          (sym (ordered_machines plain.machines.items c.args.number c.index_mut.result.now c.finish.new.self here c.finish.ensures.shown)));
     }
 
 pub returns-clause-order : goal.returns-clause-order
@@ -34,8 +34,8 @@ returns-clause-machines c =
 
 pub index_mut-requires : goal.index_mut-requires
 index_mut-requires c =
-    let p = c.args.self.now in
-    omega (arith, p.all_machines, c.requires.number)
+    let plain = c.args.self.now in
+    omega (arith, plain.all_machines, c.requires.number)
 
 pub returns-clause-takes : goal.returns-clause-takes
 returns-clause-takes c =

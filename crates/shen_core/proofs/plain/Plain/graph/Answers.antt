@@ -17,58 +17,58 @@ use Rattle.shen_core.proofs.plain.Plain.graph.Goals as goal
 
 pub answer_graph-requires-clause-control : goal.answer_graph-requires-clause-control
 answer_graph-requires-clause-control c =
-    let p = c.args.self.now in
+    let plain = c.args.self.now in
     let m = c.index_mut.result.now in
-    let number : c.seats-control.result - 1 ≡ control_number p.config = omega (arith, c.seats-control.ensures) in
-    let here = from_read p.machines.items (c.seats-control.result - 1) m (omega (arith, p.all_machines, c.seats-control.ensures)) c.index_mut.ensures.value in
-    let at : slice_get (map shown p.machines.items) (control_number p.config) ≡ Some (shown m) =
-    ap (slice_get (map shown p.machines.items)) (sym number) ∙ shown_here p.machines.items (c.seats-control.result - 1) m here in
-    subst (λ (e : Config). CanShow e (image_from e c.deref.result.now) (shown m)) (sym (heap_here p.config p.machines.items (c.seats-control.result - 1) m p.one_heap here))
-    (subst (λ ws. CanShow p.config (image_from p.config ws) (shown m)) (sym c.deref.ensures.value)
-    (some_can_show p.config p.words.items (map shown p.machines.items) c.requires.rest.mutators c.requires.rest.control p.reached (shown m) at))
+    let number : c.seats-control.result - 1 ≡ control_number plain.config = omega (arith, c.seats-control.ensures) in
+    let here = from_read plain.machines.items (c.seats-control.result - 1) m (omega (arith, plain.all_machines, c.seats-control.ensures)) c.index_mut.ensures.value in
+    let at : slice_get (map shown plain.machines.items) (control_number plain.config) ≡ Some (shown m) =
+    ap (slice_get (map shown plain.machines.items)) (sym number) ∙ shown_here plain.machines.items (c.seats-control.result - 1) m here in
+    subst (λ (e : Config). CanShow e (image_from e c.deref.result.now) (shown m)) (sym (heap_here plain.config plain.machines.items (c.seats-control.result - 1) m plain.one_heap here))
+    (subst (λ ws. CanShow plain.config (image_from plain.config ws) (shown m)) (sym c.deref.ensures.value)
+    (some_can_show plain.config plain.words.items (map shown plain.machines.items) c.requires.rest.mutators c.requires.rest.control plain.reached (shown m) at))
 
 pub answer_graph-requires-clause-stand : goal.answer_graph-requires-clause-stand
 answer_graph-requires-clause-stand c =
-    let p = c.args.self.now in
+    let plain = c.args.self.now in
     let m = c.index_mut.result.now in
-    let here = from_read p.machines.items (c.seats-control.result - 1) m (omega (arith, p.all_machines, c.seats-control.ensures)) c.index_mut.ensures.value in
-    subst (λ (e : Config). StandsForSome e c.deref.result.now) (sym (heap_here p.config p.machines.items (c.seats-control.result - 1) m p.one_heap here))
-    (subst (λ ws. StandsForSome p.config ws) (sym c.deref.ensures.value)
-    (some_stand p.config p.words.items (map shown p.machines.items) c.requires.rest.mutators c.requires.rest.control p.reached))
+    let here = from_read plain.machines.items (c.seats-control.result - 1) m (omega (arith, plain.all_machines, c.seats-control.ensures)) c.index_mut.ensures.value in
+    subst (λ (e : Config). StandsForSome e c.deref.result.now) (sym (heap_here plain.config plain.machines.items (c.seats-control.result - 1) m plain.one_heap here))
+    (subst (λ ws. StandsForSome plain.config ws) (sym c.deref.ensures.value)
+    (some_stand plain.config plain.words.items (map shown plain.machines.items) c.requires.rest.mutators c.requires.rest.control plain.reached))
 
 pub invariant_of-self : goal.invariant_of-self
 invariant_of-self c =
-    let p = c.args.self.now in
+    let plain = c.args.self.now in
     let m = c.index_mut.result.now in
-    let here = from_read p.machines.items (c.seats-control.result - 1) m (omega (arith, p.all_machines, c.seats-control.ensures)) c.index_mut.ensures.value in
+    let here = from_read plain.machines.items (c.seats-control.result - 1) m (omega (arith, plain.all_machines, c.seats-control.ensures)) c.index_mut.ensures.value in
     record {
-      all_words = p.all_words;
-      all_machines = length-set p.machines.items _ _ ∙ p.all_machines;
-      one_heap = ordered_heap p.config p.machines.items (c.seats-control.result - 1) m c.answer_graph.new.self here c.answer_graph.ensures.heap p.one_heap;
-      reached = ∥∥₁_map p.reached (subst (λ machines. IsShownBySome p.config p.words.items machines)
-          (sym (ordered_machines p.machines.items (c.seats-control.result - 1) m c.answer_graph.new.self here c.answer_graph.ensures.shown)));
+      all_words = plain.all_words;
+      all_machines = length-set plain.machines.items _ _ ∙ plain.all_machines;
+      one_heap = ordered_heap plain.config plain.machines.items (c.seats-control.result - 1) m c.answer_graph.new.self here c.answer_graph.ensures.heap plain.one_heap;
+      reached = ∥∥₁_map plain.reached (subst (λ machines. IsShownBySome plain.config plain.words.items machines)
+          (sym (ordered_machines plain.machines.items (c.seats-control.result - 1) m c.answer_graph.new.self here c.answer_graph.ensures.shown)));
     }
 
 pub returns-clause-unchanged : goal.returns-clause-unchanged
 returns-clause-unchanged c =
-    let p = c.args.self.now in
+    let plain = c.args.self.now in
     let m = c.index_mut.result.now in
-    let here = from_read p.machines.items (c.seats-control.result - 1) m (omega (arith, p.all_machines, c.seats-control.ensures)) c.index_mut.ensures.value in
+    let here = from_read plain.machines.items (c.seats-control.result - 1) m (omega (arith, plain.all_machines, c.seats-control.ensures)) c.index_mut.ensures.value in
     record {
       config = refl;
       words = refl;
-      machines = ordered_machines p.machines.items (c.seats-control.result - 1) m c.answer_graph.new.self here c.answer_graph.ensures.shown;
-      orders = ordered_none p.machines.items (c.seats-control.result - 1) m c.answer_graph.new.self here c.answer_graph.ensures.order;
+      machines = ordered_machines plain.machines.items (c.seats-control.result - 1) m c.answer_graph.new.self here c.answer_graph.ensures.shown;
+      orders = ordered_none plain.machines.items (c.seats-control.result - 1) m c.answer_graph.new.self here c.answer_graph.ensures.order;
       notes = refl;
     }
 
 pub returns-clause-shows : goal.returns-clause-shows
 returns-clause-shows c run shown_by =
-    let p = c.args.self.now in
+    let plain = c.args.self.now in
     let m = c.index_mut.result.now in
-    let here = from_read p.machines.items (c.seats-control.result - 1) m (omega (arith, p.all_machines, c.seats-control.ensures)) c.index_mut.ensures.value in
-    let shows = subst (λ ws. ShowsTheGraph p.config ws c.answer_graph.new.text) c.deref.ensures.value
-    (subst (λ (e : Config). ShowsTheGraph e c.deref.result.now c.answer_graph.new.text) (heap_here p.config p.machines.items (c.seats-control.result - 1) m p.one_heap here)
+    let here = from_read plain.machines.items (c.seats-control.result - 1) m (omega (arith, plain.all_machines, c.seats-control.ensures)) c.index_mut.ensures.value in
+    let shows = subst (λ ws. ShowsTheGraph plain.config ws c.answer_graph.new.text) c.deref.ensures.value
+    (subst (λ (e : Config). ShowsTheGraph e c.deref.result.now c.answer_graph.new.text) (heap_here plain.config plain.machines.items (c.seats-control.result - 1) m plain.one_heap here)
     c.answer_graph.ensures.shows) in
-    shows (names p.config p.words.items (map shown p.machines.items) c.requires.rest.mutators c.requires.rest.control run shown_by) (graph_after pause_image p.config run)
-    (stand p.config p.words.items (map shown p.machines.items) c.requires.rest.mutators c.requires.rest.control run shown_by)
+    shows (names plain.config plain.words.items (map shown plain.machines.items) c.requires.rest.mutators c.requires.rest.control run shown_by) (graph_after pause_image plain.config run)
+    (stand plain.config plain.words.items (map shown plain.machines.items) c.requires.rest.mutators c.requires.rest.control run shown_by)

@@ -4,6 +4,6 @@ use Rattle.shen_core.proofs.plain.Plain.is_at_place.Goals as goal
 
 pub is_at_place-requires : goal.is_at_place-requires
 is_at_place-requires c =
-    let p = c.args.self.now in
-    none_here p.machines.items c.args.number c.index.result.now c.requires.run.orders
-    (from_read p.machines.items c.args.number c.index.result.now (omega (arith, p.all_machines, c.requires.number)) c.index.ensures)
+    let plain = c.args.self.now in
+    none_here plain.machines.items c.args.number c.index.result.now c.requires.run.orders
+    (from_read plain.machines.items c.args.number c.index.result.now (omega (arith, plain.all_machines, c.requires.number)) c.index.ensures)

@@ -16,16 +16,16 @@ returns-then-may_begin-clause-begins c = λ _. c.next_command.ensures
 
 pub returns-else-may_begin-clause-turn : goal.returns-else-may_begin-clause-turn
 returns-else-may_begin-clause-turn c =
-    let p = c.args.self.now in
+    let plain = c.args.self.now in
     let m = c.index.result.now in
-    let here = from_read p.machines.items c.args.number m (omega (arith, p.all_machines, c.requires.number)) c.index.ensures in
-    let busy : may_begin (machine_at p c.args.number) ≡ false = ap may_begin (machine_here p.machines.items c.args.number m here) ∙ sym c.may_begin.ensures ∙ c.if-may_begin.false in
-    turn_in_call (machine_at p c.args.number) None busy ∙ sym (turn_in_call (machine_at p c.args.number) (next_for (config_of p) c.args.work.now c.args.number) busy)
+    let here = from_read plain.machines.items c.args.number m (omega (arith, plain.all_machines, c.requires.number)) c.index.ensures in
+    let busy : may_begin (machine_at plain c.args.number) ≡ false = ap may_begin (machine_here plain.machines.items c.args.number m here) ∙ sym c.may_begin.ensures ∙ c.if-may_begin.false in
+    turn_in_call (machine_at plain c.args.number) None busy ∙ sym (turn_in_call (machine_at plain c.args.number) (next_for (config_of plain) c.args.work.now c.args.number) busy)
 
 pub returns-else-may_begin-clause-begins : goal.returns-else-may_begin-clause-begins
 returns-else-may_begin-clause-begins c = λ may.
-    let p = c.args.self.now in
+    let plain = c.args.self.now in
     let m = c.index.result.now in
-    let here = from_read p.machines.items c.args.number m (omega (arith, p.all_machines, c.requires.number)) c.index.ensures in
-    let busy : may_begin (machine_at p c.args.number) ≡ false = ap may_begin (machine_here p.machines.items c.args.number m here) ∙ sym c.may_begin.ensures ∙ c.if-may_begin.false in
+    let here = from_read plain.machines.items c.args.number m (omega (arith, plain.all_machines, c.requires.number)) c.index.ensures in
+    let busy : may_begin (machine_at plain c.args.number) ≡ false = ap may_begin (machine_here plain.machines.items c.args.number m here) ∙ sym c.may_begin.ensures ∙ c.if-may_begin.false in
     absurd (false≢true (sym busy ∙ may))

@@ -2,7 +2,7 @@ use Rattle.std.proofs.Common.{◌<◌, map, Some, None, sym, ap, ◌∙◌, subs
 use Rattle.std.specs.Prelude.{IfSome, slice_set, slice_index_or, if◌then◌else◌}
 use Rattle.std.proofs.lemmas.List.{length-map, length-set}
 use Rattle.std.proofs.Math.Logic.{∥∥₁_map}
-use Rattle.shen_graph.specs.Valid.{IsValid}
+use Rattle.shen_graph.specs.Valid.{IsValid, most_objects}
 use Rattle.shen_graph.specs.declared.order.Order.TheVariants.{Nothing}
 use Rattle.heap_machines.specs.Shown.{shown, order_of}
 use Rattle.step_core.specs.Machines.{takes_of, may_begin, made_of_machine}
@@ -17,88 +17,88 @@ use Rattle.shen_core.proofs.plain.Plain.order_next.Goals as goal
 
 pub order_next-requires-clause-none : goal.order_next-requires-clause-none
 order_next-requires-clause-none c =
-    let p = c.args.self.now in
+    let plain = c.args.self.now in
     let m = c.index_mut.result.now in
-    let here = from_read p.machines.items c.args.number m (omega (arith, p.all_machines, c.requires.number)) c.index_mut.ensures.value in
-    none_here p.machines.items c.args.number m c.requires.run.orders here
+    let here = from_read plain.machines.items c.args.number m (omega (arith, plain.all_machines, c.requires.number)) c.index_mut.ensures.value in
+    none_here plain.machines.items c.args.number m c.requires.run.orders here
 
 pub order_next-requires-clause-next : goal.order_next-requires-clause-next
 order_next-requires-clause-next c = λ may.
-    let p = c.args.self.now in
+    let plain = c.args.self.now in
     let m = c.index_mut.result.now in
-    let here = from_read p.machines.items c.args.number m (omega (arith, p.all_machines, c.requires.number)) c.index_mut.ensures.value in
-    let at = machine_here p.machines.items c.args.number m here in
-    subst (λ next. IfSome next (λ command. IsValid command × (made_of_machine (shown m) < 4294967295))) (sym (c.next_to_begin-next.ensures.begins (ap may_begin at ∙ may)))
-    (subst (λ machine. IfSome (next_for (config_of p) c.args.work.now c.args.number) (λ command. IsValid command × (made_of_machine machine < 4294967295))) at
-    (next_fits p c.args.work.now c.args.number c.requires.run (omega (arith, length-map p.machines.items shown, p.all_machines, c.requires.number))
-    (ap is_mutating at ∙ role_shown p.config p.words.items _ c.args.number (shown m) p.reached (shown_here p.machines.items c.args.number m here)) (ap may_begin at ∙ may)))
+    let here = from_read plain.machines.items c.args.number m (omega (arith, plain.all_machines, c.requires.number)) c.index_mut.ensures.value in
+    let at = machine_here plain.machines.items c.args.number m here in
+    subst (λ next. IfSome next (λ command. IsValid command × (made_of_machine (shown m) < most_objects))) (sym (c.next_to_begin-next.ensures.begins (ap may_begin at ∙ may)))
+    (subst (λ machine. IfSome (next_for (config_of plain) c.args.work.now c.args.number) (λ command. IsValid command × (made_of_machine machine < most_objects))) at
+    (next_fits plain c.args.work.now c.args.number c.requires.run (omega (arith, length-map plain.machines.items shown, plain.all_machines, c.requires.number))
+    (ap is_mutating at ∙ role_shown plain.config plain.words.items _ c.args.number (shown m) plain.reached (shown_here plain.machines.items c.args.number m here)) (ap may_begin at ∙ may)))
 
 pub invariant_of-self : goal.invariant_of-self
 invariant_of-self c =
-    let p = c.args.self.now in
+    let plain = c.args.self.now in
     let m = c.index_mut.result.now in
-    let here = from_read p.machines.items c.args.number m (omega (arith, p.all_machines, c.requires.number)) c.index_mut.ensures.value in
+    let here = from_read plain.machines.items c.args.number m (omega (arith, plain.all_machines, c.requires.number)) c.index_mut.ensures.value in
     record {
-      all_words = p.all_words;
-      all_machines = length-set p.machines.items _ _ ∙ p.all_machines;
-      one_heap = ordered_heap p.config p.machines.items c.args.number m c.order_next.new.self here c.order_next.ensures.heap p.one_heap;
-      reached = ∥∥₁_map p.reached (subst (λ machines. IsShownBySome p.config p.words.items machines)
-          (sym (ordered_machines p.machines.items c.args.number m c.order_next.new.self here c.order_next.ensures.shown)));
+      all_words = plain.all_words;
+      all_machines = length-set plain.machines.items _ _ ∙ plain.all_machines;
+      one_heap = ordered_heap plain.config plain.machines.items c.args.number m c.order_next.new.self here c.order_next.ensures.heap plain.one_heap;
+      reached = ∥∥₁_map plain.reached (subst (λ machines. IsShownBySome plain.config plain.words.items machines)
+          (sym (ordered_machines plain.machines.items c.args.number m c.order_next.new.self here c.order_next.ensures.shown)));
     }
 
 pub returns-clause-next : goal.returns-clause-next
 returns-clause-next c =
-    let p = c.args.self.now in
+    let plain = c.args.self.now in
     let m = c.index_mut.result.now in
     let n = c.order_next.new.self in
-    let here = from_read p.machines.items c.args.number m (omega (arith, p.all_machines, c.requires.number)) c.index_mut.ensures.value in
+    let here = from_read plain.machines.items c.args.number m (omega (arith, plain.all_machines, c.requires.number)) c.index_mut.ensures.value in
     sym c.next_to_begin-next.ensures.turn
-    ∙ ap (order_for c.next_to_begin-next.result) (machine_here p.machines.items c.args.number m here)
+    ∙ ap (order_for c.next_to_begin-next.result) (machine_here plain.machines.items c.args.number m here)
     ∙ c.order_next.ensures.turn
-    ∙ ap (λ order. if c.order_next.result then Some order else None) (sym (order_now p.machines.items c.args.number m n here))
+    ∙ ap (λ order. if c.order_next.result then Some order else None) (sym (order_now plain.machines.items c.args.number m n here))
 
 pub returns-clause-turn : goal.returns-clause-turn
 returns-clause-turn c =
-    let p = c.args.self.now in
+    let plain = c.args.self.now in
     let m = c.index_mut.result.now in
     let n = c.order_next.new.self in
-    let here = from_read p.machines.items c.args.number m (omega (arith, p.all_machines, c.requires.number)) c.index_mut.ensures.value in
-    is_turn p c.args.work.now c.args.number c.order_next.result _ (omega (arith, length-map p.machines.items shown, p.all_machines, c.requires.number))
-    (ap is_mutating (machine_here p.machines.items c.args.number m here) ∙ role_shown p.config p.words.items _ c.args.number (shown m) p.reached (shown_here p.machines.items c.args.number m here))
+    let here = from_read plain.machines.items c.args.number m (omega (arith, plain.all_machines, c.requires.number)) c.index_mut.ensures.value in
+    is_turn plain c.args.work.now c.args.number c.order_next.result _ (omega (arith, length-map plain.machines.items shown, plain.all_machines, c.requires.number))
+    (ap is_mutating (machine_here plain.machines.items c.args.number m here) ∙ role_shown plain.config plain.words.items _ c.args.number (shown m) plain.reached (shown_here plain.machines.items c.args.number m here))
     (sym c.next_to_begin-next.ensures.turn
-    ∙ ap (order_for c.next_to_begin-next.result) (machine_here p.machines.items c.args.number m here)
+    ∙ ap (order_for c.next_to_begin-next.result) (machine_here plain.machines.items c.args.number m here)
     ∙ c.order_next.ensures.turn
-    ∙ ap (λ order. if c.order_next.result then Some order else None) (sym (order_now p.machines.items c.args.number m n here)))
+    ∙ ap (λ order. if c.order_next.result then Some order else None) (sym (order_now plain.machines.items c.args.number m n here)))
 
 pub returns-clause-has : goal.returns-clause-has
 returns-clause-has c =
-    let p = c.args.self.now in
+    let plain = c.args.self.now in
     let m = c.index_mut.result.now in
     let n = c.order_next.new.self in
-    let here = from_read p.machines.items c.args.number m (omega (arith, p.all_machines, c.requires.number)) c.index_mut.ensures.value in
-    ap (λ machine. takes_of machine (slice_index_or (map order_of (slice_set p.machines.items c.args.number n)) c.args.number Nothing)) (machine_now p.machines.items c.args.number m n here ∙ c.order_next.ensures.shown)
-    ∙ ap (takes_of (shown m)) (order_now p.machines.items c.args.number m n here)
+    let here = from_read plain.machines.items c.args.number m (omega (arith, plain.all_machines, c.requires.number)) c.index_mut.ensures.value in
+    ap (λ machine. takes_of machine (slice_index_or (map order_of (slice_set plain.machines.items c.args.number n)) c.args.number Nothing)) (machine_now plain.machines.items c.args.number m n here ∙ c.order_next.ensures.shown)
+    ∙ ap (takes_of (shown m)) (order_now plain.machines.items c.args.number m n here)
     ∙ c.order_next.ensures.takes
 
 pub returns-clause-orders : goal.returns-clause-orders
 returns-clause-orders c =
-    let p = c.args.self.now in
+    let plain = c.args.self.now in
     let m = c.index_mut.result.now in
     let n = c.order_next.new.self in
-    let here = from_read p.machines.items c.args.number m (omega (arith, p.all_machines, c.requires.number)) c.index_mut.ensures.value in
-    ordered_orders p.machines.items c.args.number n _ (sym (order_now p.machines.items c.args.number m n here))
+    let here = from_read plain.machines.items c.args.number m (omega (arith, plain.all_machines, c.requires.number)) c.index_mut.ensures.value in
+    ordered_orders plain.machines.items c.args.number n _ (sym (order_now plain.machines.items c.args.number m n here))
 
 pub returns-clause-unchanged : goal.returns-clause-unchanged
 returns-clause-unchanged c = λ idle.
-    let p = c.args.self.now in
+    let plain = c.args.self.now in
     let m = c.index_mut.result.now in
     let n = c.order_next.new.self in
-    let here = from_read p.machines.items c.args.number m (omega (arith, p.all_machines, c.requires.number)) c.index_mut.ensures.value in
-    ordered_none p.machines.items c.args.number m n here (c.order_next.ensures.idle idle ∙ sym (none_here p.machines.items c.args.number m c.requires.run.orders here))
+    let here = from_read plain.machines.items c.args.number m (omega (arith, plain.all_machines, c.requires.number)) c.index_mut.ensures.value in
+    ordered_none plain.machines.items c.args.number m n here (c.order_next.ensures.idle idle ∙ sym (none_here plain.machines.items c.args.number m c.requires.run.orders here))
 
 pub returns-clause-machines : goal.returns-clause-machines
 returns-clause-machines c =
-    let p = c.args.self.now in
+    let plain = c.args.self.now in
     let m = c.index_mut.result.now in
-    let here = from_read p.machines.items c.args.number m (omega (arith, p.all_machines, c.requires.number)) c.index_mut.ensures.value in
-    ordered_machines p.machines.items c.args.number m c.order_next.new.self here c.order_next.ensures.shown
+    let here = from_read plain.machines.items c.args.number m (omega (arith, plain.all_machines, c.requires.number)) c.index_mut.ensures.value in
+    ordered_machines plain.machines.items c.args.number m c.order_next.new.self here c.order_next.ensures.shown

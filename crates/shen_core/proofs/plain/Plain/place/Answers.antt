@@ -5,30 +5,30 @@ use Rattle.shen_core.proofs.plain.Plain.place.Goals as goal
 
 pub index-machine-requires : goal.index-machine-requires
 index-machine-requires c =
-    let p = c.args.self.now in
-    omega (arith, p.all_machines, c.requires)
+    let plain = c.args.self.now in
+    omega (arith, plain.all_machines, c.requires)
 
 pub place-requires : goal.place-requires
 place-requires c = c.is_idle.ensures ∙ ap not c.if-is_idle.false
 
 pub returns-then-is_idle-clause-none : goal.returns-then-is_idle-clause-none
 returns-then-is_idle-clause-none c =
-    let p = c.args.self.now in
+    let plain = c.args.self.now in
     let m = c.index-machine.result.now in
-    let here = from_read p.machines.items c.args.number m (omega (arith, p.all_machines, c.requires)) c.index-machine.ensures in
-    (λ _. turn_here p.machines.items c.args.number m here ∙ c.is_idle.ensures ∙ ap not c.if-is_idle.true, λ _. refl)
+    let here = from_read plain.machines.items c.args.number m (omega (arith, plain.all_machines, c.requires)) c.index-machine.ensures in
+    (λ _. turn_here plain.machines.items c.args.number m here ∙ c.is_idle.ensures ∙ ap not c.if-is_idle.true, λ _. refl)
 
 pub returns-else-is_idle-clause-none : goal.returns-else-is_idle-clause-none
 returns-else-is_idle-clause-none c =
-    let p = c.args.self.now in
+    let plain = c.args.self.now in
     let m = c.index-machine.result.now in
-    let here = from_read p.machines.items c.args.number m (omega (arith, p.all_machines, c.requires)) c.index-machine.ensures in
-    let turn = turn_here p.machines.items c.args.number m here ∙ c.is_idle.ensures ∙ ap not c.if-is_idle.false in
+    let here = from_read plain.machines.items c.args.number m (omega (arith, plain.all_machines, c.requires)) c.index-machine.ensures in
+    let turn = turn_here plain.machines.items c.args.number m here ∙ c.is_idle.ensures ∙ ap not c.if-is_idle.false in
     (λ is. absurd cc, λ none. absurd (false≢true (sym none ∙ turn)))
 
 pub returns-else-is_idle-clause-place : goal.returns-else-is_idle-clause-place
 returns-else-is_idle-clause-place c =
-    let p = c.args.self.now in
+    let plain = c.args.self.now in
     let m = c.index-machine.result.now in
-    let here = from_read p.machines.items c.args.number m (omega (arith, p.all_machines, c.requires)) c.index-machine.ensures in
-    c.place.ensures ∙ sym (place_here p.machines.items c.args.number m here)
+    let here = from_read plain.machines.items c.args.number m (omega (arith, plain.all_machines, c.requires)) c.index-machine.ensures in
+    c.place.ensures ∙ sym (place_here plain.machines.items c.args.number m here)

@@ -17,54 +17,54 @@ turn_of c m none inside = ap (takes_of (shown m)) none ∙ (goes_inside c (shown
 
 pub invariant_of-self : goal.invariant_of-self
 invariant_of-self c =
-    let p = c.args.self.now in
+    let plain = c.args.self.now in
     let m = c.index_mut.result.now in
     let n = c.step_inside_image.new.self in
-    let here = from_read p.machines.items c.args.number m (omega (arith, p.all_machines, c.requires.number)) c.index_mut.ensures.value in
-    let inside = ap (is_inside_image p.config) (sym (machine_here p.machines.items c.args.number m here)) ∙ c.requires.inside in
-    let made = made_from p.config p.words.items c.step_inside_image.new.words.items p.machines.items c.args.number m n _ _
-    (omega (arith, p.all_machines, c.requires.number)) c.index_mut.ensures.value p.one_heap (turn_of p.config m c.step_inside_image.ensures.none inside) refl
+    let here = from_read plain.machines.items c.args.number m (omega (arith, plain.all_machines, c.requires.number)) c.index_mut.ensures.value in
+    let inside = ap (is_inside_image plain.config) (sym (machine_here plain.machines.items c.args.number m here)) ∙ c.requires.inside in
+    let made = made_from plain.config plain.words.items c.step_inside_image.new.words.items plain.machines.items c.args.number m n _ _
+    (omega (arith, plain.all_machines, c.requires.number)) c.index_mut.ensures.value plain.one_heap (turn_of plain.config m c.step_inside_image.ensures.none inside) refl
     c.step_inside_image.ensures.words refl c.step_inside_image.ensures.shown in
     record {
-      all_words = ap length c.step_inside_image.ensures.words ∙ length-set p.words.items _ _ ∙ p.all_words;
-      all_machines = length-set p.machines.items _ _ ∙ p.all_machines;
-      one_heap = made_heap _ _ _ _ _ _ _ made c.step_inside_image.ensures.heap p.one_heap;
-      reached = ∥∥₁_map p.reached (made_shown _ _ _ _ _ _ _ made);
+      all_words = ap length c.step_inside_image.ensures.words ∙ length-set plain.words.items _ _ ∙ plain.all_words;
+      all_machines = length-set plain.machines.items _ _ ∙ plain.all_machines;
+      one_heap = made_heap _ _ _ _ _ _ _ made c.step_inside_image.ensures.heap plain.one_heap;
+      reached = ∥∥₁_map plain.reached (made_shown _ _ _ _ _ _ _ made);
     }
 
 pub returns-clause-event : goal.returns-clause-event
 returns-clause-event c =
-    let p = c.args.self.now in
+    let plain = c.args.self.now in
     let m = c.index_mut.result.now in
     let n = c.step_inside_image.new.self in
-    let here = from_read p.machines.items c.args.number m (omega (arith, p.all_machines, c.requires.number)) c.index_mut.ensures.value in
-    let inside = ap (is_inside_image p.config) (sym (machine_here p.machines.items c.args.number m here)) ∙ c.requires.inside in
+    let here = from_read plain.machines.items c.args.number m (omega (arith, plain.all_machines, c.requires.number)) c.index_mut.ensures.value in
+    let inside = ap (is_inside_image plain.config) (sym (machine_here plain.machines.items c.args.number m here)) ∙ c.requires.inside in
     made_step _ _ _ _ _ _ _
-    (made_from p.config p.words.items c.step_inside_image.new.words.items p.machines.items c.args.number m n _ _
-    (omega (arith, p.all_machines, c.requires.number)) c.index_mut.ensures.value p.one_heap (turn_of p.config m c.step_inside_image.ensures.none inside) refl
+    (made_from plain.config plain.words.items c.step_inside_image.new.words.items plain.machines.items c.args.number m n _ _
+    (omega (arith, plain.all_machines, c.requires.number)) c.index_mut.ensures.value plain.one_heap (turn_of plain.config m c.step_inside_image.ensures.none inside) refl
     c.step_inside_image.ensures.words refl c.step_inside_image.ensures.shown)
 
 pub returns-clause-machines : goal.returns-clause-machines
 returns-clause-machines c =
-    let p = c.args.self.now in
+    let plain = c.args.self.now in
     let m = c.index_mut.result.now in
     let n = c.step_inside_image.new.self in
-    let here = from_read p.machines.items c.args.number m (omega (arith, p.all_machines, c.requires.number)) c.index_mut.ensures.value in
-    let inside = ap (is_inside_image p.config) (sym (machine_here p.machines.items c.args.number m here)) ∙ c.requires.inside in
+    let here = from_read plain.machines.items c.args.number m (omega (arith, plain.all_machines, c.requires.number)) c.index_mut.ensures.value in
+    let inside = ap (is_inside_image plain.config) (sym (machine_here plain.machines.items c.args.number m here)) ∙ c.requires.inside in
     made_machines _ _ _ _ _ _ _
-    (made_from p.config p.words.items c.step_inside_image.new.words.items p.machines.items c.args.number m n _ _
-    (omega (arith, p.all_machines, c.requires.number)) c.index_mut.ensures.value p.one_heap (turn_of p.config m c.step_inside_image.ensures.none inside) refl
+    (made_from plain.config plain.words.items c.step_inside_image.new.words.items plain.machines.items c.args.number m n _ _
+    (omega (arith, plain.all_machines, c.requires.number)) c.index_mut.ensures.value plain.one_heap (turn_of plain.config m c.step_inside_image.ensures.none inside) refl
     c.step_inside_image.ensures.words refl c.step_inside_image.ensures.shown)
 
 pub returns-clause-orders : goal.returns-clause-orders
 returns-clause-orders c =
-    let p = c.args.self.now in
+    let plain = c.args.self.now in
     let m = c.index_mut.result.now in
     let n = c.step_inside_image.new.self in
-    let here = from_read p.machines.items c.args.number m (omega (arith, p.all_machines, c.requires.number)) c.index_mut.ensures.value in
-    let inside = ap (is_inside_image p.config) (sym (machine_here p.machines.items c.args.number m here)) ∙ c.requires.inside in
+    let here = from_read plain.machines.items c.args.number m (omega (arith, plain.all_machines, c.requires.number)) c.index_mut.ensures.value in
+    let inside = ap (is_inside_image plain.config) (sym (machine_here plain.machines.items c.args.number m here)) ∙ c.requires.inside in
     made_orders _ _ _ _ _ _ _
-    (made_from p.config p.words.items c.step_inside_image.new.words.items p.machines.items c.args.number m n _ _
-    (omega (arith, p.all_machines, c.requires.number)) c.index_mut.ensures.value p.one_heap (turn_of p.config m c.step_inside_image.ensures.none inside) refl
+    (made_from plain.config plain.words.items c.step_inside_image.new.words.items plain.machines.items c.args.number m n _ _
+    (omega (arith, plain.all_machines, c.requires.number)) c.index_mut.ensures.value plain.one_heap (turn_of plain.config m c.step_inside_image.ensures.none inside) refl
     c.step_inside_image.ensures.words refl c.step_inside_image.ensures.shown)
     c.step_inside_image.ensures.order

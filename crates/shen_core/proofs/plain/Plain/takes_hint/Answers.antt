@@ -5,11 +5,11 @@ use Rattle.shen_core.proofs.plain.Plain.takes_hint.Goals as goal
 
 pub index-requires : goal.index-requires
 index-requires c =
-    let p = c.args.self.now in
-    omega (arith, p.all_machines, c.requires)
+    let plain = c.args.self.now in
+    omega (arith, plain.all_machines, c.requires)
 
 pub returns : goal.returns
 returns c =
-    let p = c.args.self.now in
-    let here = from_read p.machines.items c.args.number c.index.result.now (omega (arith, p.all_machines, c.requires)) c.index.ensures in
-    c.takes_hint.ensures ∙ sym (ap takes_hint (machine_here p.machines.items c.args.number c.index.result.now here))
+    let plain = c.args.self.now in
+    let here = from_read plain.machines.items c.args.number c.index.result.now (omega (arith, plain.all_machines, c.requires)) c.index.ensures in
+    c.takes_hint.ensures ∙ sym (ap takes_hint (machine_here plain.machines.items c.args.number c.index.result.now here))

@@ -14,18 +14,18 @@ use Rattle.shen_core.proofs.plain.Plain.turn.Goals as goal
 
 pub reply-requires-clause-ended : goal.reply-requires-clause-ended
 reply-requires-clause-ended c =
-    let p = c.args.self.now in
-    let here = machine_within (machines_of p) c.args.number (omega (arith, length-map p.machines.items shown, p.all_machines, c.requires.number)) in
+    let plain = c.args.self.now in
+    let here = machine_within (machines_of plain) c.args.number (omega (arith, length-map plain.machines.items shown, plain.all_machines, c.requires.number)) in
     let has = c.order_noted.ensures.has ∙ c.if-not-order_noted.false in
-    let facts : IsStepped p c.order_noted.new.self c.step-stepped.new.self c.args.work.now c.args.number c.step-stepped.result = record {
-      within = omega (arith, length-map p.machines.items shown, p.all_machines, c.requires.number);
+    let facts : IsStepped plain c.order_noted.new.self c.step-stepped.new.self c.args.work.now c.args.number c.step-stepped.result = record {
+      within = omega (arith, length-map plain.machines.items shown, plain.all_machines, c.requires.number);
       mid_words = c.order_noted.ensures.words;
       mid_machines = c.order_noted.ensures.machines;
       mid_config = c.order_noted.ensures.config;
       mid_orders = c.order_noted.ensures.orders;
-      role = role_shown p.config p.words.items _ c.args.number _ p.reached here;
-      turn = subst (λ b. IsTurn p c.args.work.now c.args.number b (order_at c.order_noted.new.self c.args.number)) c.if-not-order_noted.false c.order_noted.ensures.turn;
-      next = subst (λ b. IsNextTurn p c.args.work.now c.args.number b (order_at c.order_noted.new.self c.args.number)) c.if-not-order_noted.false c.order_noted.ensures.next;
+      role = role_shown plain.config plain.words.items _ c.args.number _ plain.reached here;
+      turn = subst (λ b. IsTurn plain c.args.work.now c.args.number b (order_at c.order_noted.new.self c.args.number)) c.if-not-order_noted.false c.order_noted.ensures.turn;
+      next = subst (λ b. IsNextTurn plain c.args.work.now c.args.number b (order_at c.order_noted.new.self c.args.number)) c.if-not-order_noted.false c.order_noted.ensures.next;
       has = has;
       event = c.step-stepped.ensures.event has;
       says = c.step-stepped.ensures.says has;
@@ -37,18 +37,18 @@ reply-requires-clause-ended c =
 
 pub told-requires-clause-script : goal.told-requires-clause-script
 told-requires-clause-script c =
-    let p = c.args.self.now in
-    let here = machine_within (machines_of p) c.args.number (omega (arith, length-map p.machines.items shown, p.all_machines, c.requires.number)) in
+    let plain = c.args.self.now in
+    let here = machine_within (machines_of plain) c.args.number (omega (arith, length-map plain.machines.items shown, plain.all_machines, c.requires.number)) in
     let has = c.order_noted.ensures.has ∙ c.if-not-order_noted.false in
-    let facts : IsStepped p c.order_noted.new.self c.step-stepped.new.self c.args.work.now c.args.number c.step-stepped.result = record {
-      within = omega (arith, length-map p.machines.items shown, p.all_machines, c.requires.number);
+    let facts : IsStepped plain c.order_noted.new.self c.step-stepped.new.self c.args.work.now c.args.number c.step-stepped.result = record {
+      within = omega (arith, length-map plain.machines.items shown, plain.all_machines, c.requires.number);
       mid_words = c.order_noted.ensures.words;
       mid_machines = c.order_noted.ensures.machines;
       mid_config = c.order_noted.ensures.config;
       mid_orders = c.order_noted.ensures.orders;
-      role = role_shown p.config p.words.items _ c.args.number _ p.reached here;
-      turn = subst (λ b. IsTurn p c.args.work.now c.args.number b (order_at c.order_noted.new.self c.args.number)) c.if-not-order_noted.false c.order_noted.ensures.turn;
-      next = subst (λ b. IsNextTurn p c.args.work.now c.args.number b (order_at c.order_noted.new.self c.args.number)) c.if-not-order_noted.false c.order_noted.ensures.next;
+      role = role_shown plain.config plain.words.items _ c.args.number _ plain.reached here;
+      turn = subst (λ b. IsTurn plain c.args.work.now c.args.number b (order_at c.order_noted.new.self c.args.number)) c.if-not-order_noted.false c.order_noted.ensures.turn;
+      next = subst (λ b. IsNextTurn plain c.args.work.now c.args.number b (order_at c.order_noted.new.self c.args.number)) c.if-not-order_noted.false c.order_noted.ensures.next;
       has = has;
       event = c.step-stepped.ensures.event has;
       says = c.step-stepped.ensures.says has;
@@ -60,18 +60,18 @@ told-requires-clause-script c =
 
 pub told-requires-clause-more : goal.told-requires-clause-more
 told-requires-clause-more c =
-    let p = c.args.self.now in
-    let here = machine_within (machines_of p) c.args.number (omega (arith, length-map p.machines.items shown, p.all_machines, c.requires.number)) in
+    let plain = c.args.self.now in
+    let here = machine_within (machines_of plain) c.args.number (omega (arith, length-map plain.machines.items shown, plain.all_machines, c.requires.number)) in
     let has = c.order_noted.ensures.has ∙ c.if-not-order_noted.false in
-    let facts : IsStepped p c.order_noted.new.self c.step-stepped.new.self c.args.work.now c.args.number c.step-stepped.result = record {
-      within = omega (arith, length-map p.machines.items shown, p.all_machines, c.requires.number);
+    let facts : IsStepped plain c.order_noted.new.self c.step-stepped.new.self c.args.work.now c.args.number c.step-stepped.result = record {
+      within = omega (arith, length-map plain.machines.items shown, plain.all_machines, c.requires.number);
       mid_words = c.order_noted.ensures.words;
       mid_machines = c.order_noted.ensures.machines;
       mid_config = c.order_noted.ensures.config;
       mid_orders = c.order_noted.ensures.orders;
-      role = role_shown p.config p.words.items _ c.args.number _ p.reached here;
-      turn = subst (λ b. IsTurn p c.args.work.now c.args.number b (order_at c.order_noted.new.self c.args.number)) c.if-not-order_noted.false c.order_noted.ensures.turn;
-      next = subst (λ b. IsNextTurn p c.args.work.now c.args.number b (order_at c.order_noted.new.self c.args.number)) c.if-not-order_noted.false c.order_noted.ensures.next;
+      role = role_shown plain.config plain.words.items _ c.args.number _ plain.reached here;
+      turn = subst (λ b. IsTurn plain c.args.work.now c.args.number b (order_at c.order_noted.new.self c.args.number)) c.if-not-order_noted.false c.order_noted.ensures.turn;
+      next = subst (λ b. IsNextTurn plain c.args.work.now c.args.number b (order_at c.order_noted.new.self c.args.number)) c.if-not-order_noted.false c.order_noted.ensures.next;
       has = has;
       event = c.step-stepped.ensures.event has;
       says = c.step-stepped.ensures.says has;
@@ -83,18 +83,18 @@ told-requires-clause-more c =
 
 pub returns-in-Done-clause-run : goal.returns-in-Done-clause-run
 returns-in-Done-clause-run c =
-    let p = c.args.self.now in
-    let here = machine_within (machines_of p) c.args.number (omega (arith, length-map p.machines.items shown, p.all_machines, c.requires.number)) in
+    let plain = c.args.self.now in
+    let here = machine_within (machines_of plain) c.args.number (omega (arith, length-map plain.machines.items shown, plain.all_machines, c.requires.number)) in
     let has = c.order_noted.ensures.has ∙ c.if-not-order_noted.false in
-    let facts : IsStepped p c.order_noted.new.self c.step-stepped.new.self c.args.work.now c.args.number c.step-stepped.result = record {
-      within = omega (arith, length-map p.machines.items shown, p.all_machines, c.requires.number);
+    let facts : IsStepped plain c.order_noted.new.self c.step-stepped.new.self c.args.work.now c.args.number c.step-stepped.result = record {
+      within = omega (arith, length-map plain.machines.items shown, plain.all_machines, c.requires.number);
       mid_words = c.order_noted.ensures.words;
       mid_machines = c.order_noted.ensures.machines;
       mid_config = c.order_noted.ensures.config;
       mid_orders = c.order_noted.ensures.orders;
-      role = role_shown p.config p.words.items _ c.args.number _ p.reached here;
-      turn = subst (λ b. IsTurn p c.args.work.now c.args.number b (order_at c.order_noted.new.self c.args.number)) c.if-not-order_noted.false c.order_noted.ensures.turn;
-      next = subst (λ b. IsNextTurn p c.args.work.now c.args.number b (order_at c.order_noted.new.self c.args.number)) c.if-not-order_noted.false c.order_noted.ensures.next;
+      role = role_shown plain.config plain.words.items _ c.args.number _ plain.reached here;
+      turn = subst (λ b. IsTurn plain c.args.work.now c.args.number b (order_at c.order_noted.new.self c.args.number)) c.if-not-order_noted.false c.order_noted.ensures.turn;
+      next = subst (λ b. IsNextTurn plain c.args.work.now c.args.number b (order_at c.order_noted.new.self c.args.number)) c.if-not-order_noted.false c.order_noted.ensures.next;
       has = has;
       event = c.step-stepped.ensures.event has;
       says = c.step-stepped.ensures.says has;
@@ -107,18 +107,18 @@ returns-in-Done-clause-run c =
 
 pub returns-in-Done-clause-turned : goal.returns-in-Done-clause-turned
 returns-in-Done-clause-turned c =
-    let p = c.args.self.now in
-    let here = machine_within (machines_of p) c.args.number (omega (arith, length-map p.machines.items shown, p.all_machines, c.requires.number)) in
+    let plain = c.args.self.now in
+    let here = machine_within (machines_of plain) c.args.number (omega (arith, length-map plain.machines.items shown, plain.all_machines, c.requires.number)) in
     let has = c.order_noted.ensures.has ∙ c.if-not-order_noted.false in
-    let facts : IsStepped p c.order_noted.new.self c.step-stepped.new.self c.args.work.now c.args.number c.step-stepped.result = record {
-      within = omega (arith, length-map p.machines.items shown, p.all_machines, c.requires.number);
+    let facts : IsStepped plain c.order_noted.new.self c.step-stepped.new.self c.args.work.now c.args.number c.step-stepped.result = record {
+      within = omega (arith, length-map plain.machines.items shown, plain.all_machines, c.requires.number);
       mid_words = c.order_noted.ensures.words;
       mid_machines = c.order_noted.ensures.machines;
       mid_config = c.order_noted.ensures.config;
       mid_orders = c.order_noted.ensures.orders;
-      role = role_shown p.config p.words.items _ c.args.number _ p.reached here;
-      turn = subst (λ b. IsTurn p c.args.work.now c.args.number b (order_at c.order_noted.new.self c.args.number)) c.if-not-order_noted.false c.order_noted.ensures.turn;
-      next = subst (λ b. IsNextTurn p c.args.work.now c.args.number b (order_at c.order_noted.new.self c.args.number)) c.if-not-order_noted.false c.order_noted.ensures.next;
+      role = role_shown plain.config plain.words.items _ c.args.number _ plain.reached here;
+      turn = subst (λ b. IsTurn plain c.args.work.now c.args.number b (order_at c.order_noted.new.self c.args.number)) c.if-not-order_noted.false c.order_noted.ensures.turn;
+      next = subst (λ b. IsNextTurn plain c.args.work.now c.args.number b (order_at c.order_noted.new.self c.args.number)) c.if-not-order_noted.false c.order_noted.ensures.next;
       has = has;
       event = c.step-stepped.ensures.event has;
       says = c.step-stepped.ensures.says has;
@@ -126,23 +126,23 @@ returns-in-Done-clause-turned c =
       orders = c.step-stepped.ensures.orders has;
       config = c.step-stepped.ensures.config;
     } in
-    subst (λ jobs. HasTurned p c.args.work.now c.args.number c.step-stepped.new.self jobs c.step-stepped.result) (sym c.told.ensures)
+    subst (λ jobs. HasTurned plain c.args.work.now c.args.number c.step-stepped.new.self jobs c.step-stepped.result) (sym c.told.ensures)
     (turned_noted _ _ _ _ _ _ facts c.reply.result (reply_given _ _ _ _ _ _ facts c.reply.result c.in-Done.is c.reply.ensures) (can_tell _ _ _ _ _ _ facts c.requires.run c.in-Done.is).0)
 
 pub returns-in_default-clause-run : goal.returns-in_default-clause-run
 returns-in_default-clause-run c =
-    let p = c.args.self.now in
-    let here = machine_within (machines_of p) c.args.number (omega (arith, length-map p.machines.items shown, p.all_machines, c.requires.number)) in
+    let plain = c.args.self.now in
+    let here = machine_within (machines_of plain) c.args.number (omega (arith, length-map plain.machines.items shown, plain.all_machines, c.requires.number)) in
     let has = c.order_noted.ensures.has ∙ c.if-not-order_noted.false in
-    let facts : IsStepped p c.order_noted.new.self c.step-stepped.new.self c.args.work.now c.args.number c.step-stepped.result = record {
-      within = omega (arith, length-map p.machines.items shown, p.all_machines, c.requires.number);
+    let facts : IsStepped plain c.order_noted.new.self c.step-stepped.new.self c.args.work.now c.args.number c.step-stepped.result = record {
+      within = omega (arith, length-map plain.machines.items shown, plain.all_machines, c.requires.number);
       mid_words = c.order_noted.ensures.words;
       mid_machines = c.order_noted.ensures.machines;
       mid_config = c.order_noted.ensures.config;
       mid_orders = c.order_noted.ensures.orders;
-      role = role_shown p.config p.words.items _ c.args.number _ p.reached here;
-      turn = subst (λ b. IsTurn p c.args.work.now c.args.number b (order_at c.order_noted.new.self c.args.number)) c.if-not-order_noted.false c.order_noted.ensures.turn;
-      next = subst (λ b. IsNextTurn p c.args.work.now c.args.number b (order_at c.order_noted.new.self c.args.number)) c.if-not-order_noted.false c.order_noted.ensures.next;
+      role = role_shown plain.config plain.words.items _ c.args.number _ plain.reached here;
+      turn = subst (λ b. IsTurn plain c.args.work.now c.args.number b (order_at c.order_noted.new.self c.args.number)) c.if-not-order_noted.false c.order_noted.ensures.turn;
+      next = subst (λ b. IsNextTurn plain c.args.work.now c.args.number b (order_at c.order_noted.new.self c.args.number)) c.if-not-order_noted.false c.order_noted.ensures.next;
       has = has;
       event = c.step-stepped.ensures.event has;
       says = c.step-stepped.ensures.says has;
@@ -154,18 +154,18 @@ returns-in_default-clause-run c =
 
 pub returns-in_default-clause-turned : goal.returns-in_default-clause-turned
 returns-in_default-clause-turned c =
-    let p = c.args.self.now in
-    let here = machine_within (machines_of p) c.args.number (omega (arith, length-map p.machines.items shown, p.all_machines, c.requires.number)) in
+    let plain = c.args.self.now in
+    let here = machine_within (machines_of plain) c.args.number (omega (arith, length-map plain.machines.items shown, plain.all_machines, c.requires.number)) in
     let has = c.order_noted.ensures.has ∙ c.if-not-order_noted.false in
-    let facts : IsStepped p c.order_noted.new.self c.step-stepped.new.self c.args.work.now c.args.number c.step-stepped.result = record {
-      within = omega (arith, length-map p.machines.items shown, p.all_machines, c.requires.number);
+    let facts : IsStepped plain c.order_noted.new.self c.step-stepped.new.self c.args.work.now c.args.number c.step-stepped.result = record {
+      within = omega (arith, length-map plain.machines.items shown, plain.all_machines, c.requires.number);
       mid_words = c.order_noted.ensures.words;
       mid_machines = c.order_noted.ensures.machines;
       mid_config = c.order_noted.ensures.config;
       mid_orders = c.order_noted.ensures.orders;
-      role = role_shown p.config p.words.items _ c.args.number _ p.reached here;
-      turn = subst (λ b. IsTurn p c.args.work.now c.args.number b (order_at c.order_noted.new.self c.args.number)) c.if-not-order_noted.false c.order_noted.ensures.turn;
-      next = subst (λ b. IsNextTurn p c.args.work.now c.args.number b (order_at c.order_noted.new.self c.args.number)) c.if-not-order_noted.false c.order_noted.ensures.next;
+      role = role_shown plain.config plain.words.items _ c.args.number _ plain.reached here;
+      turn = subst (λ b. IsTurn plain c.args.work.now c.args.number b (order_at c.order_noted.new.self c.args.number)) c.if-not-order_noted.false c.order_noted.ensures.turn;
+      next = subst (λ b. IsNextTurn plain c.args.work.now c.args.number b (order_at c.order_noted.new.self c.args.number)) c.if-not-order_noted.false c.order_noted.ensures.next;
       has = has;
       event = c.step-stepped.ensures.event has;
       says = c.step-stepped.ensures.says has;
@@ -222,12 +222,12 @@ returns-in_default-clause-notes c = turn_kept c.args.self.now c.order_noted.new.
 
 pub returns-then-is_halted-clause-turned : goal.returns-then-is_halted-clause-turned
 returns-then-is_halted-clause-turned c =
-    let p = c.args.self.now in
-    halted_turned p c.args.work.now c.args.number (omega (arith, length-map p.machines.items shown, p.all_machines, c.requires.number))
-    (c.requires.run.orders c.args.number Nothing (omega (arith, length-map p.machines.items order_of, p.all_machines, c.requires.number))) (c.is_halted.ensures c.if-is_halted.true)
+    let plain = c.args.self.now in
+    halted_turned plain c.args.work.now c.args.number (omega (arith, length-map plain.machines.items shown, plain.all_machines, c.requires.number))
+    (c.requires.run.orders c.args.number Nothing (omega (arith, length-map plain.machines.items order_of, plain.all_machines, c.requires.number))) (c.is_halted.ensures c.if-is_halted.true)
 
 pub returns-then-is_halted-clause-notes : goal.returns-then-is_halted-clause-notes
 returns-then-is_halted-clause-notes c =
-    let p = c.args.self.now in
-    halted_notes p c.args.work.now c.args.number (omega (arith, length-map p.machines.items shown, p.all_machines, c.requires.number))
-    (c.requires.run.orders c.args.number Nothing (omega (arith, length-map p.machines.items order_of, p.all_machines, c.requires.number))) (c.is_halted.ensures c.if-is_halted.true)
+    let plain = c.args.self.now in
+    halted_notes plain c.args.work.now c.args.number (omega (arith, length-map plain.machines.items shown, plain.all_machines, c.requires.number))
+    (c.requires.run.orders c.args.number Nothing (omega (arith, length-map plain.machines.items order_of, plain.all_machines, c.requires.number))) (c.is_halted.ensures c.if-is_halted.true)

@@ -6,8 +6,8 @@ use Rattle.shen_graph.proofs.plain_graph.PlainGraph.put_object.Goals as goal
 
 pub put-requires : goal.put-requires
 put-requires c =
-    let r : Row = c.in-Some.object.now in
-    let e = size-named (graph_of c.args.self.now) c.args.name r c.in-Some.ensures in
+    let object : Row = c.in-Some.object.now in
+    let e = size-named (graph_of c.args.self.now) c.args.name object c.in-Some.ensures in
     let room = c.requires in
     omega (arith, e, room)
 

@@ -12,8 +12,8 @@ use Rattle.shen_graph.proofs.plain_graph.PlainGraph.reach.Goals as goal
 
 pub loop-next-init : goal.loop-next-init
 loop-next-init c =
-    let p = c.args.self.now in
-    rw (c.in_ok-add_pins.ensures, c.in_ok-add_roots.ensures, c.new-found.ensures.items, with_names-append [] (flat_map (λ row. row) p.roots) (map name_in (held_in_slots p))) (IsSearched-starts p)
+    let graph = c.args.self.now in
+    rw (c.in_ok-add_pins.ensures, c.in_ok-add_roots.ensures, c.new-found.ensures.items, with_names-append [] (flat_map (λ row. row) graph.roots) (map name_in (held_in_slots graph))) (IsSearched-starts graph)
 
 pub loop-next-smaller : goal.loop-next-smaller
 loop-next-smaller c =

@@ -7,6 +7,7 @@ use Rattle.shared_table.proofs.Numbers.{same_none}
 use Rattle.heap_machines.specs.Shown.{shown, order_of, no_machine}
 use Rattle.std.specs.Option.{option_copied_mut}
 use Rattle.shen_graph.specs.declared.order.Order.TheVariants.{Begin}
+use Rattle.shen_graph.specs.Valid.{most_objects}
 use Rattle.heap_machines.specs.Roles.{is_mutating}
 use Rattle.step_core.specs.Machines.{takes_of, may_begin, made_of_machine}
 use Rattle.table_heap.specs.State.{view_of}
@@ -25,36 +26,36 @@ unreachable-requires c =
 
 pub begin-requires-clause-rest : goal.begin-requires-clause-rest
 begin-requires-clause-rest c =
-    let b = c.args.self.now in
-    let m = c.in-Some.machine.now in
-    let inside = within shown b.machines.items c.args.number c.requires.here in
-    let here = read_here shown b.machines.items c.args.number c.index_mut.result.now m inside c.index_mut.ensures.value (sym c.as_mut.ensures.value ∙ ap option_copied_mut c.in-Some.is) in
-    ap may_begin (sym (shows_as shown b.machines.items c.args.number m no_machine here)) ∙ c.requires.rest
+    let bundle = c.args.self.now in
+    let machine = c.in-Some.machine.now in
+    let inside = within shown bundle.machines.items c.args.number c.requires.here in
+    let here = read_here shown bundle.machines.items c.args.number c.index_mut.result.now machine inside c.index_mut.ensures.value (sym c.as_mut.ensures.value ∙ ap option_copied_mut c.in-Some.is) in
+    ap may_begin (sym (shows_as shown bundle.machines.items c.args.number machine no_machine here)) ∙ c.requires.rest
 
 pub begin-requires-clause-made : goal.begin-requires-clause-made
 begin-requires-clause-made c =
-    let b = c.args.self.now in
-    let m = c.in-Some.machine.now in
-    let inside = within shown b.machines.items c.args.number c.requires.here in
-    let here = read_here shown b.machines.items c.args.number c.index_mut.result.now m inside c.index_mut.ensures.value (sym c.as_mut.ensures.value ∙ ap option_copied_mut c.in-Some.is) in
-    subst (λ x. made_of_machine x < 4294967295) (shows_as shown b.machines.items c.args.number m no_machine here) c.requires.made
+    let bundle = c.args.self.now in
+    let machine = c.in-Some.machine.now in
+    let inside = within shown bundle.machines.items c.args.number c.requires.here in
+    let here = read_here shown bundle.machines.items c.args.number c.index_mut.result.now machine inside c.index_mut.ensures.value (sym c.as_mut.ensures.value ∙ ap option_copied_mut c.in-Some.is) in
+    subst (λ x. made_of_machine x < most_objects) (shows_as shown bundle.machines.items c.args.number machine no_machine here) c.requires.made
 
 pub invariant_of-self : goal.invariant_of-self
 invariant_of-self c =
-    let b = c.args.self.now in
-    let m = c.in-Some.machine.now in
-    let inside = within shown b.machines.items c.args.number c.requires.here in
-    let here = read_here shown b.machines.items c.args.number c.index_mut.result.now m inside c.index_mut.ensures.value (sym c.as_mut.ensures.value ∙ ap option_copied_mut c.in-Some.is) in
+    let bundle = c.args.self.now in
+    let machine = c.in-Some.machine.now in
+    let inside = within shown bundle.machines.items c.args.number c.requires.here in
+    let here = read_here shown bundle.machines.items c.args.number c.index_mut.result.now machine inside c.index_mut.ensures.value (sym c.as_mut.ensures.value ∙ ap option_copied_mut c.in-Some.is) in
     let n = c.begin.new.self in
     record {
-      same_sizes = b.same_sizes;
-      seats = length-set b.machines.items _ _ ∙ b.seats;
-      kept = b.kept ∙ sym (put_same shown b.machines.items c.args.number m n here c.begin.ensures.shown);
-      slots = b.slots;
-      of_heap = heap_put b.config b.machines.items c.args.number m n here c.begin.ensures.heap (ap is_mutating c.begin.ensures.shown) b.of_heap;
-      greys = greys_put b.config b.machines.items b.greyed.items c.args.number m n here b.greys;
-      hints_of_heap = b.hints_of_heap;
-      thieves_of_heap = b.thieves_of_heap;
+      same_sizes = bundle.same_sizes;
+      seats = length-set bundle.machines.items _ _ ∙ bundle.seats;
+      kept = bundle.kept ∙ sym (put_same shown bundle.machines.items c.args.number machine n here c.begin.ensures.shown);
+      slots = bundle.slots;
+      of_heap = heap_put bundle.config bundle.machines.items c.args.number machine n here c.begin.ensures.heap (ap is_mutating c.begin.ensures.shown) bundle.of_heap;
+      greys = greys_put bundle.config bundle.machines.items bundle.greyed.items c.args.number machine n here bundle.greys;
+      hints_of_heap = bundle.hints_of_heap;
+      thieves_of_heap = bundle.thieves_of_heap;
     }
 
 pub returns-clause-order : goal.returns-clause-order
@@ -63,11 +64,11 @@ returns-clause-order c =
 
 pub returns-clause-takes : goal.returns-clause-takes
 returns-clause-takes c =
-    let b = c.args.self.now in
-    let m = c.in-Some.machine.now in
-    let inside = within shown b.machines.items c.args.number c.requires.here in
-    let here = read_here shown b.machines.items c.args.number c.index_mut.result.now m inside c.index_mut.ensures.value (sym c.as_mut.ensures.value ∙ ap option_copied_mut c.in-Some.is) in
-    ap (λ x. takes_of x (Begin c.args.command)) (shows_as shown b.machines.items c.args.number m no_machine here) ∙ c.begin.ensures.takes
+    let bundle = c.args.self.now in
+    let machine = c.in-Some.machine.now in
+    let inside = within shown bundle.machines.items c.args.number c.requires.here in
+    let here = read_here shown bundle.machines.items c.args.number c.index_mut.result.now machine inside c.index_mut.ensures.value (sym c.as_mut.ensures.value ∙ ap option_copied_mut c.in-Some.is) in
+    ap (λ x. takes_of x (Begin c.args.command)) (shows_as shown bundle.machines.items c.args.number machine no_machine here) ∙ c.begin.ensures.takes
 
 pub begin-requires-clause-valid : goal.begin-requires-clause-valid
 begin-requires-clause-valid c = c.requires.valid

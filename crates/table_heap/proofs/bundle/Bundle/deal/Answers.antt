@@ -14,79 +14,79 @@ use Rattle.table_heap.proofs.bundle.Bundle.deal.Goals as goal
 -- no memory for what was made grey: all is as it was
 pub invariant_of-self : goal.invariant_of-self
 invariant_of-self c =
-    let b = c.args.self.now in
+    let bundle = c.args.self.now in
     record {
-      same_sizes = b.same_sizes;
-      seats = b.seats;
-      kept = b.kept;
-      slots = b.slots;
-      of_heap = b.of_heap;
-      greys = greys_as b.config b.machines.items b.machines.items _ b.greyed.items refl (ap (λ v. v.items) c.in_default.ensures.refused) b.greys;
-      hints_of_heap = b.hints_of_heap;
-      thieves_of_heap = b.thieves_of_heap;
+      same_sizes = bundle.same_sizes;
+      seats = bundle.seats;
+      kept = bundle.kept;
+      slots = bundle.slots;
+      of_heap = bundle.of_heap;
+      greys = greys_as bundle.config bundle.machines.items bundle.machines.items _ bundle.greyed.items refl (ap (λ v. v.items) c.in_default.ensures.refused) bundle.greys;
+      hints_of_heap = bundle.hints_of_heap;
+      thieves_of_heap = bundle.thieves_of_heap;
     }
 
 -- none for the machines: these are as they were
 pub invariant_of-self-in_default-deal_machines : goal.invariant_of-self-in_default-deal_machines
 invariant_of-self-in_default-deal_machines c =
-    let b = c.args.self.now in
+    let bundle = c.args.self.now in
     let same = ap (λ v. v.items) c.in_default-deal_machines.ensures.refused in
     record {
-      same_sizes = b.same_sizes;
-      seats = ap length same ∙ b.seats;
-      kept = b.kept ∙ ap (kept_in_view shown) (sym same);
-      slots = b.slots;
-      of_heap = subst (AreOfHeap b.config) (sym same) b.of_heap;
-      greys = greys_as b.config _ b.machines.items _ _ same c.in-Ok.ensures.left (greys_fewer b.config (λ number. not (is_dealt_to c.args.bundles c.args.bundle number)) b.machines.items b.greyed.items b.greys);
-      hints_of_heap = b.hints_of_heap;
-      thieves_of_heap = b.thieves_of_heap;
+      same_sizes = bundle.same_sizes;
+      seats = ap length same ∙ bundle.seats;
+      kept = bundle.kept ∙ ap (kept_in_view shown) (sym same);
+      slots = bundle.slots;
+      of_heap = subst (AreOfHeap bundle.config) (sym same) bundle.of_heap;
+      greys = greys_as bundle.config _ bundle.machines.items _ _ same c.in-Ok.ensures.left (greys_fewer bundle.config (λ number. not (is_dealt_to c.args.bundles c.args.bundle number)) bundle.machines.items bundle.greyed.items bundle.greys);
+      hints_of_heap = bundle.hints_of_heap;
+      thieves_of_heap = bundle.thieves_of_heap;
     }
 
 pub invariant_of-self-2 : goal.invariant_of-self-2
 invariant_of-self-2 c =
-    let b = c.args.self.now in
+    let bundle = c.args.self.now in
     let left = c.in-Ok-deal_machines.ensures.left in
     record {
-      same_sizes = b.same_sizes;
-      seats = ap length left ∙ length-picked (λ number. not (is_dealt_to c.args.bundles c.args.bundle number)) b.machines.items ∙ b.seats;
+      same_sizes = bundle.same_sizes;
+      seats = ap length left ∙ length-picked (λ number. not (is_dealt_to c.args.bundles c.args.bundle number)) bundle.machines.items ∙ bundle.seats;
       kept = ap (λ me. kept_in_view machine_in (uncounted_view me.0)) c.deal_bundle-seat.ensures.kept.1
-          ∙ ap (kept_in_view machine_in) (kept-picked uncounted_machine (λ number. not (is_dealt_to c.args.bundles c.args.bundle number)) b.seat.me.0)
-          ∙ kept-picked machine_in (λ number. not (is_dealt_to c.args.bundles c.args.bundle number)) (view_of b)
-          ∙ ap (machines_left (is_dealt_to c.args.bundles c.args.bundle)) b.kept
-          ∙ sym (ap (kept_in_view shown) left ∙ kept-picked shown (λ number. not (is_dealt_to c.args.bundles c.args.bundle number)) b.machines.items);
-      slots = ap (λ me. me.1) c.deal_bundle-seat.ensures.kept.1 ∙ b.slots;
-      of_heap = subst (AreOfHeap b.config) (sym left) (heap_picked b.config (λ number. not (is_dealt_to c.args.bundles c.args.bundle number)) b.machines.items b.of_heap);
-      greys = greys_as b.config _ _ _ _ left c.in-Ok.ensures.left (greys_picked b.config (λ number. not (is_dealt_to c.args.bundles c.args.bundle number)) b.machines.items b.greyed.items b.greys);
-      hints_of_heap = b.hints_of_heap;
-      thieves_of_heap = b.thieves_of_heap;
+          ∙ ap (kept_in_view machine_in) (kept-picked uncounted_machine (λ number. not (is_dealt_to c.args.bundles c.args.bundle number)) bundle.seat.me.0)
+          ∙ kept-picked machine_in (λ number. not (is_dealt_to c.args.bundles c.args.bundle number)) (view_of bundle)
+          ∙ ap (machines_left (is_dealt_to c.args.bundles c.args.bundle)) bundle.kept
+          ∙ sym (ap (kept_in_view shown) left ∙ kept-picked shown (λ number. not (is_dealt_to c.args.bundles c.args.bundle number)) bundle.machines.items);
+      slots = ap (λ me. me.1) c.deal_bundle-seat.ensures.kept.1 ∙ bundle.slots;
+      of_heap = subst (AreOfHeap bundle.config) (sym left) (heap_picked bundle.config (λ number. not (is_dealt_to c.args.bundles c.args.bundle number)) bundle.machines.items bundle.of_heap);
+      greys = greys_as bundle.config _ _ _ _ left c.in-Ok.ensures.left (greys_picked bundle.config (λ number. not (is_dealt_to c.args.bundles c.args.bundle number)) bundle.machines.items bundle.greyed.items bundle.greys);
+      hints_of_heap = bundle.hints_of_heap;
+      thieves_of_heap = bundle.thieves_of_heap;
     }
 
 pub invariant_of-result-clause-seats : goal.invariant_of-result-clause-seats
 invariant_of-result-clause-seats c =
-    let b = c.args.self.now in
-    ap length c.in-Ok-deal_machines.ensures.dealt ∙ length-picked (is_dealt_to c.args.bundles c.args.bundle) b.machines.items ∙ b.seats
+    let bundle = c.args.self.now in
+    ap length c.in-Ok-deal_machines.ensures.dealt ∙ length-picked (is_dealt_to c.args.bundles c.args.bundle) bundle.machines.items ∙ bundle.seats
 
 pub invariant_of-result-clause-kept : goal.invariant_of-result-clause-kept
 invariant_of-result-clause-kept c =
-    let b = c.args.self.now in
+    let bundle = c.args.self.now in
     ap (λ me. kept_in_view machine_in (uncounted_view me.0)) c.deal_bundle-seat.ensures.dealt.1
-    ∙ ap (kept_in_view machine_in) (kept-picked uncounted_machine (is_dealt_to c.args.bundles c.args.bundle) b.seat.me.0)
-    ∙ kept-picked machine_in (is_dealt_to c.args.bundles c.args.bundle) (view_of b)
-    ∙ ap (dealt_to c.args.bundles c.args.bundle) b.kept
-    ∙ sym (ap (kept_in_view shown) c.in-Ok-deal_machines.ensures.dealt ∙ kept-picked shown (is_dealt_to c.args.bundles c.args.bundle) b.machines.items)
+    ∙ ap (kept_in_view machine_in) (kept-picked uncounted_machine (is_dealt_to c.args.bundles c.args.bundle) bundle.seat.me.0)
+    ∙ kept-picked machine_in (is_dealt_to c.args.bundles c.args.bundle) (view_of bundle)
+    ∙ ap (dealt_to c.args.bundles c.args.bundle) bundle.kept
+    ∙ sym (ap (kept_in_view shown) c.in-Ok-deal_machines.ensures.dealt ∙ kept-picked shown (is_dealt_to c.args.bundles c.args.bundle) bundle.machines.items)
 
 pub invariant_of-result-clause-slots : goal.invariant_of-result-clause-slots
 invariant_of-result-clause-slots c = ap (λ me. me.1) c.deal_bundle-seat.ensures.dealt.1
 
 pub invariant_of-result-clause-of_heap : goal.invariant_of-result-clause-of_heap
 invariant_of-result-clause-of_heap c =
-    let b = c.args.self.now in
-    subst (AreOfHeap b.config) (sym c.in-Ok-deal_machines.ensures.dealt) (heap_picked b.config (is_dealt_to c.args.bundles c.args.bundle) b.machines.items b.of_heap)
+    let bundle = c.args.self.now in
+    subst (AreOfHeap bundle.config) (sym c.in-Ok-deal_machines.ensures.dealt) (heap_picked bundle.config (is_dealt_to c.args.bundles c.args.bundle) bundle.machines.items bundle.of_heap)
 
 pub invariant_of-result-clause-greys : goal.invariant_of-result-clause-greys
 invariant_of-result-clause-greys c =
-    let b = c.args.self.now in
-    greys_as b.config _ _ _ _ c.in-Ok-deal_machines.ensures.dealt c.in-Ok.ensures.dealt (greys_picked b.config (is_dealt_to c.args.bundles c.args.bundle) b.machines.items b.greyed.items b.greys)
+    let bundle = c.args.self.now in
+    greys_as bundle.config _ _ _ _ c.in-Ok-deal_machines.ensures.dealt c.in-Ok.ensures.dealt (greys_picked bundle.config (is_dealt_to c.args.bundles c.args.bundle) bundle.machines.items bundle.greyed.items bundle.greys)
 
 pub returns-clause-dealt : goal.returns-clause-dealt
 returns-clause-dealt c = (

@@ -1,5 +1,6 @@
 use Rattle.std.proofs.Common.{◌<◌, sym, ap, ◌∙◌, subst, ⊎_elim, arith}
 use Rattle.std.specs.Prelude.{slice_get, slice_set}
+use Rattle.shen_graph.specs.Valid.{most_objects}
 use Rattle.step_core.specs.Machines.{made_of_machine}
 use Rattle.table_heap.specs.State.{machine_at}
 use Rattle.table_heap.specs.Driving.{mutators_below, AreDriving}
@@ -13,7 +14,7 @@ go_on-stepped-requires-clause-orders g c κs within = c.requires.driving.1.order
 
 pub go_on-stepped-requires-clause-fits : goal.go_on-stepped-requires-clause-fits
 go_on-stepped-requires-clause-fits g c κs within = λ may.
-    given_fits c.next_of_driver-next.result (made_of_machine (machine_at c.args.self.now c.args.number) < 4294967295) c.next_of_driver-next.ensures.valid
+    given_fits c.next_of_driver-next.result (made_of_machine (machine_at c.args.self.now c.args.number) < most_objects) c.next_of_driver-next.ensures.valid
     (name_there g.D.Driver.next_of g.D.Driver.replied g.D.Driver.to_come c.args.self.now c.requires.driving.0 c.args.drivers.now c.requires.driving.1 c.args.number c.requires.here may)
 
 pub hand_reply-requires : goal.hand_reply-requires
@@ -25,15 +26,15 @@ hand_reply-requires g c =
 
 pub returns-in-Done-clause-driving : goal.returns-in-Done-clause-driving
 returns-in-Done-clause-driving g c = λ firsts before.
-    let b = c.args.self.now in
+    let bundle = c.args.self.now in
     let drivers = c.args.drivers.now in
     let made = c.go_on-stepped.ensures.turn (done_not_idle c.go_on-stepped.result c.in-Done.is) in
-    let low = can_take g.D.Driver.next_of g.D.Driver.replied g.D.Driver.to_come b c.go_on-stepped.new.self c.next_of_driver-next.result c.args.number c.go_on-stepped.result
+    let low = can_take g.D.Driver.next_of g.D.Driver.replied g.D.Driver.to_come bundle c.go_on-stepped.new.self c.next_of_driver-next.result c.args.number c.go_on-stepped.result
     made c.go_on-stepped.ensures.same firsts drivers c.next_of_driver-next.ensures.next before c.in-Done.is in
-    let found = found_at drivers (mutators_below b c.args.number) low in
+    let found = found_at drivers (mutators_below bundle c.args.number) low in
     let took = c.hand_reply.ensures found.0 (ap (slice_get drivers) c.requires.place ∙ found.1) in
     subst (λ ds. AreDriving g.D.Driver.next_of g.D.Driver.replied g.D.Driver.to_come c.go_on-stepped.new.self firsts ds) (sym (took.list ∙ ap (λ p. slice_set drivers p took.taken) c.requires.place))
-    (driven_noted g.D.Driver.next_of g.D.Driver.replied g.D.Driver.to_come b c.go_on-stepped.new.self c.next_of_driver-next.result c.args.number c.go_on-stepped.result
+    (driven_noted g.D.Driver.next_of g.D.Driver.replied g.D.Driver.to_come bundle c.go_on-stepped.new.self c.next_of_driver-next.result c.args.number c.go_on-stepped.result
     made c.go_on-stepped.ensures.same firsts drivers c.next_of_driver-next.ensures.next before c.reply.result found.0 took.taken c.in-Done.is c.reply.ensures found.1
     took.replied_is took.falls took.pays)
 

@@ -4,5 +4,5 @@ use Rattle.table_heap.proofs.bundle.Bundle.ends_pause.Goals as goal
 
 pub is_at_place-requires : goal.is_at_place-requires
 is_at_place-requires c =
-    let b = c.args.self.now in
-    none_pending b c.requires _ c.index.result.now c.in-Some.control (let all = b.seats in let seats = c.seats.ensures in omega arith) c.index.ensures c.in-Some.is
+    let bundle = c.args.self.now in
+    none_pending bundle c.requires _ c.index.result.now c.in-Some.control (let all = bundle.seats in let seats = c.seats.ensures in omega arith) c.index.ensures c.in-Some.is

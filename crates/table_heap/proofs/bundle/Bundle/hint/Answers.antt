@@ -26,36 +26,36 @@ unreachable-requires c =
 
 pub give_hint-requires-clause-takes : goal.give_hint-requires-clause-takes
 give_hint-requires-clause-takes c =
-    let b = c.args.self.now in
-    let m = c.in-Some.machine.now in
-    let inside = within shown b.machines.items c.args.number c.requires.here in
-    let here = read_here shown b.machines.items c.args.number c.index_mut.result.now m inside c.index_mut.ensures.value (sym c.as_mut.ensures.value ∙ ap option_copied_mut c.in-Some.is) in
-    ap takes_hint (sym (shows_as shown b.machines.items c.args.number m no_machine here)) ∙ c.requires.takes
+    let bundle = c.args.self.now in
+    let machine = c.in-Some.machine.now in
+    let inside = within shown bundle.machines.items c.args.number c.requires.here in
+    let here = read_here shown bundle.machines.items c.args.number c.index_mut.result.now machine inside c.index_mut.ensures.value (sym c.as_mut.ensures.value ∙ ap option_copied_mut c.in-Some.is) in
+    ap takes_hint (sym (shows_as shown bundle.machines.items c.args.number machine no_machine here)) ∙ c.requires.takes
 
 pub give_hint-requires-clause-heap : goal.give_hint-requires-clause-heap
 give_hint-requires-clause-heap c =
-    let b = c.args.self.now in
-    let m = c.in-Some.machine.now in
-    let inside = within shown b.machines.items c.args.number c.requires.here in
-    let here = read_here shown b.machines.items c.args.number c.index_mut.result.now m inside c.index_mut.ensures.value (sym c.as_mut.ensures.value ∙ ap option_copied_mut c.in-Some.is) in
-    subst (λ k. IsWord k (Heap c.args.address)) (sym (b.of_heap c.args.number m here).heap) c.requires.heap
+    let bundle = c.args.self.now in
+    let machine = c.in-Some.machine.now in
+    let inside = within shown bundle.machines.items c.args.number c.requires.here in
+    let here = read_here shown bundle.machines.items c.args.number c.index_mut.result.now machine inside c.index_mut.ensures.value (sym c.as_mut.ensures.value ∙ ap option_copied_mut c.in-Some.is) in
+    subst (λ k. IsWord k (Heap c.args.address)) (sym (bundle.of_heap c.args.number machine here).heap) c.requires.heap
 
 pub invariant_of-self : goal.invariant_of-self
 invariant_of-self c =
-    let b = c.args.self.now in
-    let m = c.in-Some.machine.now in
-    let inside = within shown b.machines.items c.args.number c.requires.here in
-    let here = read_here shown b.machines.items c.args.number c.index_mut.result.now m inside c.index_mut.ensures.value (sym c.as_mut.ensures.value ∙ ap option_copied_mut c.in-Some.is) in
+    let bundle = c.args.self.now in
+    let machine = c.in-Some.machine.now in
+    let inside = within shown bundle.machines.items c.args.number c.requires.here in
+    let here = read_here shown bundle.machines.items c.args.number c.index_mut.result.now machine inside c.index_mut.ensures.value (sym c.as_mut.ensures.value ∙ ap option_copied_mut c.in-Some.is) in
     let n = c.give_hint.new.self in
     record {
-      same_sizes = b.same_sizes;
-      seats = length-set b.machines.items _ _ ∙ b.seats;
-      kept = b.kept ∙ sym (put_same shown b.machines.items c.args.number m n here c.give_hint.ensures.shown);
-      slots = b.slots;
-      of_heap = heap_put b.config b.machines.items c.args.number m n here c.give_hint.ensures.heap (ap is_mutating c.give_hint.ensures.shown) b.of_heap;
-      greys = greys_put b.config b.machines.items b.greyed.items c.args.number m n here b.greys;
-      hints_of_heap = b.hints_of_heap;
-      thieves_of_heap = b.thieves_of_heap;
+      same_sizes = bundle.same_sizes;
+      seats = length-set bundle.machines.items _ _ ∙ bundle.seats;
+      kept = bundle.kept ∙ sym (put_same shown bundle.machines.items c.args.number machine n here c.give_hint.ensures.shown);
+      slots = bundle.slots;
+      of_heap = heap_put bundle.config bundle.machines.items c.args.number machine n here c.give_hint.ensures.heap (ap is_mutating c.give_hint.ensures.shown) bundle.of_heap;
+      greys = greys_put bundle.config bundle.machines.items bundle.greyed.items c.args.number machine n here bundle.greys;
+      hints_of_heap = bundle.hints_of_heap;
+      thieves_of_heap = bundle.thieves_of_heap;
     }
 
 pub returns-clause-order : goal.returns-clause-order
@@ -64,11 +64,11 @@ returns-clause-order c =
 
 pub returns-clause-takes : goal.returns-clause-takes
 returns-clause-takes c =
-    let b = c.args.self.now in
-    let m = c.in-Some.machine.now in
-    let inside = within shown b.machines.items c.args.number c.requires.here in
-    let here = read_here shown b.machines.items c.args.number c.index_mut.result.now m inside c.index_mut.ensures.value (sym c.as_mut.ensures.value ∙ ap option_copied_mut c.in-Some.is) in
-    ap (λ x. takes_of x (Hint c.args.address)) (shows_as shown b.machines.items c.args.number m no_machine here) ∙ c.give_hint.ensures.takes
+    let bundle = c.args.self.now in
+    let machine = c.in-Some.machine.now in
+    let inside = within shown bundle.machines.items c.args.number c.requires.here in
+    let here = read_here shown bundle.machines.items c.args.number c.index_mut.result.now machine inside c.index_mut.ensures.value (sym c.as_mut.ensures.value ∙ ap option_copied_mut c.in-Some.is) in
+    ap (λ x. takes_of x (Hint c.args.address)) (shows_as shown bundle.machines.items c.args.number machine no_machine here) ∙ c.give_hint.ensures.takes
 
 pub returns-clause-unmoved : goal.returns-clause-unmoved
 returns-clause-unmoved c = record { same = record { table = refl; config = refl; key = refl; numbers = same_none (view_of c.args.self.now) }; view = refl; steps = refl; greyed = refl }

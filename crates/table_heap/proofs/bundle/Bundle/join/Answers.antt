@@ -23,24 +23,24 @@ join_machines-requires-2 c =
 
 pub invariant_of-self : goal.invariant_of-self
 invariant_of-self c =
-    let a = c.args.self in
+    let bundle = c.args.self in
     let b = c.args.other in
-    let long : length a.machines.items ≡ length b.machines.items =
-    a.seats ∙ ap (λ k. seat_count k.mutators k.helpers) (c.requires.this.config ∙ sym c.requires.other.config) ∙ sym b.seats in
+    let long : length bundle.machines.items ≡ length b.machines.items =
+    bundle.seats ∙ ap (λ k. seat_count k.mutators k.helpers) (c.requires.this.config ∙ sym c.requires.other.config) ∙ sym b.seats in
     record {
-      same_sizes = a.same_sizes;
-      seats = ap length c.join_machines.ensures ∙ length-merged a.machines.items b.machines.items long ∙ a.seats;
-      kept = ap (λ me. kept_in_view machine_in (uncounted_view me.0)) c.join_bundle.ensures.1 ∙ ap (kept_in_view machine_in) (kept-merged uncounted_machine a.seat.me.0 b.seat.me.0)
-          ∙ kept-merged machine_in (view_of a) (view_of b) ∙ ap (λ v. merged v (kept_in_view machine_in (view_of b))) a.kept ∙ ap (merged (kept_in_view shown a.machines.items)) b.kept
-          ∙ sym (ap (kept_in_view shown) c.join_machines.ensures ∙ kept-merged shown a.machines.items b.machines.items);
-      slots = ap (λ me. me.1) c.join_bundle.ensures.1 ∙ a.slots;
-      of_heap = subst (AreOfHeap a.config) (sym c.join_machines.ensures)
-          (heap_merged a.config a.machines.items b.machines.items a.of_heap (subst (λ k. AreOfHeap k b.machines.items) (c.requires.other.config ∙ sym c.requires.this.config) b.of_heap));
-      greys = greys_as a.config _ _ _ _ c.join_machines.ensures c.join_machines-2.ensures
-          (greys_merged a.config a.machines.items b.machines.items a.greyed.items b.greyed.items long a.greys
+      same_sizes = bundle.same_sizes;
+      seats = ap length c.join_machines.ensures ∙ length-merged bundle.machines.items b.machines.items long ∙ bundle.seats;
+      kept = ap (λ me. kept_in_view machine_in (uncounted_view me.0)) c.join_bundle.ensures.1 ∙ ap (kept_in_view machine_in) (kept-merged uncounted_machine bundle.seat.me.0 b.seat.me.0)
+          ∙ kept-merged machine_in (view_of bundle) (view_of b) ∙ ap (λ v. merged v (kept_in_view machine_in (view_of b))) bundle.kept ∙ ap (merged (kept_in_view shown bundle.machines.items)) b.kept
+          ∙ sym (ap (kept_in_view shown) c.join_machines.ensures ∙ kept-merged shown bundle.machines.items b.machines.items);
+      slots = ap (λ me. me.1) c.join_bundle.ensures.1 ∙ bundle.slots;
+      of_heap = subst (AreOfHeap bundle.config) (sym c.join_machines.ensures)
+          (heap_merged bundle.config bundle.machines.items b.machines.items bundle.of_heap (subst (λ k. AreOfHeap k b.machines.items) (c.requires.other.config ∙ sym c.requires.this.config) b.of_heap));
+      greys = greys_as bundle.config _ _ _ _ c.join_machines.ensures c.join_machines-2.ensures
+          (greys_merged bundle.config bundle.machines.items b.machines.items bundle.greyed.items b.greyed.items long bundle.greys
           (subst (λ k. AreGreyedBy k b.machines.items b.greyed.items) (c.requires.other.config ∙ sym c.requires.this.config) b.greys));
-      hints_of_heap = a.hints_of_heap;
-      thieves_of_heap = a.thieves_of_heap;
+      hints_of_heap = bundle.hints_of_heap;
+      thieves_of_heap = bundle.thieves_of_heap;
     }
 
 pub returns-clause-view : goal.returns-clause-view

@@ -8,11 +8,11 @@ invariant_of-self-2-clause-hints_of_heap c = c.pop.ensures.config ∙ c.args.sel
 
 pub invariant_of-self-2-clause-thieves_of_heap : goal.invariant_of-self-2-clause-thieves_of_heap
 invariant_of-self-2-clause-thieves_of_heap c =
-    let b = c.args.self.now in
-    subst (AreThievesOf b.config) (sym (with_items_is b.thieves c.stolen.new.thieves (search (rules, places))))
-    (c.stolen.ensures b.config (subst (AreThievesOf b.config) (sym c.as_mut_slice.ensures.value) b.thieves_of_heap)).1
+    let bundle = c.args.self.now in
+    subst (AreThievesOf bundle.config) (sym (with_items_is bundle.thieves c.stolen.new.thieves (search (rules, places))))
+    (c.stolen.ensures bundle.config (subst (AreThievesOf bundle.config) (sym c.as_mut_slice.ensures.value) bundle.thieves_of_heap)).1
 
 pub returns-clause-heap : goal.returns-clause-heap
 returns-clause-heap c =
-    let b = c.args.self.now in
-    (c.stolen.ensures b.config (subst (AreThievesOf b.config) (sym c.as_mut_slice.ensures.value) b.thieves_of_heap)).0
+    let bundle = c.args.self.now in
+    (c.stolen.ensures bundle.config (subst (AreThievesOf bundle.config) (sym c.as_mut_slice.ensures.value) bundle.thieves_of_heap)).0

@@ -4,7 +4,7 @@ use Rattle.heap_machines.specs.Turn.{order_for}
 use Rattle.step_core.specs.Machines.{may_begin}
 use Rattle.step_core.proofs.Machines.Roles.{turn_in_call}
 use Rattle.table_heap.specs.Running.{next_for}
-use Rattle.table_heap.specs.State.{heap_of, machine_at}
+use Rattle.table_heap.specs.State.{config_in, machine_at}
 use Rattle.table_heap.proofs.bundle.Bundle.next_to_begin.Goals as goal
 
 pub returns-then-may_begin-clause-turn : goal.returns-then-may_begin-clause-turn
@@ -17,7 +17,7 @@ pub returns-else-may_begin-clause-turn : goal.returns-else-may_begin-clause-turn
 returns-else-may_begin-clause-turn c =
     let machine = machine_at c.args.self.now c.args.number in
     let busy : may_begin machine ≡ false = sym c.may_begin.ensures ∙ c.if-may_begin.false in
-    turn_in_call machine None busy ∙ sym (turn_in_call machine (next_for (heap_of c.args.self.now) c.args.work.now c.args.number) busy)
+    turn_in_call machine None busy ∙ sym (turn_in_call machine (next_for (config_in c.args.self.now) c.args.work.now c.args.number) busy)
 
 pub returns-else-may_begin-clause-begins : goal.returns-else-may_begin-clause-begins
 returns-else-may_begin-clause-begins c = λ may. absurd (false≢true (sym (sym c.may_begin.ensures ∙ c.if-may_begin.false) ∙ may))

@@ -5,7 +5,7 @@ use Rattle.std.proofs.lemmas.List.{length-set}
 use Rattle.shared_table.specs.Views.{machine_of, kept_in_view}
 use Rattle.shared_table.proofs.Kept.{kept-set}
 use Rattle.shared_table.proofs.Numbers.{same_none}
-use Rattle.shen_graph.specs.Valid.{IsValid}
+use Rattle.shen_graph.specs.Valid.{IsValid, most_objects}
 use Rattle.shen_graph.specs.declared.order.Order.TheVariants.{Nothing}
 use Rattle.heap_machines.specs.Shown.{no_machine, shown, order_of}
 use Rattle.step_core.specs.Machines.{takes_of, may_begin, made_of_machine}
@@ -27,84 +27,84 @@ unreachable-requires c =
 
 pub order_next-requires-clause-none : goal.order_next-requires-clause-none
 order_next-requires-clause-none c =
-    let b = c.args.self.now in
-    let m = c.in-Some.machine.now in
-    let inside = within shown b.machines.items c.args.number c.requires.here in
-    let here = read_here shown b.machines.items c.args.number c.index_mut.result.now m inside c.index_mut.ensures.value (sym c.as_mut.ensures.value ∙ ap option_copied_mut c.in-Some.is) in
-    c.requires.orders c.args.number (order_of m) (shows_here order_of b.machines.items c.args.number m here)
+    let bundle = c.args.self.now in
+    let machine = c.in-Some.machine.now in
+    let inside = within shown bundle.machines.items c.args.number c.requires.here in
+    let here = read_here shown bundle.machines.items c.args.number c.index_mut.result.now machine inside c.index_mut.ensures.value (sym c.as_mut.ensures.value ∙ ap option_copied_mut c.in-Some.is) in
+    c.requires.orders c.args.number (order_of machine) (shows_here order_of bundle.machines.items c.args.number machine here)
 
 pub order_next-requires-clause-next : goal.order_next-requires-clause-next
 order_next-requires-clause-next c = λ may.
-    let b = c.args.self.now in
+    let bundle = c.args.self.now in
     let m = c.in-Some.machine.now in
-    let inside = within shown b.machines.items c.args.number c.requires.here in
-    let here = read_here shown b.machines.items c.args.number c.index_mut.result.now m inside c.index_mut.ensures.value (sym c.as_mut.ensures.value ∙ ap option_copied_mut c.in-Some.is) in
-    let at = shows_as shown b.machines.items c.args.number m no_machine here in
-    subst (λ machine. IfSome c.args.next (λ command. IsValid command × (made_of_machine machine < 4294967295))) at (c.requires.fits (ap may_begin at ∙ may))
+    let inside = within shown bundle.machines.items c.args.number c.requires.here in
+    let here = read_here shown bundle.machines.items c.args.number c.index_mut.result.now m inside c.index_mut.ensures.value (sym c.as_mut.ensures.value ∙ ap option_copied_mut c.in-Some.is) in
+    let at = shows_as shown bundle.machines.items c.args.number m no_machine here in
+    subst (λ machine. IfSome c.args.next (λ command. IsValid command × (made_of_machine machine < most_objects))) at (c.requires.fits (ap may_begin at ∙ may))
 
 pub invariant_of-self : goal.invariant_of-self
 invariant_of-self c =
-    let b = c.args.self.now in
-    let m = c.in-Some.machine.now in
-    let inside = within shown b.machines.items c.args.number c.requires.here in
-    let here = read_here shown b.machines.items c.args.number c.index_mut.result.now m inside c.index_mut.ensures.value (sym c.as_mut.ensures.value ∙ ap option_copied_mut c.in-Some.is) in
+    let bundle = c.args.self.now in
+    let machine = c.in-Some.machine.now in
+    let inside = within shown bundle.machines.items c.args.number c.requires.here in
+    let here = read_here shown bundle.machines.items c.args.number c.index_mut.result.now machine inside c.index_mut.ensures.value (sym c.as_mut.ensures.value ∙ ap option_copied_mut c.in-Some.is) in
     let n = c.order_next.new.self in
     record {
-      same_sizes = b.same_sizes;
-      seats = length-set b.machines.items _ _ ∙ b.seats;
-      kept = b.kept ∙ sym (put_same shown b.machines.items c.args.number m n here c.order_next.ensures.shown);
-      slots = b.slots;
-      of_heap = heap_put b.config b.machines.items c.args.number m n here c.order_next.ensures.heap (ap is_mutating c.order_next.ensures.shown) b.of_heap;
-      greys = greys_put b.config b.machines.items b.greyed.items c.args.number m n here b.greys;
-      hints_of_heap = b.hints_of_heap;
-      thieves_of_heap = b.thieves_of_heap;
+      same_sizes = bundle.same_sizes;
+      seats = length-set bundle.machines.items _ _ ∙ bundle.seats;
+      kept = bundle.kept ∙ sym (put_same shown bundle.machines.items c.args.number machine n here c.order_next.ensures.shown);
+      slots = bundle.slots;
+      of_heap = heap_put bundle.config bundle.machines.items c.args.number machine n here c.order_next.ensures.heap (ap is_mutating c.order_next.ensures.shown) bundle.of_heap;
+      greys = greys_put bundle.config bundle.machines.items bundle.greyed.items c.args.number machine n here bundle.greys;
+      hints_of_heap = bundle.hints_of_heap;
+      thieves_of_heap = bundle.thieves_of_heap;
     }
 
 pub returns-clause-turn : goal.returns-clause-turn
 returns-clause-turn c =
-    let b = c.args.self.now in
-    let m = c.in-Some.machine.now in
-    let inside = within shown b.machines.items c.args.number c.requires.here in
-    let here = read_here shown b.machines.items c.args.number c.index_mut.result.now m inside c.index_mut.ensures.value (sym c.as_mut.ensures.value ∙ ap option_copied_mut c.in-Some.is) in
+    let bundle = c.args.self.now in
+    let machine = c.in-Some.machine.now in
+    let inside = within shown bundle.machines.items c.args.number c.requires.here in
+    let here = read_here shown bundle.machines.items c.args.number c.index_mut.result.now machine inside c.index_mut.ensures.value (sym c.as_mut.ensures.value ∙ ap option_copied_mut c.in-Some.is) in
     let n = c.order_next.new.self in
-    let at = shows_as shown b.machines.items c.args.number m no_machine here in
-    let given = shows_as order_of (slice_set b.machines.items c.args.number (Some n)) c.args.number n Nothing (put_there order_of b.machines.items c.args.number m n here) in
+    let at = shows_as shown bundle.machines.items c.args.number machine no_machine here in
+    let given = shows_as order_of (slice_set bundle.machines.items c.args.number (Some n)) c.args.number n Nothing (put_there order_of bundle.machines.items c.args.number machine n here) in
     ap (order_for c.args.next) at ∙ c.order_next.ensures.turn ∙ ap (λ o. if c.order_next.result then Some o else None) (sym given)
 
 pub returns-clause-has : goal.returns-clause-has
 returns-clause-has c =
-    let b = c.args.self.now in
+    let bundle = c.args.self.now in
     let m = c.in-Some.machine.now in
-    let inside = within shown b.machines.items c.args.number c.requires.here in
-    let here = read_here shown b.machines.items c.args.number c.index_mut.result.now m inside c.index_mut.ensures.value (sym c.as_mut.ensures.value ∙ ap option_copied_mut c.in-Some.is) in
+    let inside = within shown bundle.machines.items c.args.number c.requires.here in
+    let here = read_here shown bundle.machines.items c.args.number c.index_mut.result.now m inside c.index_mut.ensures.value (sym c.as_mut.ensures.value ∙ ap option_copied_mut c.in-Some.is) in
     let n = c.order_next.new.self in
-    let items = slice_set b.machines.items c.args.number (Some n) in
-    let there = put_there shown b.machines.items c.args.number m n here in
+    let items = slice_set bundle.machines.items c.args.number (Some n) in
+    let there = put_there shown bundle.machines.items c.args.number m n here in
     let at = shows_as shown items c.args.number n no_machine there in
     let given = shows_as order_of items c.args.number n Nothing there in
     ap (λ machine. takes_of machine (unwrap_or (machine_of (kept_in_view order_of items) c.args.number) Nothing)) at ∙ ap (takes_of (shown n)) given ∙ ap (λ machine. takes_of machine (order_of n)) c.order_next.ensures.shown ∙ c.order_next.ensures.takes
 
 pub returns-clause-orders : goal.returns-clause-orders
 returns-clause-orders c =
-    let b = c.args.self.now in
-    let m = c.in-Some.machine.now in
-    let inside = within shown b.machines.items c.args.number c.requires.here in
-    let here = read_here shown b.machines.items c.args.number c.index_mut.result.now m inside c.index_mut.ensures.value (sym c.as_mut.ensures.value ∙ ap option_copied_mut c.in-Some.is) in
+    let bundle = c.args.self.now in
+    let machine = c.in-Some.machine.now in
+    let inside = within shown bundle.machines.items c.args.number c.requires.here in
+    let here = read_here shown bundle.machines.items c.args.number c.index_mut.result.now machine inside c.index_mut.ensures.value (sym c.as_mut.ensures.value ∙ ap option_copied_mut c.in-Some.is) in
     let n = c.order_next.new.self in
-    let given = shows_as order_of (slice_set b.machines.items c.args.number (Some n)) c.args.number n Nothing (put_there order_of b.machines.items c.args.number m n here) in
-    kept-set order_of b.machines.items c.args.number (Some n) ∙ ap (λ o. slice_set (kept_in_view order_of b.machines.items) c.args.number (Some o)) (sym given)
+    let given = shows_as order_of (slice_set bundle.machines.items c.args.number (Some n)) c.args.number n Nothing (put_there order_of bundle.machines.items c.args.number machine n here) in
+    kept-set order_of bundle.machines.items c.args.number (Some n) ∙ ap (λ o. slice_set (kept_in_view order_of bundle.machines.items) c.args.number (Some o)) (sym given)
 
 pub returns-clause-unchanged : goal.returns-clause-unchanged
 returns-clause-unchanged c = λ none.
-    let b = c.args.self.now in
-    let m = c.in-Some.machine.now in
-    let inside = within shown b.machines.items c.args.number c.requires.here in
-    let here = read_here shown b.machines.items c.args.number c.index_mut.result.now m inside c.index_mut.ensures.value (sym c.as_mut.ensures.value ∙ ap option_copied_mut c.in-Some.is) in
+    let bundle = c.args.self.now in
+    let machine = c.in-Some.machine.now in
+    let inside = within shown bundle.machines.items c.args.number c.requires.here in
+    let here = read_here shown bundle.machines.items c.args.number c.index_mut.result.now machine inside c.index_mut.ensures.value (sym c.as_mut.ensures.value ∙ ap option_copied_mut c.in-Some.is) in
     let n = c.order_next.new.self in
-    let was = c.requires.orders c.args.number (order_of m) (shows_here order_of b.machines.items c.args.number m here) in
+    let was = c.requires.orders c.args.number (order_of machine) (shows_here order_of bundle.machines.items c.args.number machine here) in
     record {
-      unmoved = record { same = record { table = refl; config = refl; key = refl; numbers = same_none (view_of b) }; view = refl; steps = refl; greyed = refl };
-      orders = put_same order_of b.machines.items c.args.number m n here (c.order_next.ensures.idle none ∙ sym was);
+      unmoved = record { same = record { table = refl; config = refl; key = refl; numbers = same_none (view_of bundle) }; view = refl; steps = refl; greyed = refl };
+      orders = put_same order_of bundle.machines.items c.args.number machine n here (c.order_next.ensures.idle none ∙ sym was);
     }
 
 pub returns-clause-unmoved : goal.returns-clause-unmoved

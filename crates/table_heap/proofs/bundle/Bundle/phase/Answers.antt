@@ -12,8 +12,8 @@ unreachable-requires c = never_none shown c.args.self.now.machines.items c.args.
 
 pub returns : goal.returns
 returns c =
-    let b = c.args.self.now in
-    let m = c.in-Some.machine in
-    let inside = within shown b.machines.items c.args.number c.requires.here in
-    let here = read_here shown b.machines.items c.args.number c.index.result.now m inside c.index.ensures c.in-Some.is in
-    c.phase.ensures ∙ sym (ap phase_in (shows_as shown b.machines.items c.args.number m no_machine here))
+    let bundle = c.args.self.now in
+    let machine = c.in-Some.machine in
+    let inside = within shown bundle.machines.items c.args.number c.requires.here in
+    let here = read_here shown bundle.machines.items c.args.number c.index.result.now machine inside c.index.ensures c.in-Some.is in
+    c.phase.ensures ∙ sym (ap phase_in (shows_as shown bundle.machines.items c.args.number machine no_machine here))

@@ -14,19 +14,19 @@ unreachable-requires c = never_none shown c.args.self.now.machines.items c.args.
 
 pub place-requires : goal.place-requires
 place-requires c =
-    let b = c.args.self.now in
-    let m = c.in-Some.machine in
-    let inside = within shown b.machines.items c.args.number c.requires.here in
-    let here = read_here shown b.machines.items c.args.number c.index.result.now m inside c.index.ensures c.in-Some.is in
-    sym (ap (λ x. takes_of x (order_at b c.args.number)) (shows_as shown b.machines.items c.args.number m no_machine here)
-    ∙ ap (takes_of (shown m)) (shows_as order_of b.machines.items c.args.number m Nothing here)) ∙ c.requires.turn
+    let bundle = c.args.self.now in
+    let machine = c.in-Some.machine in
+    let inside = within shown bundle.machines.items c.args.number c.requires.here in
+    let here = read_here shown bundle.machines.items c.args.number c.index.result.now machine inside c.index.ensures c.in-Some.is in
+    sym (ap (λ x. takes_of x (order_at bundle c.args.number)) (shows_as shown bundle.machines.items c.args.number machine no_machine here)
+    ∙ ap (takes_of (shown machine)) (shows_as order_of bundle.machines.items c.args.number machine Nothing here)) ∙ c.requires.turn
 
 pub returns : goal.returns
 returns c =
-    let b = c.args.self.now in
-    let m = c.in-Some.machine in
-    let inside = within shown b.machines.items c.args.number c.requires.here in
-    let here = read_here shown b.machines.items c.args.number c.index.result.now m inside c.index.ensures c.in-Some.is in
+    let bundle = c.args.self.now in
+    let machine = c.in-Some.machine in
+    let inside = within shown bundle.machines.items c.args.number c.requires.here in
+    let here = read_here shown bundle.machines.items c.args.number c.index.result.now machine inside c.index.ensures c.in-Some.is in
     c.place.ensures
-    ∙ sym (ap (λ x. place_in (order_at b c.args.number) x) (shows_as shown b.machines.items c.args.number m no_machine here)
-    ∙ ap (λ o. place_in o (shown m)) (shows_as order_of b.machines.items c.args.number m Nothing here))
+    ∙ sym (ap (λ x. place_in (order_at bundle c.args.number) x) (shows_as shown bundle.machines.items c.args.number machine no_machine here)
+    ∙ ap (λ o. place_in o (shown machine)) (shows_as order_of bundle.machines.items c.args.number machine Nothing here))

@@ -7,13 +7,13 @@ use Rattle.table_heap.proofs.bundle.Bundle.share_greyed.Goals as goal
 
 pub index-requires : goal.index-requires
 index-requires c =
-    let b = c.args.self.now in
-    let inside = within shown b.machines.items c.args.number c.requires.here in
-    omega (arith, inside, b.greys.numbers)
+    let bundle = c.args.self.now in
+    let inside = within shown bundle.machines.items c.args.number c.requires.here in
+    omega (arith, inside, bundle.greys.numbers)
 
 pub push-requires : goal.push-requires
 push-requires c =
-    let b = c.args.self.now in
-    let inside = within shown b.machines.items c.args.number c.requires.here in
-    let read = machine_of-index b.greyed.items c.args.number c.index.result.now (omega (arith, inside, b.greys.numbers)) in
-    subst (λ k. IsWord k (Heap c.in-Some.address)) (sym b.hints_of_heap) (b.greys.known c.args.number c.in-Some.address (read ∙ sym c.index.ensures ∙ c.in-Some.is)).1
+    let bundle = c.args.self.now in
+    let inside = within shown bundle.machines.items c.args.number c.requires.here in
+    let read = machine_of-index bundle.greyed.items c.args.number c.index.result.now (omega (arith, inside, bundle.greys.numbers)) in
+    subst (λ k. IsWord k (Heap c.in-Some.address)) (sym bundle.hints_of_heap) (bundle.greys.known c.args.number c.in-Some.address (read ∙ sym c.index.ensures ∙ c.in-Some.is)).1

@@ -1,7 +1,7 @@
 use Rattle.std.proofs.Common.{◌<◌, suc, refl, subst, arith}
 use Rattle.heap_machines.specs.Inside.{stores_left}
 use Rattle.heap_machines.proofs.Inside.{stores_inside}
-use Rattle.table_heap.specs.State.{heap_of, machine_at}
+use Rattle.table_heap.specs.State.{config_in, machine_at}
 use Rattle.table_heap.proofs.Inside.{turn_inside, gone_same, gone_orders}
 use Rattle.table_heap.proofs.Running.{still_of}
 use Rattle.table_heap.proofs.bundle.Bundle.store_words.Goals as goal
@@ -24,12 +24,12 @@ loop-left-preserved g c =
     let l = c.loop-left in
     let made = c.store_word.ensures in
     let left = l.invariant.left c.loop-left-test.true in
-    let some : 0 < stores_left (heap_of l.self) (machine_at l.self c.args.number) = subst (λ n. 0 < n) left c.loop-left-test.true in
+    let some : 0 < stores_left (config_in l.self) (machine_at l.self c.args.number) = subst (λ n. 0 < n) left c.loop-left-test.true in
     let orders = gone_orders c.args.number l.invariant.turns.0 c.args.self.now l.self l.invariant.turns.1 c.requires.orders in
     record {
       turns = (
         suc l.invariant.turns.0,
-        (l.self, l.invariant.turns.1, made.same, λ next. turn_inside l.self c.store_word.new.self c.args.number next (l.invariant.here c.loop-left-test.true) orders (stores_inside (heap_of l.self) (machine_at l.self c.args.number) some) made.event),
+        (l.self, l.invariant.turns.1, made.same, λ next. turn_inside l.self c.store_word.new.self c.args.number next (l.invariant.here c.loop-left-test.true) orders (stores_inside (config_in l.self) (machine_at l.self c.args.number) some) made.event),
       );
       here = λ more. made.here;
       left = λ more. (let is = made.left in omega (arith, is, left));

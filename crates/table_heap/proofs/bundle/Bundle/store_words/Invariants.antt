@@ -1,6 +1,6 @@
 use Rattle.std.proofs.Common.{◌≡◌, ◌<◌, ℕ}
 use Rattle.heap_machines.specs.Inside.{stores_left}
-use Rattle.table_heap.specs.State.{heap_of, machine_at, HasMachine}
+use Rattle.table_heap.specs.State.{config_in, machine_at, HasMachine}
 use Rattle.table_heap.specs.Turning.{HasHadTurns}
 use Rattle.table_heap.proofs.bundle.Bundle.store_words.Given as goal
 
@@ -8,7 +8,7 @@ abbrev pub invariant-loop-left : goal.invariant-loop-left
 invariant-loop-left g l = record {
   turns : (count : ℕ) × HasHadTurns count l.initial.self l.self l.number;
   here : 0 < l.left → HasMachine l.self l.number;
-  left : 0 < l.left → l.left ≡ stores_left (heap_of l.self) (machine_at l.self l.number);
+  left : 0 < l.left → l.left ≡ stores_left (config_in l.self) (machine_at l.self l.number);
 }
 
 abbrev pub decreases-loop-left : goal.decreases-loop-left

@@ -1,8 +1,8 @@
 use Rattle.std.proofs.Common.{⊎_elim, refl, sym, subst}
 use Rattle.std.specs.Prelude.{◌<◌, IfSome}
-use Rattle.shen_graph.specs.Valid.{IsValid}
+use Rattle.shen_graph.specs.Valid.{IsValid, most_objects}
 use Rattle.step_core.specs.Machines.{made_of_machine}
-use Rattle.table_heap.specs.State.{heap_of, view_of, machine_at}
+use Rattle.table_heap.specs.State.{config_in, view_of, machine_at}
 use Rattle.table_heap.specs.Running.{AreAtWork, AreSameJobs, next_for}
 use Rattle.table_heap.proofs.AtWork.{idle_for_good}
 use Rattle.table_heap.proofs.Running.{command_fits, same_jobs, work_unchanged}
@@ -15,31 +15,31 @@ go_on-stepped-requires-clause-orders g c = λ _ _. c.requires.work.orders
 
 pub go_on-stepped-requires-clause-fits : goal.go_on-stepped-requires-clause-fits
 go_on-stepped-requires-clause-fits g c = λ _ _. λ may.
-    subst (λ next. IfSome next (λ command. IsValid command × (made_of_machine (machine_at c.args.self.now c.args.number) < 4294967295))) (sym (c.next_to_begin-next.ensures.begins may))
+    subst (λ next. IfSome next (λ command. IsValid command × (made_of_machine (machine_at c.args.self.now c.args.number) < most_objects))) (sym (c.next_to_begin-next.ensures.begins may))
     (command_fits c.args.self.now c.args.work.now c.args.number c.requires.work c.requires.here may)
 
 pub told-requires-clause-script : goal.told-requires-clause-script
 told-requires-clause-script g c =
-    (can_tell _ _ _ _ _ (turn_as _ _ _ (next_for (heap_of c.args.self.now) c.args.work.now c.args.number) _ _ c.next_to_begin-next.ensures.turn (c.go_on-stepped.ensures.turn (done_not_idle c.go_on-stepped.result c.in-Done.is))) c.args.work.now refl c.requires.work c.in-Done.is).0
+    (can_tell _ _ _ _ _ (turn_as _ _ _ (next_for (config_in c.args.self.now) c.args.work.now c.args.number) _ _ c.next_to_begin-next.ensures.turn (c.go_on-stepped.ensures.turn (done_not_idle c.go_on-stepped.result c.in-Done.is))) c.args.work.now refl c.requires.work c.in-Done.is).0
 
 pub told-requires-clause-more : goal.told-requires-clause-more
 told-requires-clause-more g c =
-    (can_tell _ _ _ _ _ (turn_as _ _ _ (next_for (heap_of c.args.self.now) c.args.work.now c.args.number) _ _ c.next_to_begin-next.ensures.turn (c.go_on-stepped.ensures.turn (done_not_idle c.go_on-stepped.result c.in-Done.is))) c.args.work.now refl c.requires.work c.in-Done.is).1
+    (can_tell _ _ _ _ _ (turn_as _ _ _ (next_for (config_in c.args.self.now) c.args.work.now c.args.number) _ _ c.next_to_begin-next.ensures.turn (c.go_on-stepped.ensures.turn (done_not_idle c.go_on-stepped.result c.in-Done.is))) c.args.work.now refl c.requires.work c.in-Done.is).1
 
 pub returns-in-Done-clause-work : goal.returns-in-Done-clause-work
 returns-in-Done-clause-work g c =
     subst (λ jobs. AreAtWork c.go_on-stepped.new.self jobs) (sym c.told.ensures)
-    (turned_noted _ _ _ _ _ (turn_as _ _ _ (next_for (heap_of c.args.self.now) c.args.work.now c.args.number) _ _ c.next_to_begin-next.ensures.turn (c.go_on-stepped.ensures.turn (done_not_idle c.go_on-stepped.result c.in-Done.is))) c.args.work.now refl c.requires.work c.reply.result c.in-Done.is c.reply.ensures)
+    (turned_noted _ _ _ _ _ (turn_as _ _ _ (next_for (config_in c.args.self.now) c.args.work.now c.args.number) _ _ c.next_to_begin-next.ensures.turn (c.go_on-stepped.ensures.turn (done_not_idle c.go_on-stepped.result c.in-Done.is))) c.args.work.now refl c.requires.work c.reply.result c.in-Done.is c.reply.ensures)
 
 pub returns-in-Done-clause-jobs : goal.returns-in-Done-clause-jobs
 returns-in-Done-clause-jobs g c =
     subst (λ jobs. AreSameJobs (view_of c.args.self.now) c.args.work.now jobs) (sym c.told.ensures)
-    (jobs_noted _ _ _ _ _ (turn_as _ _ _ (next_for (heap_of c.args.self.now) c.args.work.now c.args.number) _ _ c.next_to_begin-next.ensures.turn (c.go_on-stepped.ensures.turn (done_not_idle c.go_on-stepped.result c.in-Done.is))) c.args.work.now refl c.requires.work c.reply.result c.in-Done.is c.reply.ensures)
+    (jobs_noted _ _ _ _ _ (turn_as _ _ _ (next_for (config_in c.args.self.now) c.args.work.now c.args.number) _ _ c.next_to_begin-next.ensures.turn (c.go_on-stepped.ensures.turn (done_not_idle c.go_on-stepped.result c.in-Done.is))) c.args.work.now refl c.requires.work c.reply.result c.in-Done.is c.reply.ensures)
 
 pub returns-in_default-clause-work : goal.returns-in_default-clause-work
 returns-in_default-clause-work g c = ⊎_elim
     (λ idle. work_unchanged c.args.self.now c.go_on-stepped.new.self c.args.work.now (c.go_on-stepped.ensures.unchanged idle) c.requires.work)
-    (λ goes. turned_on _ _ _ _ _ (turn_as _ _ _ (next_for (heap_of c.args.self.now) c.args.work.now c.args.number) _ _ c.next_to_begin-next.ensures.turn (c.go_on-stepped.ensures.turn goes)) c.args.work.now refl c.requires.work (λ done. c.in_default.not-Done done))
+    (λ goes. turned_on _ _ _ _ _ (turn_as _ _ _ (next_for (config_in c.args.self.now) c.args.work.now c.args.number) _ _ c.next_to_begin-next.ensures.turn (c.go_on-stepped.ensures.turn goes)) c.args.work.now refl c.requires.work (λ done. c.in_default.not-Done done))
     (idle_or_not c.go_on-stepped.result)
 
 pub returns-in_default-clause-same : goal.returns-in_default-clause-same

@@ -7,13 +7,13 @@ use Rattle.table_heap.proofs.bundle.Bundle.words_to_store.Goals as goal
 
 pub returns-clause-here : goal.returns-clause-here
 returns-clause-here c = λ some.
-    let b = c.args.self.now in
-    sym (some_read shown b.machines.items c.args.number c.index.result.now (let all = b.seats in let below = c.requires in omega arith) c.index.ensures) ∙ ap is_some c.in-Some.is
+    let bundle = c.args.self.now in
+    sym (some_read shown bundle.machines.items c.args.number c.index.result.now (let all = bundle.seats in let below = c.requires in omega arith) c.index.ensures) ∙ ap is_some c.in-Some.is
 
 pub returns-clause-left : goal.returns-clause-left
 returns-clause-left c = λ some.
-    let b = c.args.self.now in
-    let m = c.in-Some.machine in
-    let here = read_here shown b.machines.items c.args.number c.index.result.now m (let all = b.seats in let below = c.requires in omega arith) c.index.ensures c.in-Some.is in
-    c.words_to_store.ensures ∙ ap (λ k. stores_left k (shown m)) (b.of_heap c.args.number m here).heap
-    ∙ ap (stores_left b.config) (sym (shows_as shown b.machines.items c.args.number m no_machine here))
+    let bundle = c.args.self.now in
+    let machine = c.in-Some.machine in
+    let here = read_here shown bundle.machines.items c.args.number c.index.result.now machine (let all = bundle.seats in let below = c.requires in omega arith) c.index.ensures c.in-Some.is in
+    c.words_to_store.ensures ∙ ap (λ k. stores_left k (shown machine)) (bundle.of_heap c.args.number machine here).heap
+    ∙ ap (stores_left bundle.config) (sym (shows_as shown bundle.machines.items c.args.number machine no_machine here))
