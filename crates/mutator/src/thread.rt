@@ -275,7 +275,8 @@ impl Mutator {
         }
     }
 
-    /// Goes on with the word that its access has found.
+    /// Goes on with the word that its access has found. Each spot at which calls often stand is named here, so that the compiler makes a
+    /// way of its own for it.
     #[inline(always)]
     pub fn took(&mut self, got: u64) -> Took
         requires busy { is_idle self.old ≡ false }
@@ -290,7 +291,21 @@ impl Mutator {
         ensures replied { result ≡ Took.Done → reply_at (seen self.new).spot ≢ None }
         ensures again { (result ≡ Took.Again) ↔ WaitsAt (seen self.old).spot got }
     {
-        self.took_from(self.spot, got)
+        match self.spot {
+            Spot::Ended { reply } => self.took_from(Spot::Ended { reply }, got),
+            Spot::Entering { at, then } => self.took_from(Spot::Entering { at, then }, got),
+            Spot::LoadPhase => self.took_from(Spot::LoadPhase, got),
+            Spot::LoadSet => self.took_from(Spot::LoadSet, got),
+            Spot::Loading { at } => self.took_from(Spot::Loading { at }, got),
+            Spot::OnField { object, at } => self.took_from(Spot::OnField { object, at }, got),
+            Spot::OnNumber { object, refs, at } => self.took_from(
+                Spot::OnNumber { object, refs, at },
+                got,
+            ),
+            Spot::Showing { value, at } => self.took_from(Spot::Showing { value, at }, got),
+            Spot::Leave { reply } => self.took_from(Spot::Leave { reply }, got),
+            spot => self.took_from(spot, got),
+        }
     }
 
     // The same by its spot, which whoever calls has at hand.
@@ -315,8 +330,7 @@ impl Mutator {
     }
 
     /// Makes its next step on the words of the heap's table: the access of `plan`, and what `took` makes of the word that it finds. Each
-    /// spot at which calls often stand is named here, so that the compiler makes a way of its own for it, where nothing is looked up
-    /// after the access.
+    /// spot at which calls often stand is named here too, and nothing is looked up after its access.
     #[inline(always)]
     pub fn step(&mut self, words: &mut Vec<u64>) -> Took
         requires busy { is_idle self.old ≡ false }
@@ -344,26 +358,8 @@ impl Mutator {
             ),
             Spot::Showing { value, at } => self.step_from(Spot::Showing { value, at }, words),
             Spot::Leave { reply } => self.step_from(Spot::Leave { reply }, words),
-            _ => self.step_apart(words),
+            spot => self.step_from(spot, words),
         }
-    }
-
-    // The same wherever it stands.
-    #[inline(never)]
-    fn step_apart(&mut self, words: &mut Vec<u64>) -> Took
-        requires busy { is_idle self.old ≡ false }
-        requires words { vec_len words.old ≡ table_words (config_of self.old) }
-        requires fit { IsFit (config_of self.old) (seen self.old) (order_of self.old) (word_found self.old words.old.items) }
-        ensures words { words.new.items ≡ accessed (access_of self.old) words.old.items }
-        ensures seen { seen self.new ≡ next_of (config_of self.old) (seen self.old) (order_of self.old) (word_found self.old words.old.items) }
-        ensures order { order_of self.new ≡ Order.Nothing }
-        ensures config { config_of self.new ≡ config_of self.old }
-        ensures answer { result ≡ answer_at (config_of self.old) (seen self.old).kept (seen self.old).spot (word_found self.old words.old.items) }
-        ensures done { (result ≡ Took.Done) ↔ (place_at (order_of self.old) (seen self.old).spot ≡ Place.LV) }
-        ensures replied { result ≡ Took.Done → reply_at (seen self.new).spot ≢ None }
-        ensures again { (result ≡ Took.Again) ↔ WaitsAt (seen self.old).spot (word_found self.old words.old.items) }
-    {
-        self.step_from(self.spot, words)
     }
 
     // The same by its spot.
