@@ -442,25 +442,11 @@ impl Control {
     {
         match self.looks_at() {
             Some(at) => self.took_word(words[at]),
-            None => self.step_apart(words),
+            None => {
+                let got = make_access(words, self.plan_apart());
+                self.took(got)
+            }
         }
-    }
-
-    // The same wherever it stands.
-    #[inline(never)]
-    fn step_apart(&mut self, words: &mut Vec<u64>) -> Took
-        requires busy { is_gone (seen_control self.old).spot ≡ false }
-        requires words { vec_len words.old ≡ table_words (config_in self.old) }
-        requires fit { IsFit (config_in self.old) (past_hint self.old) (word_found self.old words.old.items) }
-        ensures words { words.new.items ≡ accessed (access_of self.old) words.old.items }
-        ensures config { config_in self.new ≡ config_in self.old }
-        ensures hint { hint_of self.new ≡ None }
-        ensures row { seen_control self.new ≡ control_next collect_image (config_in self.old) (past_hint self.old) (word_found self.old words.old.items) }
-        ensures says { result ≡ control_says (config_in self.old) (past_hint self.old) (word_found self.old words.old.items) }
-        ensures again { (result ≡ Took.Again) ↔ WaitsAt (config_in self.old) (past_hint self.old) (word_found self.old words.old.items) }
-    {
-        let got = make_access(words, self.plan_apart());
-        self.took(got)
     }
 
     // Goes on from where its hint leads, which it has taken then, if it has one.
