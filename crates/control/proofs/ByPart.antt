@@ -1,6 +1,6 @@
 -- A pause makes the new image of the part that was loaded: what stands in the image for other words neither counts nor is shown, but where the free
 -- words of a buffer began.
-use Rattle.std.proofs.Common.{◌≡◌, ◌≢◌, ℕ, ◌+◌, ◌<◌, Bool, true, false, List, length, refl, sym, ap, ◌∙◌, subst, arith}
+use Rattle.std.proofs.Common.{◌≡◌, ◌≢◌, ℕ, ◌<◌, Bool, true, false, List, length, refl, sym, ap, ◌∙◌, subst, arith}
 use Rattle.std.specs.Prelude.{◌==◌, ◌||◌, not, if◌then◌else◌, slice_index}
 use Rattle.std.proofs.lemmas.Bool.{cond-true, cond-false, eqb-true}
 use Rattle.std.proofs.lemmas.Grind.{same_number_lists}
@@ -12,7 +12,7 @@ use Rattle.image_graph.specs.SeatBuffers.{IsInside, AreInside}
 use Rattle.mark_core.specs.Trace.{IsNullOrInside, HasRootsInside}
 use Rattle.collector_rows.specs.declared.extent.Extent.{Extent}
 use Rattle.collector_rows.specs.declared.extent.Extent.TheVariants.{Whole, OffHeap, Ahead}
-use Rattle.collector_rows.specs.Extent.{is_of_extent, counts}
+use Rattle.collector_rows.specs.Extent.{is_of_extent}
 use Rattle.collector_rows.specs.ByParts.{IsImagePart, IsMadeOf}
 use Rattle.cycle_pauses.specs.Collect.{is_room_needed, collected, collect_image}
 use Rattle.cycle_pauses.specs.Brief.{is_off_heap, is_ahead, IsPartOf}
@@ -24,7 +24,7 @@ use Rattle.cycle_pauses.proofs.Brief.Fills.{IsNoFirst, heap_left, behind_left}
 use Rattle.control.specs.Fit.{CanBeginOff, CanUpdateAhead, CanCollectPart}
 use Rattle.control.specs.Image.{part_in, image_shown}
 use Rattle.control.specs.Starts.{AreStarts, AreHeapIndices}
-use Rattle.control.proofs.PartShown.{part_long, part_reads, made_long, made_reads}
+use Rattle.control.proofs.PartShown.{part_reads, made_long, made_reads}
 use Rattle.control.proofs.Starting.{none_is_of, none_begins}
 
 -- what collecting by a part needs of all words

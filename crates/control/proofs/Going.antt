@@ -1,10 +1,9 @@
 -- Where the control stands next, and what it sees there.
-use Rattle.std.proofs.Common.{◌≡◌, ℕ, ◌+◌, ◌<◌, ◌≤◌, Bool, true, false, List, [], length, set, take, Option, Some, None, ⊎_elim, refl, sym, ap, ◌∙◌, subst, arith}
-use Rattle.std.specs.Prelude.{◌==◌, ◌||◌, not, nat_lt, if◌then◌else◌, slice_index}
+use Rattle.std.proofs.Common.{◌≡◌, ℕ, ◌+◌, ◌<◌, Bool, true, false, List, [], length, set, take, Option, Some, None, ⊎_elim, refl, sym, ap, ◌∙◌, subst, arith}
+use Rattle.std.specs.Prelude.{◌==◌, not, nat_lt, if◌then◌else◌, slice_index}
 use Rattle.std.proofs.lemmas.Bool.{cases_Bool, cond-true, cond-false, lt-ltb, ltb-true, eq-eqb, or_cases, or_left, false≢true}
 use Rattle.std.proofs.lemmas.List.{set-get_or}
 use Rattle.heap_words.specs.declared.config.Config.{Config}
-use Rattle.heap_words.specs.declared.access.Access.{Access}
 use Rattle.heap_words.specs.declared.access.Access.TheVariants.{Store}
 use Rattle.heap_words.specs.declared.access.Unit.TheVariants.{Worked, NoneLeft}
 use Rattle.heap_words.specs.Access.{table_index}
@@ -17,7 +16,7 @@ use Rattle.unit_part.specs.declared.spot.UnitSpot.TheVariants.{Ended}
 use Rattle.heap_world.specs.Walk.{has}
 use Rattle.heap_world.specs.Change.{Change, image_words}
 use Rattle.collector_rows.specs.declared.extent.Extent.{Extent}
-use Rattle.collector_rows.specs.declared.extent.Extent.TheVariants.{Whole, OffHeap, Ahead}
+use Rattle.collector_rows.specs.declared.extent.Extent.TheVariants.{Whole}
 use Rattle.collector_rows.specs.Extent.{is_of_extent, extent_after, says_room, first_extent, next_loaded, counts, next_stored}
 use Rattle.collector_rows.specs.declared.control_spot.ControlSpot.{ControlSpot}
 use Rattle.collector_rows.specs.declared.control_spot.ControlSpot.TheVariants.{LookLeft, StoreEnd, LookAsked, LookFree, Working, Stopping, LoadWord, StoreWord, Go, Gone}
@@ -26,7 +25,7 @@ use Rattle.collector_rows.specs.ControlRows.{Controlling, takes_hint, hinted_by,
 use Rattle.handshake.specs.StopRows.{next_at as stop_next}
 use Rattle.unit_part.specs.Rows as units
 use Rattle.collector_rows.proofs.Extents.{early, next_is, stored_next_is, stored_next_one}
-use Rattle.control.specs.Image.{part_in, is_seen, image_shown, words_seen, SeesOwn, IsLoadedFrom}
+use Rattle.control.specs.Image.{is_seen, image_shown, words_seen, SeesOwn, IsLoadedFrom}
 use Rattle.control.proofs.PartShown.{made_reads}
 use Rattle.control.proofs.Loaded.{goes_on, stays}
 

@@ -6,10 +6,9 @@ use Rattle.heap_words.specs.declared.config.Config.{Config}
 use Rattle.heap_words.specs.Words.{Word, Phase, Cset, Free}
 use Rattle.heap_world.specs.Change.{Change, image_words, image_view}
 use Rattle.collector_rows.specs.declared.extent.Extent.{Extent}
-use Rattle.collector_rows.specs.Extent.{is_of_extent, extent_after, next_loaded, padded}
-use Rattle.collector_rows.specs.declared.control_spot.ControlSpot.{ControlSpot}
+use Rattle.collector_rows.specs.Extent.{is_of_extent, extent_after, next_loaded}
 use Rattle.collector_rows.specs.declared.control_spot.ControlSpot.TheVariants.{LoadWord, StoreWord}
-use Rattle.collector_rows.specs.ControlRows.{after_load, loads_more, loaded_on, loaded_all, next_image, next_seen, next_phase, next_set, seen_after}
+use Rattle.collector_rows.specs.ControlRows.{after_load, loaded_on, loaded_all, next_image, next_seen, next_phase, next_set, seen_after}
 use Rattle.collector_rows.proofs.Extents.{next_is}
 use Rattle.control.specs.Fit.{CanCollectPart, fits_with}
 use Rattle.control.specs.Image.{part_in, image_shown, words_seen}

@@ -1,15 +1,14 @@
 -- What the words read that a control shows of its image.
-use Rattle.std.proofs.Common.{◌≡◌, ◌≢◌, ℕ, ◌+◌, ◌-◌, ◌<◌, ◌≤◌, ◌++◌, Bool, true, false, List, [], ◌∷◌, length, get_or, set, take, ⊎_elim, refl, sym, ap, ◌∙◌, subst, arith, length-take, length-set}
-use Rattle.std.specs.Prelude.{◌||◌, if◌then◌else◌, slice_index}
-use Rattle.std.specs.List.{range_with_len}
-use Rattle.std.proofs.lemmas.Bool.{cases_eq, cases_lt, cases_Bool, cond-true, cond-false, or_left}
+use Rattle.std.proofs.Common.{◌≡◌, ◌≢◌, ℕ, ◌+◌, ◌-◌, ◌<◌, ◌≤◌, ◌++◌, Bool, true, false, List, [], ◌∷◌, length, set, take, ⊎_elim, refl, sym, ap, ◌∙◌, subst, arith, length-take, length-set}
+use Rattle.std.specs.Prelude.{if◌then◌else◌, slice_index}
+use Rattle.std.proofs.lemmas.Bool.{cases_eq, cases_lt, cond-true, cond-false, or_left}
 use Rattle.std.proofs.lemmas.Grind.{same_number_lists}
 use Rattle.std.proofs.lemmas.List.{get_or_past, get_or-take, get_or-set_same, get_or-set_other, get_or_append_left, get_or_push, take_all, length_push}
 use Rattle.std.proofs.lemmas.List.FromFn.{get_or-map-range_with_len, length-map-range_with_len}
 use Rattle.heap_words.specs.declared.config.Config.{Config}
 use Rattle.heap_words.specs.Words.{Word, IsWord, is_image, word_at, image_start}
 use Rattle.heap_world.specs.Walk.{has}
-use Rattle.heap_world.specs.Change.{Change, image_words, image_view}
+use Rattle.heap_world.specs.Change.{image_view}
 use Rattle.collector_rows.specs.declared.extent.Extent.{Extent}
 use Rattle.collector_rows.specs.declared.extent.Extent.TheVariants.{Whole, OffHeap, Ahead}
 use Rattle.collector_rows.specs.Extent.{is_of_extent, extent_after, padded}

@@ -1,21 +1,20 @@
 -- The indices at which the free words of buffers begin: which they are, and that they are of the heap.
-use Rattle.std.proofs.Common.{◌≡◌, ◌≢◌, ℕ, ◌+◌, ◌-◌, ◌*◌, ◌<◌, ◌≤◌, Bool, true, false, List, length, get_or, set, take, ⊎_elim, refl, sym, ap, ◌∙◌, subst, arith, length-set}
-use Rattle.std.specs.Prelude.{⊤, ◌||◌, nat_lt, nat_le, nat_eq, if◌then◌else◌, slice_index}
+use Rattle.std.proofs.Common.{◌≡◌, ◌≢◌, ℕ, ◌+◌, ◌-◌, ◌*◌, ◌<◌, true, false, List, length, get_or, set, take, ⊎_elim, refl, sym, ap, ◌∙◌, subst, arith, length-set}
+use Rattle.std.specs.Prelude.{◌||◌, nat_lt, nat_eq, slice_index}
 use Rattle.std.proofs.Math.Nat.{mul-pos}
-use Rattle.std.proofs.lemmas.Bool.{cases_eq, cases_lt, cases_Bool, cond-true, cond-false, eq-eqb, eqb-true, lt-ltb, le-ltb, ltb-true, leb-true, false≢true, false_from_ne_true}
+use Rattle.std.proofs.lemmas.Bool.{cases_eq, cond-true, eq-eqb, eqb-true, lt-ltb, le-ltb, false≢true, false_from_ne_true}
 use Rattle.std.proofs.lemmas.List.{get_or-set_same, get_or-set_other, get_or_default}
 use Rattle.std.proofs.lemmas.List.Folds.{list_any_more, list_any_at, Any-from_list_any}
 use Rattle.heap_words.specs.declared.config.Config.{Config}
-use Rattle.heap_words.specs.Ranges.{seat_count}
-use Rattle.heap_words.specs.Words.{Word, Current, Heap, IsWord, word_at, image_start, heap_size}
+use Rattle.heap_words.specs.Words.{Word, Current, Heap, word_at, image_start, heap_size}
 use Rattle.heap_words.specs.Encoding.{next_in, end_in}
 use Rattle.heap_world.specs.Walk.{has}
 use Rattle.collector_rows.specs.declared.extent.Extent.{Extent}
 use Rattle.collector_rows.specs.declared.extent.Extent.TheVariants.{Whole, OffHeap, Ahead}
 use Rattle.collector_rows.specs.Extent.{is_of_extent, heap_index, roots_index}
 use Rattle.collector_rows.proofs.Extents.{off_within}
-use Rattle.cycle_pauses.proofs.Brief.Fills.{BeginsAt, IsNoFirst}
-use Rattle.control.specs.Starts.{start_index, AreStarts, IsHeapIndex, AreHeapIndices}
+use Rattle.cycle_pauses.proofs.Brief.Fills.{IsNoFirst}
+use Rattle.control.specs.Starts.{AreStarts, IsHeapIndex, AreHeapIndices}
 
 -- one more of them
 pub has_more : (starts : List ℕ) (i k : ℕ) → i < length starts → has (take (i + 1) starts) k ≡ (has (take i starts) k || nat_eq k (get_or starts i 0))

@@ -1,7 +1,7 @@
 -- Which word of the new image is stored next: the next one of the extent, or the least one before it where the free words of a buffer began and that is
 -- not 0.
-use Rattle.std.proofs.Common.{◌≡◌, ◌≢◌, ◌⊎◌, ℕ, ◌+◌, ◌<◌, ◌≤◌, Bool, true, false, inl, inr, List, length, take, ⊎_elim, refl, sym, ap, ◌∙◌, subst, arith}
-use Rattle.std.specs.Prelude.{◌==◌, ◌||◌, not, nat_eq, if◌then◌else◌, slice_index}
+use Rattle.std.proofs.Common.{◌≡◌, ◌≢◌, ◌⊎◌, ℕ, ◌+◌, ◌<◌, ◌≤◌, true, false, inl, inr, List, length, take, ⊎_elim, refl, sym, ap, ◌∙◌, subst, arith}
+use Rattle.std.specs.Prelude.{◌==◌, not, nat_eq, if◌then◌else◌, slice_index}
 use Rattle.std.proofs.lemmas.Bool.{cases_Bool, cases_eq, cases_lt, cond-false, eq-eqb, eqb-true, ne_eqb, or_cases, or_left, or_right, or_from, not_from_true, not_from_false, false≢true}
 use Rattle.std.proofs.lemmas.List.{take_all}
 use Rattle.std.proofs.lemmas.List.Folds.{list_any_at}
@@ -10,7 +10,7 @@ use Rattle.heap_world.specs.Walk.{has}
 use Rattle.heap_world.specs.Change.{image_words}
 use Rattle.collector_rows.specs.declared.extent.Extent.{Extent}
 use Rattle.collector_rows.specs.Extent.{is_of_extent, next_loaded, counts, next_stored}
-use Rattle.collector_rows.proofs.Extents.{IsStoredNext, stored_next_is, stored_next_one, next_is}
+use Rattle.collector_rows.proofs.Extents.{stored_next_is, stored_next_one, next_is}
 use Rattle.control.specs.Image.{is_seen, image_shown}
 use Rattle.control.proofs.PartShown.{either_zero, made_reads, seen_reads}
 use Rattle.control.proofs.Starting.{has_more}

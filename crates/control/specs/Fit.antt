@@ -1,5 +1,5 @@
 -- Which words the control can go on from.
-use Rattle.std.specs.Prelude.{ℕ, ◌≡◌, ◌≢◌, Bool, true, false, List}
+use Rattle.std.specs.Prelude.{ℕ, ◌≡◌, ◌≢◌, false, List}
 use Rattle.heap_words.specs.declared.config.Config.{Config}
 use Rattle.heap_words.specs.Words.{Word, Phase}
 use Rattle.heap_words.specs.Phases.{idle_phase, marking_phase}

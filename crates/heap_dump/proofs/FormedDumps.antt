@@ -1,5 +1,5 @@
 -- The dump of a formed graph is a dump: its own graph has the same roots and the same objects.
-use Rattle.std.proofs.Common.{◌≡◌, ◌⊎◌, inl, inr, ℕ, zero, suc, ◌+◌, ◌-◌, ◌^◌, ◌<◌, ◌≤◌, Bool, true, false, List, [], ◌∷◌, length, get_or, map, Option, Some, None, refl, sym, ap, ◌∙◌, subst, arith, All, Contains}
+use Rattle.std.proofs.Common.{◌≡◌, ◌⊎◌, inl, inr, ℕ, zero, suc, ◌+◌, ◌-◌, ◌<◌, ◌≤◌, List, [], ◌∷◌, length, get_or, map, Option, Some, None, refl, sym, ap, ◌∙◌, subst, arith, All, Contains}
 use Rattle.std.specs.Prelude.{slice_get, unwrap_or}
 use Rattle.std.specs.List.{range_with_len}
 use Rattle.std.proofs.lemmas.Bool.{cases_lt}
@@ -13,8 +13,8 @@ use Rattle.heap_words.specs.Narrow.{IsNarrow}
 use Rattle.shen_graph.specs.declared.name.Name.{Name}
 use Rattle.shen_graph.specs.Graph.{Reference, Object, Graph, hub, named, opening}
 use Rattle.shen_graph.specs.declared.pin.Pinned.{Pinned}
-use Rattle.shen_graph.specs.GraphText.{Row, Text, row_in, names_of}
-use Rattle.shen_graph.specs.PlainGraph.{graph_of, object_in, root_in}
+use Rattle.shen_graph.specs.GraphText.{Row, Text, row_in}
+use Rattle.shen_graph.specs.PlainGraph.{graph_of, object_in}
 use Rattle.shen_graph.specs.Reach.{IsReachable, InOrder, IsReach}
 use Rattle.shen_graph.specs.Reach.IsReachable.{from_root, from_pin, from_field}
 use Rattle.shen_graph.specs.Step.{name_in}
@@ -22,10 +22,10 @@ use Rattle.shen_graph.specs.History.{Entry, after}
 use Rattle.shen_graph.proofs.PlainLemmas.{fun_ext}
 use Rattle.shen_graph.proofs.ReachLemmas.{slice_get-from_Contains}
 use Rattle.heap_world.specs.Shows.{ShowsGraph}
-use Rattle.heap_dump.specs.Dumped.{Dumped, dumped, names_in, graph_in, dump_of, root_rows, most_made, unpinned, IsMadeBy, IsNamed, HasFields, IsRow, IsInForm, IsDump, HasDump, IsDumpOf}
-use Rattle.heap_dump.proofs.OwnGraph.{name_of, fields_of, name_at, length-names, object_at, counts_again}
+use Rattle.heap_dump.specs.Dumped.{Dumped, dumped, names_in, graph_in, root_rows, most_made, unpinned, IsNamed, IsRow, IsInForm, IsDump, HasDump, IsDumpOf}
+use Rattle.heap_dump.proofs.OwnGraph.{fields_of, length-names, object_at, counts_again}
 use Rattle.heap_dump.specs.ObjectsMade.{objects_made, objects_made_by_each, IsDumpable}
-use Rattle.heap_dump.proofs.FormedGraphs.{IsMade, IsKnown, IsFormed, IsFormedObject, named_formed, refs_known, opening_formed, history_formed}
+use Rattle.heap_dump.proofs.FormedGraphs.{IsKnown, IsFormed, named_formed, refs_known, opening_formed, history_formed}
 use Rattle.heap_dump.proofs.ObjectCounts.{made-count}
 
 -- ---- graphs with the same roots that pin nothing, and with the same objects where roots lead to

@@ -10,7 +10,7 @@ use Rattle.shen_graph.specs.declared.name.Name.{Name}
 use Rattle.shen_graph.specs.declared.command.Command.{Command}
 use Rattle.shen_graph.specs.declared.command.Command.TheVariants.{New, Get, Set, Cas, Xchg, Rd, Wr, Copy, Drop, Same, Gc, Pin, Unpin}
 use Rattle.shen_graph.specs.declared.pin.Pinned.{Pinned}
-use Rattle.shen_graph.specs.Graph.{Reference, Object, Graph, same_name, same_reference, hub, blank, named, field_at, number_at, with_root, with_object, with_named, with_field, with_number, with_fresh, with_pin, fresh, opening}
+use Rattle.shen_graph.specs.Graph.{Reference, Object, Graph, same_name, same_reference, hub, blank, named, field_at, number_at, with_root, with_object, with_named, with_field, with_fresh, with_pin, fresh, opening}
 use Rattle.shen_graph.specs.Step.{Outcome, on, outcome, pinned_by, name_in, slot_of, IsLegal}
 use Rattle.shen_graph.specs.Valid.{IsValid, FitsValue}
 use Rattle.shen_graph.specs.History.{Entry, after, after_entry, EachIsLegal}

@@ -4,7 +4,7 @@ use Rattle.std.specs.Prelude.{slice_index}
 use Rattle.std.proofs.lemmas.List.{get_or_past}
 use Rattle.std.proofs.lemmas.List.Elements.{All-get_or}
 use Rattle.shen_graph.specs.declared.name.Name.{Name}
-use Rattle.shen_graph.specs.Graph.{Graph, Reference, hub}
+use Rattle.shen_graph.specs.Graph.{Reference, hub}
 use Rattle.shen_graph.specs.GraphText.{Row, Text, bare, names_of, row_of}
 use Rattle.shen_graph.specs.Reach.{IsReachable, IsReach}
 use Rattle.heap_dump.proofs.Counted.{counted, reach_again}

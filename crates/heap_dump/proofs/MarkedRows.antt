@@ -1,18 +1,18 @@
 -- The rows with a mark are the dump of what the roots lead to.
-use Rattle.std.proofs.Common.{ℕ, zero, suc, ◌≡◌, ◌+◌, ◌<◌, ◌≤◌, Bool, true, false, cond, List, [], ◌∷◌, ◌++◌, length, map, take, get_or, Option, Some, None, inl, inr, refl, sym, ap, subst, ◌∙◌, append-nil, arith}
-use Rattle.std.specs.Prelude.{All, Contains}
+use Rattle.std.proofs.Common.{ℕ, zero, suc, ◌≡◌, ◌+◌, ◌<◌, ◌≤◌, Bool, true, false, cond, List, [], ◌∷◌, ◌++◌, length, map, take, get_or, Some, inl, inr, refl, sym, ap, subst, ◌∙◌, append-nil, arith}
+use Rattle.std.specs.Prelude.{Contains}
 use Rattle.std.specs.List.{range_with_len}
 use Rattle.std.proofs.lemmas.List.{get_or_default, take_all}
 use Rattle.std.proofs.lemmas.List.Elements.{All-contains, All-weaker, All-contains_itself, Contains-append_right}
 use Rattle.heap_words.specs.declared.config.Config.{Config}
 use Rattle.shen_graph.specs.declared.name.Name.{Name}
-use Rattle.shen_graph.specs.Graph.{Graph, Object, Reference, hub, same_name}
+use Rattle.shen_graph.specs.Graph.{Object, hub, same_name}
 use Rattle.shen_graph.specs.GraphText.{Row, Text, bare, names_of, row_of, row_in}
 use Rattle.shen_graph.specs.PlainGraph.{graph_of, object_in}
 use Rattle.shen_graph.specs.Reach.{IsBefore, InOrder, IsReachable, IsReach}
 use Rattle.shen_graph.proofs.PlainLemmas.{same_name-true}
 use Rattle.shen_graph.proofs.ReachLemmas.{Contains-nil, Contains-cons_cases}
-use Rattle.heap_dump.specs.Dumped.{Dumped, dumped, names_in, graph_in, IsRow, IsInForm, IsDump, HasDump, IsDumpOf, unpinned, root_rows}
+use Rattle.heap_dump.specs.Dumped.{Dumped, dumped, names_in, graph_in, IsRow, IsInForm, IsDump, HasDump, IsDumpOf, root_rows}
 use Rattle.heap_dump.specs.RowsReached.{graph_from, is_marked, MarksReached, Lacks, marked_rows}
 use Rattle.heap_dump.proofs.OwnGraph.{name_of, fields_of, name_at, length-names, before_at, order_rest, object_at, row_again, rows_by_names, counts_again, roots_again, same_parts}
 use Rattle.heap_dump.proofs.Counted.{reachable_again, leads_in_all, leads_in_few}

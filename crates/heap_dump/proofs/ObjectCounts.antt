@@ -1,13 +1,12 @@
 -- A thread of a legal history has made as many objects as allocations of it were answered a name.
-use Rattle.std.proofs.Common.{◌≡◌, ◌⊎◌, inl, inr, ℕ, ◌+◌, ◌≤◌, ◌<◌, ◌&&◌, Bool, true, false, cond, eqb, List, [], ◌∷◌, length, get_or, drop, Option, Some, None, refl, sym, ap, ◌∙◌, subst, arith}
+use Rattle.std.proofs.Common.{◌≡◌, inl, inr, ℕ, ◌+◌, ◌&&◌, Bool, true, false, cond, eqb, List, [], ◌∷◌, Option, Some, None, refl, ap, ◌∙◌, arith}
 use Rattle.std.proofs.lemmas.List.Sums.{sum_by-cons}
 use Rattle.std.proofs.lemmas.Bool.Decides.{nat_tests}
 use Rattle.shen_graph.specs.declared.command.Command.{Command}
 use Rattle.shen_graph.specs.declared.command.Command.TheVariants.{New, Get, Set, Cas, Xchg, Rd, Wr, Copy, Drop, Same, Gc, Pin, Unpin}
 use Rattle.shen_graph.specs.declared.command.Reply.{Reply}
-use Rattle.shen_graph.specs.declared.command.Reply.TheVariants.{Ref}
-use Rattle.shen_graph.specs.Graph.{Reference, Object, Graph, same_reference, named, with_named, field_at, number_at, opening}
-use Rattle.shen_graph.specs.Step.{Outcome, on, outcome, answers, IsNew, IsLegal}
+use Rattle.shen_graph.specs.Graph.{Reference, Object, Graph, same_reference, with_named, field_at, number_at}
+use Rattle.shen_graph.specs.Step.{Outcome, on, outcome, answers, IsLegal}
 use Rattle.shen_graph.specs.History.{Entry, after, after_entry, EachIsLegal}
 use Rattle.heap_dump.specs.ObjectsMade.{is_allocation, is_name_reply, has_made, objects_made}
 

@@ -92,16 +92,7 @@ left_after c (mutating m) got inside = absurd (false≢true inside)
 left_after c (helping h) got inside = absurd (false≢true inside)
 left_after c (controlling k) got inside = left_control c k.seen k.phase k.cset got k.image k.spot inside
 
--- it loads words, or stores some, and does not do both
-alone_control : (c : Config) (spot : ControlSpot) → 0 < controls.loads_left c spot → controls.stores_left c spot ≡ 0
-alone_control c (LoadWord index Whole) some = refl
-alone_control c _ some = absurd (omega (arith, some))
-
-pub loads_alone : (c : Config) (m : Machine) → 0 < loads_left c m → stores_left c m ≡ 0
-loads_alone c (controlling k) some = alone_control c k.spot some
-loads_alone c _ some = absurd (omega (arith, some))
-
--- so it is inside the image where it has words left
+-- it is inside the image where it has words left
 pub left_inside : (c : Config) (m : Machine) → 0 < loads_left c m + stores_left c m → is_inside_image c m ≡ true
 left_inside c m some = ⊎_elim
     (λ (loads : 0 < loads_left c m). loads_inside c m loads)

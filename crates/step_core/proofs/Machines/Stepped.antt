@@ -49,7 +49,6 @@ use Rattle.step_core.specs.Actor.{entry_of, command_by}
 use Rattle.step_core.specs.Own.{root_now, IsRoomOf}
 pub use Rattle.step_core.specs.Seats.{recording_of, copies_at, has_phase, has_set, IsResolving, HasTaken, MakesObject}
 use Rattle.cycle_steps.specs.Recording.{CanRecord}
-use Rattle.load_barrier.specs.declared.spot.ResolveSpot.{ResolveSpot}
 use Rattle.heap_world.specs.World.{World, Block, Plot, Scan, hand, room_of, name_at, Points, TargetIn, IsUsable, UsableIn, IsCovered, Shared}
 use Rattle.heap_world.specs.Asking as asking
 use Rattle.heap_world.specs.Asking.{Asking, HasNoPromise, IsAsked}

@@ -1,7 +1,7 @@
 use Rattle.std.proofs.Common.{◌≡◌, ◌≢◌, ℕ, List, sym, ap, ◌∙◌, subst}
-use Rattle.std.specs.Prelude.{false, if◌then◌else◌, slice_index}
+use Rattle.std.specs.Prelude.{if◌then◌else◌, slice_index}
 use Rattle.heap_words.specs.declared.config.Config.{Config}
-use Rattle.heap_words.specs.Words.{Word, Phase, Current}
+use Rattle.heap_words.specs.Words.{Word}
 use Rattle.heap_world.specs.Walk.{has}
 use Rattle.heap_world.specs.Change.{image_view}
 use Rattle.image_graph.specs.declared.image.Image.{Image}

@@ -2,11 +2,9 @@ use Rattle.std.proofs.Common.{◌≡◌, ◌≢◌, ◌+◌, ◌<◌, ℕ, Bool,
 use Rattle.std.specs.Prelude.{◌||◌, nat_eq, if◌then◌else◌, slice_index}
 use Rattle.std.proofs.lemmas.Bool.{cases_eq, cond-true, eq-eqb, ne_eqb, or_right}
 use Rattle.std.proofs.lemmas.List.{get_or-set_same, get_or-set_other, take_all}
-use Rattle.heap_words.specs.declared.config.Config.{Config}
 use Rattle.heap_world.specs.Walk.{has}
 use Rattle.heap_world.specs.Change.{image_words}
 use Rattle.image_graph.specs.State.{config_of}
-use Rattle.collector_rows.specs.Extent.{heap_index}
 use Rattle.control.specs.Image.{image_in}
 use Rattle.control.proofs.Images.{length-image_in}
 use Rattle.control.proofs.Starting.{has_more}

@@ -1,5 +1,4 @@
-use Rattle.std.proofs.Common.{◌≡◌, ◌<◌, length, sym, ap, ◌∙◌, subst, arith}
-use Rattle.heap_world.specs.Change.{image_words}
+use Rattle.std.proofs.Common.{◌≡◌, sym, ap, ◌∙◌, subst, arith}
 use Rattle.image_graph.specs.State.{config_of}
 use Rattle.collector_rows.specs.Extent.{next_loaded}
 use Rattle.control.specs.Image.{image_in}

@@ -7,7 +7,7 @@ use Rattle.heap_words.specs.Encoding.{next_in, end_in}
 use Rattle.regions.proofs.PlaceLemmas.{regions_tile}
 use Rattle.image_graph.specs.SeatBuffers.{buffer_region, IsInside}
 use Rattle.collector_rows.specs.Extent.{heap_index}
-use Rattle.control.specs.Starts.{start_index, IsHeapIndex}
+use Rattle.control.specs.Starts.{IsHeapIndex}
 use Rattle.control.proofs.Starting.{first_of_heap}
 use Rattle.control.proofs.starts.start_of.Goals as goal
 

@@ -5,7 +5,7 @@ use Rattle.shen_graph.specs.Graph.{hub}
 use Rattle.shen_graph.specs.GraphText.{bare}
 use Rattle.heap_dump.specs.Dumped.{row_words}
 use Rattle.heap_dump.specs.RowsReached.{marked_rows}
-use Rattle.heap_dump.proofs.MarkedRows.{marked_one, unmarked_one, marked_all}
+use Rattle.heap_dump.proofs.MarkedRows.{marked_one, unmarked_one}
 use Rattle.heap_dump.proofs.dump.copy_objects.Goals as goal
 use Rattle.heap_dump.proofs.dump.copy_objects.Goals.{then-marks-row, else-marks-row}
 

@@ -1,9 +1,9 @@
-use Rattle.std.proofs.Common.{◌≡◌, ℕ, List, sym, ap, ◌∙◌}
+use Rattle.std.proofs.Common.{◌≡◌, ap, ◌∙◌}
 use Rattle.std.specs.Prelude.{Result, Ok, Err, IfOk}
 use Rattle.shen_graph.specs.Graph.{opening}
 use Rattle.shen_graph.specs.History.{after}
 use Rattle.heap_dump.specs.declared.dump.Dump.{Dump}
-use Rattle.heap_dump.specs.Dumped.{Dumped, dumped, graph_in, IsDump, IsDumpOf}
+use Rattle.heap_dump.specs.Dumped.{Dumped, dumped, graph_in, IsDumpOf}
 use Rattle.heap_dump.specs.ObjectsMade.{objects_made_by_each}
 use Rattle.heap_dump.proofs.FormedDumps.{counts_made, text_has_dump, text_dump}
 use Rattle.heap_dump.proofs.making.dump_of.Goals as goal

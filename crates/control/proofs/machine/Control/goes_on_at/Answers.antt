@@ -1,4 +1,4 @@
-use Rattle.std.proofs.Common.{◌≡◌, Some, ap, sym, ◌∙◌, subst}
+use Rattle.std.proofs.Common.{Some, ap, sym, ◌∙◌, subst}
 use Rattle.collector_rows.specs.ControlRows.{hinted_by}
 use Rattle.control.specs.Image.{SeesOwn}
 use Rattle.control.specs.Seen.{config_in}

@@ -1,10 +1,9 @@
-use Rattle.std.proofs.Common.{◌≡◌, ◌+◌, ◌<◌, ap, sym, ◌∙◌, arith}
-use Rattle.std.proofs.lemmas.Bool.{ltb-true}
+use Rattle.std.proofs.Common.{◌≡◌, ◌+◌, ◌<◌, ap, ◌∙◌, arith}
 use Rattle.heap_world.specs.Change.{image_words}
 use Rattle.collector_rows.specs.declared.extent.Extent.TheVariants.{Whole}
 use Rattle.collector_rows.specs.declared.control_spot.ControlSpot.TheVariants.{LoadWord, StoreWord}
 use Rattle.cycle_pauses.specs.Collect.{collect_image}
-use Rattle.control.specs.Image.{image_in, is_inside_image}
+use Rattle.control.specs.Image.{image_in}
 use Rattle.control.specs.Seen.{config_in}
 use Rattle.control.proofs.Images.{length-image_in}
 use Rattle.control.proofs.Going.{loads_on, stores_on}

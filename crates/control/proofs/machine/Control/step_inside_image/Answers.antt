@@ -1,4 +1,4 @@
-use Rattle.std.proofs.Common.{◌≡◌, ◌+◌, ◌<◌, length, set, ap, sym, ◌∙◌, subst, arith}
+use Rattle.std.proofs.Common.{◌≡◌, ◌+◌, ◌<◌, length, set, ap, sym, ◌∙◌, arith}
 use Rattle.std.specs.Prelude.{slice_index}
 use Rattle.std.proofs.lemmas.Bool.{ltb-true}
 use Rattle.std.proofs.lemmas.List.{get_or-drop, get_or_read}
@@ -6,7 +6,7 @@ use Rattle.heap_words.specs.Access.{table_index}
 use Rattle.heap_words.specs.Words.{image_start}
 use Rattle.heap_world.specs.Change.{image_words}
 use Rattle.image_graph.specs.State.{config_of, words_of}
-use Rattle.collector_rows.specs.ControlRows.{Controlling, control_access, control_next}
+use Rattle.collector_rows.specs.ControlRows.{control_access, control_next}
 use Rattle.collector_rows.specs.declared.extent.Extent.{Extent}
 use Rattle.collector_rows.specs.declared.extent.Extent.TheVariants.{Whole}
 use Rattle.collector_rows.specs.declared.control_spot.ControlSpot.TheVariants.{LoadWord, StoreWord}

@@ -1,8 +1,8 @@
-use Rattle.std.proofs.Common.{◌≡◌, ℕ, ◌++◌, Option, Some, None, List, [], refl, ap, ◌∙◌, sym, subst}
+use Rattle.std.proofs.Common.{◌≡◌, ℕ, ◌++◌, Option, Some, None, List, refl, ap, ◌∙◌, sym, subst}
 use Rattle.std.specs.Prelude.{MatchOption, IsSome, Bool}
 use Rattle.heap_words.specs.declared.config.Config.{Config}
 use Rattle.shen_graph.specs.GraphText.{Row, Text}
-use Rattle.heap_dump.specs.Dumped.{Dumped, dumped, graph_in, IsDump, IsDumpOf}
+use Rattle.heap_dump.specs.Dumped.{dumped, graph_in, IsDump, IsDumpOf}
 use Rattle.heap_dump.specs.RowsReached.{MarksReached, marked_rows}
 use Rattle.heap_dump.proofs.MarkedRows.{dump_left, lacks_none, left_is_dump, left_is_of}
 use Rattle.heap_dump.proofs.dump.Dump.of.Goals as goal
