@@ -1,8 +1,8 @@
 -- The rows with a mark are the dump of what the roots lead to.
-use Rattle.std.proofs.Common.{ℕ, zero, suc, ◌≡◌, ◌+◌, ◌<◌, ◌≤◌, Bool, true, false, cond, List, [], ◌∷◌, ◌++◌, length, map, take, get_or, Some, inl, inr, refl, sym, ap, subst, ◌∙◌, append-nil, arith}
+use Rattle.std.proofs.Common.{ℕ, zero, suc, ◌≡◌, ◌+◌, ◌<◌, Bool, true, false, cond, List, [], ◌∷◌, ◌++◌, length, map, take, get_or, Some, inl, inr, refl, sym, ap, subst, ◌∙◌, append-nil, arith}
 use Rattle.std.specs.Prelude.{Contains}
 use Rattle.std.specs.List.{range_with_len}
-use Rattle.std.proofs.lemmas.List.{get_or_default, take_all}
+use Rattle.std.proofs.lemmas.List.{get_or_default}
 use Rattle.std.proofs.lemmas.List.Elements.{All-contains, All-weaker, All-contains_itself, Contains-append_right}
 use Rattle.heap_words.specs.declared.config.Config.{Config}
 use Rattle.shen_graph.specs.declared.name.Name.{Name}
@@ -76,10 +76,6 @@ pub unmarked_one : (marks : List Bool) (rows : List Row) (i : ℕ) (d : Row) →
     → marked_rows (take (i + 1) marks) (take (i + 1) rows) ≡ marked_rows (take i marks) (take i rows)
 unmarked_one marks rows i d low same is =
     marked_more marks rows i d low same ∙ ap (λ (b : Bool). marked_rows (take i marks) (take i rows) ++ cond b (get_or rows i d ∷ []) []) is ∙ append-nil (marked_rows (take i marks) (take i rows))
-
-pub marked_all : (marks : List Bool) (rows : List Row) (i : ℕ) → length marks ≡ length rows → length rows ≤ i → marked_rows (take i marks) (take i rows) ≡ marked_rows marks rows
-marked_all marks rows i same high =
-    ap (λ (ms : List Bool). marked_rows ms (take i rows)) (take_all i marks (omega (arith, same, high))) ∙ ap (marked_rows marks) (take_all i rows high)
 
 -- ---- names
 
