@@ -62,7 +62,7 @@ is_room_word (Heap address) = true
 is_room_word _ = false
 
 -- they are of the image
-room_in_image : (w : Word) → is_room_word w ≡ true → is_image w ≡ true
+room_in_image : (word : Word) → is_room_word word ≡ true → is_image word ≡ true
 room_in_image Free is = refl
 room_in_image Share is = refl
 room_in_image (Top region) is = refl
@@ -71,21 +71,21 @@ room_in_image (Heap address) is = refl
 room_in_image _ is = absurd (cc (is))
 
 -- a word of the heap of which it makes an access is the first one of the free words of the seat's buffer
-pub writes_spare : (c : Config) (w : World) (seat words : ℕ) (take : TakeSpot) → CanTake c w seat words take → (at : ℕ) → (touch_at seat words take).word ≡ Heap at
-    → (more : ℕ) × (w.block at ≡ Some (spare seat more)) × (1 ≤ more)
-writes_spare c w seat words (Fill buffer address room) can at is =
+pub writes_spare : (config : Config) (world : World) (seat words : ℕ) (take : TakeSpot) → CanTake config world seat words take → (at : ℕ) → (touch_at seat words take).word ≡ Heap at
+    → (more : ℕ) × (world.block at ≡ Some (spare seat more)) × (1 ≤ more)
+writes_spare config world seat words (Fill buffer address room) can at is =
     let same : next_in buffer ≡ at = cc in
-    (free_words buffer, ap w.block (sym same) ∙ can.facts.left, (let some = can.facts.some in omega (arith, some)))
-writes_spare c w seat words LoadBuffer can at is = cc
-writes_spare c w seat words (LoadShared buffer) can at is = cc
-writes_spare c w seat words (LoadTop buffer region) can at is = cc
-writes_spare c w seat words (Carve buffer region top room) can at is = cc
-writes_spare c w seat words (LoadFree buffer shared) can at is = cc
-writes_spare c w seat words (TakeRegion buffer shared region) can at is = cc
-writes_spare c w seat words (ShareRegion buffer shared region) can at is = cc
-writes_spare c w seat words (GiveBack buffer region) can at is = cc
-writes_spare c w seat words (StoreBuffer address room) can at is = cc
-writes_spare c w seat words (Ended taken end) can at is = cc
+    (free_words buffer, ap world.block (sym same) ∙ can.facts.left, (let some = can.facts.some in omega (arith, some)))
+writes_spare config world seat words LoadBuffer can at is = cc
+writes_spare config world seat words (LoadShared buffer) can at is = cc
+writes_spare config world seat words (LoadTop buffer region) can at is = cc
+writes_spare config world seat words (Carve buffer region top room) can at is = cc
+writes_spare config world seat words (LoadFree buffer shared) can at is = cc
+writes_spare config world seat words (TakeRegion buffer shared region) can at is = cc
+writes_spare config world seat words (ShareRegion buffer shared region) can at is = cc
+writes_spare config world seat words (GiveBack buffer region) can at is = cc
+writes_spare config world seat words (StoreBuffer address room) can at is = cc
+writes_spare config world seat words (Ended taken end) can at is = cc
 
 module _ (seat words : ℕ) where
   -- its next access is of one of them
@@ -150,30 +150,30 @@ never (Ended taken end) _ waits is = cc
 carved_never : (buffer region top room address : ℕ) → says_at (Carve buffer region top room) (carved_at buffer address room) ≡ Again → ⊥
 carved_never buffer region top room address = by_test (nat_lt (next_in buffer) (end_in buffer))
   where
-    by_test : (b : Bool) → says_at (Carve buffer region top room) (if b then Fill buffer address room else StoreBuffer address room) ≡ Again → ⊥
+    by_test : (holds : Bool) → says_at (Carve buffer region top room) (if holds then Fill buffer address room else StoreBuffer address room) ≡ Again → ⊥
     by_test true is = cc
     by_test false is = cc
 
 -- a step says so exactly where the taking waits
-pub says_where_it_waits : (c : Config) (words : ℕ) (kind : Kind) (take : TakeSpot) (got : ℕ) → (says_at take (next_at c words kind take got) ≡ Again) ↔ WaitsAt take got
-says_where_it_waits c words kind (Carve buffer region top room) got = ⊎_elim
+pub says_where_it_waits : (config : Config) (words : ℕ) (kind : Kind) (take : TakeSpot) (got : ℕ) → (says_at take (next_at config words kind take got) ≡ Again) ↔ WaitsAt take got
+says_where_it_waits config words kind (Carve buffer region top room) got = ⊎_elim
     (λ (same : got ≡ top). (
-      λ is. absurd (carved_never buffer region top room (base_of c region + top)
-          (subst (λ b. says_at (Carve buffer region top room) (if b then carved_at buffer (base_of c region + top) room else LoadShared buffer) ≡ Again) (eq-eqb got top same) is)),
+      λ is. absurd (carved_never buffer region top room (base_of config region + top)
+          (subst (λ b. says_at (Carve buffer region top room) (if b then carved_at buffer (base_of config region + top) room else LoadShared buffer) ≡ Again) (eq-eqb got top same) is)),
       λ waits. absurd (waits same),
     ))
     (λ (differs : got ≢ top). (
       λ is. differs,
-      λ waits. ap (says_at (Carve buffer region top room)) (cond-false (got == top) (carved_at buffer (base_of c region + top) room) (LoadShared buffer) (ne_eqb got top differs)),
+      λ waits. ap (says_at (Carve buffer region top room)) (cond-false (got == top) (carved_at buffer (base_of config region + top) room) (LoadShared buffer) (ne_eqb got top differs)),
     ))
     (cases_eq got top)
-says_where_it_waits c words kind (TakeRegion buffer shared region) got = grind (arith, nat_tests)
-says_where_it_waits c words kind (ShareRegion buffer shared region) got = grind (arith, nat_tests)
-says_where_it_waits c words kind LoadBuffer got = (λ is. absurd (never LoadBuffer (next_at c words kind LoadBuffer got) refl is), λ waits. absurd waits)
-says_where_it_waits c words kind (LoadShared buffer) got = (λ is. absurd (never (LoadShared buffer) (next_at c words kind (LoadShared buffer) got) refl is), λ waits. absurd waits)
-says_where_it_waits c words kind (LoadTop buffer region) got = (λ is. absurd (never (LoadTop buffer region) (next_at c words kind (LoadTop buffer region) got) refl is), λ waits. absurd waits)
-says_where_it_waits c words kind (LoadFree buffer shared) got = (λ is. absurd (never (LoadFree buffer shared) (next_at c words kind (LoadFree buffer shared) got) refl is), λ waits. absurd waits)
-says_where_it_waits c words kind (GiveBack buffer region) got = (λ is. absurd (never (GiveBack buffer region) (next_at c words kind (GiveBack buffer region) got) refl is), λ waits. absurd waits)
-says_where_it_waits c words kind (Fill buffer address room) got = (λ is. absurd (never (Fill buffer address room) (next_at c words kind (Fill buffer address room) got) refl is), λ waits. absurd waits)
-says_where_it_waits c words kind (StoreBuffer address room) got = (λ is. absurd (never (StoreBuffer address room) (next_at c words kind (StoreBuffer address room) got) refl is), λ waits. absurd waits)
-says_where_it_waits c words kind (Ended taken end) got = (λ is. absurd (never (Ended taken end) (next_at c words kind (Ended taken end) got) refl is), λ waits. absurd waits)
+says_where_it_waits config words kind (TakeRegion buffer shared region) got = grind (arith, nat_tests)
+says_where_it_waits config words kind (ShareRegion buffer shared region) got = grind (arith, nat_tests)
+says_where_it_waits config words kind LoadBuffer got = (λ is. absurd (never LoadBuffer (next_at config words kind LoadBuffer got) refl is), λ waits. absurd waits)
+says_where_it_waits config words kind (LoadShared buffer) got = (λ is. absurd (never (LoadShared buffer) (next_at config words kind (LoadShared buffer) got) refl is), λ waits. absurd waits)
+says_where_it_waits config words kind (LoadTop buffer region) got = (λ is. absurd (never (LoadTop buffer region) (next_at config words kind (LoadTop buffer region) got) refl is), λ waits. absurd waits)
+says_where_it_waits config words kind (LoadFree buffer shared) got = (λ is. absurd (never (LoadFree buffer shared) (next_at config words kind (LoadFree buffer shared) got) refl is), λ waits. absurd waits)
+says_where_it_waits config words kind (GiveBack buffer region) got = (λ is. absurd (never (GiveBack buffer region) (next_at config words kind (GiveBack buffer region) got) refl is), λ waits. absurd waits)
+says_where_it_waits config words kind (Fill buffer address room) got = (λ is. absurd (never (Fill buffer address room) (next_at config words kind (Fill buffer address room) got) refl is), λ waits. absurd waits)
+says_where_it_waits config words kind (StoreBuffer address room) got = (λ is. absurd (never (StoreBuffer address room) (next_at config words kind (StoreBuffer address room) got) refl is), λ waits. absurd waits)
+says_where_it_waits config words kind (Ended taken end) got = (λ is. absurd (never (Ended taken end) (next_at config words kind (Ended taken end) got) refl is), λ waits. absurd waits)

@@ -24,67 +24,67 @@ use Rattle.alloc_buffers.specs.Rows.{free_words, carved_at}
 use Rattle.alloc_buffers.specs.Facts.{CanTake}
 use Rattle.alloc_buffers.proofs.TakeSteps.{TakeStep, can_at, looked, exchange_lost, left_of, buffer_small, store_ready, region_end_small}
 
-module _ (c : Config) (u : World) (seat words : ℕ) (kind : Kind) (buffer region top room : ℕ) (shared : Shared c u) (can : CanTake c u seat words (Carve buffer region top room)) (won : (u.memory (Top region) == top) ≡ true) where
+module _ (config : Config) (world : World) (seat words : ℕ) (kind : Kind) (buffer region top room : ℕ) (shared : Shared config world) (can : CanTake config world seat words (Carve buffer region top room)) (won : (world.memory (Top region) == top) ≡ true) where
   abbrev tops : ℕ → ℕ
-  tops r = u.memory (Top r)
+  tops region = world.memory (Top region)
 
   -- where the new buffer lies
   abbrev address : ℕ
-  address = base_of c region + top
+  address = base_of config region + top
 
   -- the words above the top lie in the region, and are as many as are wanted
-  numbers : (top + room ≤ c.region_words) × (words ≤ room)
-  numbers = let fit = and_parts _ _ (and_parts _ _ can.ready).1 in (leb-true (top + room) c.region_words fit.0, leb-true words room fit.1)
+  numbers : (top + room ≤ config.region_words) × (words ≤ room)
+  numbers = let fit = and_parts _ _ (and_parts _ _ can.ready).1 in (leb-true (top + room) config.region_words fit.0, leb-true words room fit.1)
 
   -- the world in which the words above the top are carved
   abbrev carved_world : World
-  carved_world = record { memory = write u.memory (Top region) (top + room); block = updated u.block address (Some (carved seat room)); ghost = u.ghost; graph = u.graph }
+  carved_world = record { memory = write world.memory (Top region) (top + room); block = updated world.block address (Some (carved seat room)); ghost = world.ghost; graph = world.graph }
 
   -- the region has room
-  grows : CanGrow c tops u.block region top room
+  grows : CanGrow config tops world.block region top room
   grows = record {
     parsable = shared.parsable;
     rooms = shared.owned.rooms;
     within = can.facts.1.within;
-    top_is = eqb-true (u.memory (Top region)) top won;
+    top_is = eqb-true (world.memory (Top region)) top won;
     room = numbers.0;
     some = (let least = can.least in let long = numbers.1 in omega (arith, least, long));
   }
 
   -- each piece stays
-  stays_there : (a : ℕ) (b : Block) → u.block a ≡ Some b → carved_world.block a ≡ Some b
-  stays_there = stays c tops u.block region top room seat grows
+  stays_there : (address : ℕ) (piece : Block) → world.block address ≡ Some piece → carved_world.block address ≡ Some piece
+  stays_there = stays config tops world.block region top room seat grows
 
   -- what may be used still may
-  targets_stay : (a refs nums : ℕ) (n : Name) → Target c (u.memory Cset) (u.memory Evac) u.block a refs nums n → Target c (u.memory Cset) (u.memory Evac) carved_world.block a refs nums n
-  targets_stay a refs nums n has = record { piece = stays_there a (thing n refs nums) has.piece; safe = has.safe }
+  targets_stay : (address refs nums : ℕ) (name : Name) → Target config (world.memory Cset) (world.memory Evac) world.block address refs nums name → Target config (world.memory Cset) (world.memory Evac) carved_world.block address refs nums name
+  targets_stay address refs nums name has = record { piece = stays_there address (thing name refs nums) has.piece; safe = has.safe }
 
   -- machines share what they should
-  shared_carved : Shared c carved_world
+  shared_carved : Shared config carved_world
   shared_carved = record {
-    parsable = parsable_more c tops u.block region top room seat grows;
-    contents = contents_more c tops u.block region top room seat grows (λ a. u.memory (Heap a)) u.graph.object u.graph.count shared.contents;
-    owned = owned_more c tops u.block region top room seat grows (u.memory Share) (u.memory Free) (u.memory Cset) (λ s. u.memory (Current s)) u.ghost.owner can.seated can.facts.1.in_use shared.owned;
+    parsable = parsable_more config tops world.block region top room seat grows;
+    contents = contents_more config tops world.block region top room seat grows (λ a. world.memory (Heap a)) world.graph.object world.graph.count shared.contents;
+    owned = owned_more config tops world.block region top room seat grows (world.memory Share) (world.memory Free) (world.memory Cset) (λ s. world.memory (Current s)) world.ghost.owner can.seated can.facts.1.in_use shared.owned;
     phased = shared.phased;
-    unwritten = unwritten_more c tops u.block region top room seat grows (λ a. u.memory (Heap a)) shared.unwritten;
-    marked = marking_more c tops u.block region top room seat grows (u.memory Phase) (λ n. u.memory (Grey n)) (λ n. u.memory (Black n)) (λ t. u.memory (Count t)) (λ t k. u.memory (Buffer t k))
-        (λ r. u.memory (Tams r)) (λ a. u.memory (Heap a)) u.ghost.snapshot u.ghost.recording u.ghost.scanning shared.marked;
-    evacuated = evacuating_more c tops u.block region top room seat grows (u.memory Phase) (u.memory Cset) (u.memory Evac) (u.memory Claim) (u.memory Free) (λ r. u.memory (Tams r)) (λ a. u.memory (Heap a)) (λ n. u.memory (Black n))
-        u.ghost.owner u.ghost.copying u.ghost.working can.facts.1.outside shared.evacuated;
-    updated = λ on. updating_more c tops u.block region top room seat grows (u.memory Cset) (u.memory Claim) (λ r. u.memory (Limit r)) (λ a. u.memory (Heap a)) u.ghost.scanning (shared.updated on);
-    pinned = pins_stay c (u.memory Cset) (u.memory Evac) (u.memory Cset) (u.memory Evac) u.block carved_world.block (λ t i. u.memory (Pin t i)) u.graph.pin targets_stay shared.pinned;
+    unwritten = unwritten_more config tops world.block region top room seat grows (λ a. world.memory (Heap a)) shared.unwritten;
+    marked = marking_more config tops world.block region top room seat grows (world.memory Phase) (λ n. world.memory (Grey n)) (λ n. world.memory (Black n)) (λ t. world.memory (Count t)) (λ t k. world.memory (Buffer t k))
+        (λ r. world.memory (Tams r)) (λ a. world.memory (Heap a)) world.ghost.snapshot world.ghost.recording world.ghost.scanning shared.marked;
+    evacuated = evacuating_more config tops world.block region top room seat grows (world.memory Phase) (world.memory Cset) (world.memory Evac) (world.memory Claim) (world.memory Free) (λ r. world.memory (Tams r)) (λ a. world.memory (Heap a)) (λ n. world.memory (Black n))
+        world.ghost.owner world.ghost.copying world.ghost.working can.facts.1.outside shared.evacuated;
+    updated = λ on. updating_more config tops world.block region top room seat grows (world.memory Cset) (world.memory Claim) (λ r. world.memory (Limit r)) (λ a. world.memory (Heap a)) world.ghost.scanning (shared.updated on);
+    pinned = pins_stay config (world.memory Cset) (world.memory Evac) (world.memory Cset) (world.memory Evac) world.block carved_world.block (λ t i. world.memory (Pin t i)) world.graph.pin targets_stay shared.pinned;
   }
 
   -- what a word stands for it still stands for
-  names : (a : ℕ) (n : Name) → name_at (u.block a) ≡ Some n → name_at (carved_world.block a) ≡ Some n
-  names = names_stay c tops u.block region top room seat grows
+  names : (address : ℕ) (name : Name) → name_at (world.block address) ≡ Some name → name_at (carved_world.block address) ≡ Some name
+  names = names_stay config tops world.block region top room seat grows
 
   -- marking goes on
-  marks_carved : (j : ℕ) → RelyMarks c j u carved_world
-  marks_carved j = rely_marks c u carved_world j refl (λ n. refl) (λ t. refl) (λ t k. refl) refl (λ t. refl) refl (markable_more c tops u.block region top room seat grows) (λ a is. refl)
+  marks_carved : (j : ℕ) → RelyMarks config j world carved_world
+  marks_carved j = rely_marks config world carved_world j refl (λ n. refl) (λ t. refl) (λ t k. refl) refl (λ t. refl) refl (markable_more config tops world.block region top room seat grows) (λ a is. refl)
 
   -- the region is not set aside
-  set_stays : CopiesStay c u carved_world
+  set_stays : CopiesStay config world carved_world
   set_stays = record {
     cset = refl;
     evac = refl;
@@ -92,17 +92,17 @@ module _ (c : Config) (u : World) (seat words : ℕ) (kind : Kind) (buffer regio
     moveds = λ a refs nums to n is. stays_there a (moved n refs nums to) is;
     spents = λ a more to is. stays_there a (spent more to) is;
     pieces = λ a x inside is. (x, stays_there a x is, refl, refl);
-    no_new = λ a refs nums n inside is. (same_but_loose c tops u.block region top room seat grows).came a (thing n refs nums) refl is;
-    tops = λ r is. updated_else tops region (top + room) r (λ same. can.facts.1.outside (subst (IsIn (u.memory Cset)) (sym same) is));
+    no_new = λ a refs nums n inside is. (same_but_loose config tops world.block region top room seat grows).came a (thing n refs nums) refl is;
+    tops = λ r is. updated_else tops region (top + room) r (λ same. can.facts.1.outside (subst (IsIn (world.memory Cset)) (sym same) is));
   }
 
   -- the facts of the seat's machine stand
-  keeps_carved : Keeps c seat u carved_world
+  keeps_carved : Keeps config seat world carved_world
   keeps_carved = record {
     names = names;
     targets = targets_stay;
     promises = λ a more is. stays_there a (promised seat more) is;
-    no_promises = λ a more is. old_promise c tops u.block region top room seat grows a seat more is;
+    no_promises = λ a more is. old_promise config tops world.block region top room seat grows a seat more is;
     promise_words = λ a more k is below. refl;
     root_words = λ i. refl;
     roots = λ i. refl;
@@ -112,24 +112,24 @@ module _ (c : Config) (u : World) (seat words : ℕ) (kind : Kind) (buffer regio
     wait = refl;
     answer = refl;
     marks = (marks_carved seat).keeps;
-    copies = keeps_copies c u carved_world set_stays;
+    copies = keeps_copies config world carved_world set_stays;
   }
 
   -- others can rely on what they knew
-  others_carved : (j : ℕ) → j ≢ seat → Rely c j u carved_world
+  others_carved : (j : ℕ) → j ≢ seat → Rely config j world carved_world
   others_carved j differs = record {
     names = names;
     targets = targets_stay;
     rooms = λ a x is of. stays_there a x is;
-    no_rooms = λ a x is of. old_room c tops u.block region top room seat grows a j x differs is of;
+    no_rooms = λ a x is of. old_room config tops world.block region top room seat grows a j x differs is of;
     room_words = λ a k x is of below. refl;
     promises = λ a more is. stays_there a (promised j more) is;
-    no_promises = λ a more is. old_promise c tops u.block region top room seat grows a j more is;
+    no_promises = λ a more is. old_promise config tops world.block region top room seat grows a j more is;
     promise_words = λ a more k is below. refl;
     current = refl;
     opens = λ r is. record { within = is.within; in_use = is.in_use; nobodys = is.nobodys; outside = is.outside };
     owners = λ r is. is;
-    tops = λ r is. updated_else tops region (top + room) r (λ same. none-some j (sym can.facts.1.nobodys ∙ ap u.ghost.owner same ∙ is));
+    tops = λ r is. updated_else tops region (top + room) r (λ same. none-some j (sym can.facts.1.nobodys ∙ ap world.ghost.owner same ∙ is));
     root_words = λ i. refl;
     roots = λ i. refl;
     pin_words = λ i. refl;
@@ -140,29 +140,29 @@ module _ (c : Config) (u : World) (seat words : ℕ) (kind : Kind) (buffer regio
     state = refl;
     asked = λ is. is;
     marks = marks_carved j;
-    copies = rely_copies c u carved_world j set_stays refl refl (λ a k b seated counted inside is from below. refl);
-    fields = fields_stored c u carved_world (λ r. refl) (λ r. refl) refl (λ a more is. stays_there a (dead more) is) (λ a more is. stays_there a (filler more) is) (λ on a refs nums k n is below. inl refl);
+    copies = rely_copies config world carved_world j set_stays refl refl (λ a k b seated counted inside is from below. refl);
+    fields = fields_stored config world carved_world (λ r. refl) (λ r. refl) refl (λ a more is. stays_there a (dead more) is) (λ a more is. stays_there a (filler more) is) (λ on a refs nums k n is below. inl refl);
   }
 
   -- the new buffer is small enough to be stored
   ends_low : address + room < 2 ^ 32
-  ends_low = let high = numbers.0 in region_end_small c (λ r. c.region_words) region (address + room) can.facts.1.within (omega arith) (omega (arith, high))
+  ends_low = let high = numbers.0 in region_end_small config (λ r. config.region_words) region (address + room) can.facts.1.within (omega arith) (omega (arith, high))
 
   -- the words of the seat's buffer
   abbrev word : ℕ
-  word = u.memory (Current seat)
+  word = world.memory (Current seat)
 
   -- what the seat counts on then: the old buffer has free words, which are to be filled
-  fills : next_in buffer < end_in buffer → CanTake c carved_world seat words (Fill buffer address room)
+  fills : next_in buffer < end_in buffer → CanTake config carved_world seat words (Fill buffer address room)
   fills some =
       let is = can.facts.0.is in
       let more : next_in word < end_in word = subst (λ b. next_in b < end_in b) (sym is) some in
-      let left : u.block (next_in buffer) ≡ Some (spare seat (free_words buffer)) = subst (λ b. u.block (next_in b) ≡ Some (spare seat (free_words b))) is (left_of c u seat words kind shared can.rooms more) in
-      let low : end_in buffer < 2 ^ 32 = subst (λ b. end_in b < 2 ^ 32) is (buffer_small c u seat words kind shared (λ none. (let next : next_in word ≡ 0 = ap next_in none in let end : end_in word ≡ 0 = ap end_in none in omega (arith, next, end, more)))) in
-      let inside : is_word c (Heap (next_in buffer + 0)) ≡ true = piece_word c tops u.block shared.parsable.plotted (next_in buffer) 0 (spare seat (free_words buffer)) left (omega (arith, some)) in
-      can_at c u seat words kind (Carve buffer region top room) (Fill buffer address room) carved_world can refl refl
+      let left : world.block (next_in buffer) ≡ Some (spare seat (free_words buffer)) = subst (λ b. world.block (next_in b) ≡ Some (spare seat (free_words b))) is (left_of config world seat words kind shared can.rooms more) in
+      let low : end_in buffer < 2 ^ 32 = subst (λ b. end_in b < 2 ^ 32) is (buffer_small config world seat words kind shared (λ none. (let next : next_in word ≡ 0 = ap next_in none in let end : end_in word ≡ 0 = ap end_in none in omega (arith, next, end, more)))) in
+      let inside : is_word config (Heap (next_in buffer + 0)) ≡ true = piece_word config tops world.block shared.parsable.plotted (next_in buffer) 0 (spare seat (free_words buffer)) left (omega (arith, some)) in
+      can_at config world seat words kind (Carve buffer region top room) (Fill buffer address room) carved_world can refl refl
       (and_from _ _
-      (and_from _ _ (ap (λ a. is_word c (Heap a)) (omega arith) ∙ inside) (lt-ltb (filler_header (free_words buffer)) (2 ^ 64) (omega (arith, low))))
+      (and_from _ _ (ap (λ a. is_word config (Heap a)) (omega arith) ∙ inside) (lt-ltb (filler_header (free_words buffer)) (2 ^ 64) (omega (arith, low))))
       (and_from _ _
       (and_from _ _ (lt-ltb (next_in buffer) (end_in buffer) some) (lt-ltb (end_in buffer) (2 ^ 32) (omega (arith, low))))
       (and_from _ _ (le-leb words room numbers.1) (lt-ltb (address + room) (2 ^ 32) (omega (arith, ends_low))))))
@@ -170,51 +170,51 @@ module _ (c : Config) (u : World) (seat words : ℕ) (kind : Kind) (buffer regio
         is = is;
         some = some;
         left = stays_there (next_in buffer) (spare seat (free_words buffer)) left;
-        here = updated_there u.block address (Some (carved seat room));
+        here = updated_there world.block address (Some (carved seat room));
         long = numbers.1;
       })
       (λ a x is_now of. ⊎_elim
       (λ (new : (a ≡ address) × (carved seat room ≡ x)). inr (new.0, sym new.1))
       (λ old. inl (can.rooms a x old of))
-      (own_room c tops u.block region top room seat grows a x is_now))
+      (own_room config tops world.block region top room seat grows a x is_now))
 
   -- or it has none, and goes
-  stores : end_in buffer ≤ next_in buffer → CanTake c carved_world seat words (StoreBuffer address room)
+  stores : end_in buffer ≤ next_in buffer → CanTake config carved_world seat words (StoreBuffer address room)
   stores none =
-      can_at c u seat words kind (Carve buffer region top room) (StoreBuffer address room) carved_world can refl refl
-      (store_ready c seat words address room can.seated numbers.1 ends_low)
-      (record { here = inr (updated_there u.block address (Some (carved seat room))); long = numbers.1 })
+      can_at config world seat words kind (Carve buffer region top room) (StoreBuffer address room) carved_world can refl refl
+      (store_ready config seat words address room can.seated numbers.1 ends_low)
+      (record { here = inr (updated_there world.block address (Some (carved seat room))); long = numbers.1 })
       (λ a x is_now of. ⊎_elim
       (λ (new : (a ≡ address) × (carved seat room ≡ x)). new.0)
       (λ old.
       let free = can.rooms a x old of in
-      let piece : u.block a ≡ Some (spare seat free.0) = old ∙ ap (λ b. Some b) free.1 in
+      let piece : world.block a ≡ Some (spare seat free.0) = old ∙ ap (λ b. Some b) free.1 in
       let told = shared.owned.buffers.spares a seat free.0 piece in
       let some = shared.owned.rooms.spares a seat free.0 piece in
       let is = can.facts.0.is in
       let next : next_in buffer ≡ a = ap next_in (sym is) ∙ told.0 in
       let end : end_in buffer ≡ a + free.0 = ap end_in (sym is) ∙ told.1 in
       absurd (omega (arith, next, end, some, none)))
-      (own_room c tops u.block region top room seat grows a x is_now))
+      (own_room config tops world.block region top room seat grows a x is_now))
 
   -- so it can go on in either case
-  goes_on : CanTake c carved_world seat words (carved_at buffer address room)
+  goes_on : CanTake config carved_world seat words (carved_at buffer address room)
   goes_on = ⊎_elim
       (λ (some : nat_lt (next_in buffer) (end_in buffer) ≡ true).
-      subst (CanTake c carved_world seat words) (sym (cond-true (nat_lt (next_in buffer) (end_in buffer)) (Fill buffer address room) (StoreBuffer address room) some)) (fills (ltb-true _ _ some)))
+      subst (CanTake config carved_world seat words) (sym (cond-true (nat_lt (next_in buffer) (end_in buffer)) (Fill buffer address room) (StoreBuffer address room) some)) (fills (ltb-true _ _ some)))
       (λ (none : nat_lt (next_in buffer) (end_in buffer) ≡ false).
-      subst (CanTake c carved_world seat words) (sym (cond-false (nat_lt (next_in buffer) (end_in buffer)) (Fill buffer address room) (StoreBuffer address room) none)) (stores (ltb-false _ _ none)))
+      subst (CanTake config carved_world seat words) (sym (cond-false (nat_lt (next_in buffer) (end_in buffer)) (Fill buffer address room) (StoreBuffer address room) none)) (stores (ltb-false _ _ none)))
       (cases_Bool (nat_lt (next_in buffer) (end_in buffer)))
 
   -- the exchange of the top carves the words
-  carves : TakeStep c u seat words kind (Carve buffer region top room)
+  carves : TakeStep config world seat words kind (Carve buffer region top room)
   carves = record {
     world = carved_world;
-    memory = ap (write u.memory (Top region)) (sym (cond-true (u.memory (Top region) == top) (top + room) (u.memory (Top region)) won));
+    memory = ap (write world.memory (Top region)) (sym (cond-true (world.memory (Top region) == top) (top + room) (world.memory (Top region)) won));
     graph = refl;
     shared = shared_carved;
     own = (
-      subst (CanTake c carved_world seat words) (sym (cond-true (u.memory (Top region) == top) (carved_at buffer address room) (LoadShared buffer) won)) goes_on,
+      subst (CanTake config carved_world seat words) (sym (cond-true (world.memory (Top region) == top) (carved_at buffer address room) (LoadShared buffer) won)) goes_on,
       record { copying = refl; working = refl },
     );
     keeps = keeps_carved;
@@ -222,11 +222,11 @@ module _ (c : Config) (u : World) (seat words : ℕ) (kind : Kind) (buffer regio
   }
 
 -- the step that carves: where another machine was faster, it looks again
-pub at_carve : (c : Config) (u : World) (seat words : ℕ) (kind : Kind) (buffer region top room : ℕ) → Shared c u → CanTake c u seat words (Carve buffer region top room) → TakeStep c u seat words kind (Carve buffer region top room)
-at_carve c u seat words kind buffer region top room shared can = ⊎_elim
-    (carves c u seat words kind buffer region top room shared can)
-    (λ (lost : (u.memory (Top region) == top) ≡ false).
-    looked c u seat words kind (Carve buffer region top room) (LoadShared buffer) shared can (exchange_lost u.memory (Top region) top (top + room) lost)
-    (cond-false (u.memory (Top region) == top) (carved_at buffer (base_of c region + top) room) (LoadShared buffer) lost) refl
+pub at_carve : (config : Config) (world : World) (seat words : ℕ) (kind : Kind) (buffer region top room : ℕ) → Shared config world → CanTake config world seat words (Carve buffer region top room) → TakeStep config world seat words kind (Carve buffer region top room)
+at_carve config world seat words kind buffer region top room shared can = ⊎_elim
+    (carves config world seat words kind buffer region top room shared can)
+    (λ (lost : (world.memory (Top region) == top) ≡ false).
+    looked config world seat words kind (Carve buffer region top room) (LoadShared buffer) shared can (exchange_lost world.memory (Top region) top (top + room) lost)
+    (cond-false (world.memory (Top region) == top) (carved_at buffer (base_of config region + top) room) (LoadShared buffer) lost) refl
     can.facts.0 can.rooms)
-    (cases_Bool (u.memory (Top region) == top))
+    (cases_Bool (world.memory (Top region) == top))

@@ -17,9 +17,9 @@ use Rattle.alloc_buffers.specs.Rows.{has_free, has_room, has_none, free_words, c
 use Rattle.alloc_buffers.specs.Room.{after_found, FindsNoRoom, IsBufferShort, IsFullAt, is_searching, HasFull, MayTakeNone, IsLackOfRoom}
 
 -- the test of the row, in numbers
-may_take_none : (c : Config) (kind : Kind) (free : ℕ) → has_none c kind free ≡ true → MayTakeNone c kind free
-may_take_none c Fresh free none = leb-true (members_below free 64) c.reserve none
-may_take_none c Evacuated free none = leb-true (members_below free 64) 0 none
+may_take_none : (config : Config) (kind : Kind) (free : ℕ) → has_none config kind free ≡ true → MayTakeNone config kind free
+may_take_none config Fresh free none = leb-true (members_below free 64) config.reserve none
+may_take_none config Evacuated free none = leb-true (members_below free 64) 0 none
 
 -- a list in two parts begins as the first part does, if that has anything
 first_of_two : (got : ℕ) (more before after : List ℕ) → (got ∷ more) ≡ before ++ after → (before ≡ []) ⊎ ((rest : List ℕ) × (before ≡ got ∷ rest) × (more ≡ rest ++ after))
@@ -35,23 +35,23 @@ none_of_two (x ∷ rest) after is = cc
 abbrev carve_next : (buffer address room : ℕ) → Bool → Bool → TakeSpot
 carve_next buffer address room done left = if done then (if left then Fill buffer address room else StoreBuffer address room) else LoadShared buffer
 
-module _ (c : Config) (words : ℕ) (kind : Kind) where
+module _ (config : Config) (words : ℕ) (kind : Kind) where
   -- it has found these words since, and ends without room at the next
   record Ends (spot : TakeSpot) (found : List ℕ) (free : ℕ) : Type 0 where
-    going : is_ended (after_found c words kind spot found) ≡ false
-    ends : next_at c words kind (after_found c words kind spot found) free ≡ Ended NoRoom 0
+    going : is_ended (after_found config words kind spot found) ≡ false
+    ends : next_at config words kind (after_found config words kind spot found) free ≡ Ended NoRoom 0
 
   -- to the end it looks for a free region
   abbrev Searches : TakeSpot → List ℕ → Type 0
-  Searches spot found = (before after : List ℕ) → found ≡ before ++ after → is_searching (after_found c words kind spot before) ≡ true
+  Searches spot found = (before after : List ℕ) → found ≡ before ++ after → is_searching (after_found config words kind spot before) ≡ true
 
   -- what there is to show at a spot
   abbrev Cause : Bool → TakeSpot → List ℕ → Type 0
-  Cause true spot found = Searches spot found ⊎ HasFull c words kind spot found
-  Cause false spot found = HasFull c words kind spot found
+  Cause true spot found = Searches spot found ⊎ HasFull config words kind spot found
+  Cause false spot found = HasFull config words kind spot found
 
   -- once a taking has ended it goes on no more
-  ended_stays : (taken : Taken) (end : ℕ) (more : List ℕ) → is_ended (after_found c words kind (Ended taken end) more) ≡ false → ⊥
+  ended_stays : (taken : Taken) (end : ℕ) (more : List ℕ) → is_ended (after_found config words kind (Ended taken end) more) ≡ false → ⊥
   ended_stays taken end [] is = cc
   ended_stays taken end (got ∷ more) is = ended_stays taken end more is
 
@@ -61,53 +61,53 @@ module _ (c : Config) (words : ℕ) (kind : Kind) where
   stored_never address room (got ∷ more) free e = ended_stays (At address) (address + room) more e.going
 
   -- a spot at which it looks for a free region, and a word there
-  searches_on : (spot next : TakeSpot) (got : ℕ) (more : List ℕ) → is_searching spot ≡ true → next_at c words kind spot got ≡ next → Searches next more → Searches spot (got ∷ more)
+  searches_on : (spot next : TakeSpot) (got : ℕ) (more : List ℕ) → is_searching spot ≡ true → next_at config words kind spot got ≡ next → Searches next more → Searches spot (got ∷ more)
   searches_on spot next got more here leads on before after is = ⊎_elim
-      (λ (empty : before ≡ []). ap (λ b. is_searching (after_found c words kind spot b)) empty ∙ here)
+      (λ (empty : before ≡ []). ap (λ b. is_searching (after_found config words kind spot b)) empty ∙ here)
       (λ (some : (rest : List ℕ) × (before ≡ got ∷ rest) × (more ≡ rest ++ after)).
-      ap (λ b. is_searching (after_found c words kind spot b)) some.1 ∙ ap (λ s. is_searching (after_found c words kind s some.0)) leads ∙ on some.0 after some.2)
+      ap (λ b. is_searching (after_found config words kind spot b)) some.1 ∙ ap (λ s. is_searching (after_found config words kind s some.0)) leads ∙ on some.0 after some.2)
       (first_of_two got more before after is)
 
   -- a later cause is one
-  goes_later : (spot next : TakeSpot) (got : ℕ) (more : List ℕ) → next_at c words kind spot got ≡ next → HasFull c words kind next more → HasFull c words kind spot (got ∷ more)
-  goes_later spot next got more leads full = HasFull.later spot got more (subst (λ s. HasFull c words kind s more) (sym leads) full)
+  goes_later : (spot next : TakeSpot) (got : ℕ) (more : List ℕ) → next_at config words kind spot got ≡ next → HasFull config words kind next more → HasFull config words kind spot (got ∷ more)
+  goes_later spot next got more leads full = HasFull.later spot got more (subst (λ s. HasFull config words kind s more) (sym leads) full)
 
   -- a word that says that there is too little room, and no other shared region behind it
-  stands_here : (spot next : TakeSpot) (got : ℕ) (more : List ℕ) → next_at c words kind spot got ≡ next → IsFullAt c words spot got → Searches next more → HasFull c words kind spot (got ∷ more)
-  stands_here spot next got more leads full on = HasFull.here spot got more full (λ before after is. ap (λ s. is_searching (after_found c words kind s before)) leads ∙ on before after is)
+  stands_here : (spot next : TakeSpot) (got : ℕ) (more : List ℕ) → next_at config words kind spot got ≡ next → IsFullAt config words spot got → Searches next more → HasFull config words kind spot (got ∷ more)
+  stands_here spot next got more leads full on = HasFull.here spot got more full (λ before after is. ap (λ s. is_searching (after_found config words kind s before)) leads ∙ on before after is)
 
   -- from each spot on
   cause : (found : List ℕ) (spot : TakeSpot) (free : ℕ) → Ends spot found free → Cause (is_searching spot) spot found
   cause [] LoadBuffer free e = absurd (by_test (has_free words free) e.ends)
     where
-      by_test : (b : Bool) → (if b then StoreBuffer (next_in free) (free_words free) else LoadShared free) ≡ Ended NoRoom 0 → ⊥
+      by_test : (holds : Bool) → (if holds then StoreBuffer (next_in free) (free_words free) else LoadShared free) ≡ Ended NoRoom 0 → ⊥
       by_test true is = cc
       by_test false is = cc
   cause [] (LoadShared buffer) free e = absurd (by_test (free == 0) e.ends)
     where
-      by_test : (b : Bool) → (if b then LoadFree buffer 0 else LoadTop buffer (free - 1)) ≡ Ended NoRoom 0 → ⊥
+      by_test : (holds : Bool) → (if holds then LoadFree buffer 0 else LoadTop buffer (free - 1)) ≡ Ended NoRoom 0 → ⊥
       by_test true is = cc
       by_test false is = cc
-  cause [] (LoadTop buffer region) free e = absurd (by_test (has_room c words free) e.ends)
+  cause [] (LoadTop buffer region) free e = absurd (by_test (has_room config words free) e.ends)
     where
-      by_test : (b : Bool) → (if b then Carve buffer region free (carved_words c free) else LoadFree buffer (region + 1)) ≡ Ended NoRoom 0 → ⊥
+      by_test : (holds : Bool) → (if holds then Carve buffer region free (carved_words config free) else LoadFree buffer (region + 1)) ≡ Ended NoRoom 0 → ⊥
       by_test true is = cc
       by_test false is = cc
   cause [] (Carve buffer region top room) free e = absurd (by_tests (free == top) (nat_lt (next_in buffer) (end_in buffer)) e.ends)
     where
-      by_tests : (b d : Bool) → (if b then (if d then Fill buffer (base_of c region + top) room else StoreBuffer (base_of c region + top) room) else LoadShared buffer) ≡ Ended NoRoom 0 → ⊥
+      by_tests : (holds other_holds : Bool) → (if holds then (if other_holds then Fill buffer (base_of config region + top) room else StoreBuffer (base_of config region + top) room) else LoadShared buffer) ≡ Ended NoRoom 0 → ⊥
       by_tests true true is = cc
       by_tests true false is = cc
-      by_tests false d is = cc
-  cause [] (LoadFree buffer shared) free e = inl (λ before after is. ap (λ b. is_searching (after_found c words kind (LoadFree buffer shared) b)) (none_of_two before after is))
+      by_tests false other_holds is = cc
+  cause [] (LoadFree buffer shared) free e = inl (λ before after is. ap (λ holds. is_searching (after_found config words kind (LoadFree buffer shared) holds)) (none_of_two before after is))
   cause [] (TakeRegion buffer shared region) free e = absurd (by_test (bit_at free region == 1) e.ends)
     where
-      by_test : (b : Bool) → (if b then ShareRegion buffer shared region else LoadFree buffer shared) ≡ Ended NoRoom 0 → ⊥
+      by_test : (holds : Bool) → (if holds then ShareRegion buffer shared region else LoadFree buffer shared) ≡ Ended NoRoom 0 → ⊥
       by_test true is = cc
       by_test false is = cc
   cause [] (ShareRegion buffer shared region) free e = absurd (by_test (free == shared) e.ends)
     where
-      by_test : (b : Bool) → (if b then LoadTop buffer region else GiveBack buffer region) ≡ Ended NoRoom 0 → ⊥
+      by_test : (holds : Bool) → (if holds then LoadTop buffer region else GiveBack buffer region) ≡ Ended NoRoom 0 → ⊥
       by_test true is = cc
       by_test false is = cc
   cause [] (GiveBack buffer region) free e = let ends = e.ends in absurd cc
@@ -116,82 +116,82 @@ module _ (c : Config) (words : ℕ) (kind : Kind) where
   cause [] (Ended taken end) free e = absurd (ended_stays taken end [] e.going)
   cause (got ∷ more) LoadBuffer free e = by_test (λ spot. cause more spot free) (has_free words got) refl
     where
-      by_test : ((spot : TakeSpot) → Ends spot more free → Cause (is_searching spot) spot more) → (b : Bool) → has_free words got ≡ b → HasFull c words kind LoadBuffer (got ∷ more)
+      by_test : ((spot : TakeSpot) → Ends spot more free → Cause (is_searching spot) spot more) → (holds : Bool) → has_free words got ≡ holds → HasFull config words kind LoadBuffer (got ∷ more)
       by_test rest true is =
-          let leads : next_at c words kind LoadBuffer got ≡ StoreBuffer (next_in got) (free_words got) = ap (λ b. if b then StoreBuffer (next_in got) (free_words got) else LoadShared got) is in
+          let leads : next_at config words kind LoadBuffer got ≡ StoreBuffer (next_in got) (free_words got) = ap (λ holds. if holds then StoreBuffer (next_in got) (free_words got) else LoadShared got) is in
           absurd (stored_never (next_in got) (free_words got) more free (subst (λ s. Ends s more free) leads (record { going = e.going; ends = e.ends })))
       by_test rest false is =
-          let leads : next_at c words kind LoadBuffer got ≡ LoadShared got = ap (λ b. if b then StoreBuffer (next_in got) (free_words got) else LoadShared got) is in
+          let leads : next_at config words kind LoadBuffer got ≡ LoadShared got = ap (λ holds. if holds then StoreBuffer (next_in got) (free_words got) else LoadShared got) is in
           goes_later LoadBuffer (LoadShared got) got more leads (rest (LoadShared got) (subst (λ s. Ends s more free) leads (record { going = e.going; ends = e.ends })))
   cause (got ∷ more) (LoadShared buffer) free e = by_test (λ spot. cause more spot free) (got == 0) refl
     where
-      by_test : ((spot : TakeSpot) → Ends spot more free → Cause (is_searching spot) spot more) → (b : Bool) → (got == 0) ≡ b → HasFull c words kind (LoadShared buffer) (got ∷ more)
+      by_test : ((spot : TakeSpot) → Ends spot more free → Cause (is_searching spot) spot more) → (holds : Bool) → (got == 0) ≡ holds → HasFull config words kind (LoadShared buffer) (got ∷ more)
       by_test rest true is =
-          let leads : next_at c words kind (LoadShared buffer) got ≡ LoadFree buffer 0 = ap (λ b. if b then LoadFree buffer 0 else LoadTop buffer (got - 1)) is in
+          let leads : next_at config words kind (LoadShared buffer) got ≡ LoadFree buffer 0 = ap (λ holds. if holds then LoadFree buffer 0 else LoadTop buffer (got - 1)) is in
           ⊎_elim
           (λ on. stands_here (LoadShared buffer) (LoadFree buffer 0) got more leads (eqb-true got 0 is) on)
           (λ full. goes_later (LoadShared buffer) (LoadFree buffer 0) got more leads full)
           (rest (LoadFree buffer 0) (subst (λ s. Ends s more free) leads (record { going = e.going; ends = e.ends })))
       by_test rest false is =
-          let leads : next_at c words kind (LoadShared buffer) got ≡ LoadTop buffer (got - 1) = ap (λ b. if b then LoadFree buffer 0 else LoadTop buffer (got - 1)) is in
+          let leads : next_at config words kind (LoadShared buffer) got ≡ LoadTop buffer (got - 1) = ap (λ holds. if holds then LoadFree buffer 0 else LoadTop buffer (got - 1)) is in
           goes_later (LoadShared buffer) (LoadTop buffer (got - 1)) got more leads (rest (LoadTop buffer (got - 1)) (subst (λ s. Ends s more free) leads (record { going = e.going; ends = e.ends })))
-  cause (got ∷ more) (LoadTop buffer region) free e = by_test (λ spot. cause more spot free) (has_room c words got) refl
+  cause (got ∷ more) (LoadTop buffer region) free e = by_test (λ spot. cause more spot free) (has_room config words got) refl
     where
-      by_test : ((spot : TakeSpot) → Ends spot more free → Cause (is_searching spot) spot more) → (b : Bool) → has_room c words got ≡ b → HasFull c words kind (LoadTop buffer region) (got ∷ more)
+      by_test : ((spot : TakeSpot) → Ends spot more free → Cause (is_searching spot) spot more) → (holds : Bool) → has_room config words got ≡ holds → HasFull config words kind (LoadTop buffer region) (got ∷ more)
       by_test rest true is =
-          let leads : next_at c words kind (LoadTop buffer region) got ≡ Carve buffer region got (carved_words c got) = ap (λ b. if b then Carve buffer region got (carved_words c got) else LoadFree buffer (region + 1)) is in
-          goes_later (LoadTop buffer region) (Carve buffer region got (carved_words c got)) got more leads (rest (Carve buffer region got (carved_words c got)) (subst (λ s. Ends s more free) leads (record { going = e.going; ends = e.ends })))
+          let leads : next_at config words kind (LoadTop buffer region) got ≡ Carve buffer region got (carved_words config got) = ap (λ holds. if holds then Carve buffer region got (carved_words config got) else LoadFree buffer (region + 1)) is in
+          goes_later (LoadTop buffer region) (Carve buffer region got (carved_words config got)) got more leads (rest (Carve buffer region got (carved_words config got)) (subst (λ s. Ends s more free) leads (record { going = e.going; ends = e.ends })))
       by_test rest false is =
-          let leads : next_at c words kind (LoadTop buffer region) got ≡ LoadFree buffer (region + 1) = ap (λ b. if b then Carve buffer region got (carved_words c got) else LoadFree buffer (region + 1)) is in
+          let leads : next_at config words kind (LoadTop buffer region) got ≡ LoadFree buffer (region + 1) = ap (λ holds. if holds then Carve buffer region got (carved_words config got) else LoadFree buffer (region + 1)) is in
           ⊎_elim
-          (λ on. stands_here (LoadTop buffer region) (LoadFree buffer (region + 1)) got more leads (leb-false (got + words) c.region_words is) on)
+          (λ on. stands_here (LoadTop buffer region) (LoadFree buffer (region + 1)) got more leads (leb-false (got + words) config.region_words is) on)
           (λ full. goes_later (LoadTop buffer region) (LoadFree buffer (region + 1)) got more leads full)
           (rest (LoadFree buffer (region + 1)) (subst (λ s. Ends s more free) leads (record { going = e.going; ends = e.ends })))
   cause (got ∷ more) (Carve buffer region top room) free e = by_tests (λ spot. cause more spot free) (got == top) refl (nat_lt (next_in buffer) (end_in buffer)) refl
     where
-      by_tests : ((spot : TakeSpot) → Ends spot more free → Cause (is_searching spot) spot more) → (b : Bool) → (got == top) ≡ b → (d : Bool) → nat_lt (next_in buffer) (end_in buffer) ≡ d → HasFull c words kind (Carve buffer region top room) (got ∷ more)
+      by_tests : ((spot : TakeSpot) → Ends spot more free → Cause (is_searching spot) spot more) → (holds : Bool) → (got == top) ≡ holds → (other_holds : Bool) → nat_lt (next_in buffer) (end_in buffer) ≡ other_holds → HasFull config words kind (Carve buffer region top room) (got ∷ more)
       by_tests rest true is true less =
-          let leads : next_at c words kind (Carve buffer region top room) got ≡ Fill buffer (base_of c region + top) room = ap (λ b. carve_next buffer (base_of c region + top) room b (nat_lt (next_in buffer) (end_in buffer))) is ∙ ap (carve_next buffer (base_of c region + top) room true) less in
-          goes_later (Carve buffer region top room) (Fill buffer (base_of c region + top) room) got more leads (rest (Fill buffer (base_of c region + top) room) (subst (λ s. Ends s more free) leads (record { going = e.going; ends = e.ends })))
+          let leads : next_at config words kind (Carve buffer region top room) got ≡ Fill buffer (base_of config region + top) room = ap (λ holds. carve_next buffer (base_of config region + top) room holds (nat_lt (next_in buffer) (end_in buffer))) is ∙ ap (carve_next buffer (base_of config region + top) room true) less in
+          goes_later (Carve buffer region top room) (Fill buffer (base_of config region + top) room) got more leads (rest (Fill buffer (base_of config region + top) room) (subst (λ s. Ends s more free) leads (record { going = e.going; ends = e.ends })))
       by_tests rest true is false less =
-          let leads : next_at c words kind (Carve buffer region top room) got ≡ StoreBuffer (base_of c region + top) room = ap (λ b. carve_next buffer (base_of c region + top) room b (nat_lt (next_in buffer) (end_in buffer))) is ∙ ap (carve_next buffer (base_of c region + top) room true) less in
-          absurd (stored_never (base_of c region + top) room more free (subst (λ s. Ends s more free) leads (record { going = e.going; ends = e.ends })))
-      by_tests rest false is d less =
-          let leads : next_at c words kind (Carve buffer region top room) got ≡ LoadShared buffer = ap (λ b. carve_next buffer (base_of c region + top) room b (nat_lt (next_in buffer) (end_in buffer))) is in
+          let leads : next_at config words kind (Carve buffer region top room) got ≡ StoreBuffer (base_of config region + top) room = ap (λ holds. carve_next buffer (base_of config region + top) room holds (nat_lt (next_in buffer) (end_in buffer))) is ∙ ap (carve_next buffer (base_of config region + top) room true) less in
+          absurd (stored_never (base_of config region + top) room more free (subst (λ s. Ends s more free) leads (record { going = e.going; ends = e.ends })))
+      by_tests rest false is other_holds less =
+          let leads : next_at config words kind (Carve buffer region top room) got ≡ LoadShared buffer = ap (λ holds. carve_next buffer (base_of config region + top) room holds (nat_lt (next_in buffer) (end_in buffer))) is in
           goes_later (Carve buffer region top room) (LoadShared buffer) got more leads (rest (LoadShared buffer) (subst (λ s. Ends s more free) leads (record { going = e.going; ends = e.ends })))
-  cause (got ∷ more) (LoadFree buffer shared) free e = by_test (λ spot. cause more spot free) (has_none c kind got) refl
+  cause (got ∷ more) (LoadFree buffer shared) free e = by_test (λ spot. cause more spot free) (has_none config kind got) refl
     where
-      by_test : ((spot : TakeSpot) → Ends spot more free → Cause (is_searching spot) spot more) → (b : Bool) → has_none c kind got ≡ b → Searches (LoadFree buffer shared) (got ∷ more) ⊎ HasFull c words kind (LoadFree buffer shared) (got ∷ more)
+      by_test : ((spot : TakeSpot) → Ends spot more free → Cause (is_searching spot) spot more) → (holds : Bool) → has_none config kind got ≡ holds → Searches (LoadFree buffer shared) (got ∷ more) ⊎ HasFull config words kind (LoadFree buffer shared) (got ∷ more)
       by_test rest true is =
-          let leads : next_at c words kind (LoadFree buffer shared) got ≡ Ended NoRoom 0 = ap (λ b. if b then Ended NoRoom 0 else TakeRegion buffer shared (lowest_in got)) is in
+          let leads : next_at config words kind (LoadFree buffer shared) got ≡ Ended NoRoom 0 = ap (λ holds. if holds then Ended NoRoom 0 else TakeRegion buffer shared (lowest_in got)) is in
           let on : Ends (Ended NoRoom 0) more free = subst (λ s. Ends s more free) leads (record { going = e.going; ends = e.ends }) in
           absurd (ended_stays NoRoom 0 more on.going)
       by_test rest false is =
-          let leads : next_at c words kind (LoadFree buffer shared) got ≡ TakeRegion buffer shared (lowest_in got) = ap (λ b. if b then Ended NoRoom 0 else TakeRegion buffer shared (lowest_in got)) is in
+          let leads : next_at config words kind (LoadFree buffer shared) got ≡ TakeRegion buffer shared (lowest_in got) = ap (λ holds. if holds then Ended NoRoom 0 else TakeRegion buffer shared (lowest_in got)) is in
           ⊎_elim
           (λ on. inl (searches_on (LoadFree buffer shared) (TakeRegion buffer shared (lowest_in got)) got more refl leads on))
           (λ full. inr (goes_later (LoadFree buffer shared) (TakeRegion buffer shared (lowest_in got)) got more leads full))
           (rest (TakeRegion buffer shared (lowest_in got)) (subst (λ s. Ends s more free) leads (record { going = e.going; ends = e.ends })))
   cause (got ∷ more) (TakeRegion buffer shared region) free e = by_test (λ spot. cause more spot free) (bit_at got region == 1) refl
     where
-      by_test : ((spot : TakeSpot) → Ends spot more free → Cause (is_searching spot) spot more) → (b : Bool) → (bit_at got region == 1) ≡ b → Searches (TakeRegion buffer shared region) (got ∷ more) ⊎ HasFull c words kind (TakeRegion buffer shared region) (got ∷ more)
+      by_test : ((spot : TakeSpot) → Ends spot more free → Cause (is_searching spot) spot more) → (holds : Bool) → (bit_at got region == 1) ≡ holds → Searches (TakeRegion buffer shared region) (got ∷ more) ⊎ HasFull config words kind (TakeRegion buffer shared region) (got ∷ more)
       by_test rest true is =
-          let leads : next_at c words kind (TakeRegion buffer shared region) got ≡ ShareRegion buffer shared region = ap (λ b. if b then ShareRegion buffer shared region else LoadFree buffer shared) is in
+          let leads : next_at config words kind (TakeRegion buffer shared region) got ≡ ShareRegion buffer shared region = ap (λ holds. if holds then ShareRegion buffer shared region else LoadFree buffer shared) is in
           inr (goes_later (TakeRegion buffer shared region) (ShareRegion buffer shared region) got more leads (rest (ShareRegion buffer shared region) (subst (λ s. Ends s more free) leads (record { going = e.going; ends = e.ends }))))
       by_test rest false is =
-          let leads : next_at c words kind (TakeRegion buffer shared region) got ≡ LoadFree buffer shared = ap (λ b. if b then ShareRegion buffer shared region else LoadFree buffer shared) is in
+          let leads : next_at config words kind (TakeRegion buffer shared region) got ≡ LoadFree buffer shared = ap (λ holds. if holds then ShareRegion buffer shared region else LoadFree buffer shared) is in
           ⊎_elim
           (λ on. inl (searches_on (TakeRegion buffer shared region) (LoadFree buffer shared) got more refl leads on))
           (λ full. inr (goes_later (TakeRegion buffer shared region) (LoadFree buffer shared) got more leads full))
           (rest (LoadFree buffer shared) (subst (λ s. Ends s more free) leads (record { going = e.going; ends = e.ends })))
   cause (got ∷ more) (ShareRegion buffer shared region) free e = by_test (λ spot. cause more spot free) (got == shared) refl
     where
-      by_test : ((spot : TakeSpot) → Ends spot more free → Cause (is_searching spot) spot more) → (b : Bool) → (got == shared) ≡ b → HasFull c words kind (ShareRegion buffer shared region) (got ∷ more)
+      by_test : ((spot : TakeSpot) → Ends spot more free → Cause (is_searching spot) spot more) → (holds : Bool) → (got == shared) ≡ holds → HasFull config words kind (ShareRegion buffer shared region) (got ∷ more)
       by_test rest true is =
-          let leads : next_at c words kind (ShareRegion buffer shared region) got ≡ LoadTop buffer region = ap (λ b. if b then LoadTop buffer region else GiveBack buffer region) is in
+          let leads : next_at config words kind (ShareRegion buffer shared region) got ≡ LoadTop buffer region = ap (λ holds. if holds then LoadTop buffer region else GiveBack buffer region) is in
           goes_later (ShareRegion buffer shared region) (LoadTop buffer region) got more leads (rest (LoadTop buffer region) (subst (λ s. Ends s more free) leads (record { going = e.going; ends = e.ends })))
       by_test rest false is =
-          let leads : next_at c words kind (ShareRegion buffer shared region) got ≡ GiveBack buffer region = ap (λ b. if b then LoadTop buffer region else GiveBack buffer region) is in
+          let leads : next_at config words kind (ShareRegion buffer shared region) got ≡ GiveBack buffer region = ap (λ holds. if holds then LoadTop buffer region else GiveBack buffer region) is in
           goes_later (ShareRegion buffer shared region) (GiveBack buffer region) got more leads (rest (GiveBack buffer region) (subst (λ s. Ends s more free) leads (record { going = e.going; ends = e.ends })))
   cause (got ∷ more) (GiveBack buffer region) free e = goes_later (GiveBack buffer region) (LoadShared buffer) got more refl (cause more (LoadShared buffer) free (record { going = e.going; ends = e.ends }))
   cause (got ∷ more) (Fill buffer address room) free e = absurd (stored_never address room more free (record { going = e.going; ends = e.ends }))
@@ -202,31 +202,31 @@ module _ (c : Config) (words : ℕ) (kind : Kind) where
   short : (found : List ℕ) (free : ℕ) → Ends LoadBuffer found free → IsBufferShort words found
   short [] free e = absurd (by_test (has_free words free) e.ends)
     where
-      by_test : (b : Bool) → (if b then StoreBuffer (next_in free) (free_words free) else LoadShared free) ≡ Ended NoRoom 0 → ⊥
+      by_test : (holds : Bool) → (if holds then StoreBuffer (next_in free) (free_words free) else LoadShared free) ≡ Ended NoRoom 0 → ⊥
       by_test true is = cc
       by_test false is = cc
   short (buffer ∷ more) free e = by_test (has_free words buffer) refl
     where
-      by_test : (b : Bool) → has_free words buffer ≡ b → end_in buffer < next_in buffer + words
+      by_test : (holds : Bool) → has_free words buffer ≡ holds → end_in buffer < next_in buffer + words
       by_test true is =
-          let leads : next_at c words kind LoadBuffer buffer ≡ StoreBuffer (next_in buffer) (free_words buffer) = ap (λ b. if b then StoreBuffer (next_in buffer) (free_words buffer) else LoadShared buffer) is in
+          let leads : next_at config words kind LoadBuffer buffer ≡ StoreBuffer (next_in buffer) (free_words buffer) = ap (λ holds. if holds then StoreBuffer (next_in buffer) (free_words buffer) else LoadShared buffer) is in
           absurd (stored_never (next_in buffer) (free_words buffer) more free (subst (λ s. Ends s more free) leads (record { going = e.going; ends = e.ends })))
       by_test false is = leb-false (next_in buffer + words) (end_in buffer) is
 
   -- no words at all are no cause
-  none_of_none : (spot : TakeSpot) → HasFull c words kind spot [] → ⊥
+  none_of_none : (spot : TakeSpot) → HasFull config words kind spot [] → ⊥
   none_of_none spot full = elim full [ ]
 
   -- where it does not look for a free region it does not end without room
-  lone : (spot : TakeSpot) (got : ℕ) → is_ended spot ≡ false → next_at c words kind spot got ≡ Ended NoRoom 0 → is_searching spot ≡ false → ⊥
+  lone : (spot : TakeSpot) (got : ℕ) → is_ended spot ≡ false → next_at config words kind spot got ≡ Ended NoRoom 0 → is_searching spot ≡ false → ⊥
   lone spot got going ends other =
       none_of_none spot (subst (λ b. Cause b spot []) other (cause [] spot got (record { going = going; ends = ends })))
 
   -- a machine ends without room only at the load of the free word
-  none_left : (spot : TakeSpot) (got : ℕ) → is_ended spot ≡ false → next_at c words kind spot got ≡ Ended NoRoom 0 → has_none c kind got ≡ true
-  none_left (LoadFree buffer shared) got going ends = by_test (has_none c kind got) ends
+  none_left : (spot : TakeSpot) (got : ℕ) → is_ended spot ≡ false → next_at config words kind spot got ≡ Ended NoRoom 0 → has_none config kind got ≡ true
+  none_left (LoadFree buffer shared) got going ends = by_test (has_none config kind got) ends
     where
-      by_test : (b : Bool) → (if b then Ended NoRoom 0 else TakeRegion buffer shared (lowest_in got)) ≡ Ended NoRoom 0 → b ≡ true
+      by_test : (holds : Bool) → (if holds then Ended NoRoom 0 else TakeRegion buffer shared (lowest_in got)) ≡ Ended NoRoom 0 → holds ≡ true
       by_test true is = refl
       by_test false is = absurd cc
   none_left (Ended taken end) got going ends = absurd (true≢false going)
@@ -236,7 +236,7 @@ module _ (c : Config) (words : ℕ) (kind : Kind) where
   none_left (Carve buffer region top room) got going ends = absurd (lone (Carve buffer region top room) got going ends refl)
   none_left (TakeRegion buffer shared region) got going ends = absurd (by_test (bit_at got region == 1) ends)
     where
-      by_test : (b : Bool) → (if b then ShareRegion buffer shared region else LoadFree buffer shared) ≡ Ended NoRoom 0 → ⊥
+      by_test : (holds : Bool) → (if holds then ShareRegion buffer shared region else LoadFree buffer shared) ≡ Ended NoRoom 0 → ⊥
       by_test true is = cc
       by_test false is = cc
   none_left (ShareRegion buffer shared region) got going ends = absurd (lone (ShareRegion buffer shared region) got going ends refl)
@@ -244,9 +244,9 @@ module _ (c : Config) (words : ℕ) (kind : Kind) where
   none_left (Fill buffer address room) got going ends = absurd (lone (Fill buffer address room) got going ends refl)
   none_left (StoreBuffer address room) got going ends = absurd (lone (StoreBuffer address room) got going ends refl)
 
-  pub its_cause : (found : List ℕ) (free : ℕ) → FindsNoRoom c words kind found free → IsLackOfRoom c words kind found free
+  pub its_cause : (found : List ℕ) (free : ℕ) → FindsNoRoom config words kind found free → IsLackOfRoom config words kind found free
   its_cause found free none = record {
     short = short found free (record { going = none.going; ends = none.ends });
     full = cause found LoadBuffer free (record { going = none.going; ends = none.ends });
-    none = may_take_none c kind free (none_left (after_found c words kind LoadBuffer found) free none.going none.ends);
+    none = may_take_none config kind free (none_left (after_found config words kind LoadBuffer found) free none.going none.ends);
   }

@@ -18,14 +18,14 @@ use Rattle.alloc_buffers.specs.Facts.{CanTake}
 use Rattle.alloc_buffers.proofs.TakeSteps.{TakeStep, can_at, store_ready, piece_stretch, piece_alone, region_end_small}
 
 -- a store into a word of the heap changes no word of another kind
-heap_else : (memory : Word → ℕ) (x value : ℕ) (at : Word) → is_of_room at ≡ false → write memory (Heap x) value at ≡ memory at
-heap_else memory x value (Heap a) is = absurd (true≢false is)
-heap_else memory x value (Current seat) is = refl
-heap_else memory x value _ is = refl
+heap_else : (memory : Word → ℕ) (address value : ℕ) (at : Word) → is_of_room at ≡ false → write memory (Heap address) value at ≡ memory at
+heap_else memory address value (Heap a) is = absurd (true≢false is)
+heap_else memory address value (Current seat) is = refl
+heap_else memory address value _ is = refl
 
-module _ (c : Config) (u : World) (seat words : ℕ) (kind : Kind) (buffer address room : ℕ) (shared : Shared c u) (can : CanTake c u seat words (Fill buffer address room)) where
+module _ (config : Config) (world : World) (seat words : ℕ) (kind : Kind) (buffer address room : ℕ) (shared : Shared config world) (can : CanTake config world seat words (Fill buffer address room)) where
   abbrev tops : ℕ → ℕ
-  tops r = u.memory (Top r)
+  tops region = world.memory (Top region)
 
   -- where the free words of the old buffer begin, and how many they are
   abbrev next : ℕ
@@ -39,16 +39,16 @@ module _ (c : Config) (u : World) (seat words : ℕ) (kind : Kind) (buffer addre
   some = let more = can.facts.some in omega (arith, more)
 
   -- such a piece
-  is_filler : (x : ℕ) (b : Block) → one_at next (filler free) x ≡ Some b → (x ≡ next) × (filler free ≡ b)
+  is_filler : (x : ℕ) (piece : Block) → one_at next (filler free) x ≡ Some piece → (x ≡ next) × (filler free ≡ piece)
   is_filler = only_one next (filler free)
 
-  can_recut : CanRecut c tops u.block (one_at next (filler free)) seat next free
+  can_recut : CanRecut config tops world.block (one_at next (filler free)) seat next free
   can_recut = record {
     parsable = shared.parsable;
     rooms = shared.owned.rooms;
-    stretch = piece_stretch c tops u.block shared.parsable.plotted next (spare seat free) can.facts.left some;
+    stretch = piece_stretch config tops world.block shared.parsable.plotted next (spare seat free) can.facts.left some;
     tiling = one_tile next (filler free) some;
-    olds = λ x b from to is. ap room_of (sym (piece_alone c tops u.block shared.parsable.plotted next (spare seat free) can.facts.left some x b from to is).1);
+    olds = λ x b from to is. ap room_of (sym (piece_alone config tops world.block shared.parsable.plotted next (spare seat free) can.facts.left some x b from to is).1);
     loose = λ x b is. ap is_loose (sym (is_filler x b is).1);
     own = λ x other b is of. absurd (none-some other (ap room_of (is_filler x b is).1 ∙ of));
     hands = λ x other more is. let same = (is_filler x (hand other more) is).1 in cc;
@@ -56,8 +56,8 @@ module _ (c : Config) (u : World) (seat words : ℕ) (kind : Kind) (buffer addre
   }
 
   -- a piece of it is the filler, or an old one elsewhere
-  then_cases : (x : ℕ) (b : Block) → retiled u.block (one_at next (filler free)) next free x ≡ Some b → (((x < next) ⊎ (next + free ≤ x)) × (u.block x ≡ Some b)) ⊎ (filler free ≡ b)
-  then_cases x b is = ⊎_elim (λ old. inl old) (λ now. inr (is_filler x b now.2).1) (retiled_cases u.block (one_at next (filler free)) next free x b is)
+  then_cases : (address : ℕ) (piece : Block) → retiled world.block (one_at next (filler free)) next free address ≡ Some piece → (((address < next) ⊎ (next + free ≤ address)) × (world.block address ≡ Some piece)) ⊎ (filler free ≡ piece)
+  then_cases address piece is = ⊎_elim (λ old. inl old) (λ now. inr (is_filler address piece now.2).1) (retiled_cases world.block (one_at next (filler free)) next free address piece is)
 
   -- the carved words lie elsewhere
   carved_away : (address < next) ⊎ (next + free ≤ address)
@@ -65,21 +65,21 @@ module _ (c : Config) (u : World) (seat words : ℕ) (kind : Kind) (buffer addre
       (λ before. inl before)
       (λ (from : next ≤ address). ⊎_elim
       (λ (to : address < next + free).
-      let same = (piece_alone c tops u.block shared.parsable.plotted next (spare seat free) can.facts.left some address (carved seat room) from to can.facts.here).1 in
+      let same = (piece_alone config tops world.block shared.parsable.plotted next (spare seat free) can.facts.left some address (carved seat room) from to can.facts.here).1 in
       absurd cc)
       (λ behind. inr behind)
       (cases_lt address (next + free)))
       (cases_lt address next)
 
   -- and stay
-  carved_stays : retiled u.block (one_at next (filler free)) next free address ≡ Some (carved seat room)
-  carved_stays = retiled_else u.block (one_at next (filler free)) next free address carved_away ∙ can.facts.here
+  carved_stays : retiled world.block (one_at next (filler free)) next free address ≡ Some (carved seat room)
+  carved_stays = retiled_else world.block (one_at next (filler free)) next free address carved_away ∙ can.facts.here
 
   -- an old piece elsewhere is no free words of the buffer
-  no_spare : (x more : ℕ) → (x < next) ⊎ (next + free ≤ x) → u.block x ≡ Some (spare seat more) → ⊥
-  no_spare x more away is =
-      let told = (shared.owned.buffers.spares x seat more is).0 in
-      let same : next ≡ x = ap next_in (sym can.facts.is) ∙ told in
+  no_spare : (address more : ℕ) → (address < next) ⊎ (next + free ≤ address) → world.block address ≡ Some (spare seat more) → ⊥
+  no_spare address more away is =
+      let told = (shared.owned.buffers.spares address seat more is).0 in
+      let same : next ≡ address = ap next_in (sym can.facts.is) ∙ told in
       omega (arith, away, same, some)
 
   -- the word of the filler's header, and what the memory is then
@@ -87,11 +87,11 @@ module _ (c : Config) (u : World) (seat words : ℕ) (kind : Kind) (buffer addre
   header = filler_header free
 
   -- the other words of the heap stay
-  heap_stays : (x : ℕ) → (x < next) ⊎ (next + free ≤ x) → write u.memory (Heap next) header (Heap x) ≡ u.memory (Heap x)
-  heap_stays x away = cond-false (next == x) header (u.memory (Heap x)) (ne_eqb next x (omega (arith, away, some)))
+  heap_stays : (address : ℕ) → (address < next) ⊎ (next + free ≤ address) → write world.memory (Heap next) header (Heap address) ≡ world.memory (Heap address)
+  heap_stays address away = cond-false (next == address) header (world.memory (Heap address)) (ne_eqb next address (omega (arith, away, some)))
 
   -- the seat's buffer has no free words any more, but the seat has carved others
-  own_buffer : u.memory (Current seat) ≢ 0 → IsBuffer c tops (retiled u.block (one_at next (filler free)) next free) seat (u.memory (Current seat))
+  own_buffer : world.memory (Current seat) ≢ 0 → IsBuffer config tops (retiled world.block (one_at next (filler free)) next free) seat (world.memory (Current seat))
   own_buffer other =
       let was = shared.owned.buffers.each seat other in
       record {
@@ -104,8 +104,8 @@ module _ (c : Config) (u : World) (seat words : ℕ) (kind : Kind) (buffer addre
         free = λ more. inr (address, room, carved_stays);
       }
 
-  buffers_then : AreBuffers c tops (λ s. u.memory (Current s)) (retiled u.block (one_at next (filler free)) next free)
-  buffers_then = buffers_again c tops u.block (one_at next (filler free)) seat next free can_recut (λ s. u.memory (Current s)) (λ s. u.memory (Current s)) (λ other differs. refl) own_buffer
+  buffers_then : AreBuffers config tops (λ s. world.memory (Current s)) (retiled world.block (one_at next (filler free)) next free)
+  buffers_then = buffers_again config tops world.block (one_at next (filler free)) seat next free can_recut (λ s. world.memory (Current s)) (λ s. world.memory (Current s)) (λ other differs. refl) own_buffer
       (λ x more is. ⊎_elim
       (λ old. absurd (no_spare x more old.0 old.1))
       (λ (now : filler free ≡ spare seat more). absurd cc)
@@ -116,28 +116,28 @@ module _ (c : Config) (u : World) (seat words : ℕ) (kind : Kind) (buffer addre
   numbers : (words ≤ room) × (address + room < 2 ^ 32)
   numbers =
       let used = shared.parsable.plotted.in_use address (carved seat room) can.facts.here in
-      (can.facts.long, region_end_small c tops used.region (address + room) used.within (shared.parsable.plotted.tops used.region used.within) used.to_top)
+      (can.facts.long, region_end_small config tops used.region (address + room) used.within (shared.parsable.plotted.tops used.region used.within) used.to_top)
 
   -- the store of the filler's header
-  pub at_fill : TakeStep c u seat words kind (Fill buffer address room)
+  pub at_fill : TakeStep config world seat words kind (Fill buffer address room)
   at_fill = record {
-    world = recut_world c u (one_at next (filler free)) seat next free shared can_recut (write u.memory (Heap next) header) (heap_else u.memory next header) heap_stays;
+    world = recut_world config world (one_at next (filler free)) seat next free shared can_recut (write world.memory (Heap next) header) (heap_else world.memory next header) heap_stays;
     memory = refl;
     graph = refl;
-    shared = shared_recut c u (one_at next (filler free)) seat next free shared can_recut (λ x. write u.memory (Heap next) header (Heap x)) heap_stays (λ s. u.memory (Current s))
+    shared = shared_recut config world (one_at next (filler free)) seat next free shared can_recut (λ x. write world.memory (Heap next) header (Heap x)) heap_stays (λ s. world.memory (Current s))
         (λ x more is.
         let there = is_filler x (filler more) is in
         let same = there.1 in
         let long : free ≡ more = cc in
-        updated_same (λ k. u.memory (Heap k)) next header x (sym there.0) ∙ ap filler_header long)
+        updated_same (λ k. world.memory (Heap k)) next header x (sym there.0) ∙ ap filler_header long)
         buffers_then shared.owned.outside;
     own = (
-      can_at c u seat words kind (Fill buffer address room) (StoreBuffer address room)
-          (recut_world c u (one_at next (filler free)) seat next free shared can_recut (write u.memory (Heap next) header) (heap_else u.memory next header) heap_stays) can refl refl
-          (store_ready c seat words address room can.seated numbers.0 numbers.1)
+      can_at config world seat words kind (Fill buffer address room) (StoreBuffer address room)
+          (recut_world config world (one_at next (filler free)) seat next free shared can_recut (write world.memory (Heap next) header) (heap_else world.memory next header) heap_stays) can refl refl
+          (store_ready config seat words address room can.seated numbers.0 numbers.1)
           (record { here = inr carved_stays; long = numbers.0 })
           (λ x b is of. ⊎_elim
-          (λ (old : ((x < next) ⊎ (next + free ≤ x)) × (u.block x ≡ Some b)). ⊎_elim
+          (λ (old : ((x < next) ⊎ (next + free ≤ x)) × (world.block x ≡ Some b)). ⊎_elim
           (λ left. absurd (no_spare x left.0 old.0 (old.1 ∙ ap (λ k. Some k) left.1)))
           (λ has. has.0)
           (can.rooms x b old.1 of))
@@ -145,6 +145,6 @@ module _ (c : Config) (u : World) (seat words : ℕ) (kind : Kind) (buffer addre
           (then_cases x b is)),
       record { copying = refl; working = refl },
     );
-    keeps = keeps_recut c u (one_at next (filler free)) seat next free shared can_recut (write u.memory (Heap next) header) (heap_else u.memory next header) heap_stays;
-    others = others_recut c u (one_at next (filler free)) seat next free shared can_recut (write u.memory (Heap next) header) (heap_else u.memory next header) heap_stays (λ s differs. refl);
+    keeps = keeps_recut config world (one_at next (filler free)) seat next free shared can_recut (write world.memory (Heap next) header) (heap_else world.memory next header) heap_stays;
+    others = others_recut config world (one_at next (filler free)) seat next free shared can_recut (write world.memory (Heap next) header) (heap_else world.memory next header) heap_stays (λ s differs. refl);
   }

@@ -21,13 +21,13 @@ use Rattle.alloc_buffers.proofs.Storing.{buffer_else}
 
 -- What a seat counts on that gives its room back: the room is in its hand, as it has taken it, and besides it has but the free words of its
 -- buffer.
-pub record CanGiveBack (c : Config) (u : World) (seat words copy end : ℕ) : Type 0 where
-  pub taken : HasTakenRoom c u seat words copy end
-  pub rooms : (a : ℕ) (x : Block) → u.block a ≡ Some x → room_of x ≡ Some seat → IsSpare seat x ⊎ ((a ≡ copy) × (x ≡ hand seat words))
+pub record CanGiveBack (config : Config) (world : World) (seat words copy end : ℕ) : Type 0 where
+  pub taken : HasTakenRoom config world seat words copy end
+  pub rooms : (address : ℕ) (piece : Block) → world.block address ≡ Some piece → room_of piece ≡ Some seat → IsSpare seat piece ⊎ ((address ≡ copy) × (piece ≡ hand seat words))
 
-module _ (c : Config) (u : World) (seat words copy end : ℕ) (shared : Shared c u) (can : CanGiveBack c u seat words copy end) where
+module _ (config : Config) (world : World) (seat words copy end : ℕ) (shared : Shared config world) (can : CanGiveBack config world seat words copy end) where
   abbrev tops : ℕ → ℕ
-  tops r = u.memory (Top r)
+  tops region = world.memory (Top region)
 
   -- how many words are free then
   abbrev free : ℕ
@@ -38,30 +38,30 @@ module _ (c : Config) (u : World) (seat words copy end : ℕ) (shared : Shared c
   some = shared.owned.rooms.hands copy seat words can.taken.here
 
   -- where the room lies
-  used : IsInUse c tops copy words
+  used : IsInUse config tops copy words
   used = shared.parsable.plotted.in_use copy (hand seat words) can.taken.here
 
   -- it ends at or below the region's top
-  most : tops used.region ≤ c.region_words
+  most : tops used.region ≤ config.region_words
   most = shared.parsable.plotted.tops used.region used.within
 
-  of_region : IsOf c used.region copy
+  of_region : IsOf config used.region copy
   of_region = let base = used.from_base in let high = used.to_top in let top = most in let long = some in record { from = base; before = omega (arith, high, top, long) }
 
   -- so does the buffer, by the address of its end
-  end_below : end ≤ base_of c used.region + c.region_words
-  end_below = subst (λ r. end ≤ base_of c r + c.region_words) (regions_tile.of_no_other c used.region copy of_region) can.taken.within
+  end_below : end ≤ base_of config used.region + config.region_words
+  end_below = subst (λ r. end ≤ base_of config r + config.region_words) (regions_tile.of_no_other config used.region copy of_region) can.taken.within
 
   -- the seat has a buffer
-  has_buffer : u.memory (Current seat) ≢ 0
-  has_buffer none = let end_is : end_in (u.memory (Current seat)) ≡ 0 = ap end_in none in let told = can.taken.end_is in let order = can.taken.ordered in let long = some in omega (arith, end_is, told, order, long)
+  has_buffer : world.memory (Current seat) ≢ 0
+  has_buffer none = let end_is : end_in (world.memory (Current seat)) ≡ 0 = ap end_in none in let told = can.taken.end_is in let order = can.taken.ordered in let long = some in omega (arith, end_is, told, order, long)
 
   -- the free words behind the room, if there are any
-  left : copy + words < end → u.block (copy + words) ≡ Some (spare seat (end - (copy + words)))
+  left : copy + words < end → world.block (copy + words) ≡ Some (spare seat (end - (copy + words)))
   left more =
       let next = can.taken.next in
       let end_is = can.taken.end_is in
-      let there : u.block (next_in (u.memory (Current seat))) ≡ Some (spare seat (end_in (u.memory (Current seat)) - next_in (u.memory (Current seat)))) = ⊎_elim
+      let there : world.block (next_in (world.memory (Current seat))) ≡ Some (spare seat (end_in (world.memory (Current seat)) - next_in (world.memory (Current seat)))) = ⊎_elim
       (λ is. is)
       (λ has. absurd (⊎_elim
       (λ spare_is. spare_uncarved seat has.1 spare_is)
@@ -69,10 +69,10 @@ module _ (c : Config) (u : World) (seat words copy end : ℕ) (shared : Shared c
       (can.rooms has.0 (carved seat has.1) has.2 refl)))
       ((shared.owned.buffers.each seat has_buffer).free (omega (arith, next, end_is, more)))
       in
-      ap u.block (sym next) ∙ there ∙ ap (λ n. Some (spare seat n)) (let counts : end_in (u.memory (Current seat)) - next_in (u.memory (Current seat)) ≡ end - (copy + words) = omega (arith, next, end_is) in counts)
+      ap world.block (sym next) ∙ there ∙ ap (λ n. Some (spare seat n)) (let counts : end_in (world.memory (Current seat)) - next_in (world.memory (Current seat)) ≡ end - (copy + words) = omega (arith, next, end_is) in counts)
 
   -- they lie in the region of the room
-  same_region : (more : copy + words < end) → end ≤ base_of c used.region + tops used.region
+  same_region : (more : copy + words < end) → end ≤ base_of config used.region + tops used.region
   same_region more =
       let behind_it = shared.parsable.plotted.in_use (copy + words) (spare seat (end - (copy + words))) (left more) in
       let base = used.from_base in
@@ -82,22 +82,22 @@ module _ (c : Config) (u : World) (seat words copy end : ℕ) (shared : Shared c
       let below = end_below in
       let long = some in
       ⊎_elim
-      (λ (same : behind_it.region ≡ used.region). subst (λ r. end ≤ base_of c r + tops r) same (omega (arith, high, more)))
+      (λ (same : behind_it.region ≡ used.region). subst (λ r. end ≤ base_of config r + tops r) same (omega (arith, high, more)))
       (λ order. absurd (⊎_elim
-      (λ (less : behind_it.region < used.region). let far = behind c behind_it.region used.region less in omega (arith, far, high, top, base, more))
-      (λ (greater : used.region < behind_it.region). let far = behind c used.region behind_it.region greater in omega (arith, far, low, below, more))
+      (λ (less : behind_it.region < used.region). let far = behind config behind_it.region used.region less in omega (arith, far, high, top, base, more))
+      (λ (greater : used.region < behind_it.region). let far = behind config used.region behind_it.region greater in omega (arith, far, low, below, more))
       order))
       (cases_order behind_it.region used.region)
 
   -- the buffer ends at or below the top
-  end_in_use : end ≤ base_of c used.region + tops used.region
+  end_in_use : end ≤ base_of config used.region + tops used.region
   end_in_use = ⊎_elim
       (λ (more : copy + words < end). same_region more)
       (λ (none : end ≤ copy + words). let high = used.to_top in omega (arith, none, high))
       (cases_lt (copy + words) end)
 
   -- the room and the free words behind it are a stretch
-  stretch : IsStretch c tops u.block copy free
+  stretch : IsStretch config tops world.block copy free
   stretch =
       let order = can.taken.ordered in
       let long = some in
@@ -134,27 +134,27 @@ module _ (c : Config) (u : World) (seat words copy end : ℕ) (shared : Shared c
       (cases_lt (copy + words) end)
 
   -- all of it is the seat's room
-  stretch_room : (x : ℕ) (b : Block) → copy ≤ x → x < copy + free → u.block x ≡ Some b → room_of b ≡ Some seat
-  stretch_room x b from to is =
+  stretch_room : (address : ℕ) (piece : Block) → copy ≤ address → address < copy + free → world.block address ≡ Some piece → room_of piece ≡ Some seat
+  stretch_room address piece from to is =
       let order = can.taken.ordered in
       ⊎_elim
-      (λ (first : x ≡ copy). ap room_of (same_Some b (hand seat words) (sym is ∙ ap u.block first ∙ can.taken.here)))
-      (λ (other : x ≢ copy).
-      let far = shared.parsable.plotted.apart copy x (hand seat words) b can.taken.here is (omega (arith, from, other)) in
+      (λ (first : address ≡ copy). ap room_of (same_Some piece (hand seat words) (sym is ∙ ap world.block first ∙ can.taken.here)))
+      (λ (other : address ≢ copy).
+      let far = shared.parsable.plotted.apart copy address (hand seat words) piece can.taken.here is (omega (arith, from, other)) in
       let more : copy + words < end = omega (arith, far, to, order) in
       ⊎_elim
-      (λ (second : x ≡ copy + words). ap room_of (same_Some b (spare seat (end - (copy + words))) (sym is ∙ ap u.block second ∙ left more)))
-      (λ (later : x ≢ copy + words).
-      let farther = shared.parsable.plotted.apart (copy + words) x (spare seat (end - (copy + words))) b (left more) is (omega (arith, far, later)) in
+      (λ (second : address ≡ copy + words). ap room_of (same_Some piece (spare seat (end - (copy + words))) (sym is ∙ ap world.block second ∙ left more)))
+      (λ (later : address ≢ copy + words).
+      let farther = shared.parsable.plotted.apart (copy + words) address (spare seat (end - (copy + words))) piece (left more) is (omega (arith, far, later)) in
       absurd (omega (arith, farther, to, more)))
-      (cases_eq x (copy + words)))
-      (cases_eq x copy)
+      (cases_eq address (copy + words)))
+      (cases_eq address copy)
 
   -- the piece that there is then
-  is_free : (x : ℕ) (b : Block) → one_at copy (spare seat free) x ≡ Some b → (x ≡ copy) × (spare seat free ≡ b)
+  is_free : (x : ℕ) (piece : Block) → one_at copy (spare seat free) x ≡ Some piece → (x ≡ copy) × (spare seat free ≡ piece)
   is_free = only_one copy (spare seat free)
 
-  pub can_recut : CanRecut c tops u.block (one_at copy (spare seat free)) seat copy free
+  pub can_recut : CanRecut config tops world.block (one_at copy (spare seat free)) seat copy free
   can_recut = record {
     parsable = shared.parsable;
     rooms = shared.owned.rooms;
@@ -172,7 +172,7 @@ module _ (c : Config) (u : World) (seat words copy end : ℕ) (shared : Shared c
   word = buffer_word copy end
 
   end_small : end < 2 ^ 32
-  end_small = region_end_small c tops used.region end used.within most end_in_use
+  end_small = region_end_small config tops used.region end used.within most end_in_use
 
   next_then : next_in word ≡ copy
   next_then = let small = end_small in let order = can.taken.ordered in omega (arith, small, order)
@@ -182,12 +182,12 @@ module _ (c : Config) (u : World) (seat words copy end : ℕ) (shared : Shared c
 
   -- the plot then
   abbrev after : Plot
-  after = retiled u.block (one_at copy (spare seat free)) copy free
+  after = retiled world.block (one_at copy (spare seat free)) copy free
 
   free_there : after copy ≡ Some (spare seat free)
-  free_there = new_there c tops u.block (one_at copy (spare seat free)) copy free shared.parsable.plotted stretch can_recut.tiling copy (spare seat free) (updated_there (λ b. None) copy (Some (spare seat free)))
+  free_there = new_there config tops world.block (one_at copy (spare seat free)) copy free shared.parsable.plotted stretch can_recut.tiling copy (spare seat free) (updated_there (λ b. None) copy (Some (spare seat free)))
 
-  own_buffer : IsBuffer c tops after seat word
+  own_buffer : IsBuffer config tops after seat word
   own_buffer =
       let base = used.from_base in
       let order = can.taken.ordered in
@@ -206,12 +206,12 @@ module _ (c : Config) (u : World) (seat words copy end : ℕ) (shared : Shared c
       }
 
   -- an old piece elsewhere is no room of the seat
-  none_else : (x : ℕ) (b : Block) → (x < copy) ⊎ (copy + free ≤ x) → u.block x ≡ Some b → room_of b ≡ Some seat → ⊥
-  none_else x b away is of = ⊎_elim
+  none_else : (address : ℕ) (b : Block) → (address < copy) ⊎ (copy + free ≤ address) → world.block address ≡ Some b → room_of b ≡ Some seat → ⊥
+  none_else address b away is of = ⊎_elim
       (λ spare_is.
-      let piece : u.block x ≡ Some (spare seat spare_is.0) = is ∙ ap (λ k. Some k) spare_is.1 in
-      let told = shared.owned.buffers.spares x seat spare_is.0 piece in
-      let size = shared.owned.rooms.spares x seat spare_is.0 piece in
+      let piece : world.block address ≡ Some (spare seat spare_is.0) = is ∙ ap (λ k. Some k) spare_is.1 in
+      let told = shared.owned.buffers.spares address seat spare_is.0 piece in
+      let size = shared.owned.rooms.spares address seat spare_is.0 piece in
       let next = can.taken.next in
       let end_is = can.taken.end_is in
       let order = can.taken.ordered in
@@ -219,14 +219,14 @@ module _ (c : Config) (u : World) (seat words copy end : ℕ) (shared : Shared c
       let to = told.1 in
       omega (arith, away, from, to, next, end_is, order, size))
       (λ hand_is. let same = hand_is.0 in let order = can.taken.ordered in let long = some in omega (arith, away, same, order, long))
-      (can.rooms x b is of)
+      (can.rooms address b is of)
 
-  buffers_then : AreBuffers c tops (λ s. write u.memory (Current seat) word (Current s)) after
-  buffers_then = buffers_again c tops u.block (one_at copy (spare seat free)) seat copy free can_recut (λ s. u.memory (Current s)) (λ s. write u.memory (Current seat) word (Current s))
-      (λ other differs. updated_else (λ s. u.memory (Current s)) seat word other (λ same. differs (sym same)))
-      (λ there. subst (IsBuffer c tops after seat) (sym (updated_there (λ s. u.memory (Current s)) seat word)) own_buffer)
+  buffers_then : AreBuffers config tops (λ s. write world.memory (Current seat) word (Current s)) after
+  buffers_then = buffers_again config tops world.block (one_at copy (spare seat free)) seat copy free can_recut (λ s. world.memory (Current s)) (λ s. write world.memory (Current seat) word (Current s))
+      (λ other differs. updated_else (λ s. world.memory (Current s)) seat word other (λ same. differs (sym same)))
+      (λ there. subst (IsBuffer config tops after seat) (sym (updated_there (λ s. world.memory (Current s)) seat word)) own_buffer)
       (λ x more is.
-      let now : write u.memory (Current seat) word (Current seat) ≡ word = updated_there (λ s. u.memory (Current s)) seat word in
+      let now : write world.memory (Current seat) word (Current seat) ≡ word = updated_there (λ s. world.memory (Current s)) seat word in
       let told : (next_in word ≡ x) × (end_in word ≡ x + more) = ⊎_elim
       (λ away. absurd (none_else x (spare seat more) away.0 away.1 refl))
       (λ inside.
@@ -236,41 +236,41 @@ module _ (c : Config) (u : World) (seat words copy end : ℕ) (shared : Shared c
       let at = there.0 in
       let order = can.taken.ordered in
       (omega (arith, next_then, at), omega (arith, end_then, at, count, order)))
-      (retiled_cases u.block (one_at copy (spare seat free)) copy free x (spare seat more) is)
+      (retiled_cases world.block (one_at copy (spare seat free)) copy free x (spare seat more) is)
       in
       subst (λ k. (next_in k ≡ x) × (end_in k ≡ x + more)) (sym now) told)
       shared.owned.buffers
 
   -- the world then
   abbrev pub back_world : World
-  back_world = recut_world c u (one_at copy (spare seat free)) seat copy free shared can_recut (write u.memory (Current seat) word) (buffer_else u.memory seat word) (λ x away. refl)
+  back_world = recut_world config world (one_at copy (spare seat free)) seat copy free shared can_recut (write world.memory (Current seat) word) (buffer_else world.memory seat word) (λ x away. refl)
 
   -- all room of the seat is free words of its buffer then
-  pub all_spare : (x : ℕ) (b : Block) → back_world.block x ≡ Some b → room_of b ≡ Some seat → IsSpare seat b
-  all_spare x b is of = ⊎_elim
-      (λ away. absurd (none_else x b away.0 away.1 of))
-      (λ inside. (free, sym (is_free x b inside.2).1))
-      (retiled_cases u.block (one_at copy (spare seat free)) copy free x b is)
+  pub all_spare : (address : ℕ) (piece : Block) → back_world.block address ≡ Some piece → room_of piece ≡ Some seat → IsSpare seat piece
+  all_spare address piece is of = ⊎_elim
+      (λ away. absurd (none_else address piece away.0 away.1 of))
+      (λ inside. (free, sym (is_free address piece inside.2).1))
+      (retiled_cases world.block (one_at copy (spare seat free)) copy free address piece is)
 
   -- what is not loose stays
-  pub fixed_stays : (x : ℕ) (b : Block) → is_loose b ≡ false → u.block x ≡ Some b → back_world.block x ≡ Some b
-  fixed_stays x b fixed is = (same_but_loose c tops u.block (one_at copy (spare seat free)) seat copy free can_recut).stays x b fixed is
+  pub fixed_stays : (address : ℕ) (piece : Block) → is_loose piece ≡ false → world.block address ≡ Some piece → back_world.block address ≡ Some piece
+  fixed_stays address piece fixed is = (same_but_loose config tops world.block (one_at copy (spare seat free)) seat copy free can_recut).stays address piece fixed is
 
   -- the store of the buffer gives the room back
-  pub back_step : (facts : World → Type 0) → facts back_world → PartStep c u seat (touch (Current seat) (stores (buffer_word copy end))) facts
+  pub back_step : (facts : World → Type 0) → facts back_world → PartStep config world seat (touch (Current seat) (stores (buffer_word copy end))) facts
   back_step facts own = record {
     world = back_world;
     memory = refl;
     graph = refl;
-    shared = shared_recut c u (one_at copy (spare seat free)) seat copy free shared can_recut (λ x. u.memory (Heap x)) (λ x away. refl) (λ s. write u.memory (Current seat) word (Current s))
+    shared = shared_recut config world (one_at copy (spare seat free)) seat copy free shared can_recut (λ x. world.memory (Heap x)) (λ x away. refl) (λ s. write world.memory (Current seat) word (Current s))
         (λ x more is. let same = (is_free x (filler more) is).1 in absurd cc)
         buffers_then
-        (buffers_outside c tops u.block (one_at copy (spare seat free)) seat copy free can_recut (u.memory Cset) (λ s. u.memory (Current s)) (λ s. write u.memory (Current seat) word (Current s))
-        (λ other differs. updated_else (λ s. u.memory (Current s)) seat word other (λ same. differs (sym same)))
-        (λ there. ap end_in (updated_there (λ s. u.memory (Current s)) seat word) ∙ (let order = can.taken.ordered in omega (arith, end_then, order)))
+        (buffers_outside config tops world.block (one_at copy (spare seat free)) seat copy free can_recut (world.memory Cset) (λ s. world.memory (Current s)) (λ s. write world.memory (Current seat) word (Current s))
+        (λ other differs. updated_else (λ s. world.memory (Current s)) seat word other (λ same. differs (sym same)))
+        (λ there. ap end_in (updated_there (λ s. world.memory (Current s)) seat word) ∙ (let order = can.taken.ordered in omega (arith, end_then, order)))
         shared.evacuated.aside.no_rooms shared.owned.outside);
     own = own;
-    keeps = keeps_recut c u (one_at copy (spare seat free)) seat copy free shared can_recut (write u.memory (Current seat) word) (buffer_else u.memory seat word) (λ x away. refl);
-    others = others_recut c u (one_at copy (spare seat free)) seat copy free shared can_recut (write u.memory (Current seat) word) (buffer_else u.memory seat word) (λ x away. refl)
-        (λ s differs. updated_else (λ k. u.memory (Current k)) seat word s (λ same. differs (sym same)));
+    keeps = keeps_recut config world (one_at copy (spare seat free)) seat copy free shared can_recut (write world.memory (Current seat) word) (buffer_else world.memory seat word) (λ x away. refl);
+    others = others_recut config world (one_at copy (spare seat free)) seat copy free shared can_recut (write world.memory (Current seat) word) (buffer_else world.memory seat word) (λ x away. refl)
+        (λ s differs. updated_else (λ k. world.memory (Current k)) seat word s (λ same. differs (sym same)));
   }

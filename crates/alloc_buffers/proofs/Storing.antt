@@ -28,7 +28,7 @@ buffer_else memory seat value _ is = refl
 -- So many words from an address on are cut into words in a seat's hand and free words of its buffer, if any are left.
 record IsCut (new : Plot) (seat address words room : ℕ) : Type 0 where
   tiling : IsTiling new address room
-  pieces : (x : ℕ) (b : Block) → new x ≡ Some b → ((x ≡ address) × (hand seat words ≡ b)) ⊎ ((x ≡ address + words) × (spare seat (room - words) ≡ b))
+  pieces : (x : ℕ) (piece : Block) → new x ≡ Some piece → ((x ≡ address) × (hand seat words ≡ piece)) ⊎ ((x ≡ address + words) × (spare seat (room - words) ≡ piece))
   here : new address ≡ Some (hand seat words)
   rest : words < room → new (address + words) ≡ Some (spare seat (room - words))
 
@@ -59,10 +59,10 @@ cut seat address words room some long = ⊎_elim
     ))
     (cases_eq words room)
 
-module _ (c : Config) (u : World) (seat words : ℕ) (kind : Kind) (address room : ℕ) (shared : Shared c u) (can : CanTake c u seat words (StoreBuffer address room)) (old : Block) (there : u.block address ≡ Some old)
+module _ (config : Config) (world : World) (seat words : ℕ) (kind : Kind) (address room : ℕ) (shared : Shared config world) (can : CanTake config world seat words (StoreBuffer address room)) (old : Block) (there : world.block address ≡ Some old)
     (of_seat : room_of old ≡ Some seat) (so_long : words_of old ≡ room) (new : Plot) (is_cut : IsCut new seat address words room) where
   abbrev tops : ℕ → ℕ
-  tops r = u.memory (Top r)
+  tops region = world.memory (Top region)
 
   -- as many words as are wanted, and addresses are small
   numbers : (words ≤ room) × (address + room < 4294967296)
@@ -73,14 +73,14 @@ module _ (c : Config) (u : World) (seat words : ℕ) (kind : Kind) (address room
   some = let least = can.least in let long = numbers.0 in omega (arith, least, long, so_long)
 
   -- no other piece begins there
-  alone : (x : ℕ) (b : Block) → address ≤ x → x < address + room → u.block x ≡ Some b → (x ≡ address) × (old ≡ b)
-  alone x b from to is = piece_alone c tops u.block shared.parsable.plotted address old there some x b from (omega (arith, to, so_long)) is
+  alone : (x : ℕ) (piece : Block) → address ≤ x → x < address + room → world.block x ≡ Some piece → (x ≡ address) × (old ≡ piece)
+  alone x piece from to is = piece_alone config tops world.block shared.parsable.plotted address old there some x piece from (omega (arith, to, so_long)) is
 
-  can_recut : CanRecut c tops u.block new seat address room
+  can_recut : CanRecut config tops world.block new seat address room
   can_recut = record {
     parsable = shared.parsable;
     rooms = shared.owned.rooms;
-    stretch = subst (IsStretch c tops u.block address) so_long (piece_stretch c tops u.block shared.parsable.plotted address old there some);
+    stretch = subst (IsStretch config tops world.block address) so_long (piece_stretch config tops world.block shared.parsable.plotted address old there some);
     tiling = is_cut.tiling;
     olds = λ x b from to is. ap room_of (sym (alone x b from to is).1) ∙ of_seat;
     loose = λ x b is. ⊎_elim (λ one. ap is_loose (sym one.1)) (λ two. ap is_loose (sym two.1)) (is_cut.pieces x b is);
@@ -108,17 +108,17 @@ module _ (c : Config) (u : World) (seat words : ℕ) (kind : Kind) (address room
 
   -- the plot then
   abbrev after : Plot
-  after = retiled u.block new address room
+  after = retiled world.block new address room
 
   -- room of the seat elsewhere there is none
-  none_else : (x : ℕ) (b : Block) → (x < address) ⊎ (address + room ≤ x) → u.block x ≡ Some b → room_of b ≡ Some seat → ⊥
-  none_else x b away is of = let here = can.rooms x b is of in let least = can.least in let long = numbers.0 in omega (arith, away, here, least, long)
+  none_else : (x : ℕ) (piece : Block) → (x < address) ⊎ (address + room ≤ x) → world.block x ≡ Some piece → room_of piece ≡ Some seat → ⊥
+  none_else x piece away is of = let here = can.rooms x piece is of in let least = can.least in let long = numbers.0 in omega (arith, away, here, least, long)
 
   -- the free words that are left
   rest_there : words < room → after (address + words) ≡ Some (spare seat (room - words))
-  rest_there less = new_there c tops u.block new address room shared.parsable.plotted can_recut.stretch is_cut.tiling (address + words) (spare seat (room - words)) (is_cut.rest less)
+  rest_there less = new_there config tops world.block new address room shared.parsable.plotted can_recut.stretch is_cut.tiling (address + words) (spare seat (room - words)) (is_cut.rest less)
 
-  own_buffer : IsBuffer c tops after seat word
+  own_buffer : IsBuffer config tops after seat word
   own_buffer =
       let stretch = can_recut.stretch in
       let base = stretch.from_base in
@@ -137,12 +137,12 @@ module _ (c : Config) (u : World) (seat words : ℕ) (kind : Kind) (address room
             inl (ap after next_is ∙ rest_there (omega (arith, more, next_is, end_is)) ∙ ap (λ n. Some (spare seat n)) (sym left));
       }
 
-  buffers_then : AreBuffers c tops (λ s. write u.memory (Current seat) word (Current s)) after
-  buffers_then = buffers_again c tops u.block new seat address room can_recut (λ s. u.memory (Current s)) (λ s. write u.memory (Current seat) word (Current s))
-      (λ other differs. updated_else (λ s. u.memory (Current s)) seat word other (λ same. differs (sym same)))
-      (λ there_is. subst (IsBuffer c tops after seat) (sym (updated_there (λ s. u.memory (Current s)) seat word)) own_buffer)
+  buffers_then : AreBuffers config tops (λ s. write world.memory (Current seat) word (Current s)) after
+  buffers_then = buffers_again config tops world.block new seat address room can_recut (λ s. world.memory (Current s)) (λ s. write world.memory (Current seat) word (Current s))
+      (λ other differs. updated_else (λ s. world.memory (Current s)) seat word other (λ same. differs (sym same)))
+      (λ there_is. subst (IsBuffer config tops after seat) (sym (updated_there (λ s. world.memory (Current s)) seat word)) own_buffer)
       (λ x more is.
-      let now : write u.memory (Current seat) word (Current seat) ≡ word = updated_there (λ s. u.memory (Current s)) seat word in
+      let now : write world.memory (Current seat) word (Current seat) ≡ word = updated_there (λ s. world.memory (Current s)) seat word in
       let told : (next_in word ≡ x) × (end_in word ≡ x + more) = ⊎_elim
       (λ away. absurd (none_else x (spare seat more) away.0 away.1 refl))
       (λ inside. ⊎_elim
@@ -154,17 +154,17 @@ module _ (c : Config) (u : World) (seat words : ℕ) (kind : Kind) (address room
       let long = numbers.0 in
       (omega (arith, next_is, at), omega (arith, end_is, at, left, long)))
       (is_cut.pieces x (spare seat more) inside.2))
-      (retiled_cases u.block new address room x (spare seat more) is)
+      (retiled_cases world.block new address room x (spare seat more) is)
       in
       subst (λ k. (next_in k ≡ x) × (end_in k ≡ x + more)) (sym now) told)
       shared.owned.buffers
 
   -- the world after the step
   abbrev stored_world : World
-  stored_world = recut_world c u new seat address room shared can_recut (write u.memory (Current seat) word) (buffer_else u.memory seat word) (λ x away. refl)
+  stored_world = recut_world config world new seat address room shared can_recut (write world.memory (Current seat) word) (buffer_else world.memory seat word) (λ x away. refl)
 
   -- the address is of the region of the stretch
-  of_region : IsOf c can_recut.stretch.region address
+  of_region : IsOf config can_recut.stretch.region address
   of_region =
       let stretch = can_recut.stretch in
       let base = stretch.from_base in
@@ -175,12 +175,12 @@ module _ (c : Config) (u : World) (seat words : ℕ) (kind : Kind) (address room
       record { from = base; before = omega (arith, high, most, least, long) }
 
   -- what the seat counts on then: the room is in hand
-  has_taken : CanTake c stored_world seat words (Ended (At address) (address + room))
+  has_taken : CanTake config stored_world seat words (Ended (At address) (address + room))
   has_taken =
-      let now : write u.memory (Current seat) word (Current seat) ≡ word = updated_there (λ s. u.memory (Current s)) seat word in
-      can_at c u seat words kind (StoreBuffer address room) (Ended (At address) (address + room)) stored_world can refl refl refl
+      let now : write world.memory (Current seat) word (Current seat) ≡ word = updated_there (λ s. world.memory (Current s)) seat word in
+      can_at config world seat words kind (StoreBuffer address room) (Ended (At address) (address + room)) stored_world can refl refl refl
       (record {
-        here = new_there c tops u.block new address room shared.parsable.plotted can_recut.stretch is_cut.tiling address (hand seat words) is_cut.here;
+        here = new_there config tops world.block new address room shared.parsable.plotted can_recut.stretch is_cut.tiling address (hand seat words) is_cut.here;
         next = ap next_in now ∙ next_is;
         end_is = ap end_in now ∙ end_is;
         ordered = (let long = numbers.0 in omega (arith, long));
@@ -188,7 +188,7 @@ module _ (c : Config) (u : World) (seat words : ℕ) (kind : Kind) (address room
             let stretch = can_recut.stretch in
             let high = stretch.to_top in
             let most = shared.parsable.plotted.tops stretch.region stretch.within in
-            subst (λ r. address + room ≤ base_of c r + c.region_words) (sym (regions_tile.of_no_other c stretch.region address of_region)) (omega (arith, high, most));
+            subst (λ r. address + room ≤ base_of config r + config.region_words) (sym (regions_tile.of_no_other config stretch.region address of_region)) (omega (arith, high, most));
       })
       (λ x b is of. ⊎_elim
       (λ away. absurd (none_else x b away.0 away.1 of))
@@ -196,36 +196,36 @@ module _ (c : Config) (u : World) (seat words : ℕ) (kind : Kind) (address room
       (λ one. inr (one.0, sym one.1))
       (λ two. inl (room - words, sym two.1))
       (is_cut.pieces x b inside.2))
-      (retiled_cases u.block new address room x b is))
+      (retiled_cases world.block new address room x b is))
 
   -- the store of the buffer puts the words into hand
-  stored : TakeStep c u seat words kind (StoreBuffer address room)
+  stored : TakeStep config world seat words kind (StoreBuffer address room)
   stored = record {
     world = stored_world;
     memory = refl;
     graph = refl;
-    shared = shared_recut c u new seat address room shared can_recut (λ x. u.memory (Heap x)) (λ x away. refl) (λ s. write u.memory (Current seat) word (Current s))
+    shared = shared_recut config world new seat address room shared can_recut (λ x. world.memory (Heap x)) (λ x away. refl) (λ s. write world.memory (Current seat) word (Current s))
         (λ x more is. ⊎_elim
         (λ (one : (x ≡ address) × (hand seat words ≡ filler more)). let same = one.1 in absurd cc)
         (λ (two : (x ≡ address + words) × (spare seat (room - words) ≡ filler more)). let same = two.1 in absurd cc)
         (is_cut.pieces x (filler more) is))
         buffers_then
-        (buffers_outside c tops u.block new seat address room can_recut (u.memory Cset) (λ s. u.memory (Current s)) (λ s. write u.memory (Current seat) word (Current s))
-        (λ other differs. updated_else (λ s. u.memory (Current s)) seat word other (λ same. differs (sym same)))
-        (λ there. ap end_in (updated_there (λ s. u.memory (Current s)) seat word) ∙ end_is)
+        (buffers_outside config tops world.block new seat address room can_recut (world.memory Cset) (λ s. world.memory (Current s)) (λ s. write world.memory (Current seat) word (Current s))
+        (λ other differs. updated_else (λ s. world.memory (Current s)) seat word other (λ same. differs (sym same)))
+        (λ there. ap end_in (updated_there (λ s. world.memory (Current s)) seat word) ∙ end_is)
         shared.evacuated.aside.no_rooms shared.owned.outside);
     own = (has_taken, record { copying = refl; working = refl });
-    keeps = keeps_recut c u new seat address room shared can_recut (write u.memory (Current seat) word) (buffer_else u.memory seat word) (λ x away. refl);
-    others = others_recut c u new seat address room shared can_recut (write u.memory (Current seat) word) (buffer_else u.memory seat word) (λ x away. refl)
-        (λ s differs. updated_else (λ k. u.memory (Current k)) seat word s (λ same. differs (sym same)));
+    keeps = keeps_recut config world new seat address room shared can_recut (write world.memory (Current seat) word) (buffer_else world.memory seat word) (λ x away. refl);
+    others = others_recut config world new seat address room shared can_recut (write world.memory (Current seat) word) (buffer_else world.memory seat word) (λ x away. refl)
+        (λ s differs. updated_else (λ k. world.memory (Current k)) seat word s (λ same. differs (sym same)));
   }
 
 -- the step that stores the buffer, out of its free words or out of those that are carved
-pub at_store_buffer : (c : Config) (u : World) (seat words : ℕ) (kind : Kind) (address room : ℕ) → Shared c u → CanTake c u seat words (StoreBuffer address room) → TakeStep c u seat words kind (StoreBuffer address room)
-at_store_buffer c u seat words kind address room shared can =
+pub at_store_buffer : (config : Config) (world : World) (seat words : ℕ) (kind : Kind) (address room : ℕ) → Shared config world → CanTake config world seat words (StoreBuffer address room) → TakeStep config world seat words kind (StoreBuffer address room)
+at_store_buffer config world seat words kind address room shared can =
     let some : 1 ≤ words = (let least = can.least in omega (arith, least)) in
     let made = cut seat address words room some can.facts.long in
     ⊎_elim
-    (λ free. stored c u seat words kind address room shared can (spare seat room) free refl refl made.0 made.1)
-    (λ new. stored c u seat words kind address room shared can (carved seat room) new refl refl made.0 made.1)
+    (λ free. stored config world seat words kind address room shared can (spare seat room) free refl refl made.0 made.1)
+    (λ new. stored config world seat words kind address room shared can (carved seat room) new refl refl made.0 made.1)
     can.facts.here

@@ -18,100 +18,100 @@ use Rattle.alloc_buffers.specs.Facts.{CanTake}
 use Rattle.alloc_buffers.proofs.TakeSteps.{TakeStep, looked, left_of, buffer_small, spare_is_next, store_ready}
 
 -- what is carved above a top has the words that are wanted, and lies in the region
-pub carved_long : (c : Config) (words top : ℕ) → words ≤ 35 → top + words ≤ c.region_words → (words ≤ carved_words c top) × (top + carved_words c top ≤ c.region_words) × (carved_words c top ≤ 64)
-carved_long c words top few room = ⊎_elim
-    (λ (more : has_room c 64 top ≡ true).
-    let is : carved_words c top ≡ 64 = cond-true (has_room c 64 top) 64 (c.region_words - top) more in
-    let high : top + 64 ≤ c.region_words = leb-true (top + 64) c.region_words more in
+pub carved_long : (config : Config) (words top : ℕ) → words ≤ 35 → top + words ≤ config.region_words → (words ≤ carved_words config top) × (top + carved_words config top ≤ config.region_words) × (carved_words config top ≤ 64)
+carved_long config words top few room = ⊎_elim
+    (λ (more : has_room config 64 top ≡ true).
+    let is : carved_words config top ≡ 64 = cond-true (has_room config 64 top) 64 (config.region_words - top) more in
+    let high : top + 64 ≤ config.region_words = leb-true (top + 64) config.region_words more in
     (omega (arith, is, few), omega (arith, is, high), omega (arith, is)))
-    (λ (less : has_room c 64 top ≡ false).
-    let is : carved_words c top ≡ c.region_words - top = cond-false (has_room c 64 top) 64 (c.region_words - top) less in
-    let high : c.region_words < top + 64 = leb-false (top + 64) c.region_words less in
+    (λ (less : has_room config 64 top ≡ false).
+    let is : carved_words config top ≡ config.region_words - top = cond-false (has_room config 64 top) 64 (config.region_words - top) less in
+    let high : config.region_words < top + 64 = leb-false (top + 64) config.region_words less in
     (omega (arith, is, room), omega (arith, is, room), omega (arith, is, high, room)))
-    (cases_Bool (has_room c 64 top))
+    (cases_Bool (has_room config 64 top))
 
-module _ (c : Config) (u : World) (seat words : ℕ) (kind : Kind) where
+module _ (config : Config) (world : World) (seat words : ℕ) (kind : Kind) where
   -- the load of the buffer: it has room, or is small
-  pub at_load_buffer : Shared c u → CanTake c u seat words LoadBuffer → TakeStep c u seat words kind LoadBuffer
+  pub at_load_buffer : Shared config world → CanTake config world seat words LoadBuffer → TakeStep config world seat words kind LoadBuffer
   at_load_buffer shared can =
-      let got : ℕ = u.memory (Current seat) in
+      let got : ℕ = world.memory (Current seat) in
       let least = can.least in
       ⊎_elim
-      (λ (room : has_free words (u.memory (Current seat)) ≡ true).
-      let long : next_in (u.memory (Current seat)) + words ≤ end_in (u.memory (Current seat)) = leb-true _ _ room in
-      let some : u.memory (Current seat) ≢ 0 = λ none. (let end : end_in (u.memory (Current seat)) ≡ 0 = ap end_in none in omega (arith, end, long, least)) in
-      let left = left_of c u seat words kind shared can.rooms (omega (arith, long, least)) in
-      let small = buffer_small c u seat words kind shared some in
-      looked c u seat words kind LoadBuffer (StoreBuffer (next_in got) (free_words got)) shared can (sym (load_keeps u.memory (Current seat)))
+      (λ (room : has_free words (world.memory (Current seat)) ≡ true).
+      let long : next_in (world.memory (Current seat)) + words ≤ end_in (world.memory (Current seat)) = leb-true _ _ room in
+      let some : world.memory (Current seat) ≢ 0 = λ none. (let end : end_in (world.memory (Current seat)) ≡ 0 = ap end_in none in omega (arith, end, long, least)) in
+      let left = left_of config world seat words kind shared can.rooms (omega (arith, long, least)) in
+      let small = buffer_small config world seat words kind shared some in
+      looked config world seat words kind LoadBuffer (StoreBuffer (next_in got) (free_words got)) shared can (sym (load_keeps world.memory (Current seat)))
       (cond-true (has_free words got) (StoreBuffer (next_in got) (free_words got)) (LoadShared got) room)
-      (store_ready c seat words (next_in got) (free_words got) can.seated (omega (arith, long)) (omega (arith, long, small)))
+      (store_ready config seat words (next_in got) (free_words got) can.seated (omega (arith, long)) (omega (arith, long, small)))
       (record { here = inl left; long = omega (arith, long) })
-      (λ a x is of. sym (spare_is_next c u seat words kind shared a x is (can.rooms a x is of))))
-      (λ (less : has_free words (u.memory (Current seat)) ≡ false).
-      looked c u seat words kind LoadBuffer (LoadShared got) shared can (sym (load_keeps u.memory (Current seat)))
+      (λ a x is of. sym (spare_is_next config world seat words kind shared a x is (can.rooms a x is of))))
+      (λ (less : has_free words (world.memory (Current seat)) ≡ false).
+      looked config world seat words kind LoadBuffer (LoadShared got) shared can (sym (load_keeps world.memory (Current seat)))
       (cond-false (has_free words got) (StoreBuffer (next_in got) (free_words got)) (LoadShared got) less) refl
       (record { is = refl; less = leb-false _ _ less })
       can.rooms)
-      (cases_Bool (has_free words (u.memory (Current seat))))
+      (cases_Bool (has_free words (world.memory (Current seat))))
 
   -- the load of the shared region: there is one, which may be carved, or none
-  pub at_load_shared : (buffer : ℕ) → Shared c u → CanTake c u seat words (LoadShared buffer) → TakeStep c u seat words kind (LoadShared buffer)
+  pub at_load_shared : (buffer : ℕ) → Shared config world → CanTake config world seat words (LoadShared buffer) → TakeStep config world seat words kind (LoadShared buffer)
   at_load_shared buffer shared can =
-      let got : ℕ = u.memory Share in
+      let got : ℕ = world.memory Share in
       ⊎_elim
-      (λ (none : u.memory Share ≡ 0).
-      looked c u seat words kind (LoadShared buffer) (LoadFree buffer 0) shared can (sym (load_keeps u.memory Share))
+      (λ (none : world.memory Share ≡ 0).
+      looked config world seat words kind (LoadShared buffer) (LoadFree buffer 0) shared can (sym (load_keeps world.memory Share))
       (cond-true (got == 0) (LoadFree buffer 0) (LoadTop buffer (got - 1)) (eq-eqb got 0 none))
-      (and_from _ _ refl (le-leb 0 c.regions (omega arith)))
+      (and_from _ _ refl (le-leb 0 config.regions (omega arith)))
       can.facts can.rooms)
-      (λ (some : u.memory Share ≢ 0).
-      let is : u.memory Share ≡ (u.memory Share - 1) + 1 = omega (arith, some) in
-      let may = shared.owned.shared_one (u.memory Share - 1) is in
-      looked c u seat words kind (LoadShared buffer) (LoadTop buffer (got - 1)) shared can (sym (load_keeps u.memory Share))
+      (λ (some : world.memory Share ≢ 0).
+      let is : world.memory Share ≡ (world.memory Share - 1) + 1 = omega (arith, some) in
+      let may = shared.owned.shared_one (world.memory Share - 1) is in
+      looked config world seat words kind (LoadShared buffer) (LoadTop buffer (got - 1)) shared can (sym (load_keeps world.memory Share))
       (cond-false (got == 0) (LoadFree buffer 0) (LoadTop buffer (got - 1)) (ne_eqb got 0 some))
       (and_from _ _ (and_from _ _ (lt-ltb _ _ may.within) refl) refl)
       (can.facts, may) can.rooms)
-      (cases_eq (u.memory Share) 0)
+      (cases_eq (world.memory Share) 0)
 
   -- the load of its top: there is room to carve, or it looks for a free region
-  pub at_load_top : (buffer region : ℕ) → Shared c u → CanTake c u seat words (LoadTop buffer region) → TakeStep c u seat words kind (LoadTop buffer region)
+  pub at_load_top : (buffer region : ℕ) → Shared config world → CanTake config world seat words (LoadTop buffer region) → TakeStep config world seat words kind (LoadTop buffer region)
   at_load_top buffer region shared can =
-      let got : ℕ = u.memory (Top region) in
+      let got : ℕ = world.memory (Top region) in
       let within = can.facts.1.within in
       ⊎_elim
-      (λ (room : has_room c words (u.memory (Top region)) ≡ true).
-      let most : u.memory (Top region) + words ≤ c.region_words = leb-true _ _ room in
-      let long = c.in_range.most_words in
-      let carves = carved_long c words (u.memory (Top region)) can.most most in
-      looked c u seat words kind (LoadTop buffer region) (Carve buffer region got (carved_words c got)) shared can (sym (load_keeps u.memory (Top region)))
-      (cond-true (has_room c words got) (Carve buffer region got (carved_words c got)) (LoadFree buffer (region + 1)) room)
+      (λ (room : has_room config words (world.memory (Top region)) ≡ true).
+      let most : world.memory (Top region) + words ≤ config.region_words = leb-true _ _ room in
+      let long = config.in_range.most_words in
+      let carves = carved_long config words (world.memory (Top region)) can.most most in
+      looked config world seat words kind (LoadTop buffer region) (Carve buffer region got (carved_words config got)) shared can (sym (load_keeps world.memory (Top region)))
+      (cond-true (has_room config words got) (Carve buffer region got (carved_words config got)) (LoadFree buffer (region + 1)) room)
       (and_from _ _
-      (and_from _ _ (lt-ltb _ _ within) (and_from _ _ (lt-ltb got (2 ^ 64) (omega (arith, most, long))) (lt-ltb (got + carved_words c got) (2 ^ 64) (omega (arith, carves.1, long)))))
+      (and_from _ _ (lt-ltb _ _ within) (and_from _ _ (lt-ltb got (2 ^ 64) (omega (arith, most, long))) (lt-ltb (got + carved_words config got) (2 ^ 64) (omega (arith, carves.1, long)))))
       (and_from _ _ (le-leb _ _ carves.1) (le-leb _ _ carves.0)))
       can.facts can.rooms)
-      (λ (less : has_room c words (u.memory (Top region)) ≡ false).
-      looked c u seat words kind (LoadTop buffer region) (LoadFree buffer (region + 1)) shared can (sym (load_keeps u.memory (Top region)))
-      (cond-false (has_room c words got) (Carve buffer region got (carved_words c got)) (LoadFree buffer (region + 1)) less)
-      (and_from _ _ refl (le-leb (region + 1) c.regions (omega (arith, within))))
+      (λ (less : has_room config words (world.memory (Top region)) ≡ false).
+      looked config world seat words kind (LoadTop buffer region) (LoadFree buffer (region + 1)) shared can (sym (load_keeps world.memory (Top region)))
+      (cond-false (has_room config words got) (Carve buffer region got (carved_words config got)) (LoadFree buffer (region + 1)) less)
+      (and_from _ _ refl (le-leb (region + 1) config.regions (omega (arith, within))))
       can.facts.0 can.rooms)
-      (cases_Bool (has_room c words (u.memory (Top region))))
+      (cases_Bool (has_room config words (world.memory (Top region))))
 
   -- the load of the free word: there is a free region, or there is no room
-  pub at_load_free : (buffer shared_word : ℕ) → Shared c u → CanTake c u seat words (LoadFree buffer shared_word) → TakeStep c u seat words kind (LoadFree buffer shared_word)
+  pub at_load_free : (buffer shared_word : ℕ) → Shared config world → CanTake config world seat words (LoadFree buffer shared_word) → TakeStep config world seat words kind (LoadFree buffer shared_word)
   at_load_free buffer shared_word shared can =
-      let got : ℕ = u.memory Free in
+      let got : ℕ = world.memory Free in
       let small = can.facts in
-      let known : shared_word ≤ c.regions = leb-true shared_word c.regions (and_parts (touch_fits c (touch_at seat words (LoadFree buffer shared_word))) (nat_le shared_word c.regions) can.ready).1 in
+      let known : shared_word ≤ config.regions = leb-true shared_word config.regions (and_parts (touch_fits config (touch_at seat words (LoadFree buffer shared_word))) (nat_le shared_word config.regions) can.ready).1 in
       ⊎_elim
-      (λ (none : has_none c kind (u.memory Free) ≡ true).
-      looked c u seat words kind (LoadFree buffer shared_word) (Ended NoRoom 0) shared can (sym (load_keeps u.memory Free))
-      (cond-true (has_none c kind got) (Ended NoRoom 0) (TakeRegion buffer shared_word (lowest_in got)) none) refl
+      (λ (none : has_none config kind (world.memory Free) ≡ true).
+      looked config world seat words kind (LoadFree buffer shared_word) (Ended NoRoom 0) shared can (sym (load_keeps world.memory Free))
+      (cond-true (has_none config kind got) (Ended NoRoom 0) (TakeRegion buffer shared_word (lowest_in got)) none) refl
       (subst (λ b. end_in b < next_in b + words) (sym small.is) small.less)
       can.rooms)
-      (λ (some : has_none c kind (u.memory Free) ≡ false).
-      let within : lowest_in (u.memory Free) < c.regions = lowest_within c (u.memory Free) (kept_back c kind) shared.owned.free_word.no_more (leb-false _ _ some) in
-      looked c u seat words kind (LoadFree buffer shared_word) (TakeRegion buffer shared_word (lowest_in got)) shared can (sym (load_keeps u.memory Free))
-      (cond-false (has_none c kind got) (Ended NoRoom 0) (TakeRegion buffer shared_word (lowest_in got)) some)
+      (λ (some : has_none config kind (world.memory Free) ≡ false).
+      let within : lowest_in (world.memory Free) < config.regions = lowest_within config (world.memory Free) (kept_back config kind) shared.owned.free_word.no_more (leb-false _ _ some) in
+      looked config world seat words kind (LoadFree buffer shared_word) (TakeRegion buffer shared_word (lowest_in got)) shared can (sym (load_keeps world.memory Free))
+      (cond-false (has_none config kind got) (Ended NoRoom 0) (TakeRegion buffer shared_word (lowest_in got)) some)
       (and_from _ _ (lt-ltb _ _ (omega arith)) (and_from _ _ (lt-ltb _ _ within) (le-leb _ _ known)))
       small can.rooms)
-      (cases_Bool (has_none c kind (u.memory Free)))
+      (cases_Bool (has_none config kind (world.memory Free)))

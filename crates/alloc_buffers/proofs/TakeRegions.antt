@@ -31,41 +31,41 @@ share_else memory value Free is = refl
 share_else memory value Share is = absurd (true≢false is)
 share_else memory value _ is = refl
 
-module _ (c : Config) (u : World) (seat words : ℕ) (kind : Kind) where
+module _ (config : Config) (world : World) (seat words : ℕ) (kind : Kind) where
   abbrev tops_now : ℕ → ℕ
-  tops_now r = u.memory (Top r)
+  tops_now region = world.memory (Top region)
 
   -- evacuation goes on with another free word and other owners
-  evacuating : (free : ℕ) (owner : ℕ → Option ℕ) → Shared c u → ((r : ℕ) → IsIn free r → IsIn (u.memory Cset) r → ⊥) → ((r other : ℕ) → owner r ≡ Some other → IsIn (u.memory Cset) r → ⊥)
-      → IsEvacuating c (u.memory Phase) (u.memory Cset) (u.memory Evac) (u.memory Claim) free tops_now (λ r. u.memory (Tams r)) (λ a. u.memory (Heap a)) (λ n. u.memory (Black n)) u.block owner u.ghost.copying u.ghost.working
+  evacuating : (free : ℕ) (owner : ℕ → Option ℕ) → Shared config world → ((region : ℕ) → IsIn free region → IsIn (world.memory Cset) region → ⊥) → ((region other : ℕ) → owner region ≡ Some other → IsIn (world.memory Cset) region → ⊥)
+      → IsEvacuating config (world.memory Phase) (world.memory Cset) (world.memory Evac) (world.memory Claim) free tops_now (λ region. world.memory (Tams region)) (λ a. world.memory (Heap a)) (λ n. world.memory (Black n)) world.block owner world.ghost.copying world.ghost.working
   evacuating free owner shared in_use nobodys =
-      evacuated_owned c (u.memory Phase) (u.memory Cset) (u.memory Evac) (u.memory Claim) (u.memory Free) tops_now (λ r. u.memory (Tams r)) (λ a. u.memory (Heap a)) (λ n. u.memory (Black n)) u.block u.ghost.owner
-      u.ghost.copying u.ghost.working shared.evacuated free owner in_use nobodys
+      evacuated_owned config (world.memory Phase) (world.memory Cset) (world.memory Evac) (world.memory Claim) (world.memory Free) tops_now (λ region. world.memory (Tams region)) (λ a. world.memory (Heap a)) (λ n. world.memory (Black n)) world.block world.ghost.owner
+      world.ghost.copying world.ghost.working shared.evacuated free owner in_use nobodys
 
-  module _ (buffer shared_word region : ℕ) (shared : Shared c u) (can : CanTake c u seat words (TakeRegion buffer shared_word region)) where
+  module _ (buffer shared_word region : ℕ) (shared : Shared config world) (can : CanTake config world seat words (TakeRegion buffer shared_word region)) where
     abbrev without : ℕ
-    without = bit_and (u.memory Free) (all_but region)
+    without = bit_and (world.memory Free) (all_but region)
 
     -- the region is one of the heap, and the word of the shared region names one
-    numbers : (region < c.regions) × (shared_word ≤ c.regions)
-    numbers = let fit = and_parts _ _ (and_parts _ _ can.ready).1 in (ltb-true region c.regions fit.0, leb-true shared_word c.regions fit.1)
+    numbers : (region < config.regions) × (shared_word ≤ config.regions)
+    numbers = let fit = and_parts _ _ (and_parts _ _ can.ready).1 in (ltb-true region config.regions fit.0, leb-true shared_word config.regions fit.1)
 
     -- no region of the set is free then
-    not_set : (r : ℕ) → IsIn without r → IsIn (u.memory Cset) r → ⊥
-    not_set r is_free is = shared.evacuated.aside.in_use r (free_before c (u.memory Free) region numbers.0 r (shared.evacuated.aside.in_heap r is) is_free) is
+    not_set : (r : ℕ) → IsIn without r → IsIn (world.memory Cset) r → ⊥
+    not_set r is_free is = shared.evacuated.aside.in_use r (free_before config (world.memory Free) region numbers.0 r (shared.evacuated.aside.in_heap r is) is_free) is
 
     -- the seat was the first to clear the region's bit
-    takes_it : (bit_at (u.memory Free) region == 1) ≡ true → TakeStep c u seat words kind (TakeRegion buffer shared_word region)
+    takes_it : (bit_at (world.memory Free) region == 1) ≡ true → TakeStep config world seat words kind (TakeRegion buffer shared_word region)
     takes_it won =
         let within = numbers.0 in
-        let few = c.in_range.most_regions in
-        let bit : bit_at (u.memory Free) region ≡ 1 = eqb-true _ _ won in
-        let nobodys : u.ghost.owner region ≡ None = shared.owned.free_word.nobodys region within bit in
-        let owner : ℕ → Option ℕ = updated u.ghost.owner region (Some seat) in
-        let w : World = region_world c u (touched u.memory (touch_at seat words (TakeRegion buffer shared_word region))) (updated u.ghost.owner region (Some seat)) (λ at is. free_else u.memory without at is) in
-        let others_own : (r : ℕ) → r ≢ region → updated u.ghost.owner region (Some seat) r ≡ u.ghost.owner r = λ r differs. updated_else u.ghost.owner region (Some seat) r (λ e. differs (sym e)) in
-        let opens : (r : ℕ) → IsOpen c (u.memory Free) (u.memory Cset) u.ghost.owner r → IsOpen c without (u.memory Cset) (updated u.ghost.owner region (Some seat)) r =
-        open_stays c (u.memory Free) (u.memory Cset) region u.ghost.owner (updated u.ghost.owner region (Some seat)) within (λ r out. others_own r (λ same. out (ap (bit_at (u.memory Free)) same ∙ bit))) in
+        let few = config.in_range.most_regions in
+        let bit : bit_at (world.memory Free) region ≡ 1 = eqb-true _ _ won in
+        let nobodys : world.ghost.owner region ≡ None = shared.owned.free_word.nobodys region within bit in
+        let owner : ℕ → Option ℕ = updated world.ghost.owner region (Some seat) in
+        let w : World = region_world config world (touched world.memory (touch_at seat words (TakeRegion buffer shared_word region))) (updated world.ghost.owner region (Some seat)) (λ at is. free_else world.memory without at is) in
+        let others_own : (r : ℕ) → r ≢ region → updated world.ghost.owner region (Some seat) r ≡ world.ghost.owner r = λ r differs. updated_else world.ghost.owner region (Some seat) r (λ e. differs (sym e)) in
+        let opens : (r : ℕ) → IsOpen config (world.memory Free) (world.memory Cset) world.ghost.owner r → IsOpen config without (world.memory Cset) (updated world.ghost.owner region (Some seat)) r =
+        open_stays config (world.memory Free) (world.memory Cset) region world.ghost.owner (updated world.ghost.owner region (Some seat)) within (λ r out. others_own r (λ same. out (ap (bit_at (world.memory Free)) same ∙ bit))) in
         record {
           world = w;
           memory = refl;
@@ -74,7 +74,7 @@ module _ (c : Config) (u : World) (seat words : ℕ) (kind : Kind) where
             parsable = shared.parsable;
             contents = shared.contents;
             owned = record {
-              free_word = free_without c (u.memory Free) region tops_now u.ghost.owner (updated u.ghost.owner region (Some seat)) within others_own shared.owned.free_word;
+              free_word = free_without config (world.memory Free) region tops_now world.ghost.owner (updated world.ghost.owner region (Some seat)) within others_own shared.owned.free_word;
               shared_one = λ r is. opens r (shared.owned.shared_one r is);
               rooms = shared.owned.rooms;
               buffers = shared.owned.buffers;
@@ -83,35 +83,35 @@ module _ (c : Config) (u : World) (seat words : ℕ) (kind : Kind) where
             phased = shared.phased;
             unwritten = shared.unwritten;
             marked = shared.marked;
-            evacuated = evacuating without (updated u.ghost.owner region (Some seat)) shared not_set
+            evacuated = evacuating without (updated world.ghost.owner region (Some seat)) shared not_set
                 (λ r other is inside. ⊎_elim
-                (λ (same : region ≡ r). shared.evacuated.aside.in_use region bit (subst (IsIn (u.memory Cset)) (sym same) inside))
-                (λ (differs : region ≢ r). shared.evacuated.aside.nobodys r other (sym (updated_else u.ghost.owner region (Some seat) r differs) ∙ is) inside)
+                (λ (same : region ≡ r). shared.evacuated.aside.in_use region bit (subst (IsIn (world.memory Cset)) (sym same) inside))
+                (λ (differs : region ≢ r). shared.evacuated.aside.nobodys r other (sym (updated_else world.ghost.owner region (Some seat) r differs) ∙ is) inside)
                 (cases_eq region r));
             updated = shared.updated;
             pinned = shared.pinned;
           };
           own = (
-            subst (λ s. CanTake c w seat words s)
-                (sym (cond-true (bit_at (u.memory Free) region == 1) (ShareRegion buffer shared_word region) (LoadFree buffer shared_word) won))
-                (can_at c u seat words kind (TakeRegion buffer shared_word region) (ShareRegion buffer shared_word region) w can refl refl
+            subst (λ s. CanTake config w seat words s)
+                (sym (cond-true (bit_at (world.memory Free) region == 1) (ShareRegion buffer shared_word region) (LoadFree buffer shared_word) won))
+                (can_at config world seat words kind (TakeRegion buffer shared_word region) (ShareRegion buffer shared_word region) w can refl refl
                 (and_from _ _ (and_from _ _ refl (and_from _ _ (lt-ltb shared_word (2 ^ 64) (omega (arith, numbers.1, few))) (lt-ltb (region + 1) (2 ^ 64) (omega (arith, within, few))))) (and_parts _ _ can.ready).1)
-                (record { is = can.facts.is; less = can.facts.less }, record { within = within; own = updated_there u.ghost.owner region (Some seat); empty = shared.owned.free_word.empty region within bit })
+                (record { is = can.facts.is; less = can.facts.less }, record { within = within; own = updated_there world.ghost.owner region (Some seat); empty = shared.owned.free_word.empty region within bit })
                 can.rooms),
             record { copying = refl; working = refl },
           );
-          keeps = keeps_regions c u (touched u.memory (touch_at seat words (TakeRegion buffer shared_word region))) (updated u.ghost.owner region (Some seat)) (λ at is. free_else u.memory without at is) seat;
-          others = λ j d. others_regions c u (touched u.memory (touch_at seat words (TakeRegion buffer shared_word region))) (updated u.ghost.owner region (Some seat)) (λ at is. free_else u.memory without at is) j
-              (λ r is. owner_stays u.ghost.owner region seat nobodys r j is) opens;
+          keeps = keeps_regions config world (touched world.memory (touch_at seat words (TakeRegion buffer shared_word region))) (updated world.ghost.owner region (Some seat)) (λ at is. free_else world.memory without at is) seat;
+          others = λ j d. others_regions config world (touched world.memory (touch_at seat words (TakeRegion buffer shared_word region))) (updated world.ghost.owner region (Some seat)) (λ at is. free_else world.memory without at is) j
+              (λ r is. owner_stays world.ghost.owner region seat nobodys r j is) opens;
         }
 
     -- another seat was: the bit is clear already, and it looks again
-    looks_again : (bit_at (u.memory Free) region == 1) ≡ false → TakeStep c u seat words kind (TakeRegion buffer shared_word region)
+    looks_again : (bit_at (world.memory Free) region == 1) ≡ false → TakeStep config world seat words kind (TakeRegion buffer shared_word region)
     looks_again lost =
         let within = numbers.0 in
-        let w : World = region_world c u (touched u.memory (touch_at seat words (TakeRegion buffer shared_word region))) u.ghost.owner (λ at is. free_else u.memory without at is) in
-        let opens : (r : ℕ) → IsOpen c (u.memory Free) (u.memory Cset) u.ghost.owner r → IsOpen c without (u.memory Cset) u.ghost.owner r =
-        open_stays c (u.memory Free) (u.memory Cset) region u.ghost.owner u.ghost.owner within (λ r out. refl) in
+        let w : World = region_world config world (touched world.memory (touch_at seat words (TakeRegion buffer shared_word region))) world.ghost.owner (λ at is. free_else world.memory without at is) in
+        let opens : (r : ℕ) → IsOpen config (world.memory Free) (world.memory Cset) world.ghost.owner r → IsOpen config without (world.memory Cset) world.ghost.owner r =
+        open_stays config (world.memory Free) (world.memory Cset) region world.ghost.owner world.ghost.owner within (λ r out. refl) in
         record {
           world = w;
           memory = refl;
@@ -120,7 +120,7 @@ module _ (c : Config) (u : World) (seat words : ℕ) (kind : Kind) where
             parsable = shared.parsable;
             contents = shared.contents;
             owned = record {
-              free_word = free_without c (u.memory Free) region tops_now u.ghost.owner u.ghost.owner within (λ r other. refl) shared.owned.free_word;
+              free_word = free_without config (world.memory Free) region tops_now world.ghost.owner world.ghost.owner within (λ r other. refl) shared.owned.free_word;
               shared_one = λ r is. opens r (shared.owned.shared_one r is);
               rooms = shared.owned.rooms;
               buffers = shared.owned.buffers;
@@ -129,73 +129,73 @@ module _ (c : Config) (u : World) (seat words : ℕ) (kind : Kind) where
             phased = shared.phased;
             unwritten = shared.unwritten;
             marked = shared.marked;
-            evacuated = evacuating without u.ghost.owner shared not_set shared.evacuated.aside.nobodys;
+            evacuated = evacuating without world.ghost.owner shared not_set shared.evacuated.aside.nobodys;
             updated = shared.updated;
             pinned = shared.pinned;
           };
           own = (
-            subst (λ s. CanTake c w seat words s)
-                (sym (cond-false (bit_at (u.memory Free) region == 1) (ShareRegion buffer shared_word region) (LoadFree buffer shared_word) lost))
-                (can_at c u seat words kind (TakeRegion buffer shared_word region) (LoadFree buffer shared_word) w can refl refl
-                (and_from _ _ refl (le-leb shared_word c.regions numbers.1)) (record { is = can.facts.is; less = can.facts.less }) can.rooms),
+            subst (λ s. CanTake config w seat words s)
+                (sym (cond-false (bit_at (world.memory Free) region == 1) (ShareRegion buffer shared_word region) (LoadFree buffer shared_word) lost))
+                (can_at config world seat words kind (TakeRegion buffer shared_word region) (LoadFree buffer shared_word) w can refl refl
+                (and_from _ _ refl (le-leb shared_word config.regions numbers.1)) (record { is = can.facts.is; less = can.facts.less }) can.rooms),
             record { copying = refl; working = refl },
           );
-          keeps = keeps_regions c u (touched u.memory (touch_at seat words (TakeRegion buffer shared_word region))) u.ghost.owner (λ at is. free_else u.memory without at is) seat;
-          others = λ j d. others_regions c u (touched u.memory (touch_at seat words (TakeRegion buffer shared_word region))) u.ghost.owner (λ at is. free_else u.memory without at is) j (λ r is. is) opens;
+          keeps = keeps_regions config world (touched world.memory (touch_at seat words (TakeRegion buffer shared_word region))) world.ghost.owner (λ at is. free_else world.memory without at is) seat;
+          others = λ j d. others_regions config world (touched world.memory (touch_at seat words (TakeRegion buffer shared_word region))) world.ghost.owner (λ at is. free_else world.memory without at is) j (λ r is. is) opens;
         }
 
     -- the step that takes a region
-    pub at_take_region : TakeStep c u seat words kind (TakeRegion buffer shared_word region)
-    at_take_region = ⊎_elim takes_it looks_again (cases_Bool (bit_at (u.memory Free) region == 1))
+    pub at_take_region : TakeStep config world seat words kind (TakeRegion buffer shared_word region)
+    at_take_region = ⊎_elim takes_it looks_again (cases_Bool (bit_at (world.memory Free) region == 1))
 
-  module _ (region : ℕ) (shared : Shared c u) (own : u.ghost.owner region ≡ Some seat) where
+  module _ (region : ℕ) (shared : Shared config world) (own : world.ghost.owner region ≡ Some seat) where
     -- nobody has the region any more
     abbrev given_up : ℕ → Option ℕ
-    given_up = updated u.ghost.owner region None
+    given_up = updated world.ghost.owner region None
 
     -- who has a region then had it
-    had : (r other : ℕ) → given_up r ≡ Some other → u.ghost.owner r ≡ Some other
+    had : (r other : ℕ) → given_up r ≡ Some other → world.ghost.owner r ≡ Some other
     had r other is = ⊎_elim
-        (λ (same : region ≡ r). absurd (none-some other (sym (ap given_up (sym same) ∙ updated_there u.ghost.owner region None) ∙ is)))
-        (λ (differs : region ≢ r). sym (updated_else u.ghost.owner region None r differs) ∙ is)
+        (λ (same : region ≡ r). absurd (none-some other (sym (ap given_up (sym same) ∙ updated_there world.ghost.owner region None) ∙ is)))
+        (λ (differs : region ≢ r). sym (updated_else world.ghost.owner region None r differs) ∙ is)
         (cases_eq region r)
 
     -- other seats keep theirs
-    keep : (j : ℕ) → j ≢ seat → (r : ℕ) → u.ghost.owner r ≡ Some j → given_up r ≡ Some j
-    keep j differ r is = updated_else u.ghost.owner region None r (λ same. differ (same_Some j seat (sym is ∙ ap u.ghost.owner (sym same) ∙ own))) ∙ is
+    keep : (j : ℕ) → j ≢ seat → (r : ℕ) → world.ghost.owner r ≡ Some j → given_up r ≡ Some j
+    keep j differ r is = updated_else world.ghost.owner region None r (λ same. differ (same_Some j seat (sym is ∙ ap world.ghost.owner (sym same) ∙ own))) ∙ is
 
     -- who had no region has none
-    nobodys_still : (r : ℕ) → u.ghost.owner r ≡ None → given_up r ≡ None
+    nobodys_still : (r : ℕ) → world.ghost.owner r ≡ None → given_up r ≡ None
     nobodys_still r is = ⊎_elim
-        (λ (same : region ≡ r). ap given_up (sym same) ∙ updated_there u.ghost.owner region None)
-        (λ (differs : region ≢ r). updated_else u.ghost.owner region None r differs ∙ is)
+        (λ (same : region ≡ r). ap given_up (sym same) ∙ updated_there world.ghost.owner region None)
+        (λ (differs : region ≢ r). updated_else world.ghost.owner region None r differs ∙ is)
         (cases_eq region r)
 
     -- a region that may be carved is another one
-    another : (r : ℕ) → u.ghost.owner r ≡ None → r ≢ region
-    another r is same = none-some seat (sym is ∙ ap u.ghost.owner same ∙ own)
+    another : (r : ℕ) → world.ghost.owner r ≡ None → r ≢ region
+    another r is same = none-some seat (sym is ∙ ap world.ghost.owner same ∙ own)
 
-  module _ (buffer shared_word region : ℕ) (shared : Shared c u) (can : CanTake c u seat words (ShareRegion buffer shared_word region)) where
-    abbrev taken_own : u.ghost.owner region ≡ Some seat
+  module _ (buffer shared_word region : ℕ) (shared : Shared config world) (can : CanTake config world seat words (ShareRegion buffer shared_word region)) where
+    abbrev taken_own : world.ghost.owner region ≡ Some seat
     taken_own = can.facts.1.own
 
     -- the seat was the first to share a region
-    shares_it : (u.memory Share == shared_word) ≡ true → TakeStep c u seat words kind (ShareRegion buffer shared_word region)
+    shares_it : (world.memory Share == shared_word) ≡ true → TakeStep config world seat words kind (ShareRegion buffer shared_word region)
     shares_it won =
         let own = can.facts.1.own in
-        let w : World = region_world c u (write u.memory Share (region + 1)) (given_up region shared own) (λ at is. share_else u.memory (region + 1) at is) in
-        let opens : (r : ℕ) → IsOpen c (u.memory Free) (u.memory Cset) u.ghost.owner r → IsOpen c (u.memory Free) (u.memory Cset) (given_up region shared own) r =
+        let w : World = region_world config world (write world.memory Share (region + 1)) (given_up region shared own) (λ at is. share_else world.memory (region + 1) at is) in
+        let opens : (r : ℕ) → IsOpen config (world.memory Free) (world.memory Cset) world.ghost.owner r → IsOpen config (world.memory Free) (world.memory Cset) (given_up region shared own) r =
         λ r is. record { within = is.within; in_use = is.in_use; nobodys = nobodys_still region shared own r is.nobodys; outside = is.outside } in
-        let here : IsOpen c (u.memory Free) (u.memory Cset) (given_up region shared own) region =
+        let here : IsOpen config (world.memory Free) (world.memory Cset) (given_up region shared own) region =
         record {
           within = can.facts.1.within;
           in_use = λ inside. none-some seat (sym (shared.owned.free_word.nobodys region can.facts.1.within inside) ∙ own);
-          nobodys = updated_there u.ghost.owner region None;
+          nobodys = updated_there world.ghost.owner region None;
           outside = λ inside. shared.evacuated.aside.nobodys region seat own inside;
         } in
         record {
           world = w;
-          memory = ap (write u.memory Share) (sym (cond-true (u.memory Share == shared_word) (region + 1) (u.memory Share) won));
+          memory = ap (write world.memory Share) (sym (cond-true (world.memory Share == shared_word) (region + 1) (world.memory Share) won));
           graph = refl;
           shared = record {
             parsable = shared.parsable;
@@ -206,7 +206,7 @@ module _ (c : Config) (u : World) (seat words : ℕ) (kind : Kind) where
                 empty = shared.owned.free_word.empty;
                 nobodys = λ r inside bit. nobodys_still region shared own r (shared.owned.free_word.nobodys r inside bit);
               };
-              shared_one = λ r is. let same : region ≡ r = omega (arith, is) in subst (λ k. IsOpen c (u.memory Free) (u.memory Cset) (given_up region shared own) k) same here;
+              shared_one = λ r is. let same : region ≡ r = omega (arith, is) in subst (λ k. IsOpen config (world.memory Free) (world.memory Cset) (given_up region shared own) k) same here;
               rooms = shared.owned.rooms;
               buffers = shared.owned.buffers;
               outside = shared.owned.outside;
@@ -214,46 +214,46 @@ module _ (c : Config) (u : World) (seat words : ℕ) (kind : Kind) where
             phased = shared.phased;
             unwritten = shared.unwritten;
             marked = shared.marked;
-            evacuated = evacuating (u.memory Free) (given_up region shared own) shared shared.evacuated.aside.in_use (λ r other is inside. shared.evacuated.aside.nobodys r other (had region shared own r other is) inside);
+            evacuated = evacuating (world.memory Free) (given_up region shared own) shared shared.evacuated.aside.in_use (λ r other is inside. shared.evacuated.aside.nobodys r other (had region shared own r other is) inside);
             updated = shared.updated;
             pinned = shared.pinned;
           };
           own = (
-            subst (λ s. CanTake c w seat words s)
-                (sym (cond-true (u.memory Share == shared_word) (LoadTop buffer region) (GiveBack buffer region) won))
-                (can_at c u seat words kind (ShareRegion buffer shared_word region) (LoadTop buffer region) w can refl refl
-                (and_from _ _ (and_from _ _ (lt-ltb region c.regions can.facts.1.within) refl) refl)
+            subst (λ s. CanTake config w seat words s)
+                (sym (cond-true (world.memory Share == shared_word) (LoadTop buffer region) (GiveBack buffer region) won))
+                (can_at config world seat words kind (ShareRegion buffer shared_word region) (LoadTop buffer region) w can refl refl
+                (and_from _ _ (and_from _ _ (lt-ltb region config.regions can.facts.1.within) refl) refl)
                 (record { is = can.facts.0.is; less = can.facts.0.less }, here) can.rooms),
             record { copying = refl; working = refl },
           );
-          keeps = keeps_regions c u (write u.memory Share (region + 1)) (given_up region shared own) (λ at is. share_else u.memory (region + 1) at is) seat;
-          others = λ j d. others_regions c u (write u.memory Share (region + 1)) (given_up region shared own) (λ at is. share_else u.memory (region + 1) at is) j (keep region shared own j d) opens;
+          keeps = keeps_regions config world (write world.memory Share (region + 1)) (given_up region shared own) (λ at is. share_else world.memory (region + 1) at is) seat;
+          others = λ j d. others_regions config world (write world.memory Share (region + 1)) (given_up region shared own) (λ at is. share_else world.memory (region + 1) at is) j (keep region shared own j d) opens;
         }
 
     -- the step that shares a region: where another machine was faster, it gives its own back
-    pub at_share_region : TakeStep c u seat words kind (ShareRegion buffer shared_word region)
+    pub at_share_region : TakeStep config world seat words kind (ShareRegion buffer shared_word region)
     at_share_region = ⊎_elim
         shares_it
-        (λ (lost : (u.memory Share == shared_word) ≡ false).
-        looked c u seat words kind (ShareRegion buffer shared_word region) (GiveBack buffer region) shared can (exchange_lost u.memory Share shared_word (region + 1) lost)
-        (cond-false (u.memory Share == shared_word) (LoadTop buffer region) (GiveBack buffer region) lost)
-        (and_from _ _ (and_from _ _ refl (lt-ltb (only region) (2 ^ 64) (omega arith))) (lt-ltb region c.regions can.facts.1.within))
+        (λ (lost : (world.memory Share == shared_word) ≡ false).
+        looked config world seat words kind (ShareRegion buffer shared_word region) (GiveBack buffer region) shared can (exchange_lost world.memory Share shared_word (region + 1) lost)
+        (cond-false (world.memory Share == shared_word) (LoadTop buffer region) (GiveBack buffer region) lost)
+        (and_from _ _ (and_from _ _ refl (lt-ltb (only region) (2 ^ 64) (omega arith))) (lt-ltb region config.regions can.facts.1.within))
         can.facts can.rooms)
-        (cases_Bool (u.memory Share == shared_word))
+        (cases_Bool (world.memory Share == shared_word))
 
   -- the step that gives the region back
-  pub at_give_back : (buffer region : ℕ) → Shared c u → CanTake c u seat words (GiveBack buffer region) → TakeStep c u seat words kind (GiveBack buffer region)
+  pub at_give_back : (buffer region : ℕ) → Shared config world → CanTake config world seat words (GiveBack buffer region) → TakeStep config world seat words kind (GiveBack buffer region)
   at_give_back buffer region shared can =
       let taken = can.facts.1 in
       let own = taken.own in
-      let few = c.in_range.most_regions in
+      let few = config.in_range.most_regions in
       let fits : region < 64 = (let within = taken.within in omega (arith, within, few)) in
-      let w : World = region_world c u (touched u.memory (touch_at seat words (GiveBack buffer region))) (given_up region shared own) (λ at is. free_else u.memory (bit_or (u.memory Free) (only region)) at is) in
-      let opens : (r : ℕ) → IsOpen c (u.memory Free) (u.memory Cset) u.ghost.owner r → IsOpen c (bit_or (u.memory Free) (only region)) (u.memory Cset) (given_up region shared own) r =
-      λ r is. record {
+      let w : World = region_world config world (touched world.memory (touch_at seat words (GiveBack buffer region))) (given_up region shared own) (λ at is. free_else world.memory (bit_or (world.memory Free) (only region)) at is) in
+      let opens : (other_region : ℕ) → IsOpen config (world.memory Free) (world.memory Cset) world.ghost.owner other_region → IsOpen config (bit_or (world.memory Free) (only region)) (world.memory Cset) (given_up region shared own) other_region =
+      λ other_region is. record {
         within = is.within;
-        in_use = in_use_still (u.memory Free) region r fits (another region shared own r is.nobodys) is.in_use;
-        nobodys = nobodys_still region shared own r is.nobodys;
+        in_use = in_use_still (world.memory Free) region other_region fits (another region shared own other_region is.nobodys) is.in_use;
+        nobodys = nobodys_still region shared own other_region is.nobodys;
         outside = is.outside;
       } in
       record {
@@ -264,9 +264,9 @@ module _ (c : Config) (u : World) (seat words : ℕ) (kind : Kind) where
           parsable = shared.parsable;
           contents = shared.contents;
           owned = record {
-            free_word = free_with c (u.memory Free) region tops_now u.ghost.owner (given_up region shared own) taken.within taken.empty (updated_there u.ghost.owner region None)
-                (λ r differs. updated_else u.ghost.owner region None r (λ e. differs (sym e))) shared.owned.free_word;
-            shared_one = λ r is. opens r (shared.owned.shared_one r is);
+            free_word = free_with config (world.memory Free) region tops_now world.ghost.owner (given_up region shared own) taken.within taken.empty (updated_there world.ghost.owner region None)
+                (λ other_region differs. updated_else world.ghost.owner region None other_region (λ e. differs (sym e))) shared.owned.free_word;
+            shared_one = λ other_region is. opens other_region (shared.owned.shared_one other_region is);
             rooms = shared.owned.rooms;
             buffers = shared.owned.buffers;
             outside = shared.owned.outside;
@@ -274,20 +274,20 @@ module _ (c : Config) (u : World) (seat words : ℕ) (kind : Kind) where
           phased = shared.phased;
           unwritten = shared.unwritten;
           marked = shared.marked;
-          evacuated = evacuating (bit_or (u.memory Free) (only region)) (given_up region shared own) shared
-              (λ r is_free inside. ⊎_elim
-              (λ (same : r ≡ region). shared.evacuated.aside.nobodys region seat own (subst (IsIn (u.memory Cset)) same inside))
-              (λ (differs : r ≢ region). in_use_still (u.memory Free) region r fits differs (λ was. shared.evacuated.aside.in_use r was inside) is_free)
-              (cases_eq r region))
-              (λ r other is inside. shared.evacuated.aside.nobodys r other (had region shared own r other is) inside);
+          evacuated = evacuating (bit_or (world.memory Free) (only region)) (given_up region shared own) shared
+              (λ other_region is_free inside. ⊎_elim
+              (λ (same : other_region ≡ region). shared.evacuated.aside.nobodys region seat own (subst (IsIn (world.memory Cset)) same inside))
+              (λ (differs : other_region ≢ region). in_use_still (world.memory Free) region other_region fits differs (λ was. shared.evacuated.aside.in_use other_region was inside) is_free)
+              (cases_eq other_region region))
+              (λ other_region other is inside. shared.evacuated.aside.nobodys other_region other (had region shared own other_region other is) inside);
           updated = shared.updated;
           pinned = shared.pinned;
         };
         own = (
-          can_at c u seat words kind (GiveBack buffer region) (LoadShared buffer) w can refl refl refl (record { is = can.facts.0.is; less = can.facts.0.less }) can.rooms,
+          can_at config world seat words kind (GiveBack buffer region) (LoadShared buffer) w can refl refl refl (record { is = can.facts.0.is; less = can.facts.0.less }) can.rooms,
           record { copying = refl; working = refl },
         );
-        keeps = keeps_regions c u (touched u.memory (touch_at seat words (GiveBack buffer region))) (given_up region shared own) (λ at is. free_else u.memory (bit_or (u.memory Free) (only region)) at is) seat;
-        others = λ j d. others_regions c u (touched u.memory (touch_at seat words (GiveBack buffer region))) (given_up region shared own) (λ at is. free_else u.memory (bit_or (u.memory Free) (only region)) at is) j
+        keeps = keeps_regions config world (touched world.memory (touch_at seat words (GiveBack buffer region))) (given_up region shared own) (λ at is. free_else world.memory (bit_or (world.memory Free) (only region)) at is) seat;
+        others = λ j d. others_regions config world (touched world.memory (touch_at seat words (GiveBack buffer region))) (given_up region shared own) (λ at is. free_else world.memory (bit_or (world.memory Free) (only region)) at is) j
             (keep region shared own j d) opens;
       }

@@ -10,17 +10,17 @@ use Rattle.alloc_buffers.specs.declared.spot.TakeSpot.TheVariants.{LoadBuffer, L
 use Rattle.alloc_buffers.specs.Rows.{free_words}
 use Rattle.alloc_buffers.specs.Facts.{IsSmall, IsTaken, TakeFacts, CanTake}
 
-module _ (c : Config) (u w : World) (seat : ℕ) (rely : Rely c seat u w) where
+module _ (config : Config) (world other_world : World) (seat : ℕ) (rely : Rely config seat world other_world) where
   -- a small buffer stays
-  small_stays : (words buffer : ℕ) → IsSmall u seat words buffer → IsSmall w seat words buffer
+  small_stays : (words buffer : ℕ) → IsSmall world seat words buffer → IsSmall other_world seat words buffer
   small_stays words buffer small = record { is = rely.current ∙ small.is; less = small.less }
 
   -- so does a region that the seat has taken
-  taken_stays : (region : ℕ) → IsTaken c u seat region → IsTaken c w seat region
+  taken_stays : (region : ℕ) → IsTaken config world seat region → IsTaken config other_world seat region
   taken_stays region taken = record { within = taken.within; own = rely.owners region taken.own; empty = rely.tops region taken.own ∙ taken.empty }
 
   -- what holds of the words stays
-  pub take_stays : (words : ℕ) (take : TakeSpot) → TakeFacts c u seat words take → TakeFacts c w seat words take
+  pub take_stays : (words : ℕ) (take : TakeSpot) → TakeFacts config world seat words take → TakeFacts config other_world seat words take
   take_stays words LoadBuffer facts = tt
   take_stays words (LoadShared buffer) facts = small_stays words buffer facts
   take_stays words (LoadTop buffer region) facts = (small_stays words buffer facts.0, rely.opens region facts.1)
@@ -50,13 +50,13 @@ module _ (c : Config) (u w : World) (seat : ℕ) (rely : Rely c seat u w) where
   take_stays words (Ended NoRoom end) facts = subst (λ buffer. end_in buffer < next_in buffer + words) (sym rely.current) facts
 
 -- all that it counts on stays
-pub can_take_stays : (c : Config) (u w : World) (seat words : ℕ) (take : TakeSpot) → Rely c seat u w → CanTake c u seat words take → CanTake c w seat words take
-can_take_stays c u w seat words take rely can = record {
+pub can_take_stays : (config : Config) (world other_world : World) (seat words : ℕ) (take : TakeSpot) → Rely config seat world other_world → CanTake config world seat words take → CanTake config other_world seat words take
+can_take_stays config world other_world seat words take rely can = record {
   seated = can.seated;
   least = can.least;
   most = can.most;
   ready = can.ready;
-  facts = take_stays c u w seat rely words take can.facts;
+  facts = take_stays config world other_world seat rely words take can.facts;
   rooms = λ a x is room. can.rooms a x (rely.no_rooms a x is room) room;
   records_none = rely.marks.recording ∙ can.records_none;
   scans_none = rely.marks.scanning ∙ can.scans_none;

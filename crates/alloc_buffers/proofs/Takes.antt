@@ -19,15 +19,15 @@ abbrev pub TakeStep : Config → World → ℕ → ℕ → Kind → TakeSpot →
 TakeStep = steps.TakeStep
 
 -- each step of a taking owes what a part owes
-pub each_take : (c : Config) (u : World) (seat words : ℕ) (kind : Kind) (take : TakeSpot) → is_ended take ≡ false → Shared c u → CanTake c u seat words take → TakeStep c u seat words kind take
-each_take c u seat words kind LoadBuffer going shared can = at_load_buffer c u seat words kind shared can
-each_take c u seat words kind (LoadShared buffer) going shared can = at_load_shared c u seat words kind buffer shared can
-each_take c u seat words kind (LoadTop buffer region) going shared can = at_load_top c u seat words kind buffer region shared can
-each_take c u seat words kind (Carve buffer region top room) going shared can = at_carve c u seat words kind buffer region top room shared can
-each_take c u seat words kind (LoadFree buffer known) going shared can = at_load_free c u seat words kind buffer known shared can
-each_take c u seat words kind (TakeRegion buffer known region) going shared can = at_take_region c u seat words kind buffer known region shared can
-each_take c u seat words kind (ShareRegion buffer known region) going shared can = at_share_region c u seat words kind buffer known region shared can
-each_take c u seat words kind (GiveBack buffer region) going shared can = at_give_back c u seat words kind buffer region shared can
-each_take c u seat words kind (Fill buffer address room) going shared can = at_fill c u seat words kind buffer address room shared can
-each_take c u seat words kind (StoreBuffer address room) going shared can = at_store_buffer c u seat words kind address room shared can
-each_take c u seat words kind (Ended taken end) going shared can = cc
+pub each_take : (config : Config) (world : World) (seat words : ℕ) (kind : Kind) (take : TakeSpot) → is_ended take ≡ false → Shared config world → CanTake config world seat words take → TakeStep config world seat words kind take
+each_take config world seat words kind LoadBuffer going shared can = at_load_buffer config world seat words kind shared can
+each_take config world seat words kind (LoadShared buffer) going shared can = at_load_shared config world seat words kind buffer shared can
+each_take config world seat words kind (LoadTop buffer region) going shared can = at_load_top config world seat words kind buffer region shared can
+each_take config world seat words kind (Carve buffer region top room) going shared can = at_carve config world seat words kind buffer region top room shared can
+each_take config world seat words kind (LoadFree buffer known) going shared can = at_load_free config world seat words kind buffer known shared can
+each_take config world seat words kind (TakeRegion buffer known region) going shared can = at_take_region config world seat words kind buffer known region shared can
+each_take config world seat words kind (ShareRegion buffer known region) going shared can = at_share_region config world seat words kind buffer known region shared can
+each_take config world seat words kind (GiveBack buffer region) going shared can = at_give_back config world seat words kind buffer region shared can
+each_take config world seat words kind (Fill buffer address room) going shared can = at_fill config world seat words kind buffer address room shared can
+each_take config world seat words kind (StoreBuffer address room) going shared can = at_store_buffer config world seat words kind address room shared can
+each_take config world seat words kind (Ended taken end) going shared can = cc

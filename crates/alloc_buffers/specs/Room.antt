@@ -12,13 +12,13 @@ use Rattle.alloc_buffers.specs.Rows.{next_at, is_ended}
 
 -- where it stands after it has found these words, one after the other
 abbrev pub after_found : Config → ℕ → Kind → TakeSpot → List ℕ → TakeSpot
-after_found c words kind spot [] = spot
-after_found c words kind spot (got ∷ more) = after_found c words kind (next_at c words kind spot got) more
+after_found config words kind spot [] = spot
+after_found config words kind spot (got ∷ more) = after_found config words kind (next_at config words kind spot got) more
 
 -- it has found these words, and ends without room at the next
-pub record FindsNoRoom (c : Config) (words : ℕ) (kind : Kind) (found : List ℕ) (free : ℕ) : Type 0 where
-  pub going : is_ended (after_found c words kind LoadBuffer found) ≡ false
-  pub ends : next_at c words kind (after_found c words kind LoadBuffer found) free ≡ Ended NoRoom 0
+pub record FindsNoRoom (config : Config) (words : ℕ) (kind : Kind) (found : List ℕ) (free : ℕ) : Type 0 where
+  pub going : is_ended (after_found config words kind LoadBuffer found) ≡ false
+  pub ends : next_at config words kind (after_found config words kind LoadBuffer found) free ≡ Ended NoRoom 0
 
 -- The word of the buffer is found first of these words, and tells fewer free words than are wanted; 0 tells none.
 abbrev pub IsBufferShort : ℕ → List ℕ → Type 0
@@ -27,9 +27,9 @@ IsBufferShort words (buffer ∷ more) = end_in buffer < next_in buffer + words
 
 -- the word of the shared region, or its top where there is one, says at a spot that there is too little room to carve
 abbrev pub IsFullAt : Config → ℕ → TakeSpot → ℕ → Type 0
-IsFullAt c words (LoadShared buffer) got = got ≡ 0
-IsFullAt c words (LoadTop buffer region) got = c.region_words < got + words
-IsFullAt c words _ got = ⊥
+IsFullAt config words (LoadShared buffer) got = got ≡ 0
+IsFullAt config words (LoadTop buffer region) got = config.region_words < got + words
+IsFullAt config words _ got = ⊥
 
 -- whether it looks for a free region
 abbrev pub is_searching : TakeSpot → Bool
@@ -39,18 +39,18 @@ is_searching _ = false
 
 -- From a spot on one of these words says that no region is shared, or that the shared one has too little room; and behind it the machine
 -- only looks for a free region, to the end: no later word tells of another shared region.
-pub data HasFull (c : Config) (words : ℕ) (kind : Kind) : TakeSpot → List ℕ → Type 0 where
-  here : (spot : TakeSpot) (got : ℕ) (more : List ℕ) → IsFullAt c words spot got → ((before after : List ℕ) → more ≡ before ++ after → is_searching (after_found c words kind (next_at c words kind spot got) before) ≡ true)
-      → HasFull c words kind spot (got ∷ more)
-  later : (spot : TakeSpot) (got : ℕ) (more : List ℕ) → HasFull c words kind (next_at c words kind spot got) more → HasFull c words kind spot (got ∷ more)
+pub data HasFull (config : Config) (words : ℕ) (kind : Kind) : TakeSpot → List ℕ → Type 0 where
+  here : (spot : TakeSpot) (got : ℕ) (more : List ℕ) → IsFullAt config words spot got → ((before after : List ℕ) → more ≡ before ++ after → is_searching (after_found config words kind (next_at config words kind spot got) before) ≡ true)
+      → HasFull config words kind spot (got ∷ more)
+  later : (spot : TakeSpot) (got : ℕ) (more : List ℕ) → HasFull config words kind (next_at config words kind spot got) more → HasFull config words kind spot (got ∷ more)
 
 -- Of the free regions that are found none may be taken: a new object leaves those of the reserve to copies, and a copy may take each.
 abbrev pub MayTakeNone : Config → Kind → ℕ → Type 0
-MayTakeNone c Fresh free = members_below free 64 ≤ c.reserve
-MayTakeNone c Evacuated free = members_below free 64 ≤ 0
+MayTakeNone config Fresh free = members_below free 64 ≤ config.reserve
+MayTakeNone config Evacuated free = members_below free 64 ≤ 0
 
 -- the buffer and the shared region have too little room, and of the free regions none may be taken
-pub record IsLackOfRoom (c : Config) (words : ℕ) (kind : Kind) (found : List ℕ) (free : ℕ) : Type 0 where
+pub record IsLackOfRoom (config : Config) (words : ℕ) (kind : Kind) (found : List ℕ) (free : ℕ) : Type 0 where
   pub short : IsBufferShort words found
-  pub full : HasFull c words kind LoadBuffer found
-  pub none : MayTakeNone c kind free
+  pub full : HasFull config words kind LoadBuffer found
+  pub none : MayTakeNone config kind free

@@ -60,20 +60,20 @@ has_free words buffer = nat_le (next_in buffer + words) (end_in buffer)
 
 -- whether a region has room for so many words above a top
 abbrev pub has_room : Config → ℕ → ℕ → Bool
-has_room c words top = nat_le (top + words) c.region_words
+has_room config words top = nat_le (top + words) config.region_words
 
 -- how many words are carved above a top: 64, or what is left
 abbrev pub carved_words : Config → ℕ → ℕ
-carved_words c top = if has_room c 64 top then 64 else c.region_words - top
+carved_words config top = if has_room config 64 top then 64 else config.region_words - top
 
 -- how many free regions are kept back: a new object leaves the reserve to copies
 abbrev pub kept_back : Config → Kind → ℕ
-kept_back c Fresh = c.reserve
-kept_back c Evacuated = 0
+kept_back config Fresh = config.reserve
+kept_back config Evacuated = 0
 
 -- whether no free region may be taken
 abbrev pub has_none : Config → Kind → ℕ → Bool
-has_none c kind free = nat_le (members_below free 64) (kept_back c kind)
+has_none config kind free = nat_le (members_below free 64) (kept_back config kind)
 
 -- what follows the load of the buffer: it has room, or the machine looks at the shared region
 abbrev pub after_buffer : ℕ → ℕ → TakeSpot
@@ -85,7 +85,7 @@ after_shared buffer got = if got == 0 then LoadFree buffer 0 else LoadTop buffer
 
 -- what follows the load of its top: there is room to carve, or the machine looks for a free region
 abbrev pub after_top : Config → ℕ → ℕ → ℕ → ℕ → TakeSpot
-after_top c words buffer region got = if has_room c words got then Carve buffer region got (carved_words c got) else LoadFree buffer (region + 1)
+after_top config words buffer region got = if has_room config words got then Carve buffer region got (carved_words config got) else LoadFree buffer (region + 1)
 
 -- what follows once a buffer is carved: what is left of the old one is filled, if anything is
 abbrev pub carved_at : ℕ → ℕ → ℕ → TakeSpot
@@ -93,21 +93,21 @@ carved_at buffer address room = if nat_lt (next_in buffer) (end_in buffer) then 
 
 -- what follows the load of the free word
 abbrev pub after_free : Config → Kind → ℕ → ℕ → ℕ → TakeSpot
-after_free c kind buffer shared got = if has_none c kind got then Ended NoRoom 0 else TakeRegion buffer shared (lowest_in got)
+after_free config kind buffer shared got = if has_none config kind got then Ended NoRoom 0 else TakeRegion buffer shared (lowest_in got)
 
 -- what follows, by the word that was found
 abbrev pub next_at : Config → ℕ → Kind → TakeSpot → ℕ → TakeSpot
-next_at c words kind LoadBuffer got = after_buffer words got
-next_at c words kind (LoadShared buffer) got = after_shared buffer got
-next_at c words kind (LoadTop buffer region) got = after_top c words buffer region got
-next_at c words kind (Carve buffer region top room) got = if got == top then carved_at buffer (base_of c region + top) room else LoadShared buffer
-next_at c words kind (LoadFree buffer shared) got = after_free c kind buffer shared got
-next_at c words kind (TakeRegion buffer shared region) got = if bit_at got region == 1 then ShareRegion buffer shared region else LoadFree buffer shared
-next_at c words kind (ShareRegion buffer shared region) got = if got == shared then LoadTop buffer region else GiveBack buffer region
-next_at c words kind (GiveBack buffer region) got = LoadShared buffer
-next_at c words kind (Fill buffer address room) got = StoreBuffer address room
-next_at c words kind (StoreBuffer address room) got = Ended (At address) (address + room)
-next_at c words kind (Ended taken end) got = Ended taken end
+next_at config words kind LoadBuffer got = after_buffer words got
+next_at config words kind (LoadShared buffer) got = after_shared buffer got
+next_at config words kind (LoadTop buffer region) got = after_top config words buffer region got
+next_at config words kind (Carve buffer region top room) got = if got == top then carved_at buffer (base_of config region + top) room else LoadShared buffer
+next_at config words kind (LoadFree buffer shared) got = after_free config kind buffer shared got
+next_at config words kind (TakeRegion buffer shared region) got = if bit_at got region == 1 then ShareRegion buffer shared region else LoadFree buffer shared
+next_at config words kind (ShareRegion buffer shared region) got = if got == shared then LoadTop buffer region else GiveBack buffer region
+next_at config words kind (GiveBack buffer region) got = LoadShared buffer
+next_at config words kind (Fill buffer address room) got = StoreBuffer address room
+next_at config words kind (StoreBuffer address room) got = Ended (At address) (address + room)
+next_at config words kind (Ended taken end) got = Ended taken end
 
 -- what a step that leads from one spot to another says: another machine was faster, the taking has ended, or neither
 abbrev pub says_at : TakeSpot → TakeSpot → Took
@@ -129,15 +129,15 @@ holds_words words address room = nat_le words room && nat_lt (address + room) (2
 -- whether the numbers of a spot are in range: a region is one of the heap, the words above a top lie in it, and a word of a shared region
 -- names one of the heap, or none
 abbrev pub numbers_fit : Config → ℕ → TakeSpot → Bool
-numbers_fit c words (Carve buffer region top room) = nat_le (top + room) c.region_words && nat_le words room
-numbers_fit c words (LoadFree buffer shared) = nat_le shared c.regions
-numbers_fit c words (TakeRegion buffer shared region) = nat_lt region c.regions && nat_le shared c.regions
-numbers_fit c words (ShareRegion buffer shared region) = nat_lt region c.regions && nat_le shared c.regions
-numbers_fit c words (GiveBack buffer region) = nat_lt region c.regions
-numbers_fit c words (Fill buffer address room) = (nat_lt (next_in buffer) (end_in buffer) && nat_lt (end_in buffer) (2 ^ 32)) && holds_words words address room
-numbers_fit c words (StoreBuffer address room) = holds_words words address room
-numbers_fit c words _ = true
+numbers_fit config words (Carve buffer region top room) = nat_le (top + room) config.region_words && nat_le words room
+numbers_fit config words (LoadFree buffer shared) = nat_le shared config.regions
+numbers_fit config words (TakeRegion buffer shared region) = nat_lt region config.regions && nat_le shared config.regions
+numbers_fit config words (ShareRegion buffer shared region) = nat_lt region config.regions && nat_le shared config.regions
+numbers_fit config words (GiveBack buffer region) = nat_lt region config.regions
+numbers_fit config words (Fill buffer address room) = (nat_lt (next_in buffer) (end_in buffer) && nat_lt (end_in buffer) (2 ^ 32)) && holds_words words address room
+numbers_fit config words (StoreBuffer address room) = holds_words words address room
+numbers_fit config words _ = true
 
 -- whether the next access can be made
 abbrev pub is_ready : Config → ℕ → ℕ → TakeSpot → Bool
-is_ready c seat words spot = touch_fits c (touch_at seat words spot) && numbers_fit c words spot
+is_ready config seat words spot = touch_fits config (touch_at seat words spot) && numbers_fit config words spot

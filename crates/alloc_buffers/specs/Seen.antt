@@ -39,4 +39,4 @@ looks_at_free _ = false
 
 -- the word is fit: the access that follows can be made
 abbrev pub IsFit : Config → ℕ → ℕ → Kind → TakeSpot → ℕ → Type 0
-IsFit c seat words kind spot got = is_ready c seat words (next_at c words kind spot got) ≡ true
+IsFit config seat words kind spot got = is_ready config seat words (next_at config words kind spot got) ≡ true

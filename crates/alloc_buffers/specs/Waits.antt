@@ -17,6 +17,6 @@ WaitsAt _ got = ⊥
 
 -- A taking ends at TS, and at TF where of the free regions that are found none may be taken.
 abbrev pub TakingEndsAt : Config → Kind → TakeSpot → ℕ → Type 0
-TakingEndsAt c kind (StoreBuffer address room) got = Unit {0}
-TakingEndsAt c kind (LoadFree buffer shared) got = MayTakeNone c kind got
-TakingEndsAt c kind _ got = ⊥
+TakingEndsAt config kind (StoreBuffer address room) got = Unit {0}
+TakingEndsAt config kind (LoadFree buffer shared) got = MayTakeNone config kind got
+TakingEndsAt config kind _ got = ⊥

@@ -20,5 +20,5 @@ pub use take::Take;
 /// shared region, by the words that it has found, have too little room or are none, and the free word that it finds last has no
 /// region that may be taken.
 pub fn no_room_has_its_cause()
-    ensures { (c : Config) (words : ℕ) (kind : Purpose) (found : List ℕ) (free : ℕ) → FindsNoRoom c words kind found free → IsLackOfRoom c words kind found free }
+    ensures { (config : Config) (words : ℕ) (kind : Purpose) (found : List ℕ) (free : ℕ) → FindsNoRoom config words kind found free → IsLackOfRoom config words kind found free }
 {}

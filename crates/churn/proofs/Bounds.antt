@@ -21,120 +21,120 @@ use Rattle.churn.proofs.Opening.{thread_cases}
 
 -- what a thread has in its roots for leaves, and in its box
 abbrev pub held : Graph → ℕ → List Reference
-held g t = g.root t new_leaf ∷ g.root t old_leaf ∷ g.root t last_leaf ∷ fields_of g (own t 1)
+held graph thread = graph.root thread new_leaf ∷ graph.root thread old_leaf ∷ graph.root thread last_leaf ∷ fields_of graph (own thread 1)
 
 -- the hub, a box, or a leaf that a thread holds
 abbrev pub IsKnown : Graph → Name → Type 0
-IsKnown g n = (n ≡ hub) ⊎ ((t : ℕ) × IsThread t × ((n ≡ own t 1) ⊎ (IsLeaf t (Some n) × Contains (held g t) (Some n))))
+IsKnown graph name = (name ≡ hub) ⊎ ((t : ℕ) × IsThread t × ((name ≡ own t 1) ⊎ (IsLeaf t (Some name) × Contains (held graph t) (Some name))))
 
-by_root : (g : Graph) → Tidy g → (t r : ℕ) (n : Name) → IsThread t → g.root t r ≡ Some n → IsKnown g n
-by_root g tidy t zero n is held =
-    let e : Some hub ≡ Some n = sym (tidy.threads t is).hub_root ∙ held in
+by_root : (graph : Graph) → Tidy graph → (thread r : ℕ) (name : Name) → IsThread thread → graph.root thread r ≡ Some name → IsKnown graph name
+by_root graph tidy thread zero name is held =
+    let e : Some hub ≡ Some name = sym (tidy.threads thread is).hub_root ∙ held in
     inl (cc)
-by_root g tidy t (suc zero) n is held =
-    let box = subst (IsBox t) held (tidy.threads t is).box_root in
-    inr (t, is, inl (name_of n t 1 box.0 box.1))
-by_root g tidy t (suc (suc zero)) n is held = inr (t, is, inr (subst (IsLeaf t) held ((tidy.threads t is).leaf_root 2 (omega arith)), (0, omega arith, held)))
-by_root g tidy t (suc (suc (suc zero))) n is held = inr (t, is, inr (subst (IsLeaf t) held ((tidy.threads t is).leaf_root 3 (omega arith)), (1, omega arith, held)))
-by_root g tidy t (suc (suc (suc (suc zero)))) n is held = inr (t, is, inr (subst (IsLeaf t) held ((tidy.threads t is).leaf_root 4 (omega arith)), (2, omega arith, held)))
-by_root g tidy t (suc (suc (suc (suc (suc r))))) n is held =
-    let none = tidy.high_root t (suc (suc (suc (suc (suc r))))) (omega arith) in
-    let never : None ≡ Some n = sym none ∙ held in
+by_root graph tidy thread (suc zero) name is held =
+    let box = subst (IsBox thread) held (tidy.threads thread is).box_root in
+    inr (thread, is, inl (name_of name thread 1 box.0 box.1))
+by_root graph tidy thread (suc (suc zero)) name is held = inr (thread, is, inr (subst (IsLeaf thread) held ((tidy.threads thread is).leaf_root 2 (omega arith)), (0, omega arith, held)))
+by_root graph tidy thread (suc (suc (suc zero))) name is held = inr (thread, is, inr (subst (IsLeaf thread) held ((tidy.threads thread is).leaf_root 3 (omega arith)), (1, omega arith, held)))
+by_root graph tidy thread (suc (suc (suc (suc zero)))) name is held = inr (thread, is, inr (subst (IsLeaf thread) held ((tidy.threads thread is).leaf_root 4 (omega arith)), (2, omega arith, held)))
+by_root graph tidy thread (suc (suc (suc (suc (suc r))))) name is held =
+    let none = tidy.high_root thread (suc (suc (suc (suc (suc r))))) (omega arith) in
+    let never : None ≡ Some name = sym none ∙ held in
     absurd cc
 
-by_field : (g : Graph) → Tidy g → (m n : Name) (f : ℕ) → IsKnown g m → slice_get (fields_of g m) f ≡ Some (Some n) → IsKnown g n
-by_field g tidy m n f known is =
+by_field : (graph : Graph) → Tidy graph → (name other_name : Name) (thread : ℕ) → IsKnown graph name → slice_get (fields_of graph name) thread ≡ Some (Some other_name) → IsKnown graph other_name
+by_field graph tidy name other_name thread known is =
     elim known [
       | inl at_hub ↦
-          let here : field_of g hub f ≡ Some n = ap (λ (x : Name). field_of g x f) (sym at_hub) ∙ get_or_from_slice_get (fields_of g m) f (Some n) None is in
-          let link = subst (IsLink f) here (tidy.links f) in
-          inr (f, link.2, inl (name_of n f 1 link.0 link.1))
+          let here : field_of graph hub thread ≡ Some other_name = ap (λ (name : Name). field_of graph name thread) (sym at_hub) ∙ get_or_from_slice_get (fields_of graph name) thread (Some other_name) None is in
+          let link = subst (IsLink thread) here (tidy.links thread) in
+          inr (thread, link.2, inl (name_of other_name thread 1 link.0 link.1))
       | inr w ↦ elim (w.2) [
         | inl at_box ↦
             let t = w.0 in
-            let here : slice_get (fields_of g (own t 1)) f ≡ Some (Some n) = ap (λ (x : Name). slice_get (fields_of g x) f) (sym at_box) ∙ is in
-            let value : field_of g (own t 1) f ≡ Some n = get_or_from_slice_get (fields_of g (own t 1)) f (Some n) None here in
+            let here : slice_get (fields_of graph (own t 1)) thread ≡ Some (Some other_name) = ap (λ (name : Name). slice_get (fields_of graph name) thread) (sym at_box) ∙ is in
+            let value : field_of graph (own t 1) thread ≡ Some other_name = get_or_from_slice_get (fields_of graph (own t 1)) thread (Some other_name) None here in
             inr (
               t,
               w.1,
               inr (
-                subst (IsLeaf t) value ((tidy.threads t w.1).slots f),
-                Contains-append_right (g.root t new_leaf ∷ g.root t old_leaf ∷ g.root t last_leaf ∷ []) (fields_of g (own t 1)) (Some n) (Contains-from_slice_get (fields_of g (own t 1)) f (Some n) here),
+                subst (IsLeaf t) value ((tidy.threads t w.1).slots thread),
+                Contains-append_right (graph.root t new_leaf ∷ graph.root t old_leaf ∷ graph.root t last_leaf ∷ []) (fields_of graph (own t 1)) (Some other_name) (Contains-from_slice_get (fields_of graph (own t 1)) thread (Some other_name) here),
               ),
             )
         | inr leaf ↦
             let t = w.0 in
-            let none : field_of g (own t m.count) f ≡ None = (tidy.threads t w.1).leaves m.count f leaf.0.1 in
-            let same = name_of m t m.count leaf.0.0 refl in
-            let value : field_of g m f ≡ Some n = get_or_from_slice_get (fields_of g m) f (Some n) None is in
-            let never : None ≡ Some n = sym none ∙ ap (λ (x : Name). field_of g x f) (sym same) ∙ value in
+            let none : field_of graph (own t name.count) thread ≡ None = (tidy.threads t w.1).leaves name.count thread leaf.0.1 in
+            let same = name_of name t name.count leaf.0.0 refl in
+            let value : field_of graph name thread ≡ Some other_name = get_or_from_slice_get (fields_of graph name) thread (Some other_name) None is in
+            let never : None ≡ Some other_name = sym none ∙ ap (λ (name : Name). field_of graph name thread) (sym same) ∙ value in
             absurd cc
       ]
     ]
 
-known_reachable : (g : Graph) → Tidy g → (n : Name) → IsReachable g n → IsKnown g n
-known_reachable g tidy _ (from_root t r n is) =
+known_reachable : (graph : Graph) → Tidy graph → (name : Name) → IsReachable graph name → IsKnown graph name
+known_reachable graph tidy _ (from_root t r name is) =
     elim (thread_or_not t) [
-      | inl thread ↦ by_root g tidy t r n thread is
-      | inr out ↦ let never : None ≡ Some n = sym (tidy.no_root t r out) ∙ is in absurd cc
+      | inl thread ↦ by_root graph tidy t r name thread is
+      | inr out ↦ let never : None ≡ Some name = sym (tidy.no_root t r out) ∙ is in absurd cc
     ]
-known_reachable g tidy _ (from_pin t s held is) = absurd (none-some held (sym (tidy.no_pin t s) ∙ is))
-known_reachable g tidy _ (from_field m n f reached is) = by_field g tidy m n f (known_reachable g tidy m reached) is
+known_reachable graph tidy _ (from_pin t s held is) = absurd (none-some held (sym (tidy.no_pin t s) ∙ is))
+known_reachable graph tidy _ (from_field m name f reached is) = by_field graph tidy m name f (known_reachable graph tidy m reached) is
 
 -- each is small
-known_small : (g : Graph) → Tidy g → (n : Name) → IsKnown g n → size (named g (Some n)) ≤ 19
-known_small g tidy n known =
+known_small : (graph : Graph) → Tidy graph → (name : Name) → IsKnown graph name → size (named graph (Some name)) ≤ 19
+known_small graph tidy name known =
     elim known [
-      | inl at_hub ↦ subst (λ (x : Name). size (named g (Some x)) ≤ 19) (sym at_hub) (omega (arith, tidy.hub_size, ap (length {A = ℕ}) tidy.hub_nums))
+      | inl at_hub ↦ subst (λ (name : Name). size (named graph (Some name)) ≤ 19) (sym at_hub) (omega (arith, tidy.hub_size, ap (length {A = ℕ}) tidy.hub_nums))
       | inr w ↦ elim (w.2) [
-        | inl at_box ↦ subst (λ (x : Name). size (named g (Some x)) ≤ 19) (sym at_box) ((tidy.threads w.0 w.1).small 1)
-        | inr leaf ↦ subst (λ (x : Name). size (named g (Some x)) ≤ 19) (sym (name_of n w.0 n.count leaf.0.0 refl)) ((tidy.threads w.0 w.1).small n.count)
+        | inl at_box ↦ subst (λ (name : Name). size (named graph (Some name)) ≤ 19) (sym at_box) ((tidy.threads w.0 w.1).small 1)
+        | inr leaf ↦ subst (λ (name : Name). size (named graph (Some name)) ≤ 19) (sym (name_of name w.0 name.count leaf.0.0 refl)) ((tidy.threads w.0 w.1).small name.count)
       ]
     ]
 
 -- and there are few
 abbrev pub known_names : Graph → List Name
-known_names g = (hub ∷ own 1 1 ∷ own 2 1 ∷ own 3 1 ∷ []) ++ (names_held (held g 1) ++ (names_held (held g 2) ++ names_held (held g 3)))
+known_names graph = (hub ∷ own 1 1 ∷ own 2 1 ∷ own 3 1 ∷ []) ++ (names_held (held graph 1) ++ (names_held (held graph 2) ++ names_held (held graph 3)))
 
 few_held : (refs : List Reference) → length (names_held refs) ≤ length refs
 few_held [] = omega arith
 few_held (None ∷ refs) = let rest = few_held refs in omega arith
 few_held (Some n ∷ refs) = let rest = few_held refs in omega arith
 
-few_names : (g : Graph) → Tidy g → length (known_names g) ≤ 61
-few_names g tidy =
-    let a = few_held (held g 1) in
-    let b = few_held (held g 2) in
-    let c = few_held (held g 3) in
+few_names : (graph : Graph) → Tidy graph → length (known_names graph) ≤ 61
+few_names graph tidy =
+    let a = few_held (held graph 1) in
+    let b = few_held (held graph 2) in
+    let c = few_held (held graph 3) in
     let sa = (tidy.threads 1 (omega arith, omega arith)).slot_count in
     let sb = (tidy.threads 2 (omega arith, omega arith)).slot_count in
     let sc = (tidy.threads 3 (omega arith, omega arith)).slot_count in
     omega (
       arith,
-      length-append (hub ∷ own 1 1 ∷ own 2 1 ∷ own 3 1 ∷ []) (names_held (held g 1) ++ (names_held (held g 2) ++ names_held (held g 3))),
-      length-append (names_held (held g 1)) (names_held (held g 2) ++ names_held (held g 3)),
-      length-append (names_held (held g 2)) (names_held (held g 3)),
+      length-append (hub ∷ own 1 1 ∷ own 2 1 ∷ own 3 1 ∷ []) (names_held (held graph 1) ++ (names_held (held graph 2) ++ names_held (held graph 3))),
+      length-append (names_held (held graph 1)) (names_held (held graph 2) ++ names_held (held graph 3)),
+      length-append (names_held (held graph 2)) (names_held (held graph 3)),
     )
 
-known_named : (g : Graph) (n : Name) → IsKnown g n → Contains (known_names g) n
-known_named g n known =
+known_named : (graph : Graph) (name : Name) → IsKnown graph name → Contains (known_names graph) name
+known_named graph name known =
     elim known [
-      | inl at_hub ↦ Contains-append_left fixed others n (0, omega arith, sym at_hub)
+      | inl at_hub ↦ Contains-append_left fixed others name (0, omega arith, sym at_hub)
       | inr w ↦ elim (thread_cases w.0 w.1) [
         | inl one ↦ elim (w.2) [
-          | inl at_box ↦ Contains-append_left fixed others n (1, omega arith, sym (at_box ∙ ap (λ k. own k 1) one))
-          | inr leaf ↦ Contains-append_right fixed others n (Contains-append_left (names_held (held g 1)) later n (Contains-names_held (held g 1) n (subst (λ (k : ℕ). Contains (held g k) (Some n)) one leaf.1)))
+          | inl at_box ↦ Contains-append_left fixed others name (1, omega arith, sym (at_box ∙ ap (λ k. own k 1) one))
+          | inr leaf ↦ Contains-append_right fixed others name (Contains-append_left (names_held (held graph 1)) later name (Contains-names_held (held graph 1) name (subst (λ (k : ℕ). Contains (held graph k) (Some name)) one leaf.1)))
         ]
         | inr more ↦ elim more [
           | inl two ↦ elim (w.2) [
-            | inl at_box ↦ Contains-append_left fixed others n (2, omega arith, sym (at_box ∙ ap (λ k. own k 1) two))
-            | inr leaf ↦ Contains-append_right fixed others n (Contains-append_right (names_held (held g 1)) later n
-                (Contains-append_left (names_held (held g 2)) (names_held (held g 3)) n (Contains-names_held (held g 2) n (subst (λ (k : ℕ). Contains (held g k) (Some n)) two leaf.1))))
+            | inl at_box ↦ Contains-append_left fixed others name (2, omega arith, sym (at_box ∙ ap (λ k. own k 1) two))
+            | inr leaf ↦ Contains-append_right fixed others name (Contains-append_right (names_held (held graph 1)) later name
+                (Contains-append_left (names_held (held graph 2)) (names_held (held graph 3)) name (Contains-names_held (held graph 2) name (subst (λ (k : ℕ). Contains (held graph k) (Some name)) two leaf.1))))
           ]
           | inr three ↦ elim (w.2) [
-            | inl at_box ↦ Contains-append_left fixed others n (3, omega arith, sym (at_box ∙ ap (λ k. own k 1) three))
-            | inr leaf ↦ Contains-append_right fixed others n (Contains-append_right (names_held (held g 1)) later n
-                (Contains-append_right (names_held (held g 2)) (names_held (held g 3)) n (Contains-names_held (held g 3) n (subst (λ (k : ℕ). Contains (held g k) (Some n)) three leaf.1))))
+            | inl at_box ↦ Contains-append_left fixed others name (3, omega arith, sym (at_box ∙ ap (λ k. own k 1) three))
+            | inr leaf ↦ Contains-append_right fixed others name (Contains-append_right (names_held (held graph 1)) later name
+                (Contains-append_right (names_held (held graph 2)) (names_held (held graph 3)) name (Contains-names_held (held graph 3) name (subst (λ (k : ℕ). Contains (held graph k) (Some name)) three leaf.1))))
           ]
         ]
       ]
@@ -144,22 +144,22 @@ known_named g n known =
     fixed = hub ∷ own 1 1 ∷ own 2 1 ∷ own 3 1 ∷ []
 
     later : List Name
-    later = names_held (held g 2) ++ names_held (held g 3)
+    later = names_held (held graph 2) ++ names_held (held graph 3)
 
     others : List Name
-    others = names_held (held g 1) ++ later
+    others = names_held (held graph 1) ++ later
 
-few_reachable : (g : Graph) (names : List Name) → Tidy g → IsReach g names → length names ≤ 61
-few_reachable g names tidy reach =
-    let fewer = length-le_from_is_member same_name-laws names (known_names g) (distinct names reach.in_order)
-    (λ q there. list_any-from_Contains same_name-laws q (known_names g) (known_named g q (known_reachable g tidy q (reach.only q (Contains-from_any same_name-true q names there))))) in
-    omega (arith, few_names g tidy, fewer)
+few_reachable : (graph : Graph) (names : List Name) → Tidy graph → IsReach graph names → length names ≤ 61
+few_reachable graph names tidy reach =
+    let fewer = length-le_from_is_member same_name-laws names (known_names graph) (distinct names reach.in_order)
+    (λ q there. list_any-from_Contains same_name-laws q (known_names graph) (known_named graph q (known_reachable graph tidy q (reach.only q (Contains-from_any same_name-true q names there))))) in
+    omega (arith, few_names graph tidy, fewer)
 
 -- so few words are live
-pub few_live : (g : Graph) (words : ℕ) → Tidy g → Live g words → words ≤ 1159
-few_live g words tidy live =
+pub few_live : (graph : Graph) (words : ℕ) → Tidy graph → Live graph words → words ≤ 1159
+few_live graph words tidy live =
     let names = live.0 in
-    let small : All (λ n. size (named g (Some n)) ≤ 19) names = λ k d within.
-    known_small g tidy (get_or names k d) (known_reachable g tidy (get_or names k d) (live.1.only (get_or names k d) (k, within, get_or_default names k (get_or names k d) d within))) in
-    let total = sum_by-le (λ (n : Name). size (named g (Some n))) 19 names small in
-    omega (arith, few_reachable g names tidy live.1, total, live.2)
+    let small : All (λ n. size (named graph (Some n)) ≤ 19) names = λ k d within.
+    known_small graph tidy (get_or names k d) (known_reachable graph tidy (get_or names k d) (live.1.only (get_or names k d) (k, within, get_or_default names k (get_or names k d) d within))) in
+    let total = sum_by-le (λ (name : Name). size (named graph (Some name))) 19 names small in
+    omega (arith, few_reachable graph names tidy live.1, total, live.2)

@@ -12,89 +12,89 @@ use Rattle.churn.specs.Script.{own_box}
 use Rattle.churn.proofs.Belongings.{IsThread, own, fields_of, field_of, IsBox, IsLeaf, IsLink, Same, Tidy, Fits, Same-itself, Same-join, name_of, named_same}
 
 -- Two graphs go on from two that are the same to a thread, by a change of what belongs to it.
-pub record Moved (t : ℕ) (g h g_then h_then : Graph) : Type 0 where
-  pub same : Same t g_then h_then
+pub record Moved (thread : ℕ) (graph other_graph g_then h_then : Graph) : Type 0 where
+  pub same : Same thread g_then h_then
   pub tidy : Tidy g_then
   pub other : Tidy h_then
-  pub frame : (u : ℕ) → IsThread u → u ≢ t → Same u g g_then
-  pub beside : (u : ℕ) → IsThread u → u ≢ t → Same u h h_then
-  pub grows : g.count t ≤ g_then.count t
+  pub frame : (u : ℕ) → IsThread u → u ≢ thread → Same u graph g_then
+  pub beside : (u : ℕ) → IsThread u → u ≢ thread → Same u other_graph h_then
+  pub grows : graph.count thread ≤ g_then.count thread
 
-pub stays : (t : ℕ) (g h : Graph) → Tidy g → Tidy h → Same t g h → Moved t g h g h
-stays t g h tidy other same = record { same = same; tidy = tidy; other = other; frame = λ u _ _. Same-itself u g; beside = λ u _ _. Same-itself u h; grows = omega arith }
+pub stays : (t : ℕ) (graph other_graph : Graph) → Tidy graph → Tidy other_graph → Same t graph other_graph → Moved t graph other_graph graph other_graph
+stays t graph other_graph tidy other same = record { same = same; tidy = tidy; other = other; frame = λ u _ _. Same-itself u graph; beside = λ u _ _. Same-itself u other_graph; grows = omega arith }
 
 -- a root that was set, and one that was not
-pub root_case : (P : Reference → Type 0) (u t s r : ℕ) (v w : Reference) → (u ≡ t → s ≡ r → P v) → P w → P (if (u == t) && (s == r) then v else w)
-root_case P u t s r v w here there =
+pub root_case : (P : Reference → Type 0) (u t s r : ℕ) (reference other_reference : Reference) → (u ≡ t → s ≡ r → P reference) → P other_reference → P (if (u == t) && (s == r) then reference else other_reference)
+root_case P u t s r reference other_reference here there =
     elim (eqb_tells u t) [
       | inl a ↦ elim (eqb_tells s r) [ inl b ↦ rw (a.0, b.0) (here a.1 b.1) | inr b ↦ rw (a.0, b.0) there ]
       | inr a ↦ rw a.0 there
     ]
 
-with_root-tidy : (g : Graph) (t r : ℕ) (v : Reference) → Tidy g → IsThread t → 1 ≤ r → r < 5 → (r ≡ 1 → IsBox t v) → (2 ≤ r → IsLeaf t v) → Tidy (with_root g t r v)
-with_root-tidy g t r v tidy thread low high box leaf = record {
+with_root-tidy : (graph : Graph) (t r : ℕ) (reference : Reference) → Tidy graph → IsThread t → 1 ≤ r → r < 5 → (r ≡ 1 → IsBox t reference) → (2 ≤ r → IsLeaf t reference) → Tidy (with_root graph t r reference)
+with_root-tidy graph t r reference tidy thread low high box leaf = record {
   hub_is = tidy.hub_is;
   hub_size = tidy.hub_size;
   hub_nums = tidy.hub_nums;
   links = tidy.links;
   threads = λ u is. record {
-    hub_root = root_case (λ x. x ≡ Some hub) u t 0 r v (g.root u 0) (λ _ e. absurd (omega arith)) (tidy.threads u is).hub_root;
-    box_root = root_case (IsBox u) u t 1 r v (g.root u own_box) (λ a b. subst (λ (k : ℕ). IsBox k v) (sym a) (box (sym b))) (tidy.threads u is).box_root;
-    leaf_root = λ s above. root_case (IsLeaf u) u t s r v (g.root u s) (λ a b. subst (λ (k : ℕ). IsLeaf k v) (sym a) (leaf (omega arith))) ((tidy.threads u is).leaf_root s above);
+    hub_root = root_case (λ x. x ≡ Some hub) u t 0 r reference (graph.root u 0) (λ _ e. absurd (omega arith)) (tidy.threads u is).hub_root;
+    box_root = root_case (IsBox u) u t 1 r reference (graph.root u own_box) (λ a b. subst (λ (k : ℕ). IsBox k reference) (sym a) (box (sym b))) (tidy.threads u is).box_root;
+    leaf_root = λ s above. root_case (IsLeaf u) u t s r reference (graph.root u s) (λ a b. subst (λ (k : ℕ). IsLeaf k reference) (sym a) (leaf (omega arith))) ((tidy.threads u is).leaf_root s above);
     slots = (tidy.threads u is).slots;
     slot_count = (tidy.threads u is).slot_count;
     leaves = (tidy.threads u is).leaves;
     small = (tidy.threads u is).small;
   };
-  high_root = λ u s above. root_case (λ x. x ≡ None) u t s r v (g.root u s) (λ a b. absurd (omega arith)) (tidy.high_root u s above);
-  no_root = λ u s out. root_case (λ x. x ≡ None) u t s r v (g.root u s) (λ a b. absurd (out (subst IsThread (sym a) thread))) (tidy.no_root u s out);
+  high_root = λ u s above. root_case (λ x. x ≡ None) u t s r reference (graph.root u s) (λ a b. absurd (omega arith)) (tidy.high_root u s above);
+  no_root = λ u s out. root_case (λ x. x ≡ None) u t s r reference (graph.root u s) (λ a b. absurd (out (subst IsThread (sym a) thread))) (tidy.no_root u s out);
   no_count = tidy.no_count;
   no_object = tidy.no_object;
   no_pin = tidy.no_pin;
 }
 
-with_root-same : (g h : Graph) (t r : ℕ) (v : Reference) → Same t g h → Same t (with_root g t r v) (with_root h t r v)
-with_root-same g h t r v same = record {
-  root = λ s. ap (λ (x : Reference). if (t == t) && (s == r) then v else x) (same.root s);
+with_root-same : (graph other_graph : Graph) (t r : ℕ) (reference : Reference) → Same t graph other_graph → Same t (with_root graph t r reference) (with_root other_graph t r reference)
+with_root-same graph other_graph t r reference same = record {
+  root = λ s. ap (λ (x : Reference). if (t == t) && (s == r) then reference else x) (same.root s);
   count = same.count;
   object = same.object;
   link = same.link;
 }
 
-with_root-frame : (g : Graph) (t r u : ℕ) (v : Reference) → u ≢ t → Same u g (with_root g t r v)
-with_root-frame g t r u v apart = record {
-  root = λ s. root_case (λ x. g.root u s ≡ x) u t s r v (g.root u s) (λ a b. absurd (apart a)) refl;
+with_root-frame : (graph : Graph) (t r thread : ℕ) (reference : Reference) → thread ≢ t → Same thread graph (with_root graph t r reference)
+with_root-frame graph t r thread reference apart = record {
+  root = λ s. root_case (λ x. graph.root thread s ≡ x) thread t s r reference (graph.root thread s) (λ a b. absurd (apart a)) refl;
   count = refl;
   object = λ n. refl;
   link = refl;
 }
 
-pub moved_root : (t : ℕ) (g h g_then h_then : Graph) (r : ℕ) (v w : Reference) → IsThread t → Moved t g h g_then h_then → v ≡ w → 1 ≤ r → r < 5 → (r ≡ 1 → IsBox t v) → (2 ≤ r → IsLeaf t v)
-    → Moved t g h (with_root g_then t r v) (with_root h_then t r w)
-moved_root t g h g_then h_then r v w thread m same low high box leaf =
-    subst (λ (x : Reference). Moved t g h (with_root g_then t r v) (with_root h_then t r x)) same (record {
-      same = with_root-same g_then h_then t r v m.same;
-      tidy = with_root-tidy g_then t r v m.tidy thread low high box leaf;
-      other = with_root-tidy h_then t r v m.other thread low high box leaf;
-      frame = λ u is apart. Same-join (m.frame u is apart) (with_root-frame g_then t r u v apart);
-      beside = λ u is apart. Same-join (m.beside u is apart) (with_root-frame h_then t r u v apart);
+pub moved_root : (t : ℕ) (graph other_graph g_then h_then : Graph) (r : ℕ) (reference other_reference : Reference) → IsThread t → Moved t graph other_graph g_then h_then → reference ≡ other_reference → 1 ≤ r → r < 5 → (r ≡ 1 → IsBox t reference) → (2 ≤ r → IsLeaf t reference)
+    → Moved t graph other_graph (with_root g_then t r reference) (with_root h_then t r other_reference)
+moved_root t graph other_graph g_then h_then r reference other_reference thread m same low high box leaf =
+    subst (λ (x : Reference). Moved t graph other_graph (with_root g_then t r reference) (with_root h_then t r x)) same (record {
+      same = with_root-same g_then h_then t r reference m.same;
+      tidy = with_root-tidy g_then t r reference m.tidy thread low high box leaf;
+      other = with_root-tidy h_then t r reference m.other thread low high box leaf;
+      frame = λ u is apart. Same-join (m.frame u is apart) (with_root-frame g_then t r u reference apart);
+      beside = λ u is apart. Same-join (m.beside u is apart) (with_root-frame h_then t r u reference apart);
       grows = m.grows;
     })
 
 -- an object that is another, and one that is not
-pub object_case : (P : Object → Type 0) (g : Graph) (m n : Name) (o : Object) → (m ≡ n → P o) → P (named g (Some m)) → P (named (with_object g n o) (Some m))
-object_case P g m n o here there =
-    at (same_name m n) refl
+pub object_case : (P : Object → Type 0) (graph : Graph) (name other_name : Name) (object : Object) → (name ≡ other_name → P object) → P (named graph (Some name)) → P (named (with_object graph other_name object) (Some name))
+object_case P graph name other_name object here there =
+    at (same_name name other_name) refl
   where
-    at : (b : Bool) → same_name m n ≡ b → P (unwrap_or (if same_name m n then Some o else g.object m) (record { refs = []; nums = [] }))
-    at true is = rw is (here (same_name-true m n is))
+    at : (holds : Bool) → same_name name other_name ≡ holds → P (unwrap_or (if same_name name other_name then Some object else graph.object name) (record { refs = []; nums = [] }))
+    at true is = rw is (here (same_name-true name other_name is))
     at false is = rw is there
 
-named_other : (g : Graph) (m n : Name) (o : Object) → same_name m n ≡ false → named (with_object g n o) (Some m) ≡ named g (Some m)
-named_other g m n o e = rw e refl
+named_other : (graph : Graph) (name other_name : Name) (object : Object) → same_name name other_name ≡ false → named (with_object graph other_name object) (Some name) ≡ named graph (Some name)
+named_other graph name other_name object e = rw e refl
 
-field_other : (g : Graph) (m n : Name) (o : Object) (f : ℕ) → same_name m n ≡ false → field_of (with_object g n o) m f ≡ field_of g m f
-field_other g m n o f e = ap (λ (x : Object). get_or x.refs f None) (named_other g m n o e)
+field_other : (graph : Graph) (name other_name : Name) (object : Object) (f : ℕ) → same_name name other_name ≡ false → field_of (with_object graph other_name object) name f ≡ field_of graph name f
+field_other graph name other_name object f e = ap (λ (object : Object). get_or object.refs f None) (named_other graph name other_name object e)
 
 -- a thread's objects are not the hub, nor those of another
 not_hub : (t n : ℕ) → IsThread t → same_name hub (own t n) ≡ false
@@ -106,69 +106,69 @@ not_hub_too t n is = rw (ne_eqb t 0 (λ (same : t ≡ 0). omega (arith, is.0))) 
 not_another : (u k t n : ℕ) → u ≢ t → same_name (own u k) (own t n) ≡ false
 not_another u k t n apart = rw (ne_eqb u t apart) refl
 
-own_object-tidy : (g : Graph) (t n : ℕ) (o : Object) → Tidy g → IsThread t → Fits t n o → Tidy (with_object g (own t n) o)
-own_object-tidy g t n o tidy thread fits =
+own_object-tidy : (graph : Graph) (t n : ℕ) (object : Object) → Tidy graph → IsThread t → Fits t n object → Tidy (with_object graph (own t n) object)
+own_object-tidy graph t n object tidy thread fits =
     let e = not_hub t n thread in
     record {
       hub_is = rw e tidy.hub_is;
-      hub_size = subst (λ (x : Object). length x.refs ≡ 16) (sym (named_other g hub (own t n) o e)) tidy.hub_size;
-      hub_nums = subst (λ (x : Object). x.nums ≡ []) (sym (named_other g hub (own t n) o e)) tidy.hub_nums;
-      links = λ f. subst (IsLink f) (sym (field_other g hub (own t n) o f e)) (tidy.links f);
+      hub_size = subst (λ (object : Object). length object.refs ≡ 16) (sym (named_other graph hub (own t n) object e)) tidy.hub_size;
+      hub_nums = subst (λ (object : Object). object.nums ≡ []) (sym (named_other graph hub (own t n) object e)) tidy.hub_nums;
+      links = λ f. subst (IsLink f) (sym (field_other graph hub (own t n) object f e)) (tidy.links f);
       threads = λ u is. record {
         hub_root = (tidy.threads u is).hub_root;
         box_root = (tidy.threads u is).box_root;
         leaf_root = (tidy.threads u is).leaf_root;
-        slots = λ f. object_case (λ x. IsLeaf u (get_or x.refs f None)) g (own u 1) (own t n) o
-            (λ e. subst (λ (k : ℕ). IsLeaf k (get_or o.refs f None)) (sym (ap (λ m. m.thread) e)) (fits.box (sym (ap (λ m. m.count) e)) f)) ((tidy.threads u is).slots f);
-        slot_count = object_case (λ x. length x.refs ≤ 16) g (own u 1) (own t n) o (λ e. fits.box_size (sym (ap (λ m. m.count) e))) (tidy.threads u is).slot_count;
-        leaves = λ k f above. object_case (λ x. get_or x.refs f None ≡ None) g (own u k) (own t n) o
-            (λ e. let c : k ≡ n = ap (λ m. m.count) e in fits.leaf (omega arith) f) ((tidy.threads u is).leaves k f above);
-        small = λ k. object_case (λ x. size x ≤ 19) g (own u k) (own t n) o (λ e. fits.small) ((tidy.threads u is).small k);
+        slots = λ f. object_case (λ x. IsLeaf u (get_or x.refs f None)) graph (own u 1) (own t n) object
+            (λ e. subst (λ (k : ℕ). IsLeaf k (get_or object.refs f None)) (sym (ap (λ name. name.thread) e)) (fits.box (sym (ap (λ name. name.count) e)) f)) ((tidy.threads u is).slots f);
+        slot_count = object_case (λ x. length x.refs ≤ 16) graph (own u 1) (own t n) object (λ e. fits.box_size (sym (ap (λ name. name.count) e))) (tidy.threads u is).slot_count;
+        leaves = λ k f above. object_case (λ x. get_or x.refs f None ≡ None) graph (own u k) (own t n) object
+            (λ e. let c : k ≡ n = ap (λ name. name.count) e in fits.leaf (omega arith) f) ((tidy.threads u is).leaves k f above);
+        small = λ k. object_case (λ x. size x ≤ 19) graph (own u k) (own t n) object (λ e. fits.small) ((tidy.threads u is).small k);
       };
       high_root = tidy.high_root;
       no_root = tidy.no_root;
       no_count = tidy.no_count;
-      no_object = λ m out apart. object_none m out apart;
+      no_object = λ name out apart. object_none name out apart;
       no_pin = tidy.no_pin;
     }
   where
-    object_none : (m : Name) → (IsThread m.thread → ⊥) → same_name m hub ≡ false → (if same_name m (own t n) then Some o else g.object m) ≡ None
-    object_none m out apart =
-        let other : m.thread ≢ t = λ is. out (subst IsThread (sym is) thread) in
-        rw (not_another m.thread m.count t n other) (tidy.no_object m out apart)
+    object_none : (name : Name) → (IsThread name.thread → ⊥) → same_name name hub ≡ false → (if same_name name (own t n) then Some object else graph.object name) ≡ None
+    object_none name out apart =
+        let other : name.thread ≢ t = λ is. out (subst IsThread (sym is) thread) in
+        rw (not_another name.thread name.count t n other) (tidy.no_object name out apart)
 
-own_object-same : (g h : Graph) (t n : ℕ) (o : Object) → IsThread t → Same t g h → Same t (with_object g (own t n) o) (with_object h (own t n) o)
-own_object-same g h t n o thread same = record {
+own_object-same : (graph other_graph : Graph) (t n : ℕ) (object : Object) → IsThread t → Same t graph other_graph → Same t (with_object graph (own t n) object) (with_object other_graph (own t n) object)
+own_object-same graph other_graph t n object thread same = record {
   root = same.root;
   count = same.count;
-  object = λ k. ap (λ x. if same_name (own t k) (own t n) then Some o else x) (same.object k);
-  link = field_other g hub (own t n) o t (not_hub t n thread) ∙ same.link ∙ sym (field_other h hub (own t n) o t (not_hub t n thread));
+  object = λ k. ap (λ x. if same_name (own t k) (own t n) then Some object else x) (same.object k);
+  link = field_other graph hub (own t n) object t (not_hub t n thread) ∙ same.link ∙ sym (field_other other_graph hub (own t n) object t (not_hub t n thread));
 }
 
-own_object-frame : (g : Graph) (t n u : ℕ) (o : Object) → IsThread t → u ≢ t → Same u g (with_object g (own t n) o)
-own_object-frame g t n u o thread apart = record {
+own_object-frame : (graph : Graph) (t n u : ℕ) (object : Object) → IsThread t → u ≢ t → Same u graph (with_object graph (own t n) object)
+own_object-frame graph t n u object thread apart = record {
   root = λ r. refl;
   count = refl;
   object = λ k. rw (not_another u k t n apart) refl;
-  link = sym (field_other g hub (own t n) o u (not_hub t n thread));
+  link = sym (field_other graph hub (own t n) object u (not_hub t n thread));
 }
 
-pub moved_own : (t : ℕ) (g h : Graph) (n : ℕ) (o p : Object) → IsThread t → Tidy g → Tidy h → Same t g h → o ≡ p → Fits t n o
-    → Moved t g h (with_object g (own t n) o) (with_object h (own t n) p)
-moved_own t g h n o p thread tidy other same is fits =
-    subst (λ (x : Object). Moved t g h (with_object g (own t n) o) (with_object h (own t n) x)) is (record {
-      same = own_object-same g h t n o thread same;
-      tidy = own_object-tidy g t n o tidy thread fits;
-      other = own_object-tidy h t n o other thread fits;
-      frame = λ u _ apart. own_object-frame g t n u o thread apart;
-      beside = λ u _ apart. own_object-frame h t n u o thread apart;
+pub moved_own : (t : ℕ) (graph other_graph : Graph) (n : ℕ) (object other_object : Object) → IsThread t → Tidy graph → Tidy other_graph → Same t graph other_graph → object ≡ other_object → Fits t n object
+    → Moved t graph other_graph (with_object graph (own t n) object) (with_object other_graph (own t n) other_object)
+moved_own t graph other_graph n object other_object thread tidy other same is fits =
+    subst (λ (x : Object). Moved t graph other_graph (with_object graph (own t n) object) (with_object other_graph (own t n) x)) is (record {
+      same = own_object-same graph other_graph t n object thread same;
+      tidy = own_object-tidy graph t n object tidy thread fits;
+      other = own_object-tidy other_graph t n object other thread fits;
+      frame = λ u _ apart. own_object-frame graph t n u object thread apart;
+      beside = λ u _ apart. own_object-frame other_graph t n u object thread apart;
       grows = omega arith;
     })
 
 -- an object more
-with_fresh-tidy : (g : Graph) (t : ℕ) (o : Object) → Tidy g → IsThread t → Fits t (g.count t + 1) o → Tidy (with_fresh g t o)
-with_fresh-tidy g t o tidy thread fits =
-    let w = own_object-tidy g t (g.count t + 1) o tidy thread fits in
+with_fresh-tidy : (graph : Graph) (t : ℕ) (object : Object) → Tidy graph → IsThread t → Fits t (graph.count t + 1) object → Tidy (with_fresh graph t object)
+with_fresh-tidy graph t object tidy thread fits =
+    let w = own_object-tidy graph t (graph.count t + 1) object tidy thread fits in
     record {
       hub_is = w.hub_is;
       hub_size = w.hub_size;
@@ -199,63 +199,63 @@ eqb_itself t = (Decides-eqb t t).1 refl
 pub eqb_apart : (u t : ℕ) → u ≢ t → eqb u t ≡ false
 eqb_apart u t apart = ne_eqb u t apart
 
-fresh-frame : (g : Graph) (t u : ℕ) (o : Object) → IsThread t → u ≢ t → Same u g (with_fresh g t o)
-fresh-frame g t u o thread apart =
-    let f = own_object-frame g t (g.count t + 1) u o thread apart in
+fresh-frame : (graph : Graph) (t u : ℕ) (object : Object) → IsThread t → u ≢ t → Same u graph (with_fresh graph t object)
+fresh-frame graph t u object thread apart =
+    let f = own_object-frame graph t (graph.count t + 1) u object thread apart in
     record { root = f.root; count = rw (eqb_apart u t apart) refl; object = f.object; link = f.link }
 
-pub moved_fresh : (t : ℕ) (g h : Graph) (o : Object) → IsThread t → Tidy g → Tidy h → Same t g h → Fits t (g.count t + 1) o
-    → Moved t g h (with_fresh g t o) (with_fresh h t o)
-moved_fresh t g h o thread tidy other same fits =
-    let fits_there : Fits t (h.count t + 1) o = subst (λ (k : ℕ). Fits t (k + 1) o) same.count fits in
-    let w = own_object-same g h t (g.count t + 1) o thread same in
+pub moved_fresh : (t : ℕ) (graph other_graph : Graph) (object : Object) → IsThread t → Tidy graph → Tidy other_graph → Same t graph other_graph → Fits t (graph.count t + 1) object
+    → Moved t graph other_graph (with_fresh graph t object) (with_fresh other_graph t object)
+moved_fresh t graph other_graph object thread tidy other same fits =
+    let fits_there : Fits t (other_graph.count t + 1) object = subst (λ (k : ℕ). Fits t (k + 1) object) same.count fits in
+    let w = own_object-same graph other_graph t (graph.count t + 1) object thread same in
     record {
       same = record {
         root = same.root;
         count = ap (λ k. if t == t then k + 1 else k) same.count;
-        object = subst (λ (k : ℕ). (n : ℕ) → (with_object g (own t (g.count t + 1)) o).object (own t n) ≡ (with_object h (own t (k + 1)) o).object (own t n)) same.count w.object;
-        link = subst (λ (k : ℕ). field_of (with_object g (own t (g.count t + 1)) o) hub t ≡ field_of (with_object h (own t (k + 1)) o) hub t) same.count w.link;
+        object = subst (λ (k : ℕ). (n : ℕ) → (with_object graph (own t (graph.count t + 1)) object).object (own t n) ≡ (with_object other_graph (own t (k + 1)) object).object (own t n)) same.count w.object;
+        link = subst (λ (k : ℕ). field_of (with_object graph (own t (graph.count t + 1)) object) hub t ≡ field_of (with_object other_graph (own t (k + 1)) object) hub t) same.count w.link;
       };
-      tidy = with_fresh-tidy g t o tidy thread fits;
-      other = with_fresh-tidy h t o other thread fits_there;
-      frame = λ u is apart. fresh-frame g t u o thread apart;
-      beside = λ u is apart. fresh-frame h t u o thread apart;
+      tidy = with_fresh-tidy graph t object tidy thread fits;
+      other = with_fresh-tidy other_graph t object other thread fits_there;
+      frame = λ u is apart. fresh-frame graph t u object thread apart;
+      beside = λ u is apart. fresh-frame other_graph t u object thread apart;
       grows = rw (eqb_itself t) (omega arith);
     }
 
 -- a field of the hub
 
 abbrev pub hub_with : Graph → ℕ → Reference → Object
-hub_with g t v = record { refs = set (fields_of g hub) t v; nums = (named g (Some hub)).nums }
+hub_with graph t reference = record { refs = set (fields_of graph hub) t reference; nums = (named graph (Some hub)).nums }
 
 -- of the fields of an object one is another
-pub field_case : (P : ℕ → Reference → Type 0) (xs : List Reference) (i : ℕ) (v : Reference) → ((f : ℕ) → P f (get_or xs f None)) → P i v → (f : ℕ) → P f (get_or (set xs i v) f None)
-field_case P xs i v before now f =
-    elim (eqb_tells f i) [
+pub field_case : (P : ℕ → Reference → Type 0) (xs : List Reference) (i : ℕ) (reference : Reference) → ((index : ℕ) → P index (get_or xs index None)) → P i reference → (index : ℕ) → P index (get_or (set xs i reference) index None)
+field_case P xs i reference before now index =
+    elim (eqb_tells index i) [
       | inl w ↦ elim (cases_lt i (length xs)) [
-        | inl within ↦ subst (λ (k : ℕ). P k (get_or (set xs i v) k None)) (sym w.1) (rw (get_or-set_same xs i v None within) now)
+        | inl within ↦ subst (λ (k : ℕ). P k (get_or (set xs i reference) k None)) (sym w.1) (rw (get_or-set_same xs i reference None within) now)
         | inr past ↦
-            let short : length (set xs i v) ≤ f = omega (arith, length-set xs i v, w.1) in
-            let e : get_or (set xs i v) f None ≡ get_or xs f None = get_or_past (set xs i v) f None short ∙ sym (get_or_past xs f None (omega (arith, w.1))) in
-            rw e (before f)
+            let short : length (set xs i reference) ≤ index = omega (arith, length-set xs i reference, w.1) in
+            let e : get_or (set xs i reference) index None ≡ get_or xs index None = get_or_past (set xs i reference) index None short ∙ sym (get_or_past xs index None (omega (arith, w.1))) in
+            rw e (before index)
       ]
-      | inr w ↦ rw (get_or-set_other xs i f v None w.1) (before f)
+      | inr w ↦ rw (get_or-set_other xs i index reference None w.1) (before index)
     ]
 
-hub-tidy : (g : Graph) (t : ℕ) (v : Reference) → Tidy g → IsThread t → IsBox t v → Tidy (with_object g hub (hub_with g t v))
-hub-tidy g t v tidy thread box = record {
+hub-tidy : (graph : Graph) (t : ℕ) (reference : Reference) → Tidy graph → IsThread t → IsBox t reference → Tidy (with_object graph hub (hub_with graph t reference))
+hub-tidy graph t reference tidy thread box = record {
   hub_is = refl;
-  hub_size = length-set (fields_of g hub) t v ∙ tidy.hub_size;
+  hub_size = length-set (fields_of graph hub) t reference ∙ tidy.hub_size;
   hub_nums = tidy.hub_nums;
-  links = field_case IsLink (fields_of g hub) t v tidy.links (link v box);
+  links = field_case IsLink (fields_of graph hub) t reference tidy.links (link reference box);
   threads = λ u is. record {
     hub_root = (tidy.threads u is).hub_root;
     box_root = (tidy.threads u is).box_root;
     leaf_root = (tidy.threads u is).leaf_root;
-    slots = λ f. subst (IsLeaf u) (sym (field_other g (own u 1) hub (hub_with g t v) f (not_hub_too u 1 is))) ((tidy.threads u is).slots f);
-    slot_count = subst (λ (x : Object). length x.refs ≤ 16) (sym (named_other g (own u 1) hub (hub_with g t v) (not_hub_too u 1 is))) (tidy.threads u is).slot_count;
-    leaves = λ k f above. field_other g (own u k) hub (hub_with g t v) f (not_hub_too u k is) ∙ (tidy.threads u is).leaves k f above;
-    small = λ k. subst (λ (x : Object). size x ≤ 19) (sym (named_other g (own u k) hub (hub_with g t v) (not_hub_too u k is))) ((tidy.threads u is).small k);
+    slots = λ f. subst (IsLeaf u) (sym (field_other graph (own u 1) hub (hub_with graph t reference) f (not_hub_too u 1 is))) ((tidy.threads u is).slots f);
+    slot_count = subst (λ (object : Object). length object.refs ≤ 16) (sym (named_other graph (own u 1) hub (hub_with graph t reference) (not_hub_too u 1 is))) (tidy.threads u is).slot_count;
+    leaves = λ k f above. field_other graph (own u k) hub (hub_with graph t reference) f (not_hub_too u k is) ∙ (tidy.threads u is).leaves k f above;
+    small = λ k. subst (λ (object : Object). size object ≤ 19) (sym (named_other graph (own u k) hub (hub_with graph t reference) (not_hub_too u k is))) ((tidy.threads u is).small k);
   };
   high_root = tidy.high_root;
   no_root = tidy.no_root;
@@ -263,86 +263,86 @@ hub-tidy g t v tidy thread box = record {
   no_object = λ m out apart. rw apart (tidy.no_object m out apart);
   no_pin = tidy.no_pin;
 } where
-  link : (v : Reference) → IsBox t v → IsLink t v
+  link : (reference : Reference) → IsBox t reference → IsLink t reference
   link None box = tt
   link (Some m) box = (box.0, box.1, thread)
 
-hub-link : (g : Graph) (t : ℕ) (v : Reference) → Tidy g → IsThread t → field_of (with_object g hub (hub_with g t v)) hub t ≡ v
-hub-link g t v tidy thread = let size = tidy.hub_size in get_or-set_same (fields_of g hub) t v None (omega arith)
+hub-link : (graph : Graph) (t : ℕ) (reference : Reference) → Tidy graph → IsThread t → field_of (with_object graph hub (hub_with graph t reference)) hub t ≡ reference
+hub-link graph t reference tidy thread = let size = tidy.hub_size in get_or-set_same (fields_of graph hub) t reference None (omega arith)
 
-hub-frame : (g : Graph) (t u : ℕ) (v : Reference) → IsThread u → u ≢ t → Same u g (with_object g hub (hub_with g t v))
-hub-frame g t u v thread apart = record {
+hub-frame : (graph : Graph) (t u : ℕ) (reference : Reference) → IsThread u → u ≢ t → Same u graph (with_object graph hub (hub_with graph t reference))
+hub-frame graph t u reference thread apart = record {
   root = λ r. refl;
   count = refl;
   object = λ k. rw (not_hub_too u k thread) refl;
-  link = sym (get_or-set_other (fields_of g hub) t u v None apart);
+  link = sym (get_or-set_other (fields_of graph hub) t u reference None apart);
 }
 
-pub moved_hub : (t : ℕ) (g h : Graph) (v w : Reference) → IsThread t → Tidy g → Tidy h → Same t g h → v ≡ w → IsBox t v
-    → Moved t g h (with_object g hub (hub_with g t v)) (with_object h hub (hub_with h t w))
-moved_hub t g h v w thread tidy other same is box =
-    subst (λ (x : Reference). Moved t g h (with_object g hub (hub_with g t v)) (with_object h hub (hub_with h t x))) is (record {
+pub moved_hub : (t : ℕ) (graph other_graph : Graph) (reference other_reference : Reference) → IsThread t → Tidy graph → Tidy other_graph → Same t graph other_graph → reference ≡ other_reference → IsBox t reference
+    → Moved t graph other_graph (with_object graph hub (hub_with graph t reference)) (with_object other_graph hub (hub_with other_graph t other_reference))
+moved_hub t graph other_graph reference other_reference thread tidy other same is box =
+    subst (λ (x : Reference). Moved t graph other_graph (with_object graph hub (hub_with graph t reference)) (with_object other_graph hub (hub_with other_graph t x))) is (record {
       same = record {
         root = same.root;
         count = same.count;
         object = λ k. rw (not_hub_too t k thread) (same.object k);
-        link = hub-link g t v tidy thread ∙ sym (hub-link h t v other thread);
+        link = hub-link graph t reference tidy thread ∙ sym (hub-link other_graph t reference other thread);
       };
-      tidy = hub-tidy g t v tidy thread box;
-      other = hub-tidy h t v other thread box;
-      frame = λ u is apart. hub-frame g t u v is apart;
-      beside = λ u is apart. hub-frame h t u v is apart;
+      tidy = hub-tidy graph t reference tidy thread box;
+      other = hub-tidy other_graph t reference other thread box;
+      frame = λ u is apart. hub-frame graph t u reference is apart;
+      beside = λ u is apart. hub-frame other_graph t u reference is apart;
       grows = omega arith;
     })
 
 -- a field of the box, and a number of a leaf
 
 abbrev pub with_slot : Object → ℕ → Reference → Object
-with_slot o k v = record { refs = set o.refs k v; nums = o.nums }
+with_slot object k reference = record { refs = set object.refs k reference; nums = object.nums }
 
 abbrev pub with_value : Object → ℕ → ℕ → Object
-with_value o i n = record { refs = o.refs; nums = set o.nums i n }
+with_value object i n = record { refs = object.refs; nums = set object.nums i n }
 
-box-fits : (g : Graph) (t k : ℕ) (v : Reference) → Tidy g → IsThread t → IsLeaf t v → Fits t 1 (with_slot (named g (Some (own t 1))) k v)
-box-fits g t k v tidy thread leaf =
+box-fits : (graph : Graph) (t k : ℕ) (reference : Reference) → Tidy graph → IsThread t → IsLeaf t reference → Fits t 1 (with_slot (named graph (Some (own t 1))) k reference)
+box-fits graph t k reference tidy thread leaf =
     let small = (tidy.threads t thread).small 1 in
     let count = (tidy.threads t thread).slot_count in
     record {
-      box = λ _. field_case (λ _ r. IsLeaf t r) (fields_of g (own t 1)) k v (λ f. (tidy.threads t thread).slots f) leaf;
-      box_size = λ _. omega (arith, length-set (fields_of g (own t 1)) k v);
+      box = λ _. field_case (λ _ r. IsLeaf t r) (fields_of graph (own t 1)) k reference (λ f. (tidy.threads t thread).slots f) leaf;
+      box_size = λ _. omega (arith, length-set (fields_of graph (own t 1)) k reference);
       leaf = λ above. absurd (omega arith);
-      small = omega (arith, length-set (fields_of g (own t 1)) k v);
+      small = omega (arith, length-set (fields_of graph (own t 1)) k reference);
     }
 
-pub moved_box : (t : ℕ) (g h : Graph) (r : Reference) (k : ℕ) (v : Reference) → IsThread t → Tidy g → Tidy h → Same t g h → IsBox t r → IsLeaf t v
-    → Moved t g h (with_named g r (with_slot (named g r) k v)) (with_named h r (with_slot (named h r) k v))
-moved_box t g h None k v thread tidy other same box leaf = stays t g h tidy other same
-moved_box t g h (Some m) k v thread tidy other same box leaf =
-    let same_box = named_same t g h same (Some (own t 1)) refl in
-    subst (λ (n : Name). Moved t g h (with_object g n (with_slot (named g (Some n)) k v)) (with_object h n (with_slot (named h (Some n)) k v)))
+pub moved_box : (t : ℕ) (graph other_graph : Graph) (reference : Reference) (k : ℕ) (other_reference : Reference) → IsThread t → Tidy graph → Tidy other_graph → Same t graph other_graph → IsBox t reference → IsLeaf t other_reference
+    → Moved t graph other_graph (with_named graph reference (with_slot (named graph reference) k other_reference)) (with_named other_graph reference (with_slot (named other_graph reference) k other_reference))
+moved_box t graph other_graph None k other_reference thread tidy other same box leaf = stays t graph other_graph tidy other same
+moved_box t graph other_graph (Some m) k other_reference thread tidy other same box leaf =
+    let same_box = named_same t graph other_graph same (Some (own t 1)) refl in
+    subst (λ (name : Name). Moved t graph other_graph (with_object graph name (with_slot (named graph (Some name)) k other_reference)) (with_object other_graph name (with_slot (named other_graph (Some name)) k other_reference)))
     (sym (name_of m t 1 box.0 box.1))
-    (moved_own t g h 1 (with_slot (named g (Some (own t 1))) k v) (with_slot (named h (Some (own t 1))) k v) thread tidy other same
-    (ap (λ o. with_slot o k v) same_box) (box-fits g t k v tidy thread leaf))
+    (moved_own t graph other_graph 1 (with_slot (named graph (Some (own t 1))) k other_reference) (with_slot (named other_graph (Some (own t 1))) k other_reference) thread tidy other same
+    (ap (λ o. with_slot o k other_reference) same_box) (box-fits graph t k other_reference tidy thread leaf))
 
-leaf-fits : (g : Graph) (t n i x : ℕ) → Tidy g → IsThread t → 2 ≤ n → Fits t n (with_value (named g (Some (own t n))) i x)
-leaf-fits g t n i x tidy thread above =
+leaf-fits : (graph : Graph) (t n i x : ℕ) → Tidy graph → IsThread t → 2 ≤ n → Fits t n (with_value (named graph (Some (own t n))) i x)
+leaf-fits graph t n i x tidy thread above =
     let small = (tidy.threads t thread).small n in
     record {
       box = λ is. absurd (omega arith);
       box_size = λ is. absurd (omega arith);
       leaf = λ _ f. (tidy.threads t thread).leaves n f above;
-      small = omega (arith, length-set (named g (Some (own t n))).nums i x);
+      small = omega (arith, length-set (named graph (Some (own t n))).nums i x);
     }
 
-pub moved_leaf : (t : ℕ) (g h : Graph) (r : Reference) (i x : ℕ) → IsThread t → Tidy g → Tidy h → Same t g h → IsLeaf t r
-    → Moved t g h (with_named g r (with_value (named g r) i x)) (with_named h r (with_value (named h r) i x))
-moved_leaf t g h None i x thread tidy other same leaf = stays t g h tidy other same
-moved_leaf t g h (Some m) i x thread tidy other same leaf =
-    let same_leaf = named_same t g h same (Some (own t m.count)) refl in
-    subst (λ (n : Name). Moved t g h (with_object g n (with_value (named g (Some n)) i x)) (with_object h n (with_value (named h (Some n)) i x)))
+pub moved_leaf : (t : ℕ) (graph other_graph : Graph) (reference : Reference) (i x : ℕ) → IsThread t → Tidy graph → Tidy other_graph → Same t graph other_graph → IsLeaf t reference
+    → Moved t graph other_graph (with_named graph reference (with_value (named graph reference) i x)) (with_named other_graph reference (with_value (named other_graph reference) i x))
+moved_leaf t graph other_graph None i x thread tidy other same leaf = stays t graph other_graph tidy other same
+moved_leaf t graph other_graph (Some m) i x thread tidy other same leaf =
+    let same_leaf = named_same t graph other_graph same (Some (own t m.count)) refl in
+    subst (λ (name : Name). Moved t graph other_graph (with_object graph name (with_value (named graph (Some name)) i x)) (with_object other_graph name (with_value (named other_graph (Some name)) i x)))
     (sym (name_of m t m.count leaf.0 refl))
-    (moved_own t g h m.count (with_value (named g (Some (own t m.count))) i x) (with_value (named h (Some (own t m.count))) i x) thread tidy other same
-    (ap (λ o. with_value o i x) same_leaf) (leaf-fits g t m.count i x tidy thread leaf.1))
+    (moved_own t graph other_graph m.count (with_value (named graph (Some (own t m.count))) i x) (with_value (named other_graph (Some (own t m.count))) i x) thread tidy other same
+    (ap (λ o. with_value o i x) same_leaf) (leaf-fits graph t m.count i x tidy thread leaf.1))
 
 -- what is new fits
 

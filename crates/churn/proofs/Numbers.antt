@@ -25,10 +25,10 @@ use Rattle.churn.proofs.Opening.{script_is, script_none, all_append}
 
 -- no number of an object is above
 abbrev pub AreBelow : ℕ → Object → Type 0
-AreBelow most o = (i : ℕ) → get_or o.nums i 0 ≤ most
+AreBelow most object = (i : ℕ) → get_or object.nums i 0 ≤ most
 
 abbrev pub IsBelow : ℕ → Graph → Type 0
-IsBelow most g = (n : Name) → AreBelow most (named g (Some n))
+IsBelow most graph = (name : Name) → AreBelow most (named graph (Some name))
 
 -- a command writes no number above
 abbrev pub WritesBelow : ℕ → Command → Type 0
@@ -40,89 +40,89 @@ pub record Below (most : ℕ) (o : Outcome) : Type 0 where
   pub told : number_summed o.reply ≤ most
   pub left : IsBelow most o.graph
 
-null_below : (most : ℕ) (g : Graph) (r : Reference) → IsBelow most g → AreBelow most (named g r)
-null_below most g None below = λ i. subst (λ (k : ℕ). k ≤ most) (sym (get_or_past [] i 0 (omega arith))) (omega arith)
-null_below most g (Some n) below = below n
+null_below : (most : ℕ) (graph : Graph) (reference : Reference) → IsBelow most graph → AreBelow most (named graph reference)
+null_below most graph None below = λ i. subst (λ (k : ℕ). k ≤ most) (sym (get_or_past [] i 0 (omega arith))) (omega arith)
+null_below most graph (Some n) below = below n
 
-object_below : (most : ℕ) (g : Graph) (n : Name) (o : Object) → IsBelow most g → AreBelow most o → IsBelow most (with_object g n o)
-object_below most g n o below here m = object_case (AreBelow most) g m n o (λ _. here) (below m)
+object_below : (most : ℕ) (graph : Graph) (name : Name) (object : Object) → IsBelow most graph → AreBelow most object → IsBelow most (with_object graph name object)
+object_below most graph name object below here m = object_case (AreBelow most) graph m name object (λ _. here) (below m)
 
-named_below : (most : ℕ) (g : Graph) (r : Reference) (o : Object) → IsBelow most g → AreBelow most o → IsBelow most (with_named g r o)
-named_below most g None o below here = below
-named_below most g (Some n) o below here = object_below most g n o below here
+named_below : (most : ℕ) (graph : Graph) (reference : Reference) (object : Object) → IsBelow most graph → AreBelow most object → IsBelow most (with_named graph reference object)
+named_below most graph None object below here = below
+named_below most graph (Some n) object below here = object_below most graph n object below here
 
-field_below : (most : ℕ) (g : Graph) (t r k : ℕ) (v : Reference) → IsBelow most g → IsBelow most (with_field g t r k v)
-field_below most g t r k v below = named_below most g (g.root t r) _ below (null_below most g (g.root t r) below)
+field_below : (most : ℕ) (graph : Graph) (thread r k : ℕ) (reference : Reference) → IsBelow most graph → IsBelow most (with_field graph thread r k reference)
+field_below most graph thread r k reference below = named_below most graph (graph.root thread r) _ below (null_below most graph (graph.root thread r) below)
 
-set_below : (most : ℕ) (xs : List ℕ) (i v : ℕ) → ((k : ℕ) → get_or xs k 0 ≤ most) → v ≤ most → (k : ℕ) → get_or (set xs i v) k 0 ≤ most
-set_below most xs i v before now k =
-    elim (eqb_tells k i) [
-      | inl w ↦ subst (λ (j : ℕ). get_or (set xs i v) j 0 ≤ most) (sym w.1) (at_place (cases_lt i (length xs)))
-      | inr w ↦ subst (λ (x : ℕ). x ≤ most) (sym (get_or-set_other xs i k v 0 w.1)) (before k)
+set_below : (most : ℕ) (xs : List ℕ) (index v : ℕ) → ((other_index : ℕ) → get_or xs other_index 0 ≤ most) → v ≤ most → (other_index : ℕ) → get_or (set xs index v) other_index 0 ≤ most
+set_below most xs index v before now other_index =
+    elim (eqb_tells other_index index) [
+      | inl w ↦ subst (λ (j : ℕ). get_or (set xs index v) j 0 ≤ most) (sym w.1) (at_place (cases_lt index (length xs)))
+      | inr w ↦ subst (λ (x : ℕ). x ≤ most) (sym (get_or-set_other xs index other_index v 0 w.1)) (before other_index)
     ]
   where
-    at_place : (i < length xs) ⊎ (length xs ≤ i) → get_or (set xs i v) i 0 ≤ most
-    at_place (inl within) = subst (λ (x : ℕ). x ≤ most) (sym (get_or-set_same xs i v 0 within)) now
-    at_place (inr past) = subst (λ (x : ℕ). x ≤ most) (sym (get_or_past (set xs i v) i 0 (omega (arith, length-set xs i v)))) (omega arith)
+    at_place : (index < length xs) ⊎ (length xs ≤ index) → get_or (set xs index v) index 0 ≤ most
+    at_place (inl within) = subst (λ (x : ℕ). x ≤ most) (sym (get_or-set_same xs index v 0 within)) now
+    at_place (inr past) = subst (λ (x : ℕ). x ≤ most) (sym (get_or_past (set xs index v) index 0 (omega (arith, length-set xs index v)))) (omega arith)
 
-number_below : (most : ℕ) (g : Graph) (t r i v : ℕ) → IsBelow most g → v ≤ most → IsBelow most (with_number g t r i v)
-number_below most g t r i v below now =
-    named_below most g (g.root t r) _ below (set_below most (named g (g.root t r)).nums i v (null_below most g (g.root t r) below) now)
+number_below : (most : ℕ) (graph : Graph) (thread r i v : ℕ) → IsBelow most graph → v ≤ most → IsBelow most (with_number graph thread r i v)
+number_below most graph thread r i v below now =
+    named_below most graph (graph.root thread r) _ below (set_below most (named graph (graph.root thread r)).nums i v (null_below most graph (graph.root thread r) below) now)
 
-zeros_below : (most nums i : ℕ) → get_or (replicate nums 0) i 0 ≤ most
-zeros_below most nums i =
-    elim (cases_lt i nums) [
-      | inl within ↦ subst (λ (k : ℕ). k ≤ most) (sym (get_or-replicate nums i 0 0 within)) (omega arith)
-      | inr past ↦ subst (λ (k : ℕ). k ≤ most) (sym (get_or_past (replicate nums 0) i 0 (omega (arith, length-replicate {A = ℕ} nums 0)))) (omega arith)
+zeros_below : (most nums index : ℕ) → get_or (replicate nums 0) index 0 ≤ most
+zeros_below most nums index =
+    elim (cases_lt index nums) [
+      | inl within ↦ subst (λ (k : ℕ). k ≤ most) (sym (get_or-replicate nums index 0 0 within)) (omega arith)
+      | inr past ↦ subst (λ (k : ℕ). k ≤ most) (sym (get_or_past (replicate nums 0) index 0 (omega (arith, length-replicate {A = ℕ} nums 0)))) (omega arith)
     ]
 
-on_below : {A : Type 0} (most : ℕ) (x : Option A) (g : Graph) (f : A → Outcome) → IsBelow most g → ((v : A) → x ≡ Some v → Below most (f v)) → Below most (on x g f)
-on_below most None g f below each = record { told = omega arith; left = below }
-on_below most (Some v) g f below each = each v refl
+on_below : {A : Type 0} (most : ℕ) (found : Option A) (graph : Graph) (f : A → Outcome) → IsBelow most graph → ((v : A) → found ≡ Some v → Below most (f v)) → Below most (on found graph f)
+on_below most None graph f below each = record { told = omega arith; left = below }
+on_below most (Some v) graph f below each = each v refl
 
-shown_below : (most : ℕ) (r : Reference) → number_summed (shown r) ≤ most
+shown_below : (most : ℕ) (reference : Reference) → number_summed (shown reference) ≤ most
 shown_below most None = omega arith
 shown_below most (Some n) = omega arith
 
-either_below : (most : ℕ) (b : Bool) → number_summed (yes_or_no b) ≤ most
+either_below : (most : ℕ) (holds : Bool) → number_summed (yes_or_no holds) ≤ most
 either_below most true = omega arith
 either_below most false = omega arith
 
-outcome_below : (most : ℕ) (g : Graph) (t : ℕ) (c : Command) → IsBelow most g → WritesBelow most c → Below most (outcome g t c)
-outcome_below most g t (New dst refs nums) below w =
-    record { told = omega arith; left = object_below most g (fresh g t) (blank refs nums) below (zeros_below most nums) }
-outcome_below most g t (Get dst src field) below w =
-    on_below most (field_at g t src field) g (λ v. answers (shown v) (with_root g t dst v)) below (λ v _. record { told = shown_below most v; left = below })
-outcome_below most g t (Set obj field val) below w =
-    on_below most (field_at g t obj field) g (λ _. answers reply.Ok (with_field g t obj field (g.root t val))) below
-    (λ v _. record { told = omega arith; left = field_below most g t obj field (g.root t val) below })
-outcome_below most g t (Cas obj field expect val) below w =
-    on_below most (field_at g t obj field) g (λ v. if same_reference v (g.root t expect) then answers reply.Yes (with_field g t obj field (g.root t val)) else answers reply.No g) below
-    (λ v _. elim (same_reference v (g.root t expect)) as (λ b. Below most (if b then answers reply.Yes (with_field g t obj field (g.root t val)) else answers reply.No g))
-    [ true ↦ record { told = omega arith; left = field_below most g t obj field (g.root t val) below } | false ↦ record { told = omega arith; left = below } ])
-outcome_below most g t (Xchg dst obj field val) below w =
-    on_below most (field_at g t obj field) g (λ v. answers (shown v) (with_root (with_field g t obj field (g.root t val)) t dst v)) below
-    (λ v _. record { told = shown_below most v; left = field_below most g t obj field (g.root t val) below })
-outcome_below most g t (Rd obj index) below w =
-    on_below most (number_at g t obj index) g (λ n. answers (reply.Number n) g) below
-    (λ v is. record { told = subst (λ (k : ℕ). k ≤ most) (get_or_from_slice_get (named g (g.root t obj)).nums index v 0 is) (null_below most g (g.root t obj) below index); left = below })
-outcome_below most g t (Wr obj index value) below w =
-    on_below most (number_at g t obj index) g (λ _. answers reply.Ok (with_number g t obj index value)) below
-    (λ v _. record { told = omega arith; left = number_below most g t obj index value below w })
-outcome_below most g t (Copy dst src) below w = record { told = omega arith; left = below }
-outcome_below most g t (Drop dst) below w = record { told = omega arith; left = below }
-outcome_below most g t (Same a b) below w = record { told = either_below most (same_reference (g.root t a) (g.root t b)); left = below }
-outcome_below most g t Gc below w = record { told = omega arith; left = below }
-outcome_below most g t (Pin slot obj) below w = record { told = omega arith; left = below }
-outcome_below most g t (Unpin slot) below w =
-    on_below most (g.pin t slot) g (λ _. answers reply.Ok (with_pin g t slot None)) below (λ v _. record { told = omega arith; left = below })
+outcome_below : (most : ℕ) (graph : Graph) (thread : ℕ) (command : Command) → IsBelow most graph → WritesBelow most command → Below most (outcome graph thread command)
+outcome_below most graph thread (New dst refs nums) below w =
+    record { told = omega arith; left = object_below most graph (fresh graph thread) (blank refs nums) below (zeros_below most nums) }
+outcome_below most graph thread (Get dst src field) below w =
+    on_below most (field_at graph thread src field) graph (λ v. answers (shown v) (with_root graph thread dst v)) below (λ v _. record { told = shown_below most v; left = below })
+outcome_below most graph thread (Set obj field val) below w =
+    on_below most (field_at graph thread obj field) graph (λ _. answers reply.Ok (with_field graph thread obj field (graph.root thread val))) below
+    (λ v _. record { told = omega arith; left = field_below most graph thread obj field (graph.root thread val) below })
+outcome_below most graph thread (Cas obj field expect val) below w =
+    on_below most (field_at graph thread obj field) graph (λ v. if same_reference v (graph.root thread expect) then answers reply.Yes (with_field graph thread obj field (graph.root thread val)) else answers reply.No graph) below
+    (λ v _. elim (same_reference v (graph.root thread expect)) as (λ b. Below most (if b then answers reply.Yes (with_field graph thread obj field (graph.root thread val)) else answers reply.No graph))
+    [ true ↦ record { told = omega arith; left = field_below most graph thread obj field (graph.root thread val) below } | false ↦ record { told = omega arith; left = below } ])
+outcome_below most graph thread (Xchg dst obj field val) below w =
+    on_below most (field_at graph thread obj field) graph (λ v. answers (shown v) (with_root (with_field graph thread obj field (graph.root thread val)) thread dst v)) below
+    (λ v _. record { told = shown_below most v; left = field_below most graph thread obj field (graph.root thread val) below })
+outcome_below most graph thread (Rd obj index) below w =
+    on_below most (number_at graph thread obj index) graph (λ n. answers (reply.Number n) graph) below
+    (λ v is. record { told = subst (λ (k : ℕ). k ≤ most) (get_or_from_slice_get (named graph (graph.root thread obj)).nums index v 0 is) (null_below most graph (graph.root thread obj) below index); left = below })
+outcome_below most graph thread (Wr obj index value) below w =
+    on_below most (number_at graph thread obj index) graph (λ _. answers reply.Ok (with_number graph thread obj index value)) below
+    (λ v _. record { told = omega arith; left = number_below most graph thread obj index value below w })
+outcome_below most graph thread (Copy dst src) below w = record { told = omega arith; left = below }
+outcome_below most graph thread (Drop dst) below w = record { told = omega arith; left = below }
+outcome_below most graph thread (Same a b) below w = record { told = either_below most (same_reference (graph.root thread a) (graph.root thread b)); left = below }
+outcome_below most graph thread Gc below w = record { told = omega arith; left = below }
+outcome_below most graph thread (Pin slot obj) below w = record { told = omega arith; left = below }
+outcome_below most graph thread (Unpin slot) below w =
+    on_below most (graph.pin thread slot) graph (λ _. answers reply.Ok (with_pin graph thread slot None)) below (λ v _. record { told = omega arith; left = below })
 
 -- an entry
 
-legal_below : (most : ℕ) (g h : Graph) (t : ℕ) (c : Command) (r : Reply) → IsBelow most g → WritesBelow most c → IsLegal 16 256 g t c r h → Below most (answers r h)
-legal_below most g h t c r below writes legal =
+legal_below : (most : ℕ) (graph other_graph : Graph) (t : ℕ) (command : Command) (r : Reply) → IsBelow most graph → WritesBelow most command → IsLegal 16 256 graph t command r other_graph → Below most (answers r other_graph)
+legal_below most graph other_graph t command r below writes legal =
     elim legal [
-      | inl done ↦ subst (Below most) (sym done.1) (outcome_below most g t c below writes)
+      | inl done ↦ subst (Below most) (sym done.1) (outcome_below most graph t command below writes)
       | inr later ↦ elim later [
         | inl full ↦ record {
           told = subst (λ (x : Reply). number_summed x ≤ most) (sym full.1) (omega arith);
@@ -135,11 +135,11 @@ legal_below most g h t c r below writes legal =
       ]
     ]
 
-told_below : (most : ℕ) (g : Graph) (es : List Entry) → IsBelow most g → AllByRecursion (λ e. WritesBelow most e.command) es → EachIsLegal 16 256 g es → AllByRecursion (λ r. number_summed r ≤ most) (replies_of es)
-told_below most g [] below writes legal = tt
-told_below most g (e ∷ es) below writes legal =
-    let b = legal_below most g (after_entry g e) e.thread e.command e.reply below writes.0 legal.0 in
-    (b.told, told_below most (after_entry g e) es b.left writes.1 legal.1)
+told_below : (most : ℕ) (graph : Graph) (es : List Entry) → IsBelow most graph → AllByRecursion (λ e. WritesBelow most e.command) es → EachIsLegal 16 256 graph es → AllByRecursion (λ r. number_summed r ≤ most) (replies_of es)
+told_below most graph [] below writes legal = tt
+told_below most graph (e ∷ es) below writes legal =
+    let b = legal_below most graph (after_entry graph e) e.thread e.command e.reply below writes.0 legal.0 in
+    (b.told, told_below most (after_entry graph e) es b.left writes.1 legal.1)
 
 pub sum_below : (most : ℕ) (rs : List Reply) → AllByRecursion (λ r. number_summed r ≤ most) rs → sum_by number_summed rs ≤ length rs * most
 sum_below most [] h = omega arith
@@ -152,15 +152,15 @@ sum_below most (r ∷ rs) h =
 
 -- what holds of all commands of all scripts holds of the command of each entry
 
-pub each_command : (P : Command → Type 0) (es : List Entry) → ((t : ℕ) → AllByRecursion P (commands_of (of_thread es t))) → AllByRecursion (λ e. P e.command) es
+pub each_command : (P : Command → Type 0) (es : List Entry) → ((thread : ℕ) → AllByRecursion P (commands_of (of_thread es thread))) → AllByRecursion (λ e. P e.command) es
 each_command P [] h = tt
 each_command P (e ∷ es) h =
     let here : AllByRecursion P (e.command ∷ commands_of (of_thread es e.thread)) =
-    subst (λ (l : List Entry). AllByRecursion P (commands_of l)) (of_thread-here e es) (h e.thread) in (
+    subst (λ (entries : List Entry). AllByRecursion P (commands_of entries)) (of_thread-here e es) (h e.thread) in (
       here.0,
-      each_command P es (λ t. elim (eqb_tells t e.thread) as (λ _. AllByRecursion P (commands_of (of_thread es t))) [
+      each_command P es (λ thread. elim (eqb_tells thread e.thread) as (λ _. AllByRecursion P (commands_of (of_thread es thread))) [
         | inl w ↦ subst (λ (u : ℕ). AllByRecursion P (commands_of (of_thread es u))) (sym w.1) here.1
-        | inr w ↦ subst (λ (l : List Entry). AllByRecursion P (commands_of l)) (of_thread-there e es t w.1) (h t)
+        | inr w ↦ subst (λ (entries : List Entry). AllByRecursion P (commands_of entries)) (of_thread-there e es thread w.1) (h thread)
       ]),
     )
 
@@ -183,7 +183,7 @@ commands_below seed count es follows =
 begins_below : (most : ℕ) → IsBelow most (opening 3)
 begins_below most n = at (same_name n hub) refl
   where
-    at : (b : Bool) → same_name n hub ≡ b → AreBelow most (unwrap_or (if same_name n hub then Some (blank 16 0) else None) (record { refs = []; nums = [] }))
+    at : (holds : Bool) → same_name n hub ≡ holds → AreBelow most (unwrap_or (if same_name n hub then Some (blank 16 0) else None) (record { refs = []; nums = [] }))
     at true is i = rw is (subst (λ (k : ℕ). k ≤ most) (sym (get_or_past [] i 0 (omega arith))) (omega arith))
     at false is i = rw is (subst (λ (k : ℕ). k ≤ most) (sym (get_or_past [] i 0 (omega arith))) (omega arith))
 
@@ -199,9 +199,9 @@ rounds_long : (seed a n : ℕ) → length (flat_map (round seed) (range_with_len
 rounds_long seed a zero = refl
 rounds_long seed a (suc n) = omega (arith, length-append (round seed a) (flat_map (round seed) (range_with_len (a + 1) n)), rounds_long seed (a + 1) n)
 
-part_long : (seed count t : ℕ) (es : List Entry) → IsThread t → Follows (churn_scripts seed count) es → length (of_thread es t) ≡ 2 + 8 * count
-part_long seed count t es is follows =
-    sym (length-map (of_thread es t) (λ e. e.command)) ∙ ap (length {A = Command}) (follows t ∙ script_is seed count t is) ∙ omega (arith, rounds_long seed 0 count)
+part_long : (seed count thread : ℕ) (es : List Entry) → IsThread thread → Follows (churn_scripts seed count) es → length (of_thread es thread) ≡ 2 + 8 * count
+part_long seed count thread es is follows =
+    sym (length-map (of_thread es thread) (λ e. e.command)) ∙ ap (length {A = Command}) (follows thread ∙ script_is seed count thread is) ∙ omega (arith, rounds_long seed 0 count)
 
 pub run_long : (seed count : ℕ) (es : List Entry) → Follows (churn_scripts seed count) es → length (in_turn es) ≡ 6 + 24 * count
 run_long seed count es follows =

@@ -37,25 +37,25 @@ first_two false b c e = absurd (false≢true e)
 from_test : (m n : ℕ) → nat_le m n ≡ true → m ≤ n
 from_test m n e = elim (leb_tells m n) [ inl w ↦ w.1 | inr w ↦ absurd (false≢true (sym w.0 ∙ e)) ]
 
-pub begins_none : (t r : ℕ) → 1 ≤ r → (opening 3).root t r ≡ None
-begins_none t r low =
-    let e : (nat_le 1 t && nat_le t 3 && (r == 0)) ≡ false = third_false (nat_le 1 t) (nat_le t 3) (r == 0) (ne_eqb r 0 (λ (none : r ≡ 0). omega (arith, low))) in
+pub begins_none : (thread r : ℕ) → 1 ≤ r → (opening 3).root thread r ≡ None
+begins_none thread r low =
+    let e : (nat_le 1 thread && nat_le thread 3 && (r == 0)) ≡ false = third_false (nat_le 1 thread) (nat_le thread 3) (r == 0) (ne_eqb r 0 (λ (none : r ≡ 0). omega (arith, low))) in
     rw e refl
 
-begins_out : (t r : ℕ) → (IsThread t → ⊥) → (opening 3).root t r ≡ None
-begins_out t r out = at (nat_le 1 t && nat_le t 3 && (r == 0)) refl
+begins_out : (thread r : ℕ) → (IsThread thread → ⊥) → (opening 3).root thread r ≡ None
+begins_out thread r out = at (nat_le 1 thread && nat_le thread 3 && (r == 0)) refl
   where
-    at : (b : _) → (nat_le 1 t && nat_le t 3 && (r == 0)) ≡ b → (if b then Some hub else None) ≡ None
+    at : (b : _) → (nat_le 1 thread && nat_le thread 3 && (r == 0)) ≡ b → (if b then Some hub else None) ≡ None
     at true is =
-        let both = first_two (nat_le 1 t) (nat_le t 3) (r == 0) is in
-        absurd (out (from_test 1 t both.0, from_test t 3 both.1))
+        let both = first_two (nat_le 1 thread) (nat_le thread 3) (r == 0) is in
+        absurd (out (from_test 1 thread both.0, from_test thread 3 both.1))
     at false is = refl
 
 begins_bare : (t n : ℕ) → IsThread t → named (opening 3) (Some (own t n)) ≡ record { refs = []; nums = [] }
 begins_bare t n is = rw (not_hub_too t n is) refl
 
 bare_field : (t n f : ℕ) → IsThread t → field_of (opening 3) (own t n) f ≡ None
-bare_field t n f is = ap (λ (o : Object). get_or o.refs f None) (begins_bare t n is) ∙ get_or_past [] f None (omega arith)
+bare_field t n f is = ap (λ (object : Object). get_or object.refs f None) (begins_bare t n is) ∙ get_or_past [] f None (omega arith)
 
 pub tidy_opening : Tidy (opening 3)
 tidy_opening = record {
@@ -71,9 +71,9 @@ tidy_opening = record {
     box_root = subst (IsBox t) (sym (begins_none t 1 (omega arith))) tt;
     leaf_root = λ r above. subst (IsLeaf t) (sym (begins_none t r (omega arith))) tt;
     slots = λ f. subst (IsLeaf t) (sym (bare_field t 1 f is)) tt;
-    slot_count = subst (λ (o : Object). length o.refs ≤ 16) (sym (begins_bare t 1 is)) (omega arith);
+    slot_count = subst (λ (object : Object). length object.refs ≤ 16) (sym (begins_bare t 1 is)) (omega arith);
     leaves = λ n f above. bare_field t n f is;
-    small = λ n. subst (λ (o : Object). size o ≤ 19) (sym (begins_bare t n is)) (omega arith);
+    small = λ n. subst (λ (object : Object). size object ≤ 19) (sym (begins_bare t n is)) (omega arith);
   };
   high_root = λ t r above. begins_none t r (omega arith);
   no_root = begins_out;

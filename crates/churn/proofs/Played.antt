@@ -20,39 +20,39 @@ use Rattle.churn.proofs.OneAfterAnother.{AreOf, all_of, none_of, given_append, g
 
 -- the commands of a thread, each with its outcome
 abbrev pub played : Graph → ℕ → List Command → List Entry
-played g t [] = []
-played g t (c ∷ cs) = record { thread = t; command = c; reply = (outcome g t c).reply } ∷ played (outcome g t c).graph t cs
+played graph t [] = []
+played graph t (c ∷ cs) = record { thread = t; command = c; reply = (outcome graph t c).reply } ∷ played (outcome graph t c).graph t cs
 
 -- none of them is to pin an object
 abbrev PinNone : List Command → Type 0
 PinNone cs = AllByRecursion (λ c. IsPin c → ⊥) cs
 
-played_after : (g : Graph) (t : ℕ) (c : Command) → (IsPin c → ⊥) → after_entry g (record { thread = t; command = c; reply = (outcome g t c).reply }) ≡ (outcome g t c).graph
-played_after g t c never = rw (outcome_given g t c) (leaves_outcome g t c (outcome g t c).reply never)
+played_after : (graph : Graph) (t : ℕ) (command : Command) → (IsPin command → ⊥) → after_entry graph (record { thread = t; command = command; reply = (outcome graph t command).reply }) ≡ (outcome graph t command).graph
+played_after graph t command never = rw (outcome_given graph t command) (leaves_outcome graph t command (outcome graph t command).reply never)
 
-played_legal : (g : Graph) (t : ℕ) (cs : List Command) → PinNone cs → EachIsLegal 16 256 g (played g t cs)
-played_legal g t [] none = tt
-played_legal g t (c ∷ cs) none =
-    let left = played_after g t c none.0 in (
-      subst (λ (h : Graph). IsLegal 16 256 g t c (outcome g t c).reply h) (sym left) (inl (pins_none g t c none.0, refl)),
-      subst (λ (h : Graph). EachIsLegal 16 256 h (played (outcome g t c).graph t cs)) (sym left) (played_legal (outcome g t c).graph t cs none.1),
+played_legal : (graph : Graph) (t : ℕ) (cs : List Command) → PinNone cs → EachIsLegal 16 256 graph (played graph t cs)
+played_legal graph t [] none = tt
+played_legal graph t (c ∷ cs) none =
+    let left = played_after graph t c none.0 in (
+      subst (λ (h : Graph). IsLegal 16 256 graph t c (outcome graph t c).reply h) (sym left) (inl (pins_none graph t c none.0, refl)),
+      subst (λ (h : Graph). EachIsLegal 16 256 h (played (outcome graph t c).graph t cs)) (sym left) (played_legal (outcome graph t c).graph t cs none.1),
     )
 
-played_given : (g : Graph) (t : ℕ) (cs : List Command) → PinNone cs → AllByRecursion IsGiven (played g t cs)
-played_given g t [] none = tt
-played_given g t (c ∷ cs) none =
-    ((λ full. let e : true ≡ false = ap is_full (sym full) ∙ outcome_given g t c in cc, none.0), played_given (outcome g t c).graph t cs none.1)
+played_given : (graph : Graph) (t : ℕ) (cs : List Command) → PinNone cs → AllByRecursion IsGiven (played graph t cs)
+played_given graph t [] none = tt
+played_given graph t (c ∷ cs) none =
+    ((λ full. let e : true ≡ false = ap is_full (sym full) ∙ outcome_given graph t c in cc, none.0), played_given (outcome graph t c).graph t cs none.1)
 
 script_pins_none : (seed count t : ℕ) → PinNone (churn_script seed count t)
 script_pins_none seed count t = (λ is. is, all_pin_none t (Set shared_hub t own_box ∷ flat_map (round seed) (range_with_len 0 count)) (script_later seed count t))
 
-played_of : (g : Graph) (t : ℕ) (cs : List Command) → AreOf t (played g t cs)
-played_of g t [] = tt
-played_of g t (c ∷ cs) = (refl, played_of (outcome g t c).graph t cs)
+played_of : (graph : Graph) (t : ℕ) (cs : List Command) → AreOf t (played graph t cs)
+played_of graph t [] = tt
+played_of graph t (c ∷ cs) = (refl, played_of (outcome graph t c).graph t cs)
 
-played_commands : (g : Graph) (t : ℕ) (cs : List Command) → commands_of (played g t cs) ≡ cs
-played_commands g t [] = refl
-played_commands g t (c ∷ cs) = ap (λ l. c ∷ l) (played_commands (outcome g t c).graph t cs)
+played_commands : (graph : Graph) (t : ℕ) (cs : List Command) → commands_of (played graph t cs) ≡ cs
+played_commands graph t [] = refl
+played_commands graph t (c ∷ cs) = ap (λ l. c ∷ l) (played_commands (outcome graph t c).graph t cs)
 
 -- three threads, one after the other
 abbrev pub first_part : ℕ → ℕ → List Entry
@@ -75,9 +75,9 @@ whole seed count = first_part seed count ++ (second_part seed count ++ third_par
 
 -- which of three parts a thread has
 
-pick : (a b c : List Entry) (t : ℕ) → AreOf 1 a → AreOf 2 b → AreOf 3 c → of_thread (a ++ (b ++ c)) t ≡ of_thread a t ++ (of_thread b t ++ of_thread c t)
-pick a b c t one two three =
-    filter-append (λ (e : Entry). e.thread == t) a (b ++ c) ∙ ap (λ l. of_thread a t ++ l) (filter-append (λ (e : Entry). e.thread == t) b c)
+pick : (a b c : List Entry) (thread : ℕ) → AreOf 1 a → AreOf 2 b → AreOf 3 c → of_thread (a ++ (b ++ c)) thread ≡ of_thread a thread ++ (of_thread b thread ++ of_thread c thread)
+pick a b c thread one two three =
+    filter-append (λ (entry : Entry). entry.thread == thread) a (b ++ c) ∙ ap (λ l. of_thread a thread ++ l) (filter-append (λ (entry : Entry). entry.thread == thread) b c)
 
 picked_first : (a b c : List Entry) → AreOf 1 a → AreOf 2 b → AreOf 3 c → of_thread (a ++ (b ++ c)) 1 ≡ a
 picked_first a b c one two three =

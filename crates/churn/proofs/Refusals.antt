@@ -25,9 +25,9 @@ use Rattle.churn.proofs.Bounds.{few_live}
 
 -- a command asks for a few words
 abbrev pub AsksFew : Command → Type 0
-AsksFew c = words_asked (Some c) ≤ 19
+AsksFew command = words_asked (Some command) ≤ 19
 
-later_few : (t : ℕ) (c : Command) → IsLater t c → AsksFew c
+later_few : (t : ℕ) (command : Command) → IsLater t command → AsksFew command
 later_few t _ (makes refs nums few) = omega arith
 later_few t _ (writes value) = omega arith
 later_few t _ links = omega arith
@@ -42,78 +42,78 @@ all_few : (t : ℕ) (cs : List Command) → AllByRecursion (IsLater t) cs → Al
 all_few t [] h = tt
 all_few t (c ∷ cs) h = (later_few t c h.0, all_few t cs h.1)
 
-ahead_few : (g : Graph) (t : ℕ) (c : Command) (cs : List Command) → Ahead g t (c ∷ cs) → AsksFew c
-ahead_few g t c cs ahead =
+ahead_few : (graph : Graph) (t : ℕ) (command : Command) (cs : List Command) → Ahead graph t (command ∷ cs) → AsksFew command
+ahead_few graph t command cs ahead =
     elim ahead [
-      | inl first ↦ let is : New 1 16 0 ≡ c = cc (first.1.1) in subst AsksFew is (omega arith)
-      | inr later ↦ later_few t c later.1.0
+      | inl first ↦ let is : New 1 16 0 ≡ command = cc (first.1.1) in subst AsksFew is (omega arith)
+      | inr later ↦ later_few t command later.1.0
     ]
 
 script_few : (seed count t : ℕ) → AllByRecursion AsksFew (churn_script seed count t)
 script_few seed count t = (omega arith, all_few t (Set shared_hub t own_box ∷ flat_map (round seed) (range_with_len 0 count)) (script_later seed count t))
 
-scripts_few : (seed count j : ℕ) → AllByRecursion AsksFew (get_or (churn_scripts seed count) j [])
+scripts_few : (seed count index : ℕ) → AllByRecursion AsksFew (get_or (churn_scripts seed count) index [])
 scripts_few seed count zero = script_few seed count 1
 scripts_few seed count (suc zero) = script_few seed count 2
 scripts_few seed count (suc (suc zero)) = script_few seed count 3
-scripts_few seed count (suc (suc (suc j))) = subst (AllByRecursion AsksFew) (sym (get_or_past (churn_scripts seed count) (suc (suc (suc j))) [] (omega arith))) tt
+scripts_few seed count (suc (suc (suc index))) = subst (AllByRecursion AsksFew) (sym (get_or_past (churn_scripts seed count) (suc (suc (suc index))) [] (omega arith))) tt
 
-few_at : (cs : List Command) (k : ℕ) (d : Command) → AllByRecursion AsksFew cs → k < length cs → AsksFew (get_or cs k d)
-few_at [] k d h within = absurd (omega arith)
-few_at (c ∷ cs) zero d h within = h.0
-few_at (c ∷ cs) (suc k) d h within = few_at cs k d h.1 (omega arith)
+few_at : (cs : List Command) (index : ℕ) (command : Command) → AllByRecursion AsksFew cs → index < length cs → AsksFew (get_or cs index command)
+few_at [] index command h within = absurd (omega arith)
+few_at (c ∷ cs) zero command h within = h.0
+few_at (c ∷ cs) (suc index) command h within = few_at cs index command h.1 (omega arith)
 
-asked_at : (cs : List Command) (k : ℕ) → AllByRecursion AsksFew cs → words_asked (slice_get cs k) ≤ 19
-asked_at cs k h =
-    elim (cases_lt k (length cs)) [
-      | inl within ↦ subst (λ (c : Option Command). words_asked c ≤ 19) (sym (slice_get-get_or cs k (New own_box 16 0) within)) (few_at cs k (New own_box 16 0) h within)
-      | inr past ↦ subst (λ (c : Option Command). words_asked c ≤ 19) (sym (slice_get_past cs k past)) (omega arith)
+asked_at : (cs : List Command) (index : ℕ) → AllByRecursion AsksFew cs → words_asked (slice_get cs index) ≤ 19
+asked_at cs index h =
+    elim (cases_lt index (length cs)) [
+      | inl within ↦ subst (λ (found : Option Command). words_asked found ≤ 19) (sym (slice_get-get_or cs index (New own_box 16 0) within)) (few_at cs index (New own_box 16 0) h within)
+      | inr past ↦ subst (λ (found : Option Command). words_asked found ≤ 19) (sym (slice_get_past cs index past)) (omega arith)
     ]
 
 -- what the other threads ask for
 few_open : (seed count : ℕ) (before : List Entry) (thread : ℕ) → words_open (churn_scripts seed count) before thread ≤ 57
 few_open seed count before thread =
-    let f : ℕ → ℕ = λ t. if t == thread then 0 else words_asked (next_command (churn_scripts seed count) before t) in
-    let each : All (λ t. f t ≤ 19) (range_with_len 1 3) = All-cons (λ t. f t ≤ 19) 1 (range_with_len 2 2) (one 1) (All-cons (λ t. f t ≤ 19) 2 (range_with_len 3 1) (one 2) (All-cons (λ t. f t ≤ 19) 3 [] (one 3) (All-nil (λ t. f t ≤ 19)))) in
+    let f : ℕ → ℕ = λ other_thread. if other_thread == thread then 0 else words_asked (next_command (churn_scripts seed count) before other_thread) in
+    let each : All (λ other_thread. f other_thread ≤ 19) (range_with_len 1 3) = All-cons (λ other_thread. f other_thread ≤ 19) 1 (range_with_len 2 2) (one 1) (All-cons (λ other_thread. f other_thread ≤ 19) 2 (range_with_len 3 1) (one 2) (All-cons (λ other_thread. f other_thread ≤ 19) 3 [] (one 3) (All-nil (λ other_thread. f other_thread ≤ 19)))) in
     let total = sum_by-le f 19 (range_with_len 1 3) each in
     total
   where
-    one : (t : ℕ) → (if t == thread then 0 else words_asked (next_command (churn_scripts seed count) before t)) ≤ 19
-    one t =
-        elim (t == thread) as (λ b. (if b then 0 else words_asked (next_command (churn_scripts seed count) before t)) ≤ 19) [
+    one : (other_thread : ℕ) → (if other_thread == thread then 0 else words_asked (next_command (churn_scripts seed count) before other_thread)) ≤ 19
+    one other_thread =
+        elim (other_thread == thread) as (λ b. (if b then 0 else words_asked (next_command (churn_scripts seed count) before other_thread)) ≤ 19) [
           | true ↦ omega arith
-          | false ↦ asked_at (get_or (churn_scripts seed count) (t - 1) []) (length (of_thread before t)) (scripts_few seed count (t - 1))
+          | false ↦ asked_at (get_or (churn_scripts seed count) (other_thread - 1) []) (length (of_thread before other_thread)) (scripts_few seed count (other_thread - 1))
         ]
 
 -- no region has a pinned object
-none_pinned : (g : Graph) (count : ℕ) → Tidy g → PinnedRegions 256 g count → count ≡ 0
-none_pinned g count tidy ([], are, is) = is
-none_pinned g count tidy (r ∷ regions, are, is) =
+none_pinned : (graph : Graph) (count : ℕ) → Tidy graph → PinnedRegions 256 graph count → count ≡ 0
+none_pinned graph count tidy ([], are, is) = is
+none_pinned graph count tidy (r ∷ regions, are, is) =
     let has = are.only r (0, omega arith, refl) in
     absurd (none-some has.2 (sym (tidy.no_pin has.0 has.1) ∙ has.3))
 
 -- an allocation is not crowded out
-not_crowded : (seed count : ℕ) (before : List Entry) (e : Entry) → Tidy (after (opening 3) before) → AsksFew e.command → IsCrowded 16 256 (opening 3) (churn_scripts seed count) before e → ⊥
-not_crowded seed count before e tidy few crowded =
+not_crowded : (seed count : ℕ) (before : List Entry) (entry : Entry) → Tidy (after (opening 3) before) → AsksFew entry.command → IsCrowded 16 256 (opening 3) (churn_scripts seed count) before entry → ⊥
+not_crowded seed count before entry tidy few crowded =
     let g = after (opening 3) before in
     let live = crowded.0 in
     let held = crowded.1 in
     let pinned = crowded.2 in
     let few_words = few_live g live tidy crowded.3 in
     let none : pinned ≡ 0 = none_pinned g pinned tidy crowded.5 in
-    let all : 16 * (256 - words_asked (Some e.command) + 1) ≤ live - held + words_open (churn_scripts seed count) before e.thread =
-    subst (λ (p : ℕ). (16 - p) * (256 - words_asked (Some e.command) + 1) ≤ live - held + words_open (churn_scripts seed count) before e.thread) none crowded.6 in
-    omega (arith, few, few_words, few_open seed count before e.thread, all)
+    let all : 16 * (256 - words_asked (Some entry.command) + 1) ≤ live - held + words_open (churn_scripts seed count) before entry.thread =
+    subst (λ (p : ℕ). (16 - p) * (256 - words_asked (Some entry.command) + 1) ≤ live - held + words_open (churn_scripts seed count) before entry.thread) none crowded.6 in
+    omega (arith, few, few_words, few_open seed count before entry.thread, all)
 
 -- two histories one after the other
 
-pub after-append : (g : Graph) (past more : List Entry) → after g (past ++ more) ≡ after (after g past) more
-after-append g [] more = refl
-after-append g (e ∷ past) more = after-append (after_entry g e) past more
+pub after-append : (graph : Graph) (past more : List Entry) → after graph (past ++ more) ≡ after (after graph past) more
+after-append graph [] more = refl
+after-append graph (e ∷ past) more = after-append (after_entry graph e) past more
 
-pub legal-append : (g : Graph) (past more : List Entry) → EachIsLegal 16 256 g past → EachIsLegal 16 256 (after g past) more → EachIsLegal 16 256 g (past ++ more)
-legal-append g [] more legal rest = rest
-legal-append g (e ∷ past) more legal rest = (legal.0, legal-append (after_entry g e) past more legal.1 rest)
+pub legal-append : (graph : Graph) (past more : List Entry) → EachIsLegal 16 256 graph past → EachIsLegal 16 256 (after graph past) more → EachIsLegal 16 256 graph (past ++ more)
+legal-append graph [] more legal rest = rest
+legal-append graph (e ∷ past) more legal rest = (legal.0, legal-append (after_entry graph e) past more legal.1 rest)
 
 full_is : (r : Reply) → is_full r ≡ true → r ≡ reply.Full
 full_is reply.Full is = refl
@@ -129,9 +129,9 @@ full_is (reply.At place) is = cc
 not_full_is : (r : Reply) → is_full r ≡ false → r ≢ reply.Full
 not_full_is r is full = let e : true ≡ false = ap is_full (sym full) ∙ is in cc
 
-seam : (before es : List Entry) (e : Entry) → slice_get (before ++ e ∷ es) (length before) ≡ Some e
-seam [] es e = refl
-seam (x ∷ before) es e = seam before es e
+seam : (before es : List Entry) (entry : Entry) → slice_get (before ++ entry ∷ es) (length before) ≡ Some entry
+seam [] es entry = refl
+seam (x ∷ before) es entry = seam before es entry
 
 -- What a history says of its refusals, from one of its places on.
 abbrev pub NoneFrom : ℕ → ℕ → List Entry → Type 0
@@ -142,12 +142,12 @@ pub none_from : (seed count : ℕ) (es : List Entry) → NoneFrom seed count es
 none_from seed count [] before crowded tidy going legal = tt
 none_from seed count (e ∷ es) before crowded tidy going legal = by_reply (is_full e.reply) refl (none_from seed count es)
   where
-    by_reply : (b : Bool) → is_full e.reply ≡ b → NoneFrom seed count es → AllByRecursion IsGiven (e ∷ es)
+    by_reply : (holds : Bool) → is_full e.reply ≡ holds → NoneFrom seed count es → AllByRecursion IsGiven (e ∷ es)
     by_reply true is rest =
         let g = after (opening 3) before in
         let c = crowded (length before) e (seam before es e) (full_is e.reply is) in
         let here : IsCrowded 16 256 (opening 3) (churn_scripts seed count) before e =
-        subst (λ (l : List Entry). IsCrowded 16 256 (opening 3) (churn_scripts seed count) l e) (take-append_seam before (e ∷ es)) c in
+        subst (λ (entries : List Entry). IsCrowded 16 256 (opening 3) (churn_scripts seed count) entries e) (take-append_seam before (e ∷ es)) c in
         absurd (not_crowded seed count before e tidy (ahead_few g e.thread e.command (commands_of (of_thread es e.thread)) (going-here g e es going)) here)
     by_reply false is rest =
         let g = after (opening 3) before in
@@ -157,5 +157,5 @@ none_from seed count (e ∷ es) before crowded tidy going legal = by_reply (is_f
         let now : after (opening 3) (before ++ e ∷ []) ≡ after_entry g e = after-append (opening 3) before (e ∷ []) in (
           given,
           rest (before ++ e ∷ []) (subst (AreCrowded 16 256 (opening 3) (churn_scripts seed count)) (sym (append_assoc before (e ∷ []) es)) crowded)
-              (subst Tidy (sym now) w.moved.tidy) (subst (λ (k : Graph). Going k es) (sym now) w.going) (subst (λ (k : Graph). EachIsLegal 16 256 k es) (sym now) legal.1),
+              (subst Tidy (sym now) w.moved.tidy) (subst (λ (graph : Graph). Going graph es) (sym now) w.going) (subst (λ (graph : Graph). EachIsLegal 16 256 graph es) (sym now) legal.1),
         )

@@ -35,21 +35,21 @@ sums_up seed count work rows es run tells =
     let turns = runs_are_in_turn seed count es run in
     let same = turns.1.graph in
     let k = after (opening 3) (in_turn es) in
-    let rows_are : rows ≡ map (row_in k) tells.names = tells.objects ∙ ap (λ (g : Graph). map (row_in g) tells.names) same in
+    let rows_are : rows ≡ map (row_in k) tells.names = tells.objects ∙ ap (λ (graph : Graph). map (row_in graph) tells.names) same in
     record {
       entries = in_turn es;
       run = turns.0;
       summary = record {
         names = tells.names;
-        reach = subst (λ (g : Graph). IsReach g tells.names) same tells.reach;
+        reach = subst (λ (graph : Graph). IsReach graph tells.names) same tells.reach;
         is = ap (λ rs. summary_of seed count rs rows) (replies_in_turn es work rows tells) ∙ ap (summary_of seed count (history.replies_of (in_turn es))) rows_are;
       };
     }
 
-words_of_rows : (g : Graph) (names : List Name) → sum_by row_words (map (row_in g) names) ≡ sum_by (λ n. size (named g (Some n))) names
-words_of_rows g [] = refl
-words_of_rows g (n ∷ names) =
-    sum_by-cons row_words (row_in g n) (map (row_in g) names) ∙ ap (λ k. row_words (row_in g n) + k) (words_of_rows g names) ∙ sym (sum_by-cons (λ (m : Name). size (named g (Some m))) n names)
+words_of_rows : (graph : Graph) (names : List Name) → sum_by row_words (map (row_in graph) names) ≡ sum_by (λ n. size (named graph (Some n))) names
+words_of_rows graph [] = refl
+words_of_rows graph (n ∷ names) =
+    sum_by-cons row_words (row_in graph n) (map (row_in graph) names) ∙ ap (λ k. row_words (row_in graph n) + k) (words_of_rows graph names) ∙ sym (sum_by-cons (λ (name : Name). size (named graph (Some name))) n names)
 
 pub runs_can_be_summed_up : RunsCanBeSummedUp
 runs_can_be_summed_up seed count es work rows run tells =

@@ -29,9 +29,9 @@ pub record IsRunInTurn (seed count : ℕ) (entries : List Entry) : Type 0 where
   pub no_full : IsWithoutFull entries
 
 -- Two histories give each thread the same replies, and leave the same graph.
-pub record TellTheSame (a b : List Entry) : Type 0 where
-  pub threads : (thread : ℕ) → of_thread a thread ≡ of_thread b thread
-  pub graph : after (opening 3) a ≡ after (opening 3) b
+pub record TellTheSame (entries other_entries : List Entry) : Type 0 where
+  pub threads : (thread : ℕ) → of_thread entries thread ≡ of_thread other_entries thread
+  pub graph : after (opening 3) entries ≡ after (opening 3) other_entries
 
 -- What is in memory after a run: the replies of each thread, and a row for each object that can be reached.
 pub record TellsRun (entries : List Entry) (work : List (Option Progress)) (rows : List Row) : Type 0 where
@@ -48,7 +48,7 @@ pub record SumsUpTurns (seed count : ℕ) (s : Summary) : Type 0 where
 
 -- It is, if these replies and rows are what some run tells.
 abbrev pub SumsUpRuns : (seed count : ℕ) → List (Option Progress) → List Row → Summary → Type 0
-SumsUpRuns seed count work rows s = (entries : List Entry) → IsWorkloadRun seed count entries → TellsRun entries work rows → SumsUpTurns seed count s
+SumsUpRuns seed count work rows summary = (entries : List Entry) → IsWorkloadRun seed count entries → TellsRun entries work rows → SumsUpTurns seed count summary
 
 -- No allocation of a run is refused.
 abbrev pub NoneIsFull : Type 0
@@ -68,11 +68,11 @@ abbrev pub ThereIsOneInTurn : Type 0
 ThereIsOneInTurn = (seed count : ℕ) → (entries : List Entry) × IsRunInTurn seed count entries
 
 abbrev pub OneInTurn : Type 0
-OneInTurn = (seed count : ℕ) (a b : List Entry) → IsRunInTurn seed count a → IsRunInTurn seed count b → a ≡ b
+OneInTurn = (seed count : ℕ) (entries other_entries : List Entry) → IsRunInTurn seed count entries → IsRunInTurn seed count other_entries → entries ≡ other_entries
 
 -- So a seed and a count have one summary.
 abbrev pub OneSummary : Type 0
-OneSummary = (seed count : ℕ) (a b : Summary) → SumsUpTurns seed count a → SumsUpTurns seed count b → a ≡ b
+OneSummary = (seed count : ℕ) (summary other_summary : Summary) → SumsUpTurns seed count summary → SumsUpTurns seed count other_summary → summary ≡ other_summary
 
 -- What a run tells can be summed up: so many commands, and numbers that are not large.
 pub record CanSumUp (seed count : ℕ) (work : List (Option Progress)) (rows : List Row) : Type 0 where

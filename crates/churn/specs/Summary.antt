@@ -22,7 +22,7 @@ number_summed _ = 0
 
 -- the words of a row's object: header, shape, name, and one for each field and each number
 abbrev pub row_words : Row → ℕ
-row_words r = 3 + length r.refs + length r.nums
+row_words row = 3 + length row.refs + length row.nums
 
 -- the summary of these replies of all threads and these objects
 abbrev pub summary_of : (seed count : ℕ) → List Reply → List Row → Summary
@@ -39,23 +39,23 @@ summary_of seed count replies rows = record {
 
 -- these replies come to those that were counted
 abbrev pub with_replies : Summary → List Reply → Summary
-with_replies s replies = record s {
-  commands = s.commands + length replies;
-  bad = s.bad + count_by is_bad replies;
-  full = s.full + count_by is_full replies;
-  sum = s.sum + sum_by number_summed replies;
+with_replies summary replies = record summary {
+  commands = summary.commands + length replies;
+  bad = summary.bad + count_by is_bad replies;
+  full = summary.full + count_by is_full replies;
+  sum = summary.sum + sum_by number_summed replies;
 }
 
 -- and these objects
 abbrev pub with_rows : Summary → List Row → Summary
-with_rows s rows = record s { objects = s.objects + length rows; words = s.words + sum_by row_words rows }
+with_rows summary rows = record summary { objects = summary.objects + length rows; words = summary.words + sum_by row_words rows }
 
 -- the replies of the three threads, one thread after the other
 abbrev pub all_replies : List (Option Progress) → List Reply
 all_replies work = replies_of work 0 ++ (replies_of work 1 ++ replies_of work 2)
 
 -- The summary of a history of the three threads: of all its replies, and of the objects that can be reached after it.
-pub record IsSummary (seed count : ℕ) (entries : List Entry) (s : Summary) : Type 0 where
+pub record IsSummary (seed count : ℕ) (entries : List Entry) (summary : Summary) : Type 0 where
   pub names : List Name
   pub reach : IsReach (after (opening 3) entries) names
-  pub is : s ≡ summary_of seed count (history.replies_of entries) (map (row_in (after (opening 3) entries)) names)
+  pub is : summary ≡ summary_of seed count (history.replies_of entries) (map (row_in (after (opening 3) entries)) names)

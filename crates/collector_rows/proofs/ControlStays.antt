@@ -29,40 +29,40 @@ use Rattle.collector_rows.specs.ControlRows.{control_seat, control_touch, after_
 use Rattle.collector_rows.specs.ControlReady.{is_ready, UnitGoesOn, AccessesAreInside, StaysReady}
 
 -- of two spots
-of_two : (c : Config) (b : Bool) (x y : ControlSpot) → (b ≡ true → is_ready c x ≡ true) → (b ≡ false → is_ready c y ≡ true) → is_ready c (if b then x else y) ≡ true
-of_two c true x y one other = one refl
-of_two c false x y one other = other refl
+of_two : (config : Config) (holds : Bool) (spot other_spot : ControlSpot) → (holds ≡ true → is_ready config spot ≡ true) → (holds ≡ false → is_ready config other_spot ≡ true) → is_ready config (if holds then spot else other_spot) ≡ true
+of_two config true spot other_spot one other = one refl
+of_two config false spot other_spot one other = other refl
 
 -- an image has words
-some_words : (c : Config) → 0 < image_words c
-some_words c = omega arith
+some_words : (config : Config) → 0 < image_words config
+some_words config = omega arith
 
 -- where the words of the image are loaded one after the other
-loads_ready : (c : Config) (extent : Extent) (index : ℕ) → is_ready c (after_load c extent index) ≡ true
-loads_ready c extent index =
-    of_two c (nat_lt (next_loaded c extent index) (image_words c)) (LoadWord (next_loaded c extent index) extent) (StoreWord 0 extent) (λ more. more) (λ all. lt-ltb _ _ (some_words c))
+loads_ready : (config : Config) (extent : Extent) (index : ℕ) → is_ready config (after_load config extent index) ≡ true
+loads_ready config extent index =
+    of_two config (nat_lt (next_loaded config extent index) (image_words config)) (LoadWord (next_loaded config extent index) extent) (StoreWord 0 extent) (λ more. more) (λ all. lt-ltb _ _ (some_words config))
 
 -- where the seats are checked one after the other
-checks_on : (c : Config) (phase : ℕ) (b : Bool) (x y : StopSpot) → (b ≡ true → is_ready c (stopping c phase x) ≡ true) → (b ≡ false → is_ready c (stopping c phase y) ≡ true) → is_ready c (stopping c phase (if b then x else y)) ≡ true
-checks_on c phase true x y one other = one refl
-checks_on c phase false x y one other = other refl
+checks_on : (config : Config) (phase : ℕ) (holds : Bool) (x y : StopSpot) → (holds ≡ true → is_ready config (stopping config phase x) ≡ true) → (holds ≡ false → is_ready config (stopping config phase y) ≡ true) → is_ready config (stopping config phase (if holds then x else y)) ≡ true
+checks_on config phase true x y one other = one refl
+checks_on config phase false x y one other = other refl
 
 -- where it goes on with its unit
-works_on : (c : Config) (at : UnitSpot) → unit.is_ready c (control_seat c) at ≡ true → is_ready c (after_unit at) ≡ true
-works_on c (Ended Worked) ready = refl
-works_on c (Ended NoneLeft) ready = refl
-works_on c _ ready = and_from _ _ ready refl
+works_on : (config : Config) (at : UnitSpot) → unit.is_ready config (control_seat config) at ≡ true → is_ready config (after_unit at) ≡ true
+works_on config (Ended Worked) ready = refl
+works_on config (Ended NoneLeft) ready = refl
+works_on config _ ready = and_from _ _ ready refl
 
 -- where it begins with a unit
-begins_ready : (c : Config) (phase cset : ℕ) → is_ready c (Working (units.begins phase cset)) ≡ true
-begins_ready c phase cset = by_phase (λ at. is_ready c (Working at) ≡ true) phase cset (λ one. refl) (λ no two. refl) (λ no other. refl)
+begins_ready : (config : Config) (phase cset : ℕ) → is_ready config (Working (units.begins phase cset)) ≡ true
+begins_ready config phase cset = by_phase (λ at. is_ready config (Working at) ≡ true) phase cset (λ one. refl) (λ no two. refl) (λ no other. refl)
 
 -- what is known of a spot is known of it under its own name
-pub ready_at : (c : Config) (spot at : ControlSpot) → spot ≡ at → is_ready c spot ≡ true → is_ready c at ≡ true
-ready_at c spot at is ready = subst (λ s. is_ready c s ≡ true) is ready
+pub ready_at : (config : Config) (spot at : ControlSpot) → spot ≡ at → is_ready config spot ≡ true → is_ready config at ≡ true
+ready_at config spot at is ready = subst (λ s. is_ready config s ≡ true) is ready
 
-pub goes_at : (c : Config) (spot at : ControlSpot) (got : ℕ) → spot ≡ at → UnitGoesOn c spot got → UnitGoesOn c at got
-goes_at c spot at got is goes = subst (λ s. UnitGoesOn c s got) is goes
+pub goes_at : (config : Config) (spot at : ControlSpot) (got : ℕ) → spot ≡ at → UnitGoesOn config spot got → UnitGoesOn config at got
+goes_at config spot at got is goes = subst (λ s. UnitGoesOn config s got) is goes
 
 pub stays_ready : StaysReady
 stays_ready c phase cset seen next LookLeft got ready goes = of_two c (got == 0) StoreEnd LookAsked (λ e. refl) (λ e. refl)
@@ -83,8 +83,8 @@ stays_ready c phase cset seen next Go got ready goes = refl
 stays_ready c phase cset seen next Gone got ready goes = refl
 
 -- an access of a word of the table is inside it
-placed_inside : (c : Config) (t : Touch) → IsWord c t.word → table_index (placed c t) < table_words c
-placed_inside c t is = subst (λ k. k < table_words c) (sym (table_index-access_at (word_at c t.word) t.form)) (word_inside c t.word is)
+placed_inside : (config : Config) (touch : Touch) → IsWord config touch.word → table_index (placed config touch) < table_words config
+placed_inside config touch is = subst (λ k. k < table_words config) (sym (table_index-access_at (word_at config touch.word) touch.form)) (word_inside config touch.word is)
 
 -- the control's are
 pub accesses_inside : AccessesAreInside

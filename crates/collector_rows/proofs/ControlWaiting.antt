@@ -12,16 +12,16 @@ use Rattle.collector_rows.specs.ControlRows.{stopping_says, working_says}
 use Rattle.collector_rows.specs.ControlWaits.{waits_at}
 
 -- it says again where a test fails
-by_test : (b : Bool) (P : Type 0) → (b ≡ false → P) → (P → b ≡ false) → ((if b then More else Again) ≡ Again) ↔ P
+by_test : (holds : Bool) (P : Type 0) → (holds ≡ false → P) → (P → holds ≡ false) → ((if holds then More else Again) ≡ Again) ↔ P
 by_test true P to back = ((λ e. absurd (cc)), (λ p. absurd (let no = back p in cc)))
 by_test false P to back = ((λ e. to refl), (λ p. refl))
 
 pub never : (More ≡ Again) ↔ ⊥
 never = ((λ e. cc), (λ no. absurd no))
 
-pub stopping_waits : (c : Config) (seen : ℕ) (at : StopSpot) (got : ℕ) → (stopping_says at got ≡ Again) ↔ waits_at c seen (Stopping at) got
-stopping_waits c seen (stop.Check seat) got = by_test (got == 0) _ (eqb-false got 0) (ne_eqb _ _)
-stopping_waits c seen at got = never
+pub stopping_waits : (config : Config) (seen : ℕ) (at : StopSpot) (got : ℕ) → (stopping_says at got ≡ Again) ↔ waits_at config seen (Stopping at) got
+stopping_waits config seen (stop.Check seat) got = by_test (got == 0) _ (eqb-false got 0) (ne_eqb _ _)
+stopping_waits config seen at got = never
 
 -- a step of a unit says so where the work on the unit does
 pub working_waits : (said : Took) → (working_says said ≡ Again) ↔ (said ≡ Again)

@@ -15,18 +15,18 @@ use Rattle.collector_rows.specs.declared.extent.Extent.TheVariants.{Whole, OffHe
 use Rattle.collector_rows.specs.Extent.{roots_index, heap_index, is_of_extent, next_loaded, first_extent, says_room, extent_after, extent_by, padded, counts, first_counting, next_stored}
 
 -- Words that were left out read 0.
-zeros_read : (n i : ℕ) → slice_index (replicate n 0) i ≡ 0
-zeros_read n i = ⊎_elim
-    (λ (less : i < n). get_or-replicate n i 0 0 less)
-    (λ (more : n ≤ i). get_or_past (replicate n 0) i 0 (let long = length-replicate {A = ℕ} n 0 in omega (arith, long, more)))
-    (cases_lt i n)
+zeros_read : (n index : ℕ) → slice_index (replicate n 0) index ≡ 0
+zeros_read n index = ⊎_elim
+    (λ (less : index < n). get_or-replicate n index 0 0 less)
+    (λ (more : n ≤ index). get_or_past (replicate n 0) index 0 (let long = length-replicate {A = ℕ} n 0 in omega (arith, long, more)))
+    (cases_lt index n)
 
-pub padded_reads : (n : ℕ) (xs : List ℕ) (i : ℕ) → slice_index (padded n xs) i ≡ slice_index xs i
-padded_reads n xs i = ⊎_elim
-    (λ (less : i < length xs). get_or_append_left xs (replicate (n - length xs) 0) 0 i less)
-    (λ (more : length xs ≤ i).
-    get_or-append_right xs (replicate (n - length xs) 0) (length xs) i 0 refl more ∙ zeros_read (n - length xs) (i - length xs) ∙ sym (get_or_past xs i 0 more))
-    (cases_lt i (length xs))
+pub padded_reads : (n : ℕ) (xs : List ℕ) (index : ℕ) → slice_index (padded n xs) index ≡ slice_index xs index
+padded_reads n xs index = ⊎_elim
+    (λ (less : index < length xs). get_or_append_left xs (replicate (n - length xs) 0) 0 index less)
+    (λ (more : length xs ≤ index).
+    get_or-append_right xs (replicate (n - length xs) 0) (length xs) index 0 refl more ∙ zeros_read (n - length xs) (index - length xs) ∙ sym (get_or_past xs index 0 more))
+    (cases_lt index (length xs))
 
 pub padded_long : (n : ℕ) (xs : List ℕ) → length xs ≤ n → length (padded n xs) ≡ n
 padded_long n xs most =
@@ -35,16 +35,16 @@ padded_long n xs most =
     omega (arith, both, zeros, most)
 
 -- a list with one more at its end: what it reads there, before that, and behind it
-snoc_here : (xs : List ℕ) (x i : ℕ) → length xs ≡ i → slice_index (xs ++ x ∷ []) i ≡ x
-snoc_here xs x i long = ap (λ k. slice_index (xs ++ x ∷ []) k) (sym long) ∙ get_or-append_seam xs x [] 0
+snoc_here : (xs : List ℕ) (x index : ℕ) → length xs ≡ index → slice_index (xs ++ x ∷ []) index ≡ x
+snoc_here xs x index long = ap (λ k. slice_index (xs ++ x ∷ []) k) (sym long) ∙ get_or-append_seam xs x [] 0
 
-snoc_else : (xs : List ℕ) (x i : ℕ) → (i ≡ length xs → ⊥) → slice_index (xs ++ x ∷ []) i ≡ slice_index xs i
-snoc_else xs x i differs = ⊎_elim
-    (λ (less : i < length xs). get_or_append_left xs (x ∷ []) 0 i less)
-    (λ (more : length xs ≤ i).
+snoc_else : (xs : List ℕ) (x index : ℕ) → (index ≡ length xs → ⊥) → slice_index (xs ++ x ∷ []) index ≡ slice_index xs index
+snoc_else xs x index differs = ⊎_elim
+    (λ (less : index < length xs). get_or_append_left xs (x ∷ []) 0 index less)
+    (λ (more : length xs ≤ index).
     let long = length-append xs (x ∷ []) in
-    get_or_past (xs ++ x ∷ []) i 0 (omega (arith, long, more, differs)) ∙ sym (get_or_past xs i 0 more))
-    (cases_lt i (length xs))
+    get_or_past (xs ++ x ∷ []) index 0 (omega (arith, long, more, differs)) ∙ sym (get_or_past xs index 0 more))
+    (cases_lt index (length xs))
 
 -- The words off a stretch.
 module _ (h s : ℕ) where
@@ -70,61 +70,61 @@ module _ (h s : ℕ) where
       (cases_lt i h)
 
 -- The first words of an image are of each extent: those that stand for a cycle.
-pub early : (c : Config) (extent : Extent) (k : ℕ) → k < 7 → is_of_extent c extent k ≡ true
-early c Whole k few = refl
-early c OffHeap k few = off_before (heap_index c) (heap_size c) k (omega (arith, few))
-early c Ahead k few = lt-ltb k (roots_index c) (omega (arith, few))
+pub early : (config : Config) (extent : Extent) (k : ℕ) → k < 7 → is_of_extent config extent k ≡ true
+early config Whole k few = refl
+early config OffHeap k few = off_before (heap_index config) (heap_size config) k (omega (arith, few))
+early config Ahead k few = lt-ltb k (roots_index config) (omega (arith, few))
 
 -- one index is the next of the extent behind another: none between is
-pub record IsNext (c : Config) (extent : Extent) (k next : ℕ) : Type 0 where
+pub record IsNext (config : Config) (extent : Extent) (k next : ℕ) : Type 0 where
   pub above : k < next
-  pub most : next ≤ image_words c
-  pub between : (i : ℕ) → k < i → i < next → is_of_extent c extent i ≡ false
-  pub here : next < image_words c → is_of_extent c extent next ≡ true
+  pub most : next ≤ image_words config
+  pub between : (i : ℕ) → k < i → i < next → is_of_extent config extent i ≡ false
+  pub here : next < image_words config → is_of_extent config extent next ≡ true
 
-pub next_is : (c : Config) (extent : Extent) (k : ℕ) → k < image_words c → IsNext c extent k (next_loaded c extent k)
-next_is c Whole k below = record { above = omega arith; most = omega (arith, below); between = λ i more less. absurd (omega (arith, more, less)); here = λ less. refl }
-next_is c OffHeap k below = by_test (nat_le (heap_index c) (k + 1) && nat_lt (k + 1) (heap_index c + heap_size c)) refl
+pub next_is : (config : Config) (extent : Extent) (k : ℕ) → k < image_words config → IsNext config extent k (next_loaded config extent k)
+next_is config Whole k below = record { above = omega arith; most = omega (arith, below); between = λ i more less. absurd (omega (arith, more, less)); here = λ less. refl }
+next_is config OffHeap k below = by_test (nat_le (heap_index config) (k + 1) && nat_lt (k + 1) (heap_index config + heap_size config)) refl
   where
-    by_test : (b : Bool) → (nat_le (heap_index c) (k + 1) && nat_lt (k + 1) (heap_index c + heap_size c)) ≡ b → IsNext c OffHeap k (if b then heap_index c + heap_size c else k + 1)
+    by_test : (holds : Bool) → (nat_le (heap_index config) (k + 1) && nat_lt (k + 1) (heap_index config + heap_size config)) ≡ holds → IsNext config OffHeap k (if holds then heap_index config + heap_size config else k + 1)
     by_test true at =
-        let both = and_parts (nat_le (heap_index c) (k + 1)) (nat_lt (k + 1) (heap_index c + heap_size c)) at in
-        let from : heap_index c ≤ k + 1 = leb-true (heap_index c) (k + 1) both.0 in
-        let to : k + 1 < heap_index c + heap_size c = ltb-true (k + 1) (heap_index c + heap_size c) both.1 in
+        let both = and_parts (nat_le (heap_index config) (k + 1)) (nat_lt (k + 1) (heap_index config + heap_size config)) at in
+        let from : heap_index config ≤ k + 1 = leb-true (heap_index config) (k + 1) both.0 in
+        let to : k + 1 < heap_index config + heap_size config = ltb-true (k + 1) (heap_index config + heap_size config) both.1 in
         record {
           above = omega (arith, to);
           most = omega arith;
-          between = λ i more less. off_within (heap_index c) (heap_size c) i (omega (arith, from, more)) less;
-          here = λ less. off_behind (heap_index c) (heap_size c) (heap_index c + heap_size c) (omega arith);
+          between = λ i more less. off_within (heap_index config) (heap_size config) i (omega (arith, from, more)) less;
+          here = λ less. off_behind (heap_index config) (heap_size config) (heap_index config + heap_size config) (omega arith);
         }
     by_test false at = record {
       above = omega arith;
       most = omega (arith, below);
       between = λ i more less. absurd (omega (arith, more, less));
-      here = λ less. off_beside (heap_index c) (heap_size c) (k + 1) at;
+      here = λ less. off_beside (heap_index config) (heap_size config) (k + 1) at;
     }
-next_is c Ahead k below = by_test (nat_lt (k + 1) (roots_index c)) refl
+next_is config Ahead k below = by_test (nat_lt (k + 1) (roots_index config)) refl
   where
-    by_test : (b : Bool) → nat_lt (k + 1) (roots_index c) ≡ b → IsNext c Ahead k (if b then k + 1 else image_words c)
+    by_test : (holds : Bool) → nat_lt (k + 1) (roots_index config) ≡ holds → IsNext config Ahead k (if holds then k + 1 else image_words config)
     by_test true at = record { above = omega arith; most = omega (arith, below); between = λ i more less. absurd (omega (arith, more, less)); here = λ less. at }
     by_test false at =
-        let behind : roots_index c ≤ k + 1 = ltb-false (k + 1) (roots_index c) at in
+        let behind : roots_index config ≤ k + 1 = ltb-false (k + 1) (roots_index config) at in
         record {
           above = below;
           most = omega arith;
-          between = λ i more less. le-ltb i (roots_index c) (omega (arith, behind, more));
+          between = λ i more less. le-ltb i (roots_index config) (omega (arith, behind, more));
           here = λ less. absurd (omega (arith, less));
         }
 
 -- one index is the first from another on, among so many, whose word counts; or there is none
-pub record IsFirst (c : Config) (extent : Extent) (image : List ℕ) (left k first : ℕ) : Type 0 where
+pub record IsFirst (config : Config) (extent : Extent) (image : List ℕ) (left k first : ℕ) : Type 0 where
   pub least : k ≤ first
   pub most : first ≤ k + left
-  pub between : (i : ℕ) → k ≤ i → i < first → counts c extent image i ≡ false
-  pub here : first < k + left → counts c extent image first ≡ true
+  pub between : (i : ℕ) → k ≤ i → i < first → counts config extent image i ≡ false
+  pub here : first < k + left → counts config extent image first ≡ true
 
-module _ (c : Config) (extent : Extent) (image : List ℕ) where
-  first_is : (left k : ℕ) → IsFirst c extent image left k (first_counting c extent image left k)
+module _ (config : Config) (extent : Extent) (image : List ℕ) where
+  first_is : (left k : ℕ) → IsFirst config extent image left k (first_counting config extent image left k)
   unfolding first_counting
   first_is zero k = record {
     least = omega arith;
@@ -132,16 +132,16 @@ module _ (c : Config) (extent : Extent) (image : List ℕ) where
     between = λ i from less. absurd (omega (arith, from, less));
     here = λ less. absurd (omega (arith, less));
   }
-  first_is (suc left) k = by_test (counts c extent image k) refl (first_is left (k + 1))
+  first_is (suc left) k = by_test (counts config extent image k) refl (first_is left (k + 1))
     where
-      by_test : (b : Bool) → counts c extent image k ≡ b → IsFirst c extent image left (k + 1) (first_counting c extent image left (k + 1))
-          → IsFirst c extent image (suc left) k (if b then k else first_counting c extent image left (k + 1))
+      by_test : (holds : Bool) → counts config extent image k ≡ holds → IsFirst config extent image left (k + 1) (first_counting config extent image left (k + 1))
+          → IsFirst config extent image (suc left) k (if holds then k else first_counting config extent image left (k + 1))
       by_test true is rest = record { least = omega arith; most = omega arith; between = λ i from less. absurd (omega (arith, from, less)); here = λ less. is }
       by_test false is rest = record {
         least = (let low = rest.least in omega (arith, low));
         most = (let high = rest.most in omega (arith, high));
         between = λ i from less. ⊎_elim
-            (λ (same : i ≡ k). ap (counts c extent image) same ∙ is)
+            (λ (same : i ≡ k). ap (counts config extent image) same ∙ is)
             (λ (other : i ≢ k). rest.between i (omega (arith, from, other)) less)
             (cases_eq i k);
         here = λ less. rest.here (omega (arith, less));
@@ -150,13 +150,13 @@ module _ (c : Config) (extent : Extent) (image : List ℕ) where
   -- the word that is stored next
   pub record IsStoredNext (k next : ℕ) : Type 0 where
     pub above : k < next
-    pub most : next ≤ image_words c
-    pub between : (i : ℕ) → k < i → i < next → counts c extent image i ≡ false
-    pub here : next < image_words c → counts c extent image next ≡ true
+    pub most : next ≤ image_words config
+    pub between : (i : ℕ) → k < i → i < next → counts config extent image i ≡ false
+    pub here : next < image_words config → counts config extent image next ≡ true
 
-  pub stored_next_is : (k : ℕ) → k < image_words c → IsStoredNext k (next_stored c extent image k)
+  pub stored_next_is : (k : ℕ) → k < image_words config → IsStoredNext k (next_stored config extent image k)
   stored_next_is k below =
-      let first = first_is (image_words c - (k + 1)) (k + 1) in
+      let first = first_is (image_words config - (k + 1)) (k + 1) in
       record {
         above = (let low = first.least in omega (arith, low));
         most = (let high = first.most in omega (arith, high, below));
@@ -175,12 +175,12 @@ module _ (c : Config) (extent : Extent) (image : List ℕ) where
       (cases_lt m n)
 
 -- The extent by the words loaded.
-module _ (c : Config) (phase : ℕ) where
+module _ (config : Config) (phase : ℕ) where
   abbrev extent_of_two : (evac ask : ℕ) → Extent
-  extent_of_two evac ask = extent_after phase 5 (extent_after phase 3 (first_extent c phase) evac) ask
+  extent_of_two evac ask = extent_after phase 5 (extent_after phase 3 (first_extent config phase) evac) ask
 
   -- two lists that read the same at the two words have one extent
-  pub same_extent : (xs ys : List ℕ) → slice_index xs 3 ≡ slice_index ys 3 → slice_index xs 5 ≡ slice_index ys 5 → extent_by c phase xs ≡ extent_by c phase ys
+  pub same_extent : (xs ys : List ℕ) → slice_index xs 3 ≡ slice_index ys 3 → slice_index xs 5 ≡ slice_index ys 5 → extent_by config phase xs ≡ extent_by config phase ys
   same_extent xs ys evac ask = ap (λ k. extent_of_two k (slice_index xs 5)) evac ∙ ap (extent_of_two (slice_index ys 3)) ask
 
   -- no room is needed by a word that reads 0, or that is another
@@ -190,12 +190,12 @@ module _ (c : Config) (phase : ℕ) where
       (λ (not_3 : index ≢ 3). ⊎_elim
       (λ (five : index ≡ 5). subst (λ k. says_room phase k got ≡ false) (sym five) (subst (λ k. says_room phase 5 k ≡ false) (sym (ask five)) refl))
       (λ (not_5 : index ≢ 5).
-      ap (λ b. (b && ((phase == 2) && is_out_of_room got)) || ((index == 5) && (bit_at got 1 == 1))) (ne_eqb index 3 not_3)
-      ∙ ap (λ b. b && (bit_at got 1 == 1)) (ne_eqb index 5 not_5))
+      ap (λ holds. (holds && ((phase == 2) && is_out_of_room got)) || ((index == 5) && (bit_at got 1 == 1))) (ne_eqb index 3 not_3)
+      ∙ ap (λ holds. holds && (bit_at got 1 == 1)) (ne_eqb index 5 not_5))
       (cases_eq index 5))
       (cases_eq index 3)
     where
-      neither : (b : Bool) → ((b && is_out_of_room 0) || false) ≡ false
+      neither : (holds : Bool) → ((holds && is_out_of_room 0) || false) ≡ false
       neither true = refl
       neither false = refl
 
@@ -203,33 +203,33 @@ module _ (c : Config) (phase : ℕ) where
   same_after index got extent evac ask = cond-false (says_room phase index got) Whole extent (silent index got evac ask)
 
   -- with one more word that is loaded it is what follows from that word
-  pub extent_on : (xs : List ℕ) (index got : ℕ) → length xs ≡ index → extent_by c phase (xs ++ got ∷ []) ≡ extent_after phase index (extent_by c phase xs) got
+  pub extent_on : (xs : List ℕ) (index got : ℕ) → length xs ≡ index → extent_by config phase (xs ++ got ∷ []) ≡ extent_after phase index (extent_by config phase xs) got
   extent_on xs index got long = ⊎_elim
       (λ (three : index ≡ 3).
       let none : slice_index xs 5 ≡ 0 = get_or_past xs 5 0 (omega (arith, long, three)) in
       let before : slice_index xs 3 ≡ 0 = get_or_past xs 3 0 (omega (arith, long, three)) in
       ap (λ k. extent_of_two k (slice_index (xs ++ got ∷ []) 5)) (snoc_here xs got 3 (long ∙ three))
       ∙ ap (extent_of_two got) (snoc_else xs got 5 (λ e. omega (arith, e, long, three)) ∙ none)
-      ∙ same_after 5 0 (extent_after phase 3 (first_extent c phase) got) (λ e. refl) (λ e. refl)
+      ∙ same_after 5 0 (extent_after phase 3 (first_extent config phase) got) (λ e. refl) (λ e. refl)
       ∙ ap (λ e. extent_after phase 3 e got) (sym (ap (λ k. extent_of_two k (slice_index xs 5)) before ∙ ap (extent_of_two 0) none
-      ∙ same_after 5 0 (extent_after phase 3 (first_extent c phase) 0) (λ e. refl) (λ e. refl) ∙ same_after 3 0 (first_extent c phase) (λ e. refl) (λ e. refl)))
-      ∙ ap (λ k. extent_after phase k (extent_by c phase xs) got) (sym three))
+      ∙ same_after 5 0 (extent_after phase 3 (first_extent config phase) 0) (λ e. refl) (λ e. refl) ∙ same_after 3 0 (first_extent config phase) (λ e. refl) (λ e. refl)))
+      ∙ ap (λ k. extent_after phase k (extent_by config phase xs) got) (sym three))
       (λ (not_3 : index ≢ 3). ⊎_elim
       (λ (five : index ≡ 5).
       let none : slice_index xs 5 ≡ 0 = get_or_past xs 5 0 (omega (arith, long, five)) in
       ap (λ k. extent_of_two k (slice_index (xs ++ got ∷ []) 5)) (snoc_else xs got 3 (λ e. omega (arith, e, long, five)))
       ∙ ap (extent_of_two (slice_index xs 3)) (snoc_here xs got 5 (long ∙ five))
-      ∙ ap (λ e. extent_after phase 5 e got) (sym (ap (extent_of_two (slice_index xs 3)) none ∙ same_after 5 0 (extent_after phase 3 (first_extent c phase) (slice_index xs 3)) (λ e. refl) (λ e. refl)))
-      ∙ ap (λ k. extent_after phase k (extent_by c phase xs) got) (sym five))
+      ∙ ap (λ e. extent_after phase 5 e got) (sym (ap (extent_of_two (slice_index xs 3)) none ∙ same_after 5 0 (extent_after phase 3 (first_extent config phase) (slice_index xs 3)) (λ e. refl) (λ e. refl)))
+      ∙ ap (λ k. extent_after phase k (extent_by config phase xs) got) (sym five))
       (λ (not_5 : index ≢ 5).
       same_extent (xs ++ got ∷ []) xs (snoc_else xs got 3 (λ e. not_3 (sym long ∙ sym e))) (snoc_else xs got 5 (λ e. not_5 (sym long ∙ sym e)))
-      ∙ sym (same_after index got (extent_by c phase xs) (λ e. absurd (not_3 e)) (λ e. absurd (not_5 e))))
+      ∙ sym (same_after index got (extent_by config phase xs) (λ e. absurd (not_3 e)) (λ e. absurd (not_5 e))))
       (cases_eq index 5))
       (cases_eq index 3)
 
   -- nothing is loaded: it is the first one
-  pub extent_none : extent_by c phase [] ≡ first_extent c phase
-  extent_none = same_after 5 0 (extent_after phase 3 (first_extent c phase) 0) (λ e. refl) (λ e. refl) ∙ same_after 3 0 (first_extent c phase) (λ e. refl) (λ e. refl)
+  pub extent_none : extent_by config phase [] ≡ first_extent config phase
+  extent_none = same_after 5 0 (extent_after phase 3 (first_extent config phase) 0) (λ e. refl) (λ e. refl) ∙ same_after 3 0 (first_extent config phase) (λ e. refl) (λ e. refl)
 
 -- the extent after a word is the one before it, or all of the image, and that only while the first words are loaded
 pub changes_early : (phase index : ℕ) (extent : Extent) (got : ℕ) → 6 ≤ index → extent_after phase index extent got ≡ extent

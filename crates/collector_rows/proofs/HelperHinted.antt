@@ -8,9 +8,9 @@ use Rattle.collector_rows.specs.declared.help_spot.HelpSpot.TheVariants.{LoadEnd
 use Rattle.collector_rows.specs.HelperRows.{Helping, hinted_by, help_hinted, is_gone, takes_hint}
 use Rattle.collector_rows.specs.HelperReady.{spot_fits, help_ready}
 
-module _ (c : Config) where
-  pub hinted_fits : (hint : Option ℕ) (seat : ℕ) (spot : HelpSpot) → spot_fits c seat spot ≡ true → spot_fits c seat (hinted_by c hint spot) ≡ true
-  hinted_fits hint seat (Working at) fits = unit.working c hint seat at fits
+module _ (config : Config) where
+  pub hinted_fits : (hint : Option ℕ) (seat : ℕ) (spot : HelpSpot) → spot_fits config seat spot ≡ true → spot_fits config seat (hinted_by config hint spot) ≡ true
+  hinted_fits hint seat (Working at) fits = unit.working config hint seat at fits
   hinted_fits hint seat LoadEnd fits = fits
   hinted_fits hint seat (Entering at) fits = fits
   hinted_fits hint seat LoadPhase fits = fits
@@ -18,7 +18,7 @@ module _ (c : Config) where
   hinted_fits hint seat Leave fits = fits
   hinted_fits hint seat Gone fits = fits
 
-  pub hinted_gone : (hint : Option ℕ) (spot : HelpSpot) → is_gone (hinted_by c hint spot) ≡ is_gone spot
+  pub hinted_gone : (hint : Option ℕ) (spot : HelpSpot) → is_gone (hinted_by config hint spot) ≡ is_gone spot
   hinted_gone hint (Working at) = refl
   hinted_gone hint LoadEnd = refl
   hinted_gone hint (Entering at) = refl
@@ -27,8 +27,8 @@ module _ (c : Config) where
   hinted_gone hint Leave = refl
   hinted_gone hint Gone = refl
 
-  pub hinted_not : (hint : Option ℕ) (spot : HelpSpot) → takes_hint spot ≡ false → hinted_by c hint spot ≡ spot
-  hinted_not hint (Working at) none = ap Working (unit.hinted_not c hint at none)
+  pub hinted_not : (hint : Option ℕ) (spot : HelpSpot) → takes_hint spot ≡ false → hinted_by config hint spot ≡ spot
+  hinted_not hint (Working at) none = ap Working (unit.hinted_not config hint at none)
   hinted_not hint LoadEnd none = refl
   hinted_not hint (Entering at) none = refl
   hinted_not hint LoadPhase none = refl
@@ -36,15 +36,15 @@ module _ (c : Config) where
   hinted_not hint Leave none = refl
   hinted_not hint Gone none = refl
 
-  pub help_hinted_ready : (hint : Option ℕ) (h : Helping) → help_ready c h ≡ true → help_ready c (help_hinted c hint h) ≡ true
-  help_hinted_ready None h ready = ready
-  help_hinted_ready (Some address) h ready = let both = and_parts _ _ ready in and_from _ _ both.0 (hinted_fits (Some address) h.seat h.spot both.1)
+  pub help_hinted_ready : (hint : Option ℕ) (helper : Helping) → help_ready config helper ≡ true → help_ready config (help_hinted config hint helper) ≡ true
+  help_hinted_ready None helper ready = ready
+  help_hinted_ready (Some address) helper ready = let both = and_parts _ _ ready in and_from _ _ both.0 (hinted_fits (Some address) helper.seat helper.spot both.1)
 
   -- its spot is that behind the hint
-  pub help_hinted_spot : (hint : Option ℕ) (h : Helping) → (help_hinted c hint h).spot ≡ hinted_by c hint h.spot
-  help_hinted_spot None h = hinted_none h.spot
+  pub help_hinted_spot : (hint : Option ℕ) (helper : Helping) → (help_hinted config hint helper).spot ≡ hinted_by config hint helper.spot
+  help_hinted_spot None helper = hinted_none helper.spot
     where
-      hinted_none : (spot : HelpSpot) → spot ≡ hinted_by c None spot
+      hinted_none : (spot : HelpSpot) → spot ≡ hinted_by config None spot
       hinted_none (Working at) = refl
       hinted_none LoadEnd = refl
       hinted_none (Entering at) = refl
@@ -52,8 +52,8 @@ module _ (c : Config) where
       hinted_none (LoadSet phase) = refl
       hinted_none Leave = refl
       hinted_none Gone = refl
-  help_hinted_spot (Some address) h = refl
+  help_hinted_spot (Some address) helper = refl
 
-  pub help_hinted_seat : (hint : Option ℕ) (h : Helping) → (help_hinted c hint h).seat ≡ h.seat
-  help_hinted_seat None h = refl
-  help_hinted_seat (Some address) h = refl
+  pub help_hinted_seat : (hint : Option ℕ) (helper : Helping) → (help_hinted config hint helper).seat ≡ helper.seat
+  help_hinted_seat None helper = refl
+  help_hinted_seat (Some address) helper = refl

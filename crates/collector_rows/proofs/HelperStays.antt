@@ -22,60 +22,60 @@ use Rattle.collector_rows.specs.HelperRows.{touch_at, next_spot, after_enter, af
 use Rattle.collector_rows.specs.HelperReady.{spot_fits, UnitGoesOn, AccessesAreInside, StaysReady}
 
 -- of two spots
-of_two : (c : Config) (seat : ℕ) (b : Bool) (x y : HelpSpot) → spot_fits c seat x ≡ true → spot_fits c seat y ≡ true → spot_fits c seat (if b then x else y) ≡ true
-of_two c seat true x y one other = one
-of_two c seat false x y one other = other
+of_two : (config : Config) (seat : ℕ) (holds : Bool) (x y : HelpSpot) → spot_fits config seat x ≡ true → spot_fits config seat y ≡ true → spot_fits config seat (if holds then x else y) ≡ true
+of_two config seat true x y one other = one
+of_two config seat false x y one other = other
 
 -- where it goes on entering
-enters_on : (c : Config) (seat : ℕ) (b : Bool) (x y : EnterSpot) → spot_fits c seat (after_enter x) ≡ true → spot_fits c seat (after_enter y) ≡ true → spot_fits c seat (after_enter (if b then x else y)) ≡ true
-enters_on c seat true x y one other = one
-enters_on c seat false x y one other = other
+enters_on : (config : Config) (seat : ℕ) (holds : Bool) (x y : EnterSpot) → spot_fits config seat (after_enter x) ≡ true → spot_fits config seat (after_enter y) ≡ true → spot_fits config seat (after_enter (if holds then x else y)) ≡ true
+enters_on config seat true x y one other = one
+enters_on config seat false x y one other = other
 
 -- where it goes on with its unit
-works_on : (c : Config) (seat : ℕ) (at : UnitSpot) → unit.is_ready c seat at ≡ true → spot_fits c seat (after_unit at) ≡ true
-works_on c seat (Ended unit) ready = refl
-works_on c seat _ ready = and_from _ _ ready refl
+works_on : (config : Config) (seat : ℕ) (at : UnitSpot) → unit.is_ready config seat at ≡ true → spot_fits config seat (after_unit at) ≡ true
+works_on config seat (Ended unit) ready = refl
+works_on config seat _ ready = and_from _ _ ready refl
 
 -- where it begins with a unit
-begins_fit : (c : Config) (seat phase cset : ℕ) → spot_fits c seat (Working (units.begins phase cset)) ≡ true
-begins_fit c seat phase cset = by_phase (λ at. spot_fits c seat (Working at) ≡ true) phase cset (λ one. refl) (λ no two. refl) (λ no other. refl)
+begins_fit : (config : Config) (seat phase cset : ℕ) → spot_fits config seat (Working (units.begins phase cset)) ≡ true
+begins_fit config seat phase cset = by_phase (λ at. spot_fits config seat (Working at) ≡ true) phase cset (λ one. refl) (λ no two. refl) (λ no other. refl)
 
-pub spot_stays : (c : Config) (seat : ℕ) (spot : HelpSpot) (got : ℕ) → spot_fits c seat spot ≡ true → UnitGoesOn c seat spot got → spot_fits c seat (next_spot c spot got) ≡ true
-spot_stays c seat LoadEnd got fits goes = of_two c seat (got == 1) Gone (Entering enter.Raise) refl refl
-spot_stays c seat (Entering enter.Raise) got fits goes = refl
-spot_stays c seat (Entering enter.Look) got fits goes = enters_on c seat (got == 0) enter.Inside enter.Lower refl refl
-spot_stays c seat (Entering enter.Lower) got fits goes = refl
-spot_stays c seat (Entering enter.Await) got fits goes = enters_on c seat (got == 0) enter.Raise enter.Await refl refl
-spot_stays c seat (Entering enter.Inside) got fits goes = refl
-spot_stays c seat LoadPhase got fits goes = of_two c seat (got == 0) Leave (LoadSet got) refl refl
-spot_stays c seat (LoadSet phase) got fits goes = begins_fit c seat phase got
-spot_stays c seat (Working at) got fits goes = works_on c seat (units.next_at c at got) (inside.stays_ready c seat at got (and_parts _ _ fits).0 goes)
-spot_stays c seat Leave got fits goes = refl
-spot_stays c seat Gone got fits goes = refl
+pub spot_stays : (config : Config) (seat : ℕ) (spot : HelpSpot) (got : ℕ) → spot_fits config seat spot ≡ true → UnitGoesOn config seat spot got → spot_fits config seat (next_spot config spot got) ≡ true
+spot_stays config seat LoadEnd got fits goes = of_two config seat (got == 1) Gone (Entering enter.Raise) refl refl
+spot_stays config seat (Entering enter.Raise) got fits goes = refl
+spot_stays config seat (Entering enter.Look) got fits goes = enters_on config seat (got == 0) enter.Inside enter.Lower refl refl
+spot_stays config seat (Entering enter.Lower) got fits goes = refl
+spot_stays config seat (Entering enter.Await) got fits goes = enters_on config seat (got == 0) enter.Raise enter.Await refl refl
+spot_stays config seat (Entering enter.Inside) got fits goes = refl
+spot_stays config seat LoadPhase got fits goes = of_two config seat (got == 0) Leave (LoadSet got) refl refl
+spot_stays config seat (LoadSet phase) got fits goes = begins_fit config seat phase got
+spot_stays config seat (Working at) got fits goes = works_on config seat (units.next_at config at got) (inside.stays_ready config seat at got (and_parts _ _ fits).0 goes)
+spot_stays config seat Leave got fits goes = refl
+spot_stays config seat Gone got fits goes = refl
 
 -- what is known of a spot is known of it under its own name
-pub fits_at : (c : Config) (seat : ℕ) (spot at : HelpSpot) → spot ≡ at → spot_fits c seat spot ≡ true → spot_fits c seat at ≡ true
-fits_at c seat spot at is fits = subst (λ s. spot_fits c seat s ≡ true) is fits
+pub fits_at : (config : Config) (seat : ℕ) (spot at : HelpSpot) → spot ≡ at → spot_fits config seat spot ≡ true → spot_fits config seat at ≡ true
+fits_at config seat spot at is fits = subst (λ s. spot_fits config seat s ≡ true) is fits
 
-pub goes_at : (c : Config) (seat : ℕ) (spot at : HelpSpot) (got : ℕ) → spot ≡ at → UnitGoesOn c seat spot got → UnitGoesOn c seat at got
-goes_at c seat spot at got is goes = subst (λ s. UnitGoesOn c seat s got) is goes
+pub goes_at : (config : Config) (seat : ℕ) (spot at : HelpSpot) (got : ℕ) → spot ≡ at → UnitGoesOn config seat spot got → UnitGoesOn config seat at got
+goes_at config seat spot at got is goes = subst (λ s. UnitGoesOn config seat s got) is goes
 
 pub stays_ready : StaysReady
 stays_ready c h got ready goes = let parts = and_parts _ _ ready in and_from _ _ parts.0 (spot_stays c h.seat h.spot got parts.1 goes)
 
 -- an access of a word of the table is inside it
-placed_inside : (c : Config) (t : Touch) → IsWord c t.word → table_index (placed c t) < table_words c
-placed_inside c t is = subst (λ k. k < table_words c) (sym (table_index-access_at (word_at c t.word) t.form)) (word_inside c t.word is)
+placed_inside : (config : Config) (touch : Touch) → IsWord config touch.word → table_index (placed config touch) < table_words config
+placed_inside config touch is = subst (λ k. k < table_words config) (sym (table_index-access_at (word_at config touch.word) touch.form)) (word_inside config touch.word is)
 
-spot_inside : (c : Config) (seat : ℕ) (spot : HelpSpot) → seat < c.mutators + c.helpers → spot_fits c seat spot ≡ true → table_index (placed c (touch_at c seat spot)) < table_words c
-spot_inside c seat (Entering enter.Raise) below fits = placed_inside c (touch_at c seat (Entering enter.Raise)) below
-spot_inside c seat (Entering enter.Look) below fits = placed_inside c (touch_at c seat (Entering enter.Look)) tt
-spot_inside c seat (Entering enter.Lower) below fits = placed_inside c (touch_at c seat (Entering enter.Lower)) below
-spot_inside c seat (Entering enter.Await) below fits = placed_inside c (touch_at c seat (Entering enter.Await)) tt
-spot_inside c seat (Entering enter.Inside) below fits = placed_inside c (touch_at c seat (Entering enter.Inside)) tt
-spot_inside c seat (Working at) below fits = inside.accesses_inside c seat at (omega (arith, below)) (and_parts _ _ fits).0
-spot_inside c seat Leave below fits = placed_inside c (touch_at c seat Leave) below
-spot_inside c seat spot below fits = placed_inside c (touch_at c seat spot) tt
+spot_inside : (config : Config) (seat : ℕ) (spot : HelpSpot) → seat < config.mutators + config.helpers → spot_fits config seat spot ≡ true → table_index (placed config (touch_at config seat spot)) < table_words config
+spot_inside config seat (Entering enter.Raise) below fits = placed_inside config (touch_at config seat (Entering enter.Raise)) below
+spot_inside config seat (Entering enter.Look) below fits = placed_inside config (touch_at config seat (Entering enter.Look)) tt
+spot_inside config seat (Entering enter.Lower) below fits = placed_inside config (touch_at config seat (Entering enter.Lower)) below
+spot_inside config seat (Entering enter.Await) below fits = placed_inside config (touch_at config seat (Entering enter.Await)) tt
+spot_inside config seat (Entering enter.Inside) below fits = placed_inside config (touch_at config seat (Entering enter.Inside)) tt
+spot_inside config seat (Working at) below fits = inside.accesses_inside config seat at (omega (arith, below)) (and_parts _ _ fits).0
+spot_inside config seat Leave below fits = placed_inside config (touch_at config seat Leave) below
+spot_inside config seat spot below fits = placed_inside config (touch_at config seat spot) tt
 
 pub accesses_inside : AccessesAreInside
 accesses_inside c h ready = let parts = and_parts _ _ ready in spot_inside c h.seat h.spot (ltb-true _ _ parts.0) parts.1

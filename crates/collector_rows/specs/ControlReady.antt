@@ -16,25 +16,25 @@ use Rattle.collector_rows.specs.ControlRows.{control_seat, access_with, next_spo
 -- whether the numbers of a spot are in range: the next access of a unit can be made, a seat is one of a mutator or a helper, an
 -- index one of a word of the image
 abbrev pub is_ready : Config → ControlSpot → Bool
-is_ready c (Working at) = unit.is_ready c (control_seat c) at && (if units.is_ended at then false else true)
-is_ready c (Stopping at) = touch_fits c (stop_touch at) && (if is_stopped at then false else true)
-is_ready c (LoadWord index extent) = nat_lt index (image_words c)
-is_ready c (StoreWord index extent) = nat_lt index (image_words c)
-is_ready c _ = true
+is_ready config (Working at) = unit.is_ready config (control_seat config) at && (if units.is_ended at then false else true)
+is_ready config (Stopping at) = touch_fits config (stop_touch at) && (if is_stopped at then false else true)
+is_ready config (LoadWord index extent) = nat_lt index (image_words config)
+is_ready config (StoreWord index extent) = nat_lt index (image_words config)
+is_ready config _ = true
 
 -- a hint may stand: it is the hint of an address of the heap, and the control takes hints; or there is none
 abbrev pub IsHintFor : Config → ControlSpot → Option ℕ → Type 0
-IsHintFor c spot hint = ForSome hint (λ address. IsWord c (Heap address) × (takes_hint spot ≡ true))
+IsHintFor config spot hint = ForSome hint (λ address. IsWord config (Heap address) × (takes_hint spot ≡ true))
 
 -- so the access is of a word of the table
 abbrev pub AccessesAreInside : Type 0
-AccessesAreInside = (c : Config) (spot : ControlSpot) (value : ℕ) → is_ready c spot ≡ true → table_index (access_with c spot value) < table_words c
+AccessesAreInside = (config : Config) (spot : ControlSpot) (value : ℕ) → is_ready config spot ≡ true → table_index (access_with config spot value) < table_words config
 
 -- a unit can go on from a word
 abbrev pub UnitGoesOn : Config → ControlSpot → ℕ → Type 0
-UnitGoesOn c (Working at) got = unit.IsFit c (control_seat c) at got
-UnitGoesOn c _ got = Unit {0}
+UnitGoesOn config (Working at) got = unit.IsFit config (control_seat config) at got
+UnitGoesOn config _ got = Unit {0}
 
 -- and they are in range at the next spot, whatever word is found; in a unit, where the unit can go on from it
 abbrev pub StaysReady : Type 0
-StaysReady = (c : Config) (phase cset seen next : ℕ) (spot : ControlSpot) (got : ℕ) → is_ready c spot ≡ true → UnitGoesOn c spot got → is_ready c (next_spot c phase cset seen next spot got) ≡ true
+StaysReady = (config : Config) (phase cset seen next : ℕ) (spot : ControlSpot) (got : ℕ) → is_ready config spot ≡ true → UnitGoesOn config spot got → is_ready config (next_spot config phase cset seen next spot got) ≡ true

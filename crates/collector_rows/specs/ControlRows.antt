@@ -44,7 +44,7 @@ pub record Controlling : Type 0 where
 
 -- the control's seat is behind those of the mutators and the helpers
 abbrev pub control_seat : Config → ℕ
-control_seat c = c.mutators + c.helpers
+control_seat config = config.mutators + config.helpers
 
 -- whether it has ended
 abbrev pub is_gone : ControlSpot → Bool
@@ -58,14 +58,14 @@ takes_hint _ = false
 
 -- from where it goes on with a hint, if it has one
 abbrev pub hinted_by : Config → Option ℕ → ControlSpot → ControlSpot
-hinted_by c hint (Working at) = Working (units.hinted_by c hint at)
-hinted_by c hint spot = spot
+hinted_by config hint (Working at) = Working (units.hinted_by config hint at)
+hinted_by config hint spot = spot
 
 -- the control as it goes on with a hint, if it has one: the hint is one more that it has taken
 abbrev pub control_hinted : Config → Option ℕ → Controlling → Controlling
-control_hinted c None k = k
-control_hinted c (Some address) k =
-    record { spot = hinted_by c (Some address) k.spot; seen = k.seen; phase = k.phase; cset = k.cset; image = k.image; hints = one_more k.hints }
+control_hinted config None control = control
+control_hinted config (Some address) control =
+    record { spot = hinted_by config (Some address) control.spot; seen = control.seen; phase = control.phase; cset = control.cset; image = control.image; hints = one_more control.hints }
 
 -- the address that the next access makes grey, if it does so
 abbrev pub greys_at : ControlSpot → Option ℕ
@@ -87,20 +87,20 @@ control_place Gone = place.IE
 
 -- the next access of a word that is not of the image
 abbrev pub control_touch : Config → ControlSpot → Touch
-control_touch c LookLeft = touch Left loads
-control_touch c StoreEnd = touch End (stores 1)
-control_touch c LookAsked = touch Ask loads
-control_touch c LookFree = touch Free loads
-control_touch c (Working at) = units.touch_at c (control_seat c) at
-control_touch c (Stopping at) = stop_touch at
-control_touch c Go = go_touch
-control_touch c _ = touch Left loads
+control_touch config LookLeft = touch Left loads
+control_touch config StoreEnd = touch End (stores 1)
+control_touch config LookAsked = touch Ask loads
+control_touch config LookFree = touch Free loads
+control_touch config (Working at) = units.touch_at config (control_seat config) at
+control_touch config (Stopping at) = stop_touch at
+control_touch config Go = go_touch
+control_touch config _ = touch Left loads
 
 -- the next access, by the word of the new image that is stored. The words of the image are accessed by their places
 abbrev pub access_with : Config → ControlSpot → ℕ → Access
-access_with c (LoadWord index extent) value = Load (image_start c + index)
-access_with c (StoreWord index extent) value = Store (image_start c + index) value
-access_with c spot value = placed c (control_touch c spot)
+access_with config (LoadWord index extent) value = Load (image_start config + index)
+access_with config (StoreWord index extent) value = Store (image_start config + index) value
+access_with config spot value = placed config (control_touch config spot)
 
 -- the word of the new image that a spot stores
 abbrev pub word_stored : ControlSpot → List ℕ → ℕ
@@ -109,12 +109,12 @@ word_stored _ image = 0
 
 -- the next access
 abbrev pub control_access : Config → Controlling → Access
-control_access c k = access_with c k.spot (word_stored k.spot k.image)
+control_access config control = access_with config control.spot (word_stored control.spot control.image)
 
 -- where it stands that stops the other machines: once they are stopped it loads the image
 abbrev pub stopping : Config → ℕ → StopSpot → ControlSpot
-stopping c phase stop.Stopped = LoadWord 0 (first_extent c phase)
-stopping c phase at = Stopping at
+stopping config phase stop.Stopped = LoadWord 0 (first_extent config phase)
+stopping config phase at = Stopping at
 
 -- where it stands that works on a unit: once that is done it looks again what is to do, and once none was left it makes a pause
 abbrev pub after_unit : UnitSpot → ControlSpot
@@ -132,33 +132,33 @@ unasked phase cset = if phase == idle_phase then LookFree else Working (units.be
 
 -- whether the free word calls for a pause: fewer than half of the regions are free, and it is not the word seen
 abbrev pub wants_pause : Config → ℕ → ℕ → Bool
-wants_pause c seen free = nat_lt (2 * members_below free 64) c.regions && (if free == seen then false else true)
+wants_pause config seen free = nat_lt (2 * members_below free 64) config.regions && (if free == seen then false else true)
 
 -- where it stands once a word of the image was loaded, and once one of the new image was stored, by the index of the next one
 abbrev pub after_load : Config → Extent → ℕ → ControlSpot
-after_load c extent index = if nat_lt (next_loaded c extent index) (image_words c) then LoadWord (next_loaded c extent index) extent else StoreWord 0 extent
+after_load config extent index = if nat_lt (next_loaded config extent index) (image_words config) then LoadWord (next_loaded config extent index) extent else StoreWord 0 extent
 
 abbrev pub after_store : Config → Extent → ℕ → ControlSpot
-after_store c extent next = if nat_lt next (image_words c) then StoreWord next extent else Go
+after_store config extent next = if nat_lt next (image_words config) then StoreWord next extent else Go
 
 -- where it stands next, by the phase, the collection set, the free word that it has seen, the index of the word of the new image that is
 -- stored next, and the word that was found
 abbrev pub next_spot : Config → (phase cset seen next : ℕ) → ControlSpot → ℕ → ControlSpot
-next_spot c phase cset seen next LookLeft got = if got == 0 then StoreEnd else LookAsked
-next_spot c phase cset seen next StoreEnd got = Gone
-next_spot c phase cset seen next LookAsked got = if begins_pause phase got then Stopping stop.Raise else unasked phase cset
-next_spot c phase cset seen next LookFree got = if wants_pause c seen got then Stopping stop.Raise else LookLeft
-next_spot c phase cset seen next (Working at) got = after_unit (units.next_at c at got)
-next_spot c phase cset seen next (Stopping at) got = stopping c phase (stop_next c at got)
-next_spot c phase cset seen next (LoadWord index extent) got = after_load c (extent_after phase index extent got) index
-next_spot c phase cset seen next (StoreWord index extent) got = after_store c extent next
-next_spot c phase cset seen next Go got = LookLeft
-next_spot c phase cset seen next Gone got = Gone
+next_spot config phase cset seen next LookLeft got = if got == 0 then StoreEnd else LookAsked
+next_spot config phase cset seen next StoreEnd got = Gone
+next_spot config phase cset seen next LookAsked got = if begins_pause phase got then Stopping stop.Raise else unasked phase cset
+next_spot config phase cset seen next LookFree got = if wants_pause config seen got then Stopping stop.Raise else LookLeft
+next_spot config phase cset seen next (Working at) got = after_unit (units.next_at config at got)
+next_spot config phase cset seen next (Stopping at) got = stopping config phase (stop_next config at got)
+next_spot config phase cset seen next (LoadWord index extent) got = after_load config (extent_after phase index extent got) index
+next_spot config phase cset seen next (StoreWord index extent) got = after_store config extent next
+next_spot config phase cset seen next Go got = LookLeft
+next_spot config phase cset seen next Gone got = Gone
 
 -- the index of the word of the new image that is stored behind that of a spot
 abbrev pub stored_next : Config → ControlSpot → List ℕ → ℕ
-stored_next c (StoreWord index extent) image = next_stored c extent image index
-stored_next c _ image = 0
+stored_next config (StoreWord index extent) image = next_stored config extent image index
+stored_next config _ image = 0
 
 -- the words of the image once this one was loaded: with 0 for those that are left out before the next one
 abbrev pub loaded_on : (next : ℕ) → List ℕ → ℕ → List ℕ
@@ -166,18 +166,18 @@ loaded_on next image got = padded next (image ++ got ∷ [])
 
 -- and once the last one was, of all of the image
 abbrev pub loaded_all : Config → List ℕ → ℕ → List ℕ
-loaded_all c image got = padded (image_words c) (image ++ got ∷ [])
+loaded_all config image got = padded (image_words config) (image ++ got ∷ [])
 
 -- whether there is a word that is loaded behind that of an index
 abbrev pub loads_more : Config → (phase index : ℕ) → Extent → (got : ℕ) → Bool
-loads_more c phase index extent got = nat_lt (next_loaded c (extent_after phase index extent got) index) (image_words c)
+loads_more config phase index extent got = nat_lt (next_loaded config (extent_after phase index extent got) index) (image_words config)
 
 -- the image then: with the last word that is loaded it is changed
 abbrev pub next_image : Change → Config → ControlSpot → List ℕ → (phase got : ℕ) → List ℕ
-next_image change c (LoadWord index extent) image phase got =
-    if loads_more c phase index extent got then loaded_on (next_loaded c (extent_after phase index extent got) index) image got else change c (loaded_all c image got)
-next_image change c (StoreWord index extent) image phase got = if nat_lt (next_stored c extent image index) (image_words c) then image else []
-next_image change c _ image phase got = []
+next_image change config (LoadWord index extent) image phase got =
+    if loads_more config phase index extent got then loaded_on (next_loaded config (extent_after phase index extent got) index) image got else change config (loaded_all config image got)
+next_image change config (StoreWord index extent) image phase got = if nat_lt (next_stored config extent image index) (image_words config) then image else []
+next_image change config _ image phase got = []
 
 -- the free word that it has seen after a pause: that of the new image, if the pause has ended with phase 0
 abbrev pub seen_after : ℕ → (Word → ℕ) → ℕ
@@ -185,28 +185,28 @@ seen_after seen memory = if memory Phase == idle_phase then memory Free else see
 
 -- the free word that it has seen then
 abbrev pub next_seen : Change → Config → ControlSpot → List ℕ → (seen phase got : ℕ) → ℕ
-next_seen change c (LoadWord index extent) image seen phase got = if loads_more c phase index extent got then seen else seen_after seen (image_view c (change c (loaded_all c image got)))
-next_seen change c _ image seen phase got = seen
+next_seen change config (LoadWord index extent) image seen phase got = if loads_more config phase index extent got then seen else seen_after seen (image_view config (change config (loaded_all config image got)))
+next_seen change config _ image seen phase got = seen
 
 -- the phase then: that of the new image, once there is one
 abbrev pub next_phase : Change → Config → ControlSpot → List ℕ → (phase got : ℕ) → ℕ
-next_phase change c (LoadWord index extent) image phase got = if loads_more c phase index extent got then phase else image_view c (change c (loaded_all c image got)) Phase
-next_phase change c _ image phase got = phase
+next_phase change config (LoadWord index extent) image phase got = if loads_more config phase index extent got then phase else image_view config (change config (loaded_all config image got)) Phase
+next_phase change config _ image phase got = phase
 
 -- the collection set then: that of the new image, once there is one
 abbrev pub next_set : Change → Config → ControlSpot → List ℕ → (cset phase got : ℕ) → ℕ
-next_set change c (LoadWord index extent) image cset phase got = if loads_more c phase index extent got then cset else image_view c (change c (loaded_all c image got)) Cset
-next_set change c _ image cset phase got = cset
+next_set change config (LoadWord index extent) image cset phase got = if loads_more config phase index extent got then cset else image_view config (change config (loaded_all config image got)) Cset
+next_set change config _ image cset phase got = cset
 
 -- what it is then
 abbrev pub control_next : Change → Config → Controlling → ℕ → Controlling
-control_next change c k got = record {
-  spot = next_spot c k.phase k.cset k.seen (stored_next c k.spot k.image) k.spot got;
-  seen = next_seen change c k.spot k.image k.seen k.phase got;
-  phase = next_phase change c k.spot k.image k.phase got;
-  cset = next_set change c k.spot k.image k.cset k.phase got;
-  image = next_image change c k.spot k.image k.phase got;
-  hints = k.hints;
+control_next change config control got = record {
+  spot = next_spot config control.phase control.cset control.seen (stored_next config control.spot control.image) control.spot got;
+  seen = next_seen change config control.spot control.image control.seen control.phase got;
+  phase = next_phase change config control.spot control.image control.phase got;
+  cset = next_set change config control.spot control.image control.cset control.phase got;
+  image = next_image change config control.spot control.image control.phase got;
+  hints = control.hints;
 }
 
 -- what a step of stopping says: again while the seat is not out
@@ -221,10 +221,10 @@ working_says said = said
 
 -- what a step says that finds this word: that it waits, that another machine was faster, or that there is more to do
 abbrev pub says_at : Config → ℕ → ControlSpot → ℕ → Took
-says_at c seen LookFree got = if wants_pause c seen got then More else Again
-says_at c seen (Working at) got = working_says (units.says_at c at got)
-says_at c seen (Stopping at) got = stopping_says at got
-says_at c seen _ got = More
+says_at config seen LookFree got = if wants_pause config seen got then More else Again
+says_at config seen (Working at) got = working_says (units.says_at config at got)
+says_at config seen (Stopping at) got = stopping_says at got
+says_at config seen _ got = More
 
 abbrev pub control_says : Config → Controlling → ℕ → Took
-control_says c k got = says_at c k.seen k.spot got
+control_says config control got = says_at config control.seen control.spot got

@@ -11,10 +11,10 @@ use Rattle.collector_rows.specs.ControlRows.{Controlling}
 -- At I2 at least half of the regions are free, or the free word is the one seen; in a unit it waits as the work on the unit does; at P2
 -- the seat is not out. At each other place it never waits.
 abbrev pub waits_at : Config → ℕ → ControlSpot → ℕ → Type 0
-waits_at c seen LookFree got = (c.regions ≤ 2 * members_below got 64) ⊎ (got ≡ seen)
-waits_at c seen (Working at) got = units.WaitsAt at got
-waits_at c seen (Stopping (Check seat)) got = got ≢ 0
-waits_at c seen _ got = ⊥
+waits_at config seen LookFree got = (config.regions ≤ 2 * members_below got 64) ⊎ (got ≡ seen)
+waits_at config seen (Working at) got = units.WaitsAt at got
+waits_at config seen (Stopping (Check seat)) got = got ≢ 0
+waits_at config seen _ got = ⊥
 
 abbrev pub WaitsAt : Config → Controlling → ℕ → Type 0
-WaitsAt c k got = waits_at c k.seen k.spot got
+WaitsAt config control got = waits_at config control.seen control.spot got

@@ -12,30 +12,30 @@ use Rattle.collector_rows.specs.declared.extent.Extent.TheVariants.{Whole, OffHe
 
 -- a heap is wide: a region has more words than one of a trace
 abbrev pub is_wide : Config → Bool
-is_wide c = nat_lt 1024 c.region_words
+is_wide config = nat_lt 1024 config.region_words
 
 -- where in the image the words of the mutators begin, and those of the heap
 abbrev pub roots_index : Config → ℕ
-roots_index c = roots_start c - image_start c
+roots_index config = roots_start config - image_start config
 
 abbrev pub heap_index : Config → ℕ
-heap_index c = heap_start c - image_start c
+heap_index config = heap_start config - image_start config
 
 -- whether the word at an index of the image is of the extent
 abbrev pub is_of_extent : Config → Extent → ℕ → Bool
-is_of_extent c Whole k = true
-is_of_extent c OffHeap k = nat_lt k (heap_index c) || nat_le (heap_index c + heap_size c) k
-is_of_extent c Ahead k = nat_lt k (roots_index c)
+is_of_extent config Whole k = true
+is_of_extent config OffHeap k = nat_lt k (heap_index config) || nat_le (heap_index config + heap_size config) k
+is_of_extent config Ahead k = nat_lt k (roots_index config)
 
 -- the index of the next word of the extent behind another index; behind the last one that of the image's end
 abbrev pub next_loaded : Config → Extent → ℕ → ℕ
-next_loaded c Whole k = k + 1
-next_loaded c OffHeap k = if nat_le (heap_index c) (k + 1) && nat_lt (k + 1) (heap_index c + heap_size c) then heap_index c + heap_size c else k + 1
-next_loaded c Ahead k = if nat_lt (k + 1) (roots_index c) then k + 1 else image_words c
+next_loaded config Whole k = k + 1
+next_loaded config OffHeap k = if nat_le (heap_index config) (k + 1) && nat_lt (k + 1) (heap_index config + heap_size config) then heap_index config + heap_size config else k + 1
+next_loaded config Ahead k = if nat_lt (k + 1) (roots_index config) then k + 1 else image_words config
 
 -- the extent with which a pause begins, by the phase before it
 abbrev pub first_extent : Config → ℕ → Extent
-first_extent c phase = if is_wide c then (if phase == idle_phase then OffHeap else (if phase == marking_phase then Whole else Ahead)) else Whole
+first_extent config phase = if is_wide config then (if phase == idle_phase then OffHeap else (if phase == marking_phase then Whole else Ahead)) else Whole
 
 -- A word that was loaded says that room is needed: that of the copiers, the fourth of the image, where one of them found none in phase 2; or that
 -- of what is asked for, the sixth, where a mutator waits.
@@ -48,7 +48,7 @@ extent_after phase index extent got = if says_room phase index got then Whole el
 
 -- the extent by the words that were loaded; those that were not read 0
 abbrev pub extent_by : Config → ℕ → List ℕ → Extent
-extent_by c phase image = extent_after phase 5 (extent_after phase 3 (first_extent c phase) (slice_index image 3)) (slice_index image 5)
+extent_by config phase image = extent_after phase 5 (extent_after phase 3 (first_extent config phase) (slice_index image 3)) (slice_index image 5)
 
 -- the words that were loaded, with 0 for each that was left out before an index
 abbrev pub padded : ℕ → List ℕ → List ℕ
@@ -56,16 +56,16 @@ padded n image = image ++ replicate (n - length image) 0
 
 -- A word of the new image counts: it is of the extent, or it is not 0, as is the header of free words that only fill from then on.
 abbrev pub counts : Config → Extent → List ℕ → ℕ → Bool
-counts c extent image k = is_of_extent c extent k || not (slice_index image k == 0)
+counts config extent image index = is_of_extent config extent index || not (slice_index image index == 0)
 
 -- the first index from one on, among so many, whose word counts; where there is none the one behind them
 unfoldable pub first_counting : Config → Extent → List ℕ → (left : ℕ) → ℕ → ℕ
-first_counting c extent image zero k = k
-first_counting c extent image (suc left) k = if counts c extent image k then k else first_counting c extent image left (k + 1)
+first_counting config extent image zero k = k
+first_counting config extent image (suc left) k = if counts config extent image k then k else first_counting config extent image left (k + 1)
 
 -- the index of the word that is stored after another; behind the last one that of the image's end
 abbrev pub next_stored : Config → Extent → List ℕ → ℕ → ℕ
-next_stored c extent image k = first_counting c extent image (image_words c - (k + 1)) (k + 1)
+next_stored config extent image k = first_counting config extent image (image_words config - (k + 1)) (k + 1)
 
 -- a new image while it is stored, with the extent of its pause
 pub record Counting : Type 0 where

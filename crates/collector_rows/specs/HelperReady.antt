@@ -15,31 +15,31 @@ use Rattle.collector_rows.specs.HelperRows.{Helping, help_touch, help_next, take
 -- whether the numbers of a spot are in range, for the helper of a seat: an entering or a unit has not ended, and its next access can
 -- be made
 abbrev pub spot_fits : Config → ℕ → HelpSpot → Bool
-spot_fits c seat (Entering at) = if is_entered at then false else true
-spot_fits c seat (Working at) = unit.is_ready c seat at && (if units.is_ended at then false else true)
-spot_fits c seat _ = true
+spot_fits config seat (Entering at) = if is_entered at then false else true
+spot_fits config seat (Working at) = unit.is_ready config seat at && (if units.is_ended at then false else true)
+spot_fits config seat _ = true
 
 -- whether a helper's next access can be made: its seat is that of a mutator or a helper, and the numbers of its spot are in range
 abbrev pub help_ready : Config → Helping → Bool
-help_ready c h = nat_lt h.seat (c.mutators + c.helpers) && spot_fits c h.seat h.spot
+help_ready config helper = nat_lt helper.seat (config.mutators + config.helpers) && spot_fits config helper.seat helper.spot
 
 -- a hint may stand: it is the hint of an address of the heap, and the helper takes hints; or there is none
 abbrev pub IsHintFor : Config → HelpSpot → Option ℕ → Type 0
-IsHintFor c spot hint = ForSome hint (λ address. IsWord c (Heap address) × (takes_hint spot ≡ true))
+IsHintFor config spot hint = ForSome hint (λ address. IsWord config (Heap address) × (takes_hint spot ≡ true))
 
 -- a unit can go on from a word
 abbrev pub UnitGoesOn : Config → ℕ → HelpSpot → ℕ → Type 0
-UnitGoesOn c seat (Working at) got = unit.IsFit c seat at got
-UnitGoesOn c seat _ got = Unit {0}
+UnitGoesOn config seat (Working at) got = unit.IsFit config seat at got
+UnitGoesOn config seat _ got = Unit {0}
 
 -- the word is fit: in a unit it is one from which the unit can go on, and anywhere else each word is
 abbrev pub IsFit : Config → Helping → ℕ → Type 0
-IsFit c h got = UnitGoesOn c h.seat h.spot got
+IsFit config helper got = UnitGoesOn config helper.seat helper.spot got
 
 -- a helper that can make its access makes it to a word of the table
 abbrev pub AccessesAreInside : Type 0
-AccessesAreInside = (c : Config) (h : Helping) → help_ready c h ≡ true → table_index (placed c (help_touch c h)) < table_words c
+AccessesAreInside = (config : Config) (helper : Helping) → help_ready config helper ≡ true → table_index (placed config (help_touch config helper)) < table_words config
 
 -- and where it goes on with a word that is fit it can make the next one
 abbrev pub StaysReady : Type 0
-StaysReady = (c : Config) (h : Helping) (got : ℕ) → help_ready c h ≡ true → IsFit c h got → help_ready c (help_next c h got) ≡ true
+StaysReady = (config : Config) (helper : Helping) (got : ℕ) → help_ready config helper ≡ true → IsFit config helper got → help_ready config (help_next config helper got) ≡ true

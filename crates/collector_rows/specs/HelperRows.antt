@@ -44,13 +44,13 @@ takes_hint _ = false
 
 -- from where it goes on with a hint, if it has one
 abbrev pub hinted_by : Config → Option ℕ → HelpSpot → HelpSpot
-hinted_by c hint (Working at) = Working (units.hinted_by c hint at)
-hinted_by c hint spot = spot
+hinted_by config hint (Working at) = Working (units.hinted_by config hint at)
+hinted_by config hint spot = spot
 
 -- the helper as it goes on with a hint, if it has one: the hint is one more that it has taken
 abbrev pub help_hinted : Config → Option ℕ → Helping → Helping
-help_hinted c None h = h
-help_hinted c (Some address) h = record { seat = h.seat; spot = hinted_by c (Some address) h.spot; hints = one_more h.hints }
+help_hinted config None helper = helper
+help_hinted config (Some address) helper = record { seat = helper.seat; spot = hinted_by config (Some address) helper.spot; hints = one_more helper.hints }
 
 -- the address that the next access makes grey, if it does so
 abbrev pub greys_at : HelpSpot → Option ℕ
@@ -68,20 +68,20 @@ place_at Leave = place.LV
 place_at Gone = place.H0
 
 abbrev pub help_place : Helping → Place
-help_place h = place_at h.spot
+help_place helper = place_at helper.spot
 
 -- the next access, of the helper of a seat
 abbrev pub touch_at : Config → ℕ → HelpSpot → Touch
-touch_at c seat LoadEnd = touch End loads
-touch_at c seat (Entering at) = enter_touch seat at
-touch_at c seat LoadPhase = touch Phase loads
-touch_at c seat (LoadSet phase) = touch Cset loads
-touch_at c seat (Working at) = units.touch_at c seat at
-touch_at c seat Leave = leave_touch seat
-touch_at c seat Gone = touch End loads
+touch_at config seat LoadEnd = touch End loads
+touch_at config seat (Entering at) = enter_touch seat at
+touch_at config seat LoadPhase = touch Phase loads
+touch_at config seat (LoadSet phase) = touch Cset loads
+touch_at config seat (Working at) = units.touch_at config seat at
+touch_at config seat Leave = leave_touch seat
+touch_at config seat Gone = touch End loads
 
 abbrev pub help_touch : Config → Helping → Touch
-help_touch c h = touch_at c h.seat h.spot
+help_touch config helper = touch_at config helper.seat helper.spot
 
 -- where it stands that enters: once it is inside it loads the phase
 abbrev pub after_enter : EnterSpot → HelpSpot
@@ -95,17 +95,17 @@ after_unit at = Working at
 
 -- where it stands next, by the word that was found
 abbrev pub next_spot : Config → HelpSpot → ℕ → HelpSpot
-next_spot c LoadEnd got = if got == 1 then Gone else Entering enter.Raise
-next_spot c (Entering at) got = after_enter (enter_next at got)
-next_spot c LoadPhase got = if got == idle_phase then Leave else LoadSet got
-next_spot c (LoadSet phase) got = Working (units.begins phase got)
-next_spot c (Working at) got = after_unit (units.next_at c at got)
-next_spot c Leave got = LoadEnd
-next_spot c Gone got = Gone
+next_spot config LoadEnd got = if got == 1 then Gone else Entering enter.Raise
+next_spot config (Entering at) got = after_enter (enter_next at got)
+next_spot config LoadPhase got = if got == idle_phase then Leave else LoadSet got
+next_spot config (LoadSet phase) got = Working (units.begins phase got)
+next_spot config (Working at) got = after_unit (units.next_at config at got)
+next_spot config Leave got = LoadEnd
+next_spot config Gone got = Gone
 
 -- what it is then
 abbrev pub help_next : Config → Helping → ℕ → Helping
-help_next c h got = record { seat = h.seat; spot = next_spot c h.spot got; hints = h.hints }
+help_next config helper got = record { seat = helper.seat; spot = next_spot config helper.spot got; hints = helper.hints }
 
 -- what a step of entering says: it waits while a pause is wanted
 abbrev pub entering_says : EnterSpot → ℕ → Took
@@ -121,10 +121,10 @@ working_says next said = said
 
 -- what a step says that finds this word: that it waits, that another was faster, or that there is more to do
 abbrev pub says_at : Config → HelpSpot → ℕ → Took
-says_at c (Entering at) got = entering_says at got
-says_at c LoadPhase got = if got == idle_phase then Again else More
-says_at c (Working at) got = working_says (units.next_at c at got) (units.says_at c at got)
-says_at c _ got = More
+says_at config (Entering at) got = entering_says at got
+says_at config LoadPhase got = if got == idle_phase then Again else More
+says_at config (Working at) got = working_says (units.next_at config at got) (units.says_at config at got)
+says_at config _ got = More
 
 abbrev pub help_says : Config → Helping → ℕ → Took
-help_says c h got = says_at c h.spot got
+help_says config helper got = says_at config helper.spot got

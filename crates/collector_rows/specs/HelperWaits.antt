@@ -11,10 +11,10 @@ use Rattle.collector_rows.specs.HelperRows.{Helping}
 -- At E4 a pause is wanted; at PH the phase is 0; and in a unit none is left, or it waits as the work on the unit does. At each other place
 -- it never waits.
 abbrev pub waits_at : Config → HelpSpot → ℕ → Type 0
-waits_at c (Entering Await) got = got ≢ 0
-waits_at c LoadPhase got = got ≡ idle_phase
-waits_at c (Working at) got = units.HasNoneLeft c at got ⊎ units.WaitsAt at got
-waits_at c _ got = ⊥
+waits_at config (Entering Await) got = got ≢ 0
+waits_at config LoadPhase got = got ≡ idle_phase
+waits_at config (Working at) got = units.HasNoneLeft config at got ⊎ units.WaitsAt at got
+waits_at config _ got = ⊥
 
 abbrev pub WaitsAt : Config → Helping → ℕ → Type 0
-WaitsAt c h got = waits_at c h.spot got
+WaitsAt config helper got = waits_at config helper.spot got

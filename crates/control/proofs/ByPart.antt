@@ -28,67 +28,67 @@ use Rattle.control.proofs.PartShown.{part_reads, made_long, made_reads}
 use Rattle.control.proofs.Starting.{none_is_of, none_begins}
 
 -- what collecting by a part needs of all words
-pub record CanGoOn (c : Config) (memory part : Word → ℕ) : Type 0 where
+pub record CanGoOn (config : Config) (memory part : Word → ℕ) : Type 0 where
   pub calm : is_room_needed memory ≡ false
   pub unmarked : memory Phase ≢ 1
-  pub roots : memory Phase ≡ 0 → HasRootsInside c memory
-  pub buffers : AreInside c memory
+  pub roots : memory Phase ≡ 0 → HasRootsInside config memory
+  pub buffers : AreInside config memory
   pub same_buffers : (seat : ℕ) → memory (Current seat) ≡ part (Current seat)
 
 -- what holds of the buffers of a part holds of those of all words
-buffers_of : (c : Config) (m part : Word → ℕ) → ((seat : ℕ) → m (Current seat) ≡ part (Current seat)) → AreInside c part → AreInside c m
-buffers_of c m part same inside = λ seat below some. subst (IsInside c) (sym (same seat)) (inside seat below (λ none. some (same seat ∙ none)))
+buffers_of : (config : Config) (memory part : Word → ℕ) → ((seat : ℕ) → memory (Current seat) ≡ part (Current seat)) → AreInside config part → AreInside config memory
+buffers_of config memory part same inside = λ seat below some. subst (IsInside config) (sym (same seat)) (inside seat below (λ none. some (same seat ∙ none)))
 
-off_heap_goes : (c : Config) (m part : Word → ℕ) → IsPartOf is_off_heap m part → CanBeginOff c part → CanGoOn c m part
-off_heap_goes c m part of can = record {
-  calm = need_same m part (of.same Ask refl) (of.same Phase refl) (of.same Evac refl) ∙ can.calm;
-  unmarked = (let idle : m Phase ≡ 0 = of.same Phase refl ∙ can.idle in λ is. omega (arith, idle, is));
+off_heap_goes : (config : Config) (memory part : Word → ℕ) → IsPartOf is_off_heap memory part → CanBeginOff config part → CanGoOn config memory part
+off_heap_goes config memory part of can = record {
+  calm = need_same memory part (of.same Ask refl) (of.same Phase refl) (of.same Evac refl) ∙ can.calm;
+  unmarked = (let idle : memory Phase ≡ 0 = of.same Phase refl ∙ can.idle in λ is. omega (arith, idle, is));
   roots = λ idle. record {
-    roots = λ t i below few. subst (IsNullOrInside c) (sym (of.same (Root t i) refl)) (can.roots.roots t i below few);
-    pins = λ t i below few. subst (IsNullOrInside c) (sym (of.same (Pin t i) refl)) (can.roots.pins t i below few);
-    answers = λ t below some. subst (IsNullOrInside c) (sym (of.same (Answer t) refl)) (can.roots.answers t below (subst (λ n. 1 < n) (of.same (Answer t) refl) some));
+    roots = λ t i below few. subst (IsNullOrInside config) (sym (of.same (Root t i) refl)) (can.roots.roots t i below few);
+    pins = λ t i below few. subst (IsNullOrInside config) (sym (of.same (Pin t i) refl)) (can.roots.pins t i below few);
+    answers = λ t below some. subst (IsNullOrInside config) (sym (of.same (Answer t) refl)) (can.roots.answers t below (subst (λ n. 1 < n) (of.same (Answer t) refl) some));
   };
-  buffers = buffers_of c m part (λ seat. of.same (Current seat) refl) can.buffers;
+  buffers = buffers_of config memory part (λ seat. of.same (Current seat) refl) can.buffers;
   same_buffers = λ seat. of.same (Current seat) refl;
 }
 
-ahead_goes : (c : Config) (m part : Word → ℕ) → IsPartOf is_ahead m part → CanUpdateAhead c part → CanGoOn c m part
-ahead_goes c m part of can = record {
-  calm = need_same m part (of.same Ask refl) (of.same Phase refl) (of.same Evac refl) ∙ can.calm;
+ahead_goes : (config : Config) (memory part : Word → ℕ) → IsPartOf is_ahead memory part → CanUpdateAhead config part → CanGoOn config memory part
+ahead_goes config memory part of can = record {
+  calm = need_same memory part (of.same Ask refl) (of.same Phase refl) (of.same Evac refl) ∙ can.calm;
   unmarked = λ is. can.unmarked (sym (of.same Phase refl) ∙ is);
   roots = λ idle. absurd (can.runs (sym (of.same Phase refl) ∙ idle));
-  buffers = buffers_of c m part (λ seat. of.same (Current seat) refl) can.buffers;
+  buffers = buffers_of config memory part (λ seat. of.same (Current seat) refl) can.buffers;
   same_buffers = λ seat. of.same (Current seat) refl;
 }
 
 -- so it is by images
-pub goes_by : (c : Config) (extent : Extent) → extent ≢ Whole → (whole part : List ℕ) → IsImagePart c extent whole part → CanCollectPart c extent (image_view c part) → CanGoOn c (image_view c whole) (image_view c part)
-goes_by c Whole other whole part is_part can = absurd (other refl)
-goes_by c OffHeap other whole part is_part can =
-    off_heap_goes c (image_view c whole) (image_view c part) (part_of c OffHeap is_off_heap (off_heap_at c) off_heap_others whole part is_part) can
-goes_by c Ahead other whole part is_part can =
-    ahead_goes c (image_view c whole) (image_view c part) (part_of c Ahead is_ahead (ahead_at c) ahead_others whole part is_part) can
+pub goes_by : (config : Config) (extent : Extent) → extent ≢ Whole → (whole part : List ℕ) → IsImagePart config extent whole part → CanCollectPart config extent (image_view config part) → CanGoOn config (image_view config whole) (image_view config part)
+goes_by config Whole other whole part is_part can = absurd (other refl)
+goes_by config OffHeap other whole part is_part can =
+    off_heap_goes config (image_view config whole) (image_view config part) (part_of config OffHeap is_off_heap (off_heap_at config) off_heap_others whole part is_part) can
+goes_by config Ahead other whole part is_part can =
+    ahead_goes config (image_view config whole) (image_view config part) (part_of config Ahead is_ahead (ahead_at config) ahead_others whole part is_part) can
 
-made_by : (c : Config) (extent : Extent) → extent ≢ Whole → (whole part : List ℕ) → IsImagePart c extent whole part → CanCollectPart c extent (image_view c part)
-    → IsMadeOf c extent whole (collect_image c whole) (collect_image c part)
-made_by c Whole other whole part is_part can = absurd (other refl)
-made_by c OffHeap other whole part is_part can = off_heap_made c whole part is_part can.calm can.idle
-made_by c Ahead other whole part is_part can = ahead_made c whole part is_part can.calm can.runs can.unmarked
+made_by : (config : Config) (extent : Extent) → extent ≢ Whole → (whole part : List ℕ) → IsImagePart config extent whole part → CanCollectPart config extent (image_view config part)
+    → IsMadeOf config extent whole (collect_image config whole) (collect_image config part)
+made_by config Whole other whole part is_part can = absurd (other refl)
+made_by config OffHeap other whole part is_part can = off_heap_made config whole part is_part can.calm can.idle
+made_by config Ahead other whole part is_part can = ahead_made config whole part is_part can.calm can.runs can.unmarked
 
 -- A word that is left out stays 0, but where the free words of a buffer begin.
-module _ (c : Config) (part : List ℕ) (k : ℕ) (less : k < image_words c) where
-  stays_by : collected c (image_view c part) (word_here c k less) ≡ image_view c part (word_here c k less) → slice_index (collect_image c part) k ≡ slice_index part k
-  stays_by same = sym (here_reads c k less (collect_image c part)) ∙ collected_by_name c part (word_here c k less) (here_is c k less) ∙ same ∙ here_reads c k less part
+module _ (config : Config) (part : List ℕ) (index : ℕ) (less : index < image_words config) where
+  stays_by : collected config (image_view config part) (word_here config index less) ≡ image_view config part (word_here config index less) → slice_index (collect_image config part) index ≡ slice_index part index
+  stays_by same = sym (here_reads config index less (collect_image config part)) ∙ collected_by_name config part (word_here config index less) (here_is config index less) ∙ same ∙ here_reads config index less part
 
-  left_by : (extent : Extent) → extent ≢ Whole → CanCollectPart c extent (image_view c part) → is_of_extent c extent k ≡ false → IsNoFirst c (image_view c part) (word_here c k less)
-      → slice_index (collect_image c part) k ≡ slice_index part k
+  left_by : (extent : Extent) → extent ≢ Whole → CanCollectPart config extent (image_view config part) → is_of_extent config extent index ≡ false → IsNoFirst config (image_view config part) (word_here config index less)
+      → slice_index (collect_image config part) index ≡ slice_index part index
   left_by Whole other can out none = absurd (other refl)
   left_by OffHeap other can out none =
-      stays_by (heap_left c (image_view c part) can.calm can.idle (word_here c k less)
-      (sym (off_heap_at c (word_here c k less) (here_is c k less) (here_image c k less)) ∙ ap (is_of_extent c OffHeap) (here_at c k less) ∙ out) none)
+      stays_by (heap_left config (image_view config part) can.calm can.idle (word_here config index less)
+      (sym (off_heap_at config (word_here config index less) (here_is config index less) (here_image config index less)) ∙ ap (is_of_extent config OffHeap) (here_at config index less) ∙ out) none)
   left_by Ahead other can out none =
-      stays_by (behind_left c (image_view c part) can.calm can.runs can.unmarked (word_here c k less)
-      (sym (ahead_at c (word_here c k less) (here_is c k less) (here_image c k less)) ∙ ap (is_of_extent c Ahead) (here_at c k less) ∙ out) none)
+      stays_by (behind_left config (image_view config part) can.calm can.runs can.unmarked (word_here config index less)
+      (sym (ahead_at config (word_here config index less) (here_is config index less) (here_image config index less)) ∙ ap (is_of_extent config Ahead) (here_at config index less) ∙ out) none)
 
 -- What is shown at an index of the new image: by whether it is of the extent, and whether free words began there.
 shown_at : (o h : Bool) (p y m : ℕ) → m ≡ (if o || not (p == 0) then p else y) → (o ≡ false → h ≡ true → y ≡ 0) → (o ≡ false → h ≡ false → p ≡ 0) → (if o || h then m else 0) ≡ p
@@ -101,33 +101,33 @@ shown_at false true p y m made cleared left = made ∙ by_test (p == 0) refl
     by_test false is = refl
 
 -- what was loaded is a part of the image, ..
-pub part_of_all : (c : Config) (extent : Extent) (xs : List ℕ) → IsImagePart c extent xs (part_in c extent xs)
-part_of_all c extent xs k less = part_reads c extent xs k
+pub part_of_all : (config : Config) (extent : Extent) (xs : List ℕ) → IsImagePart config extent xs (part_in config extent xs)
+part_of_all config extent xs k less = part_reads config extent xs k
 
 -- .. and of what is left where those words were made 0 at which free words begin
-module _ (c : Config) (extent : Extent) (other : extent ≢ Whole) (xs ys starts : List ℕ) (long : length xs ≡ image_words c)
-    (cleared : (k : ℕ) → slice_index ys k ≡ (if has starts k then 0 else slice_index xs k)) (of_heap : AreHeapIndices c starts) where
+module _ (config : Config) (extent : Extent) (other : extent ≢ Whole) (xs ys starts : List ℕ) (long : length xs ≡ image_words config)
+    (cleared : (k : ℕ) → slice_index ys k ≡ (if has starts k then 0 else slice_index xs k)) (of_heap : AreHeapIndices config starts) where
   abbrev part : List ℕ
-  part = part_in c extent xs
+  part = part_in config extent xs
 
   -- the part is one of these too
-  pub part_of_cleared : IsImagePart c extent ys part
-  part_of_cleared k less = part_reads c extent xs k ∙ by_test (is_of_extent c extent k) refl
+  pub part_of_cleared : IsImagePart config extent ys part
+  part_of_cleared k less = part_reads config extent xs k ∙ by_test (is_of_extent config extent k) refl
     where
-      by_test : (b : Bool) → is_of_extent c extent k ≡ b → (if b then slice_index xs k else 0) ≡ (if b then slice_index ys k else 0)
-      by_test true is = sym (cleared k ∙ cond-false (has starts k) 0 (slice_index xs k) (none_is_of c extent other starts of_heap k is))
+      by_test : (holds : Bool) → is_of_extent config extent k ≡ holds → (if holds then slice_index xs k else 0) ≡ (if holds then slice_index ys k else 0)
+      by_test true is = sym (cleared k ∙ cond-false (has starts k) 0 (slice_index xs k) (none_is_of config extent other starts of_heap k is))
       by_test false is = refl
 
-  module _ (can : CanCollectPart c extent (image_view c part)) (are : AreStarts c (image_view c part) starts) where
-    pub shown_is_made : image_shown c extent starts (collect_image c ys) ≡ collect_image c part
+  module _ (can : CanCollectPart config extent (image_view config part)) (are : AreStarts config (image_view config part) starts) where
+    pub shown_is_made : image_shown config extent starts (collect_image config ys) ≡ collect_image config part
     shown_is_made =
-        let one = made_long c extent starts (collect_image c ys) ∙ collected_length c ys in
-        same_number_lists (image_shown c extent starts (collect_image c ys)) (collect_image c part) (one ∙ sym (collected_length c part)) (λ k below.
-        let less : k < image_words c = omega (arith, below, one) in
-        made_reads c extent starts (collect_image c ys) k
-        ∙ shown_at (is_of_extent c extent k) (has starts k) (slice_index (collect_image c part) k) (slice_index ys k) (slice_index (collect_image c ys) k)
-        (made_by c extent other ys part part_of_cleared can k less)
+        let one = made_long config extent starts (collect_image config ys) ∙ collected_length config ys in
+        same_number_lists (image_shown config extent starts (collect_image config ys)) (collect_image config part) (one ∙ sym (collected_length config part)) (λ k below.
+        let less : k < image_words config = omega (arith, below, one) in
+        made_reads config extent starts (collect_image config ys) k
+        ∙ shown_at (is_of_extent config extent k) (has starts k) (slice_index (collect_image config part) k) (slice_index ys k) (slice_index (collect_image config ys) k)
+        (made_by config extent other ys part part_of_cleared can k less)
         (λ out among. cleared k ∙ cond-true (has starts k) 0 (slice_index xs k) among)
         (λ out none.
-        left_by c part k less extent other can out (none_begins c (image_view c part) starts are k none (word_here c k less) (here_at c k less))
-        ∙ part_reads c extent xs k ∙ cond-false (is_of_extent c extent k) (slice_index xs k) 0 out))
+        left_by config part k less extent other can out (none_begins config (image_view config part) starts are k none (word_here config k less) (here_at config k less))
+        ∙ part_reads config extent xs k ∙ cond-false (is_of_extent config extent k) (slice_index xs k) 0 out))

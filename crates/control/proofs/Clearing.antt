@@ -7,18 +7,18 @@ use Rattle.heap_words.specs.Words.{image_start, table_words, view}
 use Rattle.heap_world.specs.Change.{image_view}
 
 -- the first numbers of a list, all 0
-pub take-clear : (xs : List ℕ) (n : ℕ) → n ≤ length xs → ((k : ℕ) → k < n → get_or xs k 0 ≡ 0) → take n xs ≡ replicate n 0
+pub take-clear : (xs : List ℕ) (n : ℕ) → n ≤ length xs → ((index : ℕ) → index < n → get_or xs index 0 ≡ 0) → take n xs ≡ replicate n 0
 take-clear xs n within clear =
     let taken : length (take n xs) ≡ n = omega (arith, length-take n xs) in
     same_number_lists (take n xs) (replicate n 0) (taken ∙ sym (length-replicate n 0))
-    (λ k below.
-    let here : k < n = omega arith in
-    get_or-take n xs k 0 here ∙ clear k here ∙ sym (get_or-replicate n k 0 0 here))
+    (λ index below.
+    let here : index < n = omega arith in
+    get_or-take n xs index 0 here ∙ clear index here ∙ sym (get_or-replicate n index 0 0 here))
 
 -- so the table is its image with 0 before it
-pub view-clear : (c : Config) (words : List ℕ) → length words ≡ table_words c → ((k : ℕ) → k < image_start c → get_or words k 0 ≡ 0)
-    → view c words ≡ image_view c (drop (image_start c) words)
-view-clear c words whole clear =
-    ap (view c)
-    (sym (take-append-drop (image_start c) words)
-    ∙ ap (λ start. start ++ drop (image_start c) words) (take-clear words (image_start c) (omega arith) clear))
+pub view-clear : (config : Config) (words : List ℕ) → length words ≡ table_words config → ((index : ℕ) → index < image_start config → get_or words index 0 ≡ 0)
+    → view config words ≡ image_view config (drop (image_start config) words)
+view-clear config words whole clear =
+    ap (view config)
+    (sym (take-append-drop (image_start config) words)
+    ∙ ap (λ start. start ++ drop (image_start config) words) (take-clear words (image_start config) (omega arith) clear))

@@ -27,48 +27,48 @@ use Rattle.cycle_pauses.proofs.Pauses.{representing_can_collect}
 use Rattle.control.specs.Fit.{CanCollectPart}
 use Rattle.control.proofs.Collecting.{can_hold, can_inside}
 
-roots_in_part : (c : Config) (m part : Word → ℕ) → IsPartOf is_off_heap m part → HasRootsInside c m → HasRootsInside c part
-roots_in_part c m part of inside = record {
-  roots = λ t i below few. subst (IsNullOrInside c) (of.same (Root t i) refl) (inside.roots t i below few);
-  pins = λ t i below few. subst (IsNullOrInside c) (of.same (Pin t i) refl) (inside.pins t i below few);
-  answers = λ t below some. subst (IsNullOrInside c) (of.same (Answer t) refl) (inside.answers t below (subst (λ n. 1 < n) (sym (of.same (Answer t) refl)) some));
+roots_in_part : (config : Config) (memory part : Word → ℕ) → IsPartOf is_off_heap memory part → HasRootsInside config memory → HasRootsInside config part
+roots_in_part config memory part of inside = record {
+  roots = λ t i below few. subst (IsNullOrInside config) (of.same (Root t i) refl) (inside.roots t i below few);
+  pins = λ t i below few. subst (IsNullOrInside config) (of.same (Pin t i) refl) (inside.pins t i below few);
+  answers = λ t below some. subst (IsNullOrInside config) (of.same (Answer t) refl) (inside.answers t below (subst (λ n. 1 < n) (sym (of.same (Answer t) refl)) some));
 }
 
-buffers_in_part : (c : Config) (m part : Word → ℕ) → ((seat : ℕ) → m (Current seat) ≡ part (Current seat)) → AreInside c m → AreInside c part
-buffers_in_part c m part same inside = λ seat below some. subst (IsInside c) (same seat) (inside seat below (λ none. some (sym (same seat) ∙ none)))
+buffers_in_part : (config : Config) (memory part : Word → ℕ) → ((seat : ℕ) → memory (Current seat) ≡ part (Current seat)) → AreInside config memory → AreInside config part
+buffers_in_part config memory part same inside = λ seat below some. subst (IsInside config) (same seat) (inside seat below (λ none. some (sym (same seat) ∙ none)))
 
-part_can : (c : Config) (extent : Extent) (whole part : List ℕ) → IsImagePart c extent whole part → extent ≡ extent_by c (slice_index part 0) part → CanPauseSome c (image_view c whole)
-    → CanCollectPart c extent (image_view c part)
-part_can c Whole whole part is_part extent_is can =
-    let of : IsPartOf (λ w. true) (image_view c whole) (image_view c part) = part_of c Whole (λ w. true) (λ w is image. refl) (λ w out. refl) whole part is_part in
-    subst (CanPauseSome c) (fun_ext (λ w. of.same w refl)) can
-part_can c OffHeap whole part is_part extent_is can =
-    let of : IsPartOf is_off_heap (image_view c whole) (image_view c part) = part_of c OffHeap is_off_heap (off_heap_at c) off_heap_others whole part is_part in
-    let other : extent_by c (slice_index part 0) part ≡ Whole → ⊥ = λ e. let both = extent_is ∙ e in cc in
+part_can : (config : Config) (extent : Extent) (whole part : List ℕ) → IsImagePart config extent whole part → extent ≡ extent_by config (slice_index part 0) part → CanPauseSome config (image_view config whole)
+    → CanCollectPart config extent (image_view config part)
+part_can config Whole whole part is_part extent_is can =
+    let of : IsPartOf (λ w. true) (image_view config whole) (image_view config part) = part_of config Whole (λ w. true) (λ w is image. refl) (λ w out. refl) whole part is_part in
+    subst (CanPauseSome config) (fun_ext (λ w. of.same w refl)) can
+part_can config OffHeap whole part is_part extent_is can =
+    let of : IsPartOf is_off_heap (image_view config whole) (image_view config part) = part_of config OffHeap is_off_heap (off_heap_at config) off_heap_others whole part is_part in
+    let other : extent_by config (slice_index part 0) part ≡ Whole → ⊥ = λ e. let both = extent_is ∙ e in cc in
     record {
-      calm = calm_part c part other;
-      idle = idle_by c part other (sym extent_is);
-      roots = roots_in_part c (image_view c whole) (image_view c part) of (held_inside_some c (image_view c whole) (can_hold c (image_view c whole) can));
-      buffers = buffers_in_part c (image_view c whole) (image_view c part) (λ seat. of.same (Current seat) refl) (can_inside c (image_view c whole) can);
+      calm = calm_part config part other;
+      idle = idle_by config part other (sym extent_is);
+      roots = roots_in_part config (image_view config whole) (image_view config part) of (held_inside_some config (image_view config whole) (can_hold config (image_view config whole) can));
+      buffers = buffers_in_part config (image_view config whole) (image_view config part) (λ seat. of.same (Current seat) refl) (can_inside config (image_view config whole) can);
     }
-part_can c Ahead whole part is_part extent_is can =
-    let of : IsPartOf is_ahead (image_view c whole) (image_view c part) = part_of c Ahead is_ahead (ahead_at c) ahead_others whole part is_part in
-    let other : extent_by c (slice_index part 0) part ≡ Whole → ⊥ = λ e. let both = extent_is ∙ e in cc in
-    let late = late_by c part other (sym extent_is) in
+part_can config Ahead whole part is_part extent_is can =
+    let of : IsPartOf is_ahead (image_view config whole) (image_view config part) = part_of config Ahead is_ahead (ahead_at config) ahead_others whole part is_part in
+    let other : extent_by config (slice_index part 0) part ≡ Whole → ⊥ = λ e. let both = extent_is ∙ e in cc in
+    let late = late_by config part other (sym extent_is) in
     record {
-      calm = calm_part c part other;
+      calm = calm_part config part other;
       runs = late.0;
       unmarked = late.1;
-      buffers = buffers_in_part c (image_view c whole) (image_view c part) (λ seat. of.same (Current seat) refl) (can_inside c (image_view c whole) can);
+      buffers = buffers_in_part config (image_view config whole) (image_view config part) (λ seat. of.same (Current seat) refl) (can_inside config (image_view config whole) can);
     }
 
 -- so it is of an image that stands for a graph
-pub part_of_some_can : (c : Config) (extent : Extent) (whole part : List ℕ) (g : Graph) (asking : ℕ → Asking) → IsImagePart c extent whole part → extent ≡ extent_by c (slice_index part 0) part
-    → Represents c (image_view c whole) g asking → CanCollectPart c extent (image_view c part)
-part_of_some_can c extent whole part g asking is_part extent_is stands = part_can c extent whole part is_part extent_is (representing_can_collect c whole g asking stands)
+pub part_of_some_can : (config : Config) (extent : Extent) (whole part : List ℕ) (graph : Graph) (asking : ℕ → Asking) → IsImagePart config extent whole part → extent ≡ extent_by config (slice_index part 0) part
+    → Represents config (image_view config whole) graph asking → CanCollectPart config extent (image_view config part)
+part_of_some_can config extent whole part graph asking is_part extent_is stands = part_can config extent whole part is_part extent_is (representing_can_collect config whole graph asking stands)
 
 -- and that is one fact
-pub can_collect_prop : (c : Config) (extent : Extent) (m : Word → ℕ) → IsProp (CanCollectPart c extent m)
-can_collect_prop c Whole m = hlevel
-can_collect_prop c OffHeap m = hlevel (le_prop, ℕ_set, Bool-set)
-can_collect_prop c Ahead m = hlevel (le_prop, ℕ_set, Bool-set)
+pub can_collect_prop : (config : Config) (extent : Extent) (memory : Word → ℕ) → IsProp (CanCollectPart config extent memory)
+can_collect_prop config Whole memory = hlevel
+can_collect_prop config OffHeap memory = hlevel (le_prop, ℕ_set, Bool-set)
+can_collect_prop config Ahead memory = hlevel (le_prop, ℕ_set, Bool-set)

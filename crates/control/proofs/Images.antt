@@ -16,12 +16,12 @@ use Rattle.control.specs.Image.{image_in, image_from}
 use Rattle.control.proofs.Clearing.{view-clear}
 
 -- all its words are those of the image, and 0 before them
-pub memory-image_in : (i : Image) → IsClear i → memory_of i ≡ image_view (config_of i) (image_in i)
-memory-image_in i clear = view-clear (config_of i) (words_of i) i.all_words clear
+pub memory-image_in : (image : Image) → IsClear image → memory_of image ≡ image_view (config_of image) (image_in image)
+memory-image_in image clear = view-clear (config_of image) (words_of image) image.all_words clear
 
 -- the image has as many words as it should
-pub length-image_in : (i : Image) → length (image_in i) ≡ image_words (config_of i)
-length-image_in i = omega (arith, length-drop (image_start (config_of i)) (words_of i), i.all_words)
+pub length-image_in : (image : Image) → length (image_in image) ≡ image_words (config_of image)
+length-image_in image = omega (arith, length-drop (image_start (config_of image)) (words_of image), image.all_words)
 
 -- a list behind so many numbers that are 0
 pub drop-zeros : (n : ℕ) (xs : List ℕ) → drop n (replicate n 0 ++ xs) ≡ xs
@@ -39,7 +39,7 @@ module _ (old new : Image) (clear : IsClear old) (config : config_of new ≡ con
   -- all words after a pause
   words-collected : words_of new ≡ replicate (image_start c) 0 ++ collect_image c (image_in old)
   words-collected = collected_table c (image_in old) (words_of new) (new.all_words ∙ ap table_words config)
-      (λ w is. ap (λ (m : Word → ℕ). m w) (ap (λ d. view d (words_of new)) (sym config) ∙ words ∙ ap (collected c) (memory-image_in old clear)))
+      (λ w is. ap (λ (memory : Word → ℕ). memory w) (ap (λ d. view d (words_of new)) (sym config) ∙ words ∙ ap (collected c) (memory-image_in old clear)))
 
   -- the image is the collected one
   pub image-collected : image_in new ≡ collect_image c (image_in old)
@@ -52,11 +52,11 @@ module _ (old new : Image) (clear : IsClear old) (config : config_of new ≡ con
       ap (λ some. get_or some at 0) words-collected ∙ get_or-zeros (image_start c) (collect_image c (image_in old)) at (subst (λ d. at < image_start d) config below)
 
 -- an image into which all words of a table were put
-pub image-loaded : (c : Config) (i : Image) (table : List ℕ) → config_of i ≡ c → length table ≡ table_words c
-    → ((k : ℕ) → k < image_words c → get_or (image_in i) k 0 ≡ get_or table (image_start c + k) 0) → image_in i ≡ image_from c table
-image-loaded c i table config long same =
-    let all : length (image_in i) ≡ image_words c = length-image_in i ∙ ap image_words config in
+pub image-loaded : (c : Config) (image : Image) (table : List ℕ) → config_of image ≡ c → length table ≡ table_words c
+    → ((index : ℕ) → index < image_words c → get_or (image_in image) index 0 ≡ get_or table (image_start c + index) 0) → image_in image ≡ image_from c table
+image-loaded c image table config long same =
+    let all : length (image_in image) ≡ image_words c = length-image_in image ∙ ap image_words config in
     let rest : length (image_from c table) ≡ image_words c = omega (arith, length-drop (image_start c) table, long) in
-    same_number_lists (image_in i) (image_from c table) (all ∙ sym rest) (λ k below.
-    let inside : k < image_words c = omega (arith, below, all) in
-    same k inside ∙ sym (get_or-drop (image_start c) table k 0))
+    same_number_lists (image_in image) (image_from c table) (all ∙ sym rest) (λ index below.
+    let inside : index < image_words c = omega (arith, below, all) in
+    same index inside ∙ sym (get_or-drop (image_start c) table index 0))

@@ -14,76 +14,76 @@ use Rattle.control.specs.Fit.{CanCollectPart, fits_with}
 use Rattle.control.specs.Image.{part_in, image_shown, words_seen}
 use Rattle.control.proofs.PartShown.{loaded_upto, loaded_whole, first_reads}
 
-module _ (change : Change) (c : Config) (extent : Extent) (phase index got : ℕ) (xs : List ℕ) (long : length xs ≡ image_words c) (less : index < image_words c) (own : is_of_extent c extent index ≡ true) where
+module _ (change : Change) (config : Config) (extent : Extent) (phase index got : ℕ) (xs : List ℕ) (long : length xs ≡ image_words config) (less : index < image_words config) (own : is_of_extent config extent index ≡ true) where
   abbrev then_of : Extent
   then_of = extent_after phase index extent got
 
   abbrev next : ℕ
-  next = next_loaded c then_of index
+  next = next_loaded config then_of index
 
   abbrev more : Bool
-  more = nat_lt next (image_words c)
+  more = nat_lt next (image_words config)
 
   abbrev before : List ℕ
-  before = take index (part_in c extent xs)
+  before = take index (part_in config extent xs)
 
   below : index < length xs
   below = omega (arith, less, long)
 
   -- there is a next one
-  pub goes_on : (starts : List ℕ) → next < image_words c → words_seen c (after_load c then_of index) starts (set xs index got) ≡ next_image change c (LoadWord index extent) before phase got
+  pub goes_on : (starts : List ℕ) → next < image_words config → words_seen config (after_load config then_of index) starts (set xs index got) ≡ next_image change config (LoadWord index extent) before phase got
   goes_on starts there =
-      let is = next_is c then_of index less in
-      let test : more ≡ true = lt-ltb next (image_words c) there in
-      ap (λ spot. words_seen c spot starts (set xs index got)) (cond-true more (LoadWord next then_of) (StoreWord 0 then_of) test)
-      ∙ loaded_upto c extent phase index got xs below own next is.above (let most = is.most in omega (arith, most, long)) is.between
-      ∙ sym (cond-true more (loaded_on next before got) (change c (loaded_all c before got)) test)
+      let is = next_is config then_of index less in
+      let test : more ≡ true = lt-ltb next (image_words config) there in
+      ap (λ spot. words_seen config spot starts (set xs index got)) (cond-true more (LoadWord next then_of) (StoreWord 0 then_of) test)
+      ∙ loaded_upto config extent phase index got xs below own next is.above (let most = is.most in omega (arith, most, long)) is.between
+      ∙ sym (cond-true more (loaded_on next before got) (change config (loaded_all config before got)) test)
 
-  pub stays : (before_it then_it : ℕ) → next < image_words c → (if more then before_it else then_it) ≡ before_it
-  stays before_it then_it there = cond-true more before_it then_it (lt-ltb next (image_words c) there)
+  pub stays : (before_it then_it : ℕ) → next < image_words config → (if more then before_it else then_it) ≡ before_it
+  stays before_it then_it there = cond-true more before_it then_it (lt-ltb next (image_words config) there)
 
-  module _ (last : image_words c ≤ next) where
+  module _ (last : image_words config ≤ next) where
     test : more ≡ false
-    test = le-ltb next (image_words c) last
+    test = le-ltb next (image_words config) last
 
     -- that was the last
-    pub all_loaded : part_in c then_of (set xs index got) ≡ loaded_all c before got
+    pub all_loaded : part_in config then_of (set xs index got) ≡ loaded_all config before got
     all_loaded =
-        let is = next_is c then_of index less in
-        loaded_whole c extent phase index got xs below own (image_words c) less (omega (arith, long)) (λ k above to. is.between k above (omega (arith, to, last))) (sym long)
+        let is = next_is config then_of index less in
+        loaded_whole config extent phase index got xs below own (image_words config) less (omega (arith, long)) (λ k above to. is.between k above (omega (arith, to, last))) (sym long)
 
-    pub can_collect : fits_with c (LoadWord index extent) phase before got → CanCollectPart c then_of (image_view c (part_in c then_of (set xs index got)))
-    can_collect fit = subst (λ ys. CanCollectPart c then_of (image_view c ys)) (sym all_loaded) (fit test)
+    pub can_collect : fits_with config (LoadWord index extent) phase before got → CanCollectPart config then_of (image_view config (part_in config then_of (set xs index got)))
+    can_collect fit = subst (λ ys. CanCollectPart config then_of (image_view config ys)) (sym all_loaded) (fit test)
 
-    module _ (starts new : List ℕ) (made : image_shown c then_of starts new ≡ change c (part_in c then_of (set xs index got))) where
-      made_of_all : image_shown c then_of starts new ≡ change c (loaded_all c before got)
-      made_of_all = made ∙ ap (change c) all_loaded
+    module _ (starts new : List ℕ) (made : image_shown config then_of starts new ≡ change config (part_in config then_of (set xs index got))) where
+      made_of_all : image_shown config then_of starts new ≡ change config (loaded_all config before got)
+      made_of_all = made ∙ ap (change config) all_loaded
 
-      pub image_made : words_seen c (after_load c then_of index) starts new ≡ next_image change c (LoadWord index extent) before phase got
+      pub image_made : words_seen config (after_load config then_of index) starts new ≡ next_image change config (LoadWord index extent) before phase got
       image_made =
-          ap (λ spot. words_seen c spot starts new) (cond-false more (LoadWord next then_of) (StoreWord 0 then_of) test) ∙ made_of_all
-          ∙ sym (cond-false more (loaded_on next before got) (change c (loaded_all c before got)) test)
+          ap (λ spot. words_seen config spot starts new) (cond-false more (LoadWord next then_of) (StoreWord 0 then_of) test) ∙ made_of_all
+          ∙ sym (cond-false more (loaded_on next before got) (change config (loaded_all config before got)) test)
 
       -- the words of a cycle
       abbrev then_made : Word → ℕ
-      then_made = image_view c (change c (loaded_all c before got))
+      then_made = image_view config (change config (loaded_all config before got))
 
-      phase_is : image_view c new Phase ≡ then_made Phase
-      phase_is = sym (first_reads c then_of starts new Phase tt refl (omega arith)) ∙ ap (λ ys. image_view c ys Phase) made_of_all
+      phase_is : image_view config new Phase ≡ then_made Phase
+      phase_is = sym (first_reads config then_of starts new Phase tt refl (omega arith)) ∙ ap (λ ys. image_view config ys Phase) made_of_all
 
-      cset_is : image_view c new Cset ≡ then_made Cset
-      cset_is = sym (first_reads c then_of starts new Cset tt refl (omega arith)) ∙ ap (λ ys. image_view c ys Cset) made_of_all
+      cset_is : image_view config new Cset ≡ then_made Cset
+      cset_is = sym (first_reads config then_of starts new Cset tt refl (omega arith)) ∙ ap (λ ys. image_view config ys Cset) made_of_all
 
-      free_is : image_view c new Free ≡ then_made Free
-      free_is = sym (first_reads c then_of starts new Free tt refl (omega arith)) ∙ ap (λ ys. image_view c ys Free) made_of_all
+      free_is : image_view config new Free ≡ then_made Free
+      free_is = sym (first_reads config then_of starts new Free tt refl (omega arith)) ∙ ap (λ ys. image_view config ys Free) made_of_all
 
-      pub phase_made : image_view c new Phase ≡ next_phase change c (LoadWord index extent) before phase got
+      pub phase_made : image_view config new Phase ≡ next_phase change config (LoadWord index extent) before phase got
       phase_made = phase_is ∙ sym (cond-false more phase (then_made Phase) test)
 
-      pub cset_made : (cset : ℕ) → image_view c new Cset ≡ next_set change c (LoadWord index extent) before cset phase got
+      pub cset_made : (cset : ℕ) → image_view config new Cset ≡ next_set change config (LoadWord index extent) before cset phase got
       cset_made cset = cset_is ∙ sym (cond-false more cset (then_made Cset) test)
 
-      pub seen_made : (seen : ℕ) → seen_after seen (image_view c new) ≡ next_seen change c (LoadWord index extent) before seen phase got
+      pub seen_made : (seen : ℕ) → seen_after seen (image_view config new) ≡ next_seen change config (LoadWord index extent) before seen phase got
       seen_made seen =
-          ap (λ n. if n == 0 then image_view c new Free else seen) phase_is ∙ ap (λ n. if then_made Phase == 0 then n else seen) free_is
+          ap (λ n. if n == 0 then image_view config new Free else seen) phase_is ∙ ap (λ n. if then_made Phase == 0 then n else seen) free_is
           ∙ sym (cond-false more seen (seen_after seen then_made) test)

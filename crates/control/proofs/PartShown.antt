@@ -17,7 +17,7 @@ use Rattle.cycle_pauses.proofs.Brief.Indices.{image_reads}
 use Rattle.control.specs.Image.{shown_by, part_in, is_seen, image_shown}
 
 -- 0 is so whether a word is shown or not
-pub either_zero : (b : Bool) (n : ℕ) → n ≡ 0 → (if b then n else 0) ≡ 0
+pub either_zero : (holds : Bool) (n : ℕ) → n ≡ 0 → (if holds then n else 0) ≡ 0
 either_zero true n none = none
 either_zero false n none = refl
 
@@ -25,76 +25,76 @@ module _ (test : ℕ → Bool) (image : List ℕ) where
   shown_long : length (shown_by test image) ≡ length image
   shown_long = length-map-range_with_len (λ k. if test k then slice_index image k else 0) 0 (length image)
 
-  shown_reads : (k : ℕ) → slice_index (shown_by test image) k ≡ (if test k then slice_index image k else 0)
-  shown_reads k = ⊎_elim
-      (λ (less : k < length image). get_or-map-range_with_len (λ i. if test i then slice_index image i else 0) 0 (length image) k k 0 less (omega arith))
-      (λ (past : length image ≤ k).
-      get_or_past (shown_by test image) k 0 (let long = shown_long in omega (arith, long, past)) ∙ sym (either_zero (test k) (slice_index image k) (get_or_past image k 0 past)))
-      (cases_lt k (length image))
+  shown_reads : (index : ℕ) → slice_index (shown_by test image) index ≡ (if test index then slice_index image index else 0)
+  shown_reads index = ⊎_elim
+      (λ (less : index < length image). get_or-map-range_with_len (λ i. if test i then slice_index image i else 0) 0 (length image) index index 0 less (omega arith))
+      (λ (past : length image ≤ index).
+      get_or_past (shown_by test image) index 0 (let long = shown_long in omega (arith, long, past)) ∙ sym (either_zero (test index) (slice_index image index) (get_or_past image index 0 past)))
+      (cases_lt index (length image))
 
-pub part_long : (c : Config) (extent : Extent) (image : List ℕ) → length (part_in c extent image) ≡ length image
-part_long c Whole image = refl
-part_long c OffHeap image = shown_long (is_of_extent c OffHeap) image
-part_long c Ahead image = shown_long (is_of_extent c Ahead) image
+pub part_long : (config : Config) (extent : Extent) (image : List ℕ) → length (part_in config extent image) ≡ length image
+part_long config Whole image = refl
+part_long config OffHeap image = shown_long (is_of_extent config OffHeap) image
+part_long config Ahead image = shown_long (is_of_extent config Ahead) image
 
-pub part_reads : (c : Config) (extent : Extent) (image : List ℕ) (k : ℕ) → slice_index (part_in c extent image) k ≡ (if is_of_extent c extent k then slice_index image k else 0)
-part_reads c Whole image k = refl
-part_reads c OffHeap image k = shown_reads (is_of_extent c OffHeap) image k
-part_reads c Ahead image k = shown_reads (is_of_extent c Ahead) image k
+pub part_reads : (config : Config) (extent : Extent) (image : List ℕ) (index : ℕ) → slice_index (part_in config extent image) index ≡ (if is_of_extent config extent index then slice_index image index else 0)
+part_reads config Whole image index = refl
+part_reads config OffHeap image index = shown_reads (is_of_extent config OffHeap) image index
+part_reads config Ahead image index = shown_reads (is_of_extent config Ahead) image index
 
-pub made_long : (c : Config) (extent : Extent) (starts image : List ℕ) → length (image_shown c extent starts image) ≡ length image
-made_long c Whole starts image = refl
-made_long c OffHeap starts image = shown_long (is_seen c OffHeap starts) image
-made_long c Ahead starts image = shown_long (is_seen c Ahead starts) image
+pub made_long : (config : Config) (extent : Extent) (starts image : List ℕ) → length (image_shown config extent starts image) ≡ length image
+made_long config Whole starts image = refl
+made_long config OffHeap starts image = shown_long (is_seen config OffHeap starts) image
+made_long config Ahead starts image = shown_long (is_seen config Ahead starts) image
 
-pub made_reads : (c : Config) (extent : Extent) (starts image : List ℕ) (k : ℕ) → slice_index (image_shown c extent starts image) k ≡ (if is_seen c extent starts k then slice_index image k else 0)
-made_reads c Whole starts image k = refl
-made_reads c OffHeap starts image k = shown_reads (is_seen c OffHeap starts) image k
-made_reads c Ahead starts image k = shown_reads (is_seen c Ahead starts) image k
+pub made_reads : (config : Config) (extent : Extent) (starts image : List ℕ) (index : ℕ) → slice_index (image_shown config extent starts image) index ≡ (if is_seen config extent starts index then slice_index image index else 0)
+made_reads config Whole starts image index = refl
+made_reads config OffHeap starts image index = shown_reads (is_seen config OffHeap starts) image index
+made_reads config Ahead starts image index = shown_reads (is_seen config Ahead starts) image index
 
 -- a word that is seen reads as in the image
-pub seen_reads : (c : Config) (extent : Extent) (starts image : List ℕ) (k : ℕ) → is_seen c extent starts k ≡ true → slice_index (image_shown c extent starts image) k ≡ slice_index image k
-seen_reads c extent starts image k seen = made_reads c extent starts image k ∙ cond-true (is_seen c extent starts k) (slice_index image k) 0 seen
+pub seen_reads : (config : Config) (extent : Extent) (starts image : List ℕ) (index : ℕ) → is_seen config extent starts index ≡ true → slice_index (image_shown config extent starts image) index ≡ slice_index image index
+seen_reads config extent starts image index seen = made_reads config extent starts image index ∙ cond-true (is_seen config extent starts index) (slice_index image index) 0 seen
 
 -- so do the first words, which stand for a cycle
-pub first_reads : (c : Config) (extent : Extent) (starts image : List ℕ) (w : Word) → IsWord c w → is_image w ≡ true → word_at c w < image_start c + 7
-    → image_view c (image_shown c extent starts image) w ≡ image_view c image w
-first_reads c extent starts image w is in_image few =
-    let k : ℕ = word_at c w - image_start c in
-    image_reads c (image_shown c extent starts image) w is in_image
-    ∙ seen_reads c extent starts image k (or_left (is_of_extent c extent k) (has starts k) (early c extent k (omega (arith, few))))
-    ∙ sym (image_reads c image w is in_image)
+pub first_reads : (config : Config) (extent : Extent) (starts image : List ℕ) (word : Word) → IsWord config word → is_image word ≡ true → word_at config word < image_start config + 7
+    → image_view config (image_shown config extent starts image) word ≡ image_view config image word
+first_reads config extent starts image word is in_image few =
+    let k : ℕ = word_at config word - image_start config in
+    image_reads config (image_shown config extent starts image) word is in_image
+    ∙ seen_reads config extent starts image k (or_left (is_of_extent config extent k) (has starts k) (early config extent k (omega (arith, few))))
+    ∙ sym (image_reads config image word is in_image)
 
 -- What has been loaded up to a word, with one more word, is what has been loaded up to the next one: all between are left out.
-module _ (c : Config) (extent : Extent) (phase index got : ℕ) (xs : List ℕ) (below : index < length xs) (own : is_of_extent c extent index ≡ true) where
+module _ (config : Config) (extent : Extent) (phase index got : ℕ) (xs : List ℕ) (below : index < length xs) (own : is_of_extent config extent index ≡ true) where
   abbrev then_of : Extent
   then_of = extent_after phase index extent got
 
   -- the extent then has the words before as the one before it
-  same_before : (k : ℕ) → k < index → is_of_extent c then_of k ≡ is_of_extent c extent k
+  same_before : (k : ℕ) → k < index → is_of_extent config then_of k ≡ is_of_extent config extent k
   same_before k less = ⊎_elim
-      (λ (few : index < 6). early c then_of k (omega (arith, less, few)) ∙ sym (early c extent k (omega (arith, less, few))))
-      (λ (late : 6 ≤ index). ap (λ e. is_of_extent c e k) (changes_early phase index extent got late))
+      (λ (few : index < 6). early config then_of k (omega (arith, less, few)) ∙ sym (early config extent k (omega (arith, less, few))))
+      (λ (late : 6 ≤ index). ap (λ e. is_of_extent config e k) (changes_early phase index extent got late))
       (cases_lt index 6)
 
-  own_then : is_of_extent c then_of index ≡ true
+  own_then : is_of_extent config then_of index ≡ true
   own_then = ⊎_elim
-      (λ (few : index < 6). early c then_of index (omega (arith, few)))
-      (λ (late : 6 ≤ index). ap (λ e. is_of_extent c e index) (changes_early phase index extent got late) ∙ own)
+      (λ (few : index < 6). early config then_of index (omega (arith, few)))
+      (λ (late : 6 ≤ index). ap (λ e. is_of_extent config e index) (changes_early phase index extent got late) ∙ own)
       (cases_lt index 6)
 
   abbrev before : List ℕ
-  before = take index (part_in c extent xs)
+  before = take index (part_in config extent xs)
 
   before_long : length before ≡ index
-  before_long = (let taken = length-take index (part_in c extent xs) in let all = part_long c extent xs in omega (arith, taken, all, below))
+  before_long = (let taken = length-take index (part_in config extent xs) in let all = part_long config extent xs in omega (arith, taken, all, below))
 
-  module _ (upto : ℕ) (more : index < upto) (within : upto ≤ length xs) (between : (k : ℕ) → index < k → k < upto → is_of_extent c then_of k ≡ false) where
+  module _ (upto : ℕ) (more : index < upto) (within : upto ≤ length xs) (between : (k : ℕ) → index < k → k < upto → is_of_extent config then_of k ≡ false) where
     abbrev after : List ℕ
-    after = part_in c then_of (set xs index got)
+    after = part_in config then_of (set xs index got)
 
     after_long : length after ≡ length xs
-    after_long = part_long c then_of (set xs index got) ∙ length-set xs index got
+    after_long = part_long config then_of (set xs index got) ∙ length-set xs index got
 
     pushed_long : length (before ++ got ∷ []) ≡ index + 1
     pushed_long = length_push before got ∙ ap (λ n. n + 1) before_long
@@ -102,18 +102,18 @@ module _ (c : Config) (extent : Extent) (phase index got : ℕ) (xs : List ℕ) 
     reads : (k : ℕ) → k < upto → slice_index after k ≡ slice_index (before ++ got ∷ []) k
     reads k less = ⊎_elim
         (λ (lower : k < index).
-        part_reads c then_of (set xs index got) k
+        part_reads config then_of (set xs index got) k
         ∙ ap (λ b. if b then slice_index (set xs index got) k else 0) (same_before k lower)
-        ∙ ap (λ n. if is_of_extent c extent k then n else 0) (get_or-set_other xs index k got 0 (omega (arith, lower)))
-        ∙ sym (get_or_append_left before (got ∷ []) 0 k (let long = before_long in omega (arith, long, lower)) ∙ get_or-take index (part_in c extent xs) k 0 lower ∙ part_reads c extent xs k))
+        ∙ ap (λ n. if is_of_extent config extent k then n else 0) (get_or-set_other xs index k got 0 (omega (arith, lower)))
+        ∙ sym (get_or_append_left before (got ∷ []) 0 k (let long = before_long in omega (arith, long, lower)) ∙ get_or-take index (part_in config extent xs) k 0 lower ∙ part_reads config extent xs k))
         (λ (from : index ≤ k). ⊎_elim
         (λ (same : k ≡ index).
         subst (λ i. slice_index after i ≡ slice_index (before ++ got ∷ []) i) (sym same)
-        (part_reads c then_of (set xs index got) index ∙ cond-true (is_of_extent c then_of index) (slice_index (set xs index got) index) 0 own_then
+        (part_reads config then_of (set xs index got) index ∙ cond-true (is_of_extent config then_of index) (slice_index (set xs index got) index) 0 own_then
         ∙ get_or-set_same xs index got 0 below ∙ sym (get_or_push before got 0 index before_long)))
         (λ (other : k ≢ index).
-        part_reads c then_of (set xs index got) k
-        ∙ cond-false (is_of_extent c then_of k) (slice_index (set xs index got) k) 0 (between k (omega (arith, from, other)) less)
+        part_reads config then_of (set xs index got) k
+        ∙ cond-false (is_of_extent config then_of k) (slice_index (set xs index got) k) 0 (between k (omega (arith, from, other)) less)
         ∙ sym (get_or_past (before ++ got ∷ []) k 0 (let long = pushed_long in omega (arith, long, from, other))))
         (cases_eq k index))
         (cases_lt k index)

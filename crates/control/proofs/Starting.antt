@@ -17,55 +17,55 @@ use Rattle.cycle_pauses.proofs.Brief.Fills.{IsNoFirst}
 use Rattle.control.specs.Starts.{AreStarts, IsHeapIndex, AreHeapIndices}
 
 -- one more of them
-pub has_more : (starts : List ℕ) (i k : ℕ) → i < length starts → has (take (i + 1) starts) k ≡ (has (take i starts) k || nat_eq k (get_or starts i 0))
-has_more starts i k less = list_any_more (nat_eq k) starts i 0 less
+pub has_more : (starts : List ℕ) (index k : ℕ) → index < length starts → has (take (index + 1) starts) k ≡ (has (take index starts) k || nat_eq k (get_or starts index 0))
+has_more starts index k less = list_any_more (nat_eq k) starts index 0 less
 
 -- what is among them stands somewhere, and is of the heap
-pub place_of : (starts : List ℕ) (k : ℕ) → has starts k ≡ true → (i : ℕ) × (i < length starts) × (slice_index starts i ≡ k)
+pub place_of : (starts : List ℕ) (k : ℕ) → has starts k ≡ true → (index : ℕ) × (index < length starts) × (slice_index starts index ≡ k)
 place_of starts k among =
     let at = Any-from_list_any (nat_eq k) starts among in
     (at.0, at.2, get_or_default starts at.0 0 at.1 at.2 ∙ at.3 ∙ sym (eqb-true k at.1 at.4))
 
-pub start_in_heap : (c : Config) (starts : List ℕ) → AreHeapIndices c starts → (k : ℕ) → has starts k ≡ true → IsHeapIndex c k
-start_in_heap c starts are k among = let at = place_of starts k among in subst (IsHeapIndex c) at.2 (are at.0 at.1)
+pub start_in_heap : (config : Config) (starts : List ℕ) → AreHeapIndices config starts → (k : ℕ) → has starts k ≡ true → IsHeapIndex config k
+start_in_heap config starts are k among = let at = place_of starts k among in subst (IsHeapIndex config) at.2 (are at.0 at.1)
 
 -- So none of an extent is among them, if that has no word of the heap.
-heap_is_off : (c : Config) (extent : Extent) → extent ≢ Whole → (k : ℕ) → IsHeapIndex c k → is_of_extent c extent k ≡ false
-heap_is_off c Whole part k of = absurd (part refl)
-heap_is_off c OffHeap part k of = off_within (heap_index c) (heap_size c) k of.0 of.1
-heap_is_off c Ahead part k of = le-ltb k (roots_index c) (let from = of.0 in omega (arith, from))
+heap_is_off : (config : Config) (extent : Extent) → extent ≢ Whole → (k : ℕ) → IsHeapIndex config k → is_of_extent config extent k ≡ false
+heap_is_off config Whole part k of = absurd (part refl)
+heap_is_off config OffHeap part k of = off_within (heap_index config) (heap_size config) k of.0 of.1
+heap_is_off config Ahead part k of = le-ltb k (roots_index config) (let from = of.0 in omega (arith, from))
 
-pub none_is_of : (c : Config) (extent : Extent) → extent ≢ Whole → (starts : List ℕ) → AreHeapIndices c starts → (k : ℕ) → is_of_extent c extent k ≡ true → has starts k ≡ false
-none_is_of c extent part starts are k of =
-    false_from_ne_true (has starts k) (λ among. false≢true (sym (heap_is_off c extent part k (start_in_heap c starts are k among)) ∙ of))
+pub none_is_of : (config : Config) (extent : Extent) → extent ≢ Whole → (starts : List ℕ) → AreHeapIndices config starts → (k : ℕ) → is_of_extent config extent k ≡ true → has starts k ≡ false
+none_is_of config extent part starts are k of =
+    false_from_ne_true (has starts k) (λ among. false≢true (sym (heap_is_off config extent part k (start_in_heap config starts are k among)) ∙ of))
 
 -- Where an index is not among them, no buffer's free words begin at its word.
-pub none_begins : (c : Config) (m : Word → ℕ) (starts : List ℕ) → AreStarts c m starts → (k : ℕ) → has starts k ≡ false
-    → (w : Word) → word_at c w - image_start c ≡ k → IsNoFirst c m w
-none_begins c m starts are k none (Heap a) at = λ seat below begins.
-    let mutators = c.in_range.most_mutators in
-    let helpers = c.in_range.most_helpers in
+pub none_begins : (config : Config) (memory : Word → ℕ) (starts : List ℕ) → AreStarts config memory starts → (k : ℕ) → has starts k ≡ false
+    → (word : Word) → word_at config word - image_start config ≡ k → IsNoFirst config memory word
+none_begins config memory starts are k none (Heap a) at = λ seat below begins.
+    let mutators = config.in_range.most_mutators in
+    let helpers = config.in_range.most_helpers in
     let here : slice_index starts seat ≡ k =
-    are.of_seat seat below ∙ cond-true (nat_lt (next_in (m (Current seat))) (end_in (m (Current seat)))) (word_at c (Heap (next_in (m (Current seat)))) - image_start c) (heap_index c) (lt-ltb _ _ begins.0)
-    ∙ ap (λ b. word_at c (Heap b) - image_start c) begins.1 ∙ at in
+    are.of_seat seat below ∙ cond-true (nat_lt (next_in (memory (Current seat))) (end_in (memory (Current seat)))) (word_at config (Heap (next_in (memory (Current seat)))) - image_start config) (heap_index config) (lt-ltb _ _ begins.0)
+    ∙ ap (λ b. word_at config (Heap b) - image_start config) begins.1 ∙ at in
     false≢true (sym none ∙ list_any_at (nat_eq k) starts seat 0 (let long = are.long in omega (arith, long, mutators, helpers, below)) (eq-eqb k (slice_index starts seat) (sym here)))
-none_begins c m starts are k none _ at = tt
+none_begins config memory starts are k none _ at = tt
 
 -- where the words of the heap begin there is one
-pub first_of_heap : (c : Config) → IsHeapIndex c (heap_index c)
-first_of_heap c =
-    let regions : 0 < c.regions = (let least = c.in_range.least_regions in omega (arith, least)) in
-    let words : 0 < c.region_words = (let least = c.in_range.least_words in omega (arith, least)) in
-    let some : 0 < c.regions * c.region_words = mul-pos regions words in
+pub first_of_heap : (config : Config) → IsHeapIndex config (heap_index config)
+first_of_heap config =
+    let regions : 0 < config.regions = (let least = config.in_range.least_regions in omega (arith, least)) in
+    let words : 0 < config.region_words = (let least = config.in_range.least_words in omega (arith, least)) in
+    let some : 0 < config.regions * config.region_words = mul-pos regions words in
     (omega arith, omega (arith, some))
 
 -- once that of one more seat was found
-module _ (c : Config) (starts : List ℕ) (seat start : ℕ) (of : IsHeapIndex c start) (are : AreHeapIndices c starts) where
-  pub one_more_of_heap : AreHeapIndices c (set starts seat start)
+module _ (config : Config) (starts : List ℕ) (seat start : ℕ) (of : IsHeapIndex config start) (are : AreHeapIndices config starts) where
+  pub one_more_of_heap : AreHeapIndices config (set starts seat start)
   one_more_of_heap i less =
       let below : i < length starts = (let long = length-set starts seat start in omega (arith, long, less)) in
       ⊎_elim
-      (λ (same : i ≡ seat). subst (λ j. IsHeapIndex c (slice_index (set starts seat start) j)) (sym same)
-      (subst (IsHeapIndex c) (sym (get_or-set_same starts seat start 0 (omega (arith, below, same)))) of))
-      (λ (other : i ≢ seat). subst (IsHeapIndex c) (sym (get_or-set_other starts seat i start 0 other)) (are i below))
+      (λ (same : i ≡ seat). subst (λ j. IsHeapIndex config (slice_index (set starts seat start) j)) (sym same)
+      (subst (IsHeapIndex config) (sym (get_or-set_same starts seat start 0 (omega (arith, below, same)))) of))
+      (λ (other : i ≢ seat). subst (IsHeapIndex config) (sym (get_or-set_other starts seat i start 0 other)) (are i below))
       (cases_eq i seat)

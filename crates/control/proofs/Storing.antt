@@ -15,25 +15,25 @@ use Rattle.control.specs.Image.{is_seen, image_shown}
 use Rattle.control.proofs.PartShown.{either_zero, made_reads, seen_reads}
 use Rattle.control.proofs.Starting.{has_more}
 
-module _ (c : Config) (extent : Extent) (starts xs : List ℕ) (index : ℕ) where
+module _ (config : Config) (extent : Extent) (starts xs : List ℕ) (index : ℕ) where
   abbrev made : List ℕ
-  made = image_shown c extent starts xs
+  made = image_shown config extent starts xs
 
   -- the least index so far: it lies behind the one, and its word counts; so many of the others were looked at, and of those between none has another word
   -- than 0
   pub record IsLeast (number next : ℕ) : Type 0 where
     pub above : index < next
-    pub most : next ≤ next_loaded c extent index
-    pub here : next < image_words c → counts c extent made next ≡ true
+    pub most : next ≤ next_loaded config extent index
+    pub here : next < image_words config → counts config extent made next ≡ true
     pub passed : (k : ℕ) → has (take number starts) k ≡ true → index < k → k < next → slice_index xs k ≡ 0
 
-  pub least_first : index < image_words c → IsLeast 0 (next_loaded c extent index)
+  pub least_first : index < image_words config → IsLeast 0 (next_loaded config extent index)
   least_first less =
-      let is = next_is c extent index less in
+      let is = next_is config extent index less in
       record {
         above = is.above;
         most = omega arith;
-        here = λ there. or_left (is_of_extent c extent (next_loaded c extent index)) (not (slice_index made (next_loaded c extent index) == 0)) (is.here there);
+        here = λ there. or_left (is_of_extent config extent (next_loaded config extent index)) (not (slice_index made (next_loaded config extent index) == 0)) (is.here there);
         passed = λ k among more below. absurd (false≢true among);
       }
 
@@ -61,12 +61,12 @@ module _ (c : Config) (extent : Extent) (starts xs : List ℕ) (index : ℕ) whe
 
     taken : index < start → start < next → slice_index xs start ≢ 0 → IsLeast (number + 1) start
     taken behind ahead counted =
-        let seen : is_seen c extent starts start ≡ true = or_right (is_of_extent c extent start) (has starts start) (list_any_at (nat_eq start) starts number 0 some (eq-eqb start start refl)) in
-        let differs : (slice_index made start == 0) ≡ false = ne_eqb (slice_index made start) 0 (λ none. counted (sym (seen_reads c extent starts xs start seen) ∙ none)) in
+        let seen : is_seen config extent starts start ≡ true = or_right (is_of_extent config extent start) (has starts start) (list_any_at (nat_eq start) starts number 0 some (eq-eqb start start refl)) in
+        let differs : (slice_index made start == 0) ≡ false = ne_eqb (slice_index made start) 0 (λ none. counted (sym (seen_reads config extent starts xs start seen) ∙ none)) in
         record {
           above = behind;
           most = (let most = least.most in omega (arith, most, ahead));
-          here = λ there. or_right (is_of_extent c extent start) (not (slice_index made start == 0)) (not_from_false (slice_index made start == 0) differs);
+          here = λ there. or_right (is_of_extent config extent start) (not (slice_index made start == 0)) (not_from_false (slice_index made start == 0) differs);
           passed = λ k among more below. ⊎_elim
               (λ (before : has (take number starts) k ≡ true). least.passed k before more (omega (arith, below, ahead)))
               (λ (same : k ≡ start). absurd (omega (arith, below, same)))
@@ -91,22 +91,22 @@ module _ (c : Config) (extent : Extent) (starts xs : List ℕ) (index : ℕ) whe
         stays none = subst (IsLeast (number + 1)) (sym (keeps none)) (kept none)
 
   -- so it is the one that is stored next, once all were looked at
-  pub least_is_next : (number next : ℕ) → length starts ≤ number → index < image_words c → IsLeast number next → next ≡ next_stored c extent made index
+  pub least_is_next : (number next : ℕ) → length starts ≤ number → index < image_words config → IsLeast number next → next ≡ next_stored config extent made index
   least_is_next number next all less least =
-      let first = next_is c extent index less in
-      stored_next_one c extent made index next (next_stored c extent made index)
+      let first = next_is config extent index less in
+      stored_next_one config extent made index next (next_stored config extent made index)
       (record {
         above = least.above;
         most = (let most = least.most in let to = first.most in omega (arith, most, to));
         between = λ k more below.
-            let out : is_of_extent c extent k ≡ false = first.between k more (let most = least.most in omega (arith, most, below)) in
-            or_from (is_of_extent c extent k) (not (slice_index made k == 0)) out (not_from_true (slice_index made k == 0) (eq-eqb (slice_index made k) 0 (made_reads c extent starts xs k ∙ unseen k more below out)));
+            let out : is_of_extent config extent k ≡ false = first.between k more (let most = least.most in omega (arith, most, below)) in
+            or_from (is_of_extent config extent k) (not (slice_index made k == 0)) out (not_from_true (slice_index made k == 0) (eq-eqb (slice_index made k) 0 (made_reads config extent starts xs k ∙ unseen k more below out)));
         here = least.here;
       })
-      (stored_next_is c extent made index less)
+      (stored_next_is config extent made index less)
     where
-      unseen : (k : ℕ) → index < k → k < next → is_of_extent c extent k ≡ false → (if is_seen c extent starts k then slice_index xs k else 0) ≡ 0
+      unseen : (k : ℕ) → index < k → k < next → is_of_extent config extent k ≡ false → (if is_seen config extent starts k then slice_index xs k else 0) ≡ 0
       unseen k more below out = ⊎_elim
-          (λ (among : has starts k ≡ true). either_zero (is_seen c extent starts k) (slice_index xs k) (least.passed k (ap (λ ys. has ys k) (take_all number starts all) ∙ among) more below))
-          (λ (none : has starts k ≡ false). cond-false (is_seen c extent starts k) (slice_index xs k) 0 (or_from (is_of_extent c extent k) (has starts k) out none))
+          (λ (among : has starts k ≡ true). either_zero (is_seen config extent starts k) (slice_index xs k) (least.passed k (ap (λ ys. has ys k) (take_all number starts all) ∙ among) more below))
+          (λ (none : has starts k ≡ false). cond-false (is_seen config extent starts k) (slice_index xs k) 0 (or_from (is_of_extent config extent k) (has starts k) out none))
           (cases_Bool (has starts k))

@@ -17,32 +17,32 @@ use Rattle.cycle_pauses.specs.Collect.{is_room_needed, CanPauseSome}
 
 -- The words off the heap are those of a heap in which marking can begin: no room is needed and no cycle runs; roots, answers and
 -- pin slots hold addresses of the heap, and buffers lie in its regions.
-pub record CanBeginOff (c : Config) (memory : Word → ℕ) : Type 0 where
+pub record CanBeginOff (config : Config) (memory : Word → ℕ) : Type 0 where
   pub calm : is_room_needed memory ≡ false
   pub idle : memory Phase ≡ idle_phase
-  pub roots : HasRootsInside c memory
-  pub buffers : AreInside c memory
+  pub roots : HasRootsInside config memory
+  pub buffers : AreInside config memory
 
 -- The words before those of the mutators are those of a heap in which updating can begin or end: no room is needed, and objects are
 -- not marked; buffers lie in its regions.
-pub record CanUpdateAhead (c : Config) (memory : Word → ℕ) : Type 0 where
+pub record CanUpdateAhead (config : Config) (memory : Word → ℕ) : Type 0 where
   pub calm : is_room_needed memory ≡ false
   pub runs : memory Phase ≢ idle_phase
   pub unmarked : memory Phase ≢ marking_phase
-  pub buffers : AreInside c memory
+  pub buffers : AreInside config memory
 
 -- what a pause needs of the words that it has loaded, by its extent
 abbrev pub CanCollectPart : Config → Extent → (Word → ℕ) → Type 0
-CanCollectPart c Whole memory = CanPauseSome c memory
-CanCollectPart c OffHeap memory = CanBeginOff c memory
-CanCollectPart c Ahead memory = CanUpdateAhead c memory
+CanCollectPart config Whole memory = CanPauseSome config memory
+CanCollectPart config OffHeap memory = CanBeginOff config memory
+CanCollectPart config Ahead memory = CanUpdateAhead config memory
 
 -- In a unit those from which the unit can; the last word of the image that is loaded, where a pause can collect what was loaded; and
 -- else each word.
 abbrev pub fits_with : Config → ControlSpot → (phase : ℕ) → List ℕ → ℕ → Type 0
-fits_with c (LoadWord index extent) phase image got =
-    loads_more c phase index extent got ≡ false → CanCollectPart c (extent_after phase index extent got) (image_view c (loaded_all c image got))
-fits_with c spot phase image got = UnitGoesOn c spot got
+fits_with config (LoadWord index extent) phase image got =
+    loads_more config phase index extent got ≡ false → CanCollectPart config (extent_after phase index extent got) (image_view config (loaded_all config image got))
+fits_with config spot phase image got = UnitGoesOn config spot got
 
 abbrev pub IsFit : Config → Controlling → ℕ → Type 0
-IsFit c k got = fits_with c k.spot k.phase k.image got
+IsFit config control got = fits_with config control.spot control.phase control.image got

@@ -15,7 +15,7 @@ use Rattle.collector_rows.specs.declared.control_spot.ControlSpot.TheVariants.{L
 
 -- the words of the image, without those before it
 abbrev pub image_in : Image → List ℕ
-image_in i = drop (image_start (config_of i)) (words_of i)
+image_in image = drop (image_start (config_of image)) (words_of image)
 
 -- the words of a list whose indices pass a test, and 0 for each other one
 abbrev pub shown_by : (ℕ → Bool) → List ℕ → List ℕ
@@ -23,33 +23,33 @@ shown_by test image = map (λ k. if test k then slice_index image k else 0) (ran
 
 -- of an image the words of an extent. What it has at other indices does not matter
 abbrev pub part_in : Config → Extent → List ℕ → List ℕ
-part_in c Whole image = image
-part_in c extent image = shown_by (is_of_extent c extent) image
+part_in config Whole image = image
+part_in config extent image = shown_by (is_of_extent config extent) image
 
 -- a word of the new image is seen: it is of the extent, or the free words of a buffer began there
 abbrev pub is_seen : Config → Extent → (starts : List ℕ) → ℕ → Bool
-is_seen c extent starts k = is_of_extent c extent k || has starts k
+is_seen config extent starts k = is_of_extent config extent k || has starts k
 
 -- the words of the new image
 abbrev pub image_shown : Config → Extent → (starts image : List ℕ) → List ℕ
-image_shown c Whole starts image = image
-image_shown c extent starts image = shown_by (is_seen c extent starts) image
+image_shown config Whole starts image = image
+image_shown config extent starts image = shown_by (is_seen config extent starts) image
 
 -- those of the image that have been loaded, or that are stored; outside pauses none
 abbrev pub words_seen : Config → ControlSpot → (starts image : List ℕ) → List ℕ
-words_seen c (LoadWord index extent) starts image = take index (part_in c extent image)
-words_seen c (StoreWord index extent) starts image = image_shown c extent starts image
-words_seen c _ starts image = []
+words_seen config (LoadWord index extent) starts image = take index (part_in config extent image)
+words_seen config (StoreWord index extent) starts image = image_shown config extent starts image
+words_seen config _ starts image = []
 
 -- whether the word that is loaded is of the extent, or the one that is stored is seen
 abbrev pub sees_own : Config → ControlSpot → (starts : List ℕ) → Bool
-sees_own c (LoadWord index extent) starts = is_of_extent c extent index
-sees_own c (StoreWord index extent) starts = is_seen c extent starts index
-sees_own c _ starts = true
+sees_own config (LoadWord index extent) starts = is_of_extent config extent index
+sees_own config (StoreWord index extent) starts = is_seen config extent starts index
+sees_own config _ starts = true
 
 -- it is
 abbrev pub SeesOwn : Config → ControlSpot → (starts : List ℕ) → Type 0
-SeesOwn c spot starts = sees_own c spot starts ≡ true
+SeesOwn config spot starts = sees_own config spot starts ≡ true
 
 -- whether it stores words of a new image
 abbrev pub is_storing : ControlSpot → Bool
@@ -58,25 +58,25 @@ is_storing _ = false
 
 -- whether its next step goes from a word of the image to the next one, in a pause of all of the image
 abbrev pub is_inside_image : Config → ControlSpot → Bool
-is_inside_image c (LoadWord index Whole) = nat_lt (index + 1) (image_words c)
-is_inside_image c (StoreWord index Whole) = nat_lt (index + 1) (image_words c)
-is_inside_image c _ = false
+is_inside_image config (LoadWord index Whole) = nat_lt (index + 1) (image_words config)
+is_inside_image config (StoreWord index Whole) = nat_lt (index + 1) (image_words config)
+is_inside_image config _ = false
 
 -- how many words it loads, or stores, before the last one in a pause of all of the image
 abbrev pub loads_left : Config → ControlSpot → ℕ
-loads_left c (LoadWord index Whole) = image_words c - (index + 1)
-loads_left c _ = 0
+loads_left config (LoadWord index Whole) = image_words config - (index + 1)
+loads_left config _ = 0
 
 abbrev pub stores_left : Config → ControlSpot → ℕ
-stores_left c (StoreWord index Whole) = image_words c - (index + 1)
-stores_left c _ = 0
+stores_left config (StoreWord index Whole) = image_words config - (index + 1)
+stores_left config _ = 0
 
 -- the words of the image in a table
 abbrev pub image_from : Config → List ℕ → List ℕ
-image_from c words = drop (image_start c) words
+image_from config words = drop (image_start config) words
 
 -- no other words than those of this table were loaded, and none are stored
 abbrev pub IsLoadedFrom : Config → List ℕ → ControlSpot → List ℕ → Type 0
-IsLoadedFrom c table (LoadWord index extent) image = image ≡ take index (part_in c extent table)
-IsLoadedFrom c table (StoreWord index extent) image = ⊥
-IsLoadedFrom c table _ image = Unit {0}
+IsLoadedFrom config table (LoadWord index extent) image = image ≡ take index (part_in config extent table)
+IsLoadedFrom config table (StoreWord index extent) image = ⊥
+IsLoadedFrom config table _ image = Unit {0}

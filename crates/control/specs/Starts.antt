@@ -8,17 +8,17 @@ use Rattle.collector_rows.specs.Extent.{heap_index}
 
 -- of a buffer, by its word; where it has no free words, where those of the heap begin
 abbrev pub start_index : Config → ℕ → ℕ
-start_index c word = if nat_lt (next_in word) (end_in word) then word_at c (Heap (next_in word)) - image_start c else heap_index c
+start_index config word = if nat_lt (next_in word) (end_in word) then word_at config (Heap (next_in word)) - image_start config else heap_index config
 
 -- of the buffer of each seat
-pub record AreStarts (c : Config) (memory : Word → ℕ) (starts : List ℕ) : Type 0 where
+pub record AreStarts (config : Config) (memory : Word → ℕ) (starts : List ℕ) : Type 0 where
   pub long : length starts ≡ 12
-  pub of_seat : (seat : ℕ) → seat < seat_count c.mutators c.helpers → slice_index starts seat ≡ start_index c (memory (Current seat))
+  pub of_seat : (seat : ℕ) → seat < seat_count config.mutators config.helpers → slice_index starts seat ≡ start_index config (memory (Current seat))
 
 -- an index is one of a word of the heap
 abbrev pub IsHeapIndex : Config → ℕ → Type 0
-IsHeapIndex c k = (heap_index c ≤ k) × (k < heap_index c + heap_size c)
+IsHeapIndex config k = (heap_index config ≤ k) × (k < heap_index config + heap_size config)
 
 -- each of them is
 abbrev pub AreHeapIndices : Config → List ℕ → Type 0
-AreHeapIndices c starts = (i : ℕ) → i < length starts → IsHeapIndex c (slice_index starts i)
+AreHeapIndices config starts = (index : ℕ) → index < length starts → IsHeapIndex config (slice_index starts index)

@@ -65,7 +65,7 @@ pub(crate) fn clear_starts(image: &mut Image, starts: &[usize])
     requires heap { AreHeapIndices (config_of image.old) starts.now }
     requires clear { IsClear image.old }
     ensures config { config_of image.new ≡ config_of image.old }
-    ensures image { (k : ℕ) → slice_index (image_in image.new) k ≡ (if has starts.now k then 0 else slice_index (image_in image.old) k) }
+    ensures image { (index : ℕ) → slice_index (image_in image.new) index ≡ (if has starts.now index then 0 else slice_index (image_in image.old) index) }
     ensures clear { IsClear image.new }
 {
     for number in 0..starts.len() {

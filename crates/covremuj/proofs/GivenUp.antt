@@ -25,7 +25,7 @@ use Rattle.covremuj.proofs.HeldLists.{none_held}
 
 -- ---- taken out
 
-hollow_has : (o : Option Seat) → is_some o ≡ false → seat_in o ≡ []
+hollow_has : (found : Option Seat) → is_some found ≡ false → seat_in found ≡ []
 hollow_has None is = refl
 hollow_has (Some s) is = absurd cc
 
@@ -33,7 +33,7 @@ hollow_has (Some s) is = absurd cc
 pub taken_next : (hs : List Handle) (at : ℕ) (d new : Handle) → at < length hs → new.held ≡ None → any_held (take at (seats_held hs)) ≡ false
     → seats_in (seats_held hs) ≡ seat_in (get_or hs at d).held ++ seats_in (seats_held (slice_set hs at new))
 taken_next [] at d new below empty none = absurd (omega (arith, below))
-taken_next (x ∷ xs) zero d new below empty none = ap (λ (o : Option Seat). seat_in x.held ++ (seat_in o ++ seats_in (seats_held xs))) (sym empty)
+taken_next (x ∷ xs) zero d new below empty none = ap (λ (found : Option Seat). seat_in x.held ++ (seat_in found ++ seats_in (seats_held xs))) (sym empty)
 taken_next (x ∷ xs) (suc at) d new below empty none =
     let two = none_held x.held (take at (seats_held xs)) none in
     let hollow : seat_in x.held ≡ [] = hollow_has x.held two.0 in
@@ -46,7 +46,7 @@ none_left (None ∷ os) none = none_left os none
 none_left (Some s ∷ os) none = absurd cc
 
 -- what a handle gave is what it held
-pub given_is_held : (o : Option (Box Seat)) (held : Option Seat) → MatchOption o (held ≡ None) (λ (b : Box Seat). held ≡ Some b.value) → option_map (λ (b : Box Seat). b.value) o ≡ held
+pub given_is_held : (found : Option (Box Seat)) (held : Option Seat) → MatchOption found (held ≡ None) (λ (b : Box Seat). held ≡ Some b.value) → option_map (λ (b : Box Seat). b.value) found ≡ held
 given_is_held None held is = sym is
 given_is_held (Some b) held is = sym is
 
@@ -56,16 +56,16 @@ same_some : {A : Type 0} (x y : A) → Some x ≡ Some y → x ≡ y
 same_some x y is = cc
 
 -- each seat shows it, at its place
-pub shown_each : (asked : Asked) (count place : ℕ) (os : List (Option Seat)) → all_show asked count place os ≡ true → (k : ℕ) (s : Seat) → slice_get (seats_in os) k ≡ Some s → seat_shows asked count (place + k) s ≡ true
-shown_each asked count place [] all k s there = absurd cc
-shown_each asked count place (None ∷ os) all k s there = absurd cc
-shown_each asked count place (Some t ∷ os) all zero s there =
+pub shown_each : (asked : Asked) (count place : ℕ) (os : List (Option Seat)) → all_show asked count place os ≡ true → (index : ℕ) (seat : Seat) → slice_get (seats_in os) index ≡ Some seat → seat_shows asked count (place + index) seat ≡ true
+shown_each asked count place [] all index seat there = absurd cc
+shown_each asked count place (None ∷ os) all index seat there = absurd cc
+shown_each asked count place (Some t ∷ os) all zero seat there =
     let first : place ≡ place + 0 = omega arith in
-    subst (λ n. seat_shows asked count n s ≡ true) first
-    (subst (λ x. seat_shows asked count place x ≡ true) (same_some t s there) (parts (seat_shows asked count place t) (all_show asked count (suc place) os) all).0)
-shown_each asked count place (Some t ∷ os) all (suc k) s there =
-    let next : suc place + k ≡ place + suc k = omega arith in
-    subst (λ n. seat_shows asked count n s ≡ true) next (shown_each asked count (suc place) os (parts (seat_shows asked count place t) (all_show asked count (suc place) os) all).1 k s there)
+    subst (λ n. seat_shows asked count n seat ≡ true) first
+    (subst (λ x. seat_shows asked count place x ≡ true) (same_some t seat there) (parts (seat_shows asked count place t) (all_show asked count (suc place) os) all).0)
+shown_each asked count place (Some t ∷ os) all (suc index) seat there =
+    let next : suc place + index ≡ place + suc index = omega arith in
+    subst (λ n. seat_shows asked count n seat ≡ true) next (shown_each asked count (suc place) os (parts (seat_shows asked count place t) (all_show asked count (suc place) os) all).1 index seat there)
 
 -- and there are as many as handles
 pub shown_count : (asked : Asked) (count place : ℕ) (os : List (Option Seat)) → all_show asked count place os ≡ true → length (seats_in os) ≡ length os
@@ -90,9 +90,9 @@ ended_is Free is = absurd cc
 ended_is AtWork is = absurd cc
 ended_is Ended is = refl
 
-either_second : (a b : Bool) → a ≡ false → (a || b) ≡ true → b ≡ true
-either_second true b no_first is = absurd cc
-either_second false b no_first is = is
+either_second : (holds other_holds : Bool) → holds ≡ false → (holds || other_holds) ≡ true → other_holds ≡ true
+either_second true other_holds no_first is = absurd cc
+either_second false other_holds no_first is = is
 
 kind_not : (mutator helper : Bool) → (mutator ≡ true) ⊎ (helper ≡ false) → ((if mutator then 1 else (if helper then 2 else 3)) == 2) ≡ false
 kind_not true helper is = refl
@@ -101,11 +101,11 @@ kind_not false true (inl is) = absurd cc
 kind_not false true (inr is) = absurd cc
 
 -- a mutator or the control that shows it is over has ended
-over_ended : (k : ℕ) (s : Seat) → number_of s ≡ k → (k < (config_of s).mutators) ⊎ (k ≡ control_number (config_of s)) → seat_shows Over 0 0 s ≡ true → state_in s ≡ Ended
-over_ended k s numbered role shown =
-    ended_is (state_in s) (either_second (kind_of s == 2) (state_number (state_in s) == 2) (kind_not (is_mutator s) (nat_lt (number_of s) ((config_of s).mutators + (config_of s).helpers)) (by_role role)) shown)
+over_ended : (k : ℕ) (seat : Seat) → number_of seat ≡ k → (k < (config_of seat).mutators) ⊎ (k ≡ control_number (config_of seat)) → seat_shows Over 0 0 seat ≡ true → state_in seat ≡ Ended
+over_ended k seat numbered role shown =
+    ended_is (state_in seat) (either_second (kind_of seat == 2) (state_number (state_in seat) == 2) (kind_not (is_mutator seat) (nat_lt (number_of seat) ((config_of seat).mutators + (config_of seat).helpers)) (by_role role)) shown)
   where
-    by_role : (k < (config_of s).mutators) ⊎ (k ≡ control_number (config_of s)) → (is_mutator s ≡ true) ⊎ (nat_lt (number_of s) ((config_of s).mutators + (config_of s).helpers) ≡ false)
+    by_role : (k < (config_of seat).mutators) ⊎ (k ≡ control_number (config_of seat)) → (is_mutator seat ≡ true) ⊎ (nat_lt (number_of seat) ((config_of seat).mutators + (config_of seat).helpers) ≡ false)
     by_role (inl below) = inl (grind (arith, nat_tests, below, numbered))
     by_role (inr control) = inr (grind (arith, nat_tests, control, numbered))
 
@@ -117,16 +117,16 @@ module _ (os : List (Option Seat)) (numbered_all : each_shows Numbered os ≡ tr
   pub many : length (seats_in os) ≡ length os
   many = shown_count Numbered (length os) 0 os numbered_all
 
-  numbered : (k : ℕ) (s : Seat) → slice_get (seats_in os) k ≡ Some s → ((number_of s == k) ≡ true) × ((seat_count (config_of s).mutators (config_of s).helpers == length os) ≡ true)
-  numbered k s there =
-      parts (number_of s == k) (seat_count (config_of s).mutators (config_of s).helpers == length os)
-      (subst (λ n. seat_shows Numbered (length os) n s ≡ true) (from_first k) (shown_each Numbered (length os) 0 os numbered_all k s there))
+  numbered : (index : ℕ) (seat : Seat) → slice_get (seats_in os) index ≡ Some seat → ((number_of seat == index) ≡ true) × ((seat_count (config_of seat).mutators (config_of seat).helpers == length os) ≡ true)
+  numbered index seat there =
+      parts (number_of seat == index) (seat_count (config_of seat).mutators (config_of seat).helpers == length os)
+      (subst (λ n. seat_shows Numbered (length os) n seat ≡ true) (from_first index) (shown_each Numbered (length os) 0 os numbered_all index seat there))
 
-  number : (k : ℕ) (s : Seat) → slice_get (seats_in os) k ≡ Some s → number_of s ≡ k
-  number k s there = let is = (numbered k s there).0 in grind (arith, nat_tests, is)
+  number : (index : ℕ) (seat : Seat) → slice_get (seats_in os) index ≡ Some seat → number_of seat ≡ index
+  number index seat there = let is = (numbered index seat there).0 in grind (arith, nat_tests, is)
 
-  counted : (k : ℕ) (s : Seat) → slice_get (seats_in os) k ≡ Some s → seat_count (config_of s).mutators (config_of s).helpers ≡ length (seats_in os)
-  counted k s there = let is = (numbered k s there).1 in let whole : seat_count (config_of s).mutators (config_of s).helpers ≡ length os = grind (arith, nat_tests, is) in whole ∙ sym many
+  counted : (index : ℕ) (seat : Seat) → slice_get (seats_in os) index ≡ Some seat → seat_count (config_of seat).mutators (config_of seat).helpers ≡ length (seats_in os)
+  counted index seat there = let is = (numbered index seat there).1 in let whole : seat_count (config_of seat).mutators (config_of seat).helpers ≡ length os = grind (arith, nat_tests, is) in whole ∙ sym many
 
 -- where 0 is answered, seats of one heap make it up
 pub make_up : (os : List (Option Seat)) → AnswersClosing os 0 → AreOfOneHeap (seats_in os) → MakeUpHeap (seats_in os)

@@ -48,9 +48,9 @@ pub ptr_typed : (p : Ptr) → T (has_ty ty_ptr (ptr_val p)) × WT (ptr_val p)
 ptr_typed (block_ptr b o) = (tt, tt)
 ptr_typed null_ptr = (tt, record { fits = lit< tt })
 
-pub triple_typed : (p : Ptr) (t : Bool) (h : Val) → Fits seat_box.al h → T (has_ty ty_ptr (ptr_val p) && (has_ty (α seat_box.al) h && true)) × WT (triple (ptr_val p) (vbool t) h)
-triple_typed (block_ptr b o) t h fits = (and_tt (has_ty (α seat_box.al) h) fits.0, (tt, (tt, (fits.1, tt))))
-triple_typed null_ptr t h fits = (and_tt (has_ty (α seat_box.al) h) fits.0, (record { fits = lit< tt }, (tt, (fits.1, tt))))
+pub triple_typed : (p : Ptr) (holds : Bool) (h : Val) → Fits seat_box.al h → T (has_ty ty_ptr (ptr_val p) && (has_ty (α seat_box.al) h && true)) × WT (triple (ptr_val p) (vbool holds) h)
+triple_typed (block_ptr b o) holds h fits = (and_tt (has_ty (α seat_box.al) h) fits.0, (tt, (tt, (fits.1, tt))))
+triple_typed null_ptr holds h fits = (and_tt (has_ty (α seat_box.al) h) fits.0, (record { fits = lit< tt }, (tt, (fits.1, tt))))
 
 -- the parts of a seat's box
 abbrev pub pair : Val → Val → Val
@@ -64,14 +64,14 @@ pair_typed (block_ptr b o) h fits = (and_tt (has_ty (α seat_box.al) h) fits.0, 
 pair_typed null_ptr h fits = (and_tt (has_ty (α seat_box.al) h) fits.0, (record { fits = lit< tt }, (fits.1, tt)))
 
 -- what an open handle holds
-pub held_is : {X : Type 0} (o : Option X) (y : Bool) → y ≡ is_some o → T y → (x : X) × (o ≡ Some x)
+pub held_is : {X : Type 0} (found : Option X) (holds : Bool) → holds ≡ is_some found → T holds → (x : X) × (found ≡ Some x)
 held_is None false told is = absurd is
 held_is None true told is = absurd cc
-held_is (Some x) y told is = (x, refl)
+held_is (Some x) holds told is = (x, refl)
 
 -- what an empty one does
-pub none_is : {X : Type 0} (o : Option X) (y : Bool) → y ≡ is_some o → T (not y) → o ≡ None
-none_is None y told empty = refl
+pub none_is : {X : Type 0} (found : Option X) (holds : Bool) → holds ≡ is_some found → T (not holds) → found ≡ None
+none_is None holds told empty = refl
 none_is (Some x) true told empty = absurd empty
 none_is (Some x) false told empty = absurd cc
 

@@ -9,17 +9,17 @@ use Rattle.covremuj.specs.ClosedHandles.{shows, all_show, each_shows, AnswersBy,
 
 -- ---- tests of two parts
 
-both : (a b : Bool) → a ≡ true → b ≡ true → (a && b) ≡ true
-both true b first second = second
-both false b first second = absurd cc
+both : (holds other_holds : Bool) → holds ≡ true → other_holds ≡ true → (holds && other_holds) ≡ true
+both true other_holds first second = second
+both false other_holds first second = absurd cc
 
-pub parts : (a b : Bool) → (a && b) ≡ true → (a ≡ true) × (b ≡ true)
-parts true b is = (refl, is)
-parts false b is = absurd cc
+pub parts : (holds other_holds : Bool) → (holds && other_holds) ≡ true → (holds ≡ true) × (other_holds ≡ true)
+parts true other_holds is = (refl, is)
+parts false other_holds is = absurd cc
 
-second_not : (a b : Bool) → b ≡ false → (a && b) ≡ false
-second_not true b is = is
-second_not false b is = refl
+second_not : (holds other_holds : Bool) → other_holds ≡ false → (holds && other_holds) ≡ false
+second_not true other_holds is = is
+second_not false other_holds is = refl
 
 -- ---- what each handle shows
 

@@ -13,14 +13,14 @@ use Rattle.covremuj.specs.OpenedHandles.{seats_held, any_held}
 
 pub set_same : (hs : List Handle) (at : ℕ) (d new : Handle) → new.held ≡ (get_or hs at d).held → seats_held (slice_set hs at new) ≡ seats_held hs
 set_same [] at d new is = refl
-set_same (x ∷ xs) zero d new is = ap (λ (o : Option Seat). o ∷ seats_held xs) is
+set_same (x ∷ xs) zero d new is = ap (λ (found : Option Seat). found ∷ seats_held xs) is
 set_same (x ∷ xs) (suc at) d new is = ap (λ (os : List (Option Seat)). x.held ∷ os) (set_same xs at d new is)
 
-some_held : (o : Option Seat) (others : List (Option Seat)) → is_some o ≡ true → any_held (o ∷ others) ≡ true
+some_held : (found : Option Seat) (others : List (Option Seat)) → is_some found ≡ true → any_held (found ∷ others) ≡ true
 some_held None others is = absurd cc
 some_held (Some s) others is = refl
 
-more_held : (o : Option Seat) (others : List (Option Seat)) → any_held others ≡ true → any_held (o ∷ others) ≡ true
+more_held : (found : Option Seat) (others : List (Option Seat)) → any_held others ≡ true → any_held (found ∷ others) ≡ true
 more_held None others is = is
 more_held (Some s) others is = refl
 
@@ -29,11 +29,11 @@ open_there [] at d below is = absurd (omega (arith, below))
 open_there (x ∷ xs) zero d below is = some_held x.held (seats_held xs) is
 open_there (x ∷ xs) (suc at) d below is = more_held x.held (seats_held xs) (open_there xs at d (omega (arith, below)) is)
 
-pub none_held : (o : Option Seat) (others : List (Option Seat)) → any_held (o ∷ others) ≡ false → (is_some o ≡ false) × (any_held others ≡ false)
+pub none_held : (found : Option Seat) (others : List (Option Seat)) → any_held (found ∷ others) ≡ false → (is_some found ≡ false) × (any_held others ≡ false)
 none_held None others is = (refl, is)
 none_held (Some s) others is = absurd cc
 
-put_first : (o : Option Seat) (others : List (Option Seat)) → is_some o ≡ false → any_held others ≡ false → any_held (o ∷ others) ≡ false
+put_first : (found : Option Seat) (others : List (Option Seat)) → is_some found ≡ false → any_held others ≡ false → any_held (found ∷ others) ≡ false
 put_first None others empty none = none
 put_first (Some s) others empty none = absurd cc
 
@@ -67,16 +67,16 @@ pub filled_more : (hs : List Handle) (at : ℕ) (new : Handle) (before after : L
 filled_more hs at new before after b all below split holds so_far =
     let next : at + 1 ≡ suc at = omega arith in
     ap (λ n. take n (seats_held (slice_set hs at new)) ++ map Some (reverse (seats_of after))) next
-    ∙ ap (λ (os : List (Option Seat)). os ++ map Some (reverse (seats_of after))) (filled_there hs at new below ∙ ap (λ (o : Option Seat). take at (seats_held hs) ++ o ∷ []) holds)
+    ∙ ap (λ (os : List (Option Seat)). os ++ map Some (reverse (seats_of after))) (filled_there hs at new below ∙ ap (λ (found : Option Seat). take at (seats_held hs) ++ found ∷ []) holds)
     ∙ append_assoc (take at (seats_held hs)) (Some b.value ∷ []) (map Some (reverse (seats_of after)))
     ∙ ap (λ (xs : List Seat). take at (seats_held hs) ++ map Some xs) (sym (ap (λ (bs : List (Box Seat)). reverse (seats_of bs)) split ∙ last_first after b))
     ∙ so_far
 
 -- one seat more is in its box
-pub boxed_more : (before after : List Seat) (s : Seat) (boxes : List (Box Seat)) (b : Box Seat) (all : List Seat) → before ≡ after ++ s ∷ [] → b.value ≡ s → before ++ reverse (seats_of boxes) ≡ all → after ++ reverse (seats_of (boxes ++ b ∷ [])) ≡ all
-boxed_more before after s boxes b all split is so_far =
-    ap (λ (xs : List Seat). after ++ xs) (last_first boxes b) ∙ ap (λ (x : Seat). after ++ x ∷ reverse (seats_of boxes)) is
-    ∙ sym (ap (λ (xs : List Seat). xs ++ reverse (seats_of boxes)) split ∙ append_assoc after (s ∷ []) (reverse (seats_of boxes))) ∙ so_far
+pub boxed_more : (before after : List Seat) (seat : Seat) (boxes : List (Box Seat)) (b : Box Seat) (all : List Seat) → before ≡ after ++ seat ∷ [] → b.value ≡ seat → before ++ reverse (seats_of boxes) ≡ all → after ++ reverse (seats_of (boxes ++ b ∷ [])) ≡ all
+boxed_more before after seat boxes b all split is so_far =
+    ap (λ (xs : List Seat). after ++ xs) (last_first boxes b) ∙ ap (λ (seat : Seat). after ++ seat ∷ reverse (seats_of boxes)) is
+    ∙ sym (ap (λ (xs : List Seat). xs ++ reverse (seats_of boxes)) split ∙ append_assoc after (seat ∷ []) (reverse (seats_of boxes))) ∙ so_far
 
 -- one handle more is emptied
 none_behind : (os : List (Option Seat)) → any_held os ≡ false → any_held (os ++ None ∷ []) ≡ false
@@ -88,5 +88,5 @@ pub emptied_more : (hs : List Handle) (at : ℕ) (new : Handle) → at < length 
 emptied_more hs at new below holds none =
     let next : at + 1 ≡ suc at = omega arith in
     ap (λ n. any_held (take n (seats_held (slice_set hs at new)))) next
-    ∙ ap any_held (filled_there hs at new below ∙ ap (λ (o : Option Seat). take at (seats_held hs) ++ o ∷ []) holds)
+    ∙ ap any_held (filled_there hs at new below ∙ ap (λ (found : Option Seat). take at (seats_held hs) ++ found ∷ []) holds)
     ∙ none_behind (take at (seats_held hs)) none

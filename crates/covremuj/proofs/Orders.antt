@@ -15,26 +15,26 @@ use Rattle.covremuj.specs.StatusNumbers.{number_of_order, number_of_refused}
 use Rattle.covremuj.specs.Border.{TakesOrder, no_command, BeginsBy, EndsBy}
 
 -- what a seat answers to an order
-takes : (s new : Seat) (order : Order) (r : Result (Unit {0}) Refused) (answer : ℕ) → OnErr r (new ≡ s) → OnOk r (HasOrder s new order) → answer ≡ number_of_order (result_err r) → TakesOrder s (Some new) order (result_err r) answer
-takes s new order (Ok u) answer same ordered is = (new, refl, ordered, is)
-takes s new order (Err why) answer same ordered is = (ap (λ (x : Seat). Some x) same, is)
+takes : (seat new : Seat) (order : Order) (r : Result (Unit {0}) Refused) (answer : ℕ) → OnErr r (new ≡ seat) → OnOk r (HasOrder seat new order) → answer ≡ number_of_order (result_err r) → TakesOrder seat (Some new) order (result_err r) answer
+takes seat new order (Ok u) answer same ordered is = (new, refl, ordered, is)
+takes seat new order (Err why) answer same ordered is = (ap (λ (seat : Seat). Some seat) same, is)
 
-pub begins_refused : (s : Seat) (command : Option Command) (why : Refused) → is_mutator s ≡ true → Some why ≡ refused_in (state_in s) → BeginsBy (is_mutator s) s (Some s) command (number_of_refused why)
-begins_refused s command why role is = subst (λ (b : Bool). BeginsBy b s (Some s) command (number_of_refused why)) (sym role) (by_command command)
+pub begins_refused : (seat : Seat) (command : Option Command) (why : Refused) → is_mutator seat ≡ true → Some why ≡ refused_in (state_in seat) → BeginsBy (is_mutator seat) seat (Some seat) command (number_of_refused why)
+begins_refused seat command why role is = subst (λ (holds : Bool). BeginsBy holds seat (Some seat) command (number_of_refused why)) (sym role) (by_command command)
   where
-    by_command : (o : Option Command) → BeginsBy true s (Some s) o (number_of_refused why)
+    by_command : (o : Option Command) → BeginsBy true seat (Some seat) o (number_of_refused why)
     by_command None = (refl, ap no_command is)
     by_command (Some k) =
-        subst (λ (o : Option Refused). TakesOrder s (Some s) (Begin k) o (number_of_refused why)) (refused_first (is_valid k) (objects_made_by s) (state_in s) why is) (refl, refl)
+        subst (λ (found : Option Refused). TakesOrder seat (Some seat) (Begin k) found (number_of_refused why)) (refused_first (is_valid k) (objects_made_by seat) (state_in seat) why is) (refl, refl)
 
-pub begins_command : (s new : Seat) (command : Command) (r : Result (Unit {0}) Refused) (answer : ℕ) → is_mutator s ≡ true → result_err r ≡ refused_command (is_valid command) (objects_made_by s) (state_in s) → OnErr r (new ≡ s) → OnOk r (HasOrder s new (Begin command))
-    → answer ≡ number_of_order (result_err r) → BeginsBy (is_mutator s) s (Some new) (Some command) answer
-begins_command s new command r answer role refused same ordered is =
-    subst (λ (b : Bool). BeginsBy b s (Some new) (Some command) answer) (sym role)
-    (subst (λ (o : Option Refused). TakesOrder s (Some new) (Begin command) o answer) refused (takes s new (Begin command) r answer same ordered is))
+pub begins_command : (seat new : Seat) (command : Command) (r : Result (Unit {0}) Refused) (answer : ℕ) → is_mutator seat ≡ true → result_err r ≡ refused_command (is_valid command) (objects_made_by seat) (state_in seat) → OnErr r (new ≡ seat) → OnOk r (HasOrder seat new (Begin command))
+    → answer ≡ number_of_order (result_err r) → BeginsBy (is_mutator seat) seat (Some new) (Some command) answer
+begins_command seat new command r answer role refused same ordered is =
+    subst (λ (holds : Bool). BeginsBy holds seat (Some new) (Some command) answer) (sym role)
+    (subst (λ (found : Option Refused). TakesOrder seat (Some new) (Begin command) found answer) refused (takes seat new (Begin command) r answer same ordered is))
 
-pub ends_taken : (s new : Seat) (r : Result (Unit {0}) Refused) (answer : ℕ) → is_mutator s ≡ true → result_err r ≡ refused_in (state_in s) → OnErr r (new ≡ s) → OnOk r (HasOrder s new End)
-    → answer ≡ number_of_order (result_err r) → EndsBy (is_mutator s) s (Some new) answer
-ends_taken s new r answer role refused same ordered is =
-    subst (λ (b : Bool). EndsBy b s (Some new) answer) (sym role)
-    (subst (λ (o : Option Refused). TakesOrder s (Some new) End o answer) refused (takes s new End r answer same ordered is))
+pub ends_taken : (seat new : Seat) (r : Result (Unit {0}) Refused) (answer : ℕ) → is_mutator seat ≡ true → result_err r ≡ refused_in (state_in seat) → OnErr r (new ≡ seat) → OnOk r (HasOrder seat new End)
+    → answer ≡ number_of_order (result_err r) → EndsBy (is_mutator seat) seat (Some new) answer
+ends_taken seat new r answer role refused same ordered is =
+    subst (λ (holds : Bool). EndsBy holds seat (Some new) answer) (sym role)
+    (subst (λ (found : Option Refused). TakesOrder seat (Some new) End found answer) refused (takes seat new End r answer same ordered is))

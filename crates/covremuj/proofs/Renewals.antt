@@ -19,40 +19,40 @@ use Rattle.covremuj.specs.StatusNumbers.{number_of_renewal}
 
 -- ---- one seat more
 
-pub given_first : (s : Seat) (closing : Closing) → AreGivenUp (s ∷ []) closing → heap_closing closing ≡ heap_shared s → AreGivenAs (s ∷ []) closing
-given_first s closing given heap = record { given = given; first = s; there = refl; heap = sym heap }
+pub given_first : (seat : Seat) (closing : Closing) → AreGivenUp (seat ∷ []) closing → heap_closing closing ≡ heap_shared seat → AreGivenAs (seat ∷ []) closing
+given_first seat closing given heap = record { given = given; first = seat; there = refl; heap = sym heap }
 
-pub given_more : (before : List Seat) (s : Seat) (old new : Closing) → AreGivenAs before old → AreGivenUp (before ++ s ∷ []) new → heap_closing new ≡ heap_closing old → AreGivenAs (before ++ s ∷ []) new
-given_more before s old new was given heap = record { given = given; first = was.first; there = get_init before (s ∷ []) 0 was.first was.there; heap = was.heap ∙ sym heap }
+pub given_more : (before : List Seat) (seat : Seat) (old new : Closing) → AreGivenAs before old → AreGivenUp (before ++ seat ∷ []) new → heap_closing new ≡ heap_closing old → AreGivenAs (before ++ seat ∷ []) new
+given_more before seat old new was given heap = record { given = given; first = was.first; there = get_init before (seat ∷ []) 0 was.first was.there; heap = was.heap ∙ sym heap }
 
-next_there : (before rest : List Seat) (s : Seat) → slice_get (before ++ s ∷ rest) (length before) ≡ Some s
-next_there [] rest s = refl
-next_there (x ∷ xs) rest s = next_there xs rest s
+next_there : (before rest : List Seat) (seat : Seat) → slice_get (before ++ seat ∷ rest) (length before) ≡ Some seat
+next_there [] rest seat = refl
+next_there (x ∷ xs) rest seat = next_there xs rest seat
 
 -- a seat behind others, in a list of all
-module _ (before rest all : List Seat) (s : Seat) (is : before ++ s ∷ rest ≡ all) where
-  it_there : slice_get all (length before) ≡ Some s
-  it_there = ap (λ (xs : List Seat). slice_get xs (length before)) (sym is) ∙ next_there before rest s
+module _ (before rest all : List Seat) (seat : Seat) (is : before ++ seat ∷ rest ≡ all) where
+  it_there : slice_get all (length before) ≡ Some seat
+  it_there = ap (λ (xs : List Seat). slice_get xs (length before)) (sym is) ∙ next_there before rest seat
 
-  others_there : (k : ℕ) (t : Seat) → slice_get before k ≡ Some t → slice_get all k ≡ Some t
-  others_there k t there = ap (λ (xs : List Seat). slice_get xs k) (sym is) ∙ get_init before (s ∷ rest) k t there
+  others_there : (index : ℕ) (t : Seat) → slice_get before index ≡ Some t → slice_get all index ≡ Some t
+  others_there index t there = ap (λ (xs : List Seat). slice_get xs index) (sym is) ∙ get_init before (seat ∷ rest) index t there
 
-  it_is_absent : AreNumbered all → HaveNot before (number_of s)
+  it_is_absent : AreNumbered all → HaveNot before (number_of seat)
   it_is_absent numbered k t there same =
-      let own : number_of s ≡ length before = numbered (length before) s it_there in
+      let own : number_of seat ≡ length before = numbered (length before) seat it_there in
       let other : number_of t ≡ k = numbered k t (others_there k t there) in
       let below = slice_get_within before k t there in
       absurd (omega (arith, own, other, below, same))
 
-  it_is_of : AreOfOneHeap all → (closing : Closing) → AreGivenAs before closing → heap_shared s ≡ heap_closing closing
-  it_is_of one closing was = one (length before) 0 s was.first it_there (others_there 0 was.first was.there) ∙ was.heap
+  it_is_of : AreOfOneHeap all → (closing : Closing) → AreGivenAs before closing → heap_shared seat ≡ heap_closing closing
+  it_is_of one closing was = one (length before) 0 seat was.first it_there (others_there 0 was.first was.there) ∙ was.heap
 
-pub fits_next : (closing : Option Closing) (before rest all : List Seat) (o : Option Seat) → before ++ (seat_in o ++ rest) ≡ all → AreOfOneHeap all → AreGivenIn before closing → IsOfThatHeap closing o
-fits_next None before rest all o is one given = tt
+pub fits_next : (closing : Option Closing) (before rest all : List Seat) (found : Option Seat) → before ++ (seat_in found ++ rest) ≡ all → AreOfOneHeap all → AreGivenIn before closing → IsOfThatHeap closing found
+fits_next None before rest all found is one given = tt
 fits_next (Some closing) before rest all None is one given = tt
 fits_next (Some closing) before rest all (Some s) is one given = it_is_of before rest all s is one closing given
 
-pub absent_next : (before rest all : List Seat) (o : Option Seat) → before ++ (seat_in o ++ rest) ≡ all → AreNumbered all → AreAbsent before o
+pub absent_next : (before rest all : List Seat) (found : Option Seat) → before ++ (seat_in found ++ rest) ≡ all → AreNumbered all → AreAbsent before found
 absent_next before rest all None is numbered = tt
 absent_next before rest all (Some s) is numbered = it_is_absent before rest all s is numbered
 
@@ -78,6 +78,6 @@ going_answer (o ∷ others) answer is going = going_by (each_shows Open (o ∷ o
 pub going_of : (answer : ℕ) (said : Renewal) → (answer ≢ 27 → answer ≡ number_of_renewal said) → AnswersGoing answer
 going_of answer said is = by_test (answer == 27) refl
   where
-    by_test : (b : Bool) → (answer == 27) ≡ b → AnswersGoing answer
+    by_test : (holds : Bool) → (answer == 27) ≡ holds → AnswersGoing answer
     by_test true same = let lost : answer ≡ 27 = grind (arith, nat_tests) in inr (inl lost)
     by_test false other = let not_lost : answer ≢ 27 = grind (arith, nat_tests) in inr (inr (said, is not_lost))

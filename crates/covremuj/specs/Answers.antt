@@ -26,7 +26,7 @@ value_after (progress.Replied reply) before = value_of reply
 value_after _ before = before
 
 abbrev pub kind_of : Seat → ℕ
-kind_of s = if is_mutator s then 1 else (if nat_lt (number_of s) ((config_of s).mutators + (config_of s).helpers) then 2 else 3)
+kind_of seat = if is_mutator seat then 1 else (if nat_lt (number_of seat) ((config_of seat).mutators + (config_of seat).helpers) then 2 else 3)
 
 abbrev pub state_number : State → ℕ
 state_number Free = 0
@@ -39,13 +39,13 @@ place_code None = 0 ∷ 0 ∷ []
 place_code (Some place) = code_of place
 
 abbrev pub told_of : Seat → Told
-told_of s = record {
-  number = number_of s + 1;
-  kind = kind_of s;
-  state = state_number (state_in s);
-  made = objects_made_by s;
-  left = if is_mutator s then most_objects - objects_made_by s else 0;
-  phase = unwrap_or (phase_of_seat s) 0;
-  place = place_code (place_of_seat s);
+told_of seat = record {
+  number = number_of seat + 1;
+  kind = kind_of seat;
+  state = state_number (state_in seat);
+  made = objects_made_by seat;
+  left = if is_mutator seat then most_objects - objects_made_by seat else 0;
+  phase = unwrap_or (phase_of_seat seat) 0;
+  place = place_code (place_of_seat seat);
   place_end = 0 ∷ 0 ∷ 0 ∷ 0 ∷ 0 ∷ 0 ∷ [];
 }

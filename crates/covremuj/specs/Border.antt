@@ -16,14 +16,14 @@ use Rattle.covremuj.specs.Answers.{value_after}
 
 -- nothing has changed, and this was answered
 abbrev pub IsRefusedCall : Seat → Option Seat → (why answer : ℕ) → Type 0
-IsRefusedCall s held why answer = (held ≡ Some s) × (answer ≡ why)
+IsRefusedCall seat held why answer = (held ≡ Some seat) × (answer ≡ why)
 
 -- ---- orders
 
 -- the order was taken, which is answered by 0, or it was not, by its cause
 abbrev pub TakesOrder : Seat → Option Seat → Order → Option Refused → ℕ → Type 0
-TakesOrder s held order None answer = (new : Seat) × (held ≡ Some new) × HasOrder s new order × (answer ≡ 0)
-TakesOrder s held order (Some why) answer = IsRefusedCall s held (number_of_refused why) answer
+TakesOrder seat held order None answer = (new : Seat) × (held ≡ Some new) × HasOrder seat new order × (answer ≡ 0)
+TakesOrder seat held order (Some why) answer = IsRefusedCall seat held (number_of_refused why) answer
 
 -- where there is no such command, the state of the seat is answered first
 abbrev pub no_command : Option Refused → ℕ
@@ -31,9 +31,9 @@ no_command None = 36
 no_command (Some why) = number_of_refused why
 
 abbrev pub BeginsBy : Bool → Seat → Option Seat → Option Command → ℕ → Type 0
-BeginsBy false s held command answer = IsRefusedCall s held 33 answer
-BeginsBy true s held None answer = IsRefusedCall s held (no_command (refused_in (state_in s))) answer
-BeginsBy true s held (Some command) answer = TakesOrder s held (Begin command) (refused_command (is_valid command) (objects_made_by s) (state_in s)) answer
+BeginsBy false seat held command answer = IsRefusedCall seat held 33 answer
+BeginsBy true seat held None answer = IsRefusedCall seat held (no_command (refused_in (state_in seat))) answer
+BeginsBy true seat held (Some command) answer = TakesOrder seat held (Begin command) (refused_command (is_valid command) (objects_made_by seat) (state_in seat)) answer
 
 -- a command is ordered of a mutator
 abbrev pub HandleBegins : Option Seat → Option Seat → Option Command → ℕ → Type 0
@@ -41,8 +41,8 @@ HandleBegins None held command answer = (held ≡ None) × (answer ≡ 32)
 HandleBegins (Some s) held command answer = BeginsBy (is_mutator s) s held command answer
 
 abbrev pub EndsBy : Bool → Seat → Option Seat → ℕ → Type 0
-EndsBy false s held answer = IsRefusedCall s held 33 answer
-EndsBy true s held answer = TakesOrder s held End (refused_in (state_in s)) answer
+EndsBy false seat held answer = IsRefusedCall seat held 33 answer
+EndsBy true seat held answer = TakesOrder seat held End (refused_in (state_in seat)) answer
 
 -- its end is ordered
 abbrev pub HandleEnds : Option Seat → Option Seat → ℕ → Type 0
@@ -52,17 +52,17 @@ HandleEnds (Some s) held answer = EndsBy (is_mutator s) s held answer
 -- ---- steps
 
 -- a seat has gone on, and this was answered
-pub record SeatGoes (s : Seat) (held : Option Seat) (steps answer : ℕ) (before after : Value) : Type 0 where
+pub record SeatGoes (seat : Seat) (held : Option Seat) (steps answer : ℕ) (before after : Value) : Type 0 where
   pub new : Seat
   pub said : Progress
   pub holds : held ≡ Some new
-  pub gone : HasGoneOn s new steps said
+  pub gone : HasGoneOn seat new steps said
   pub answers : answer ≡ number_of_progress said
   pub value : after ≡ value_after said before
 
 abbrev pub GoesBy : Bool → Seat → Option Seat → (steps answer : ℕ) → (before after : Value) → Type 0
-GoesBy false s held steps answer before after = (held ≡ Some s) × (answer ≡ 33) × (after ≡ before)
-GoesBy true s held steps answer before after = SeatGoes s held steps answer before after
+GoesBy false seat held steps answer before after = (held ≡ Some seat) × (answer ≡ 33) × (after ≡ before)
+GoesBy true seat held steps answer before after = SeatGoes seat held steps answer before after
 
 -- a mutator makes so many steps at most
 abbrev pub HandleGoesOn : Option Seat → Option Seat → (steps answer : ℕ) → (before after : Value) → Type 0
@@ -70,16 +70,16 @@ HandleGoesOn None held steps answer before after = (held ≡ None) × (answer �
 HandleGoesOn (Some s) held steps answer before after = GoesBy (is_mutator s) s held steps answer before after
 
 -- a helper or the control has worked, and this was answered
-pub record Works (s : Seat) (held : Option Seat) (steps answer : ℕ) : Type 0 where
+pub record Works (seat : Seat) (held : Option Seat) (steps answer : ℕ) : Type 0 where
   pub new : Seat
   pub said : Progress
   pub holds : held ≡ Some new
-  pub gone : HasGoneOn s new steps said
+  pub gone : HasGoneOn seat new steps said
   pub answers : answer ≡ number_of_progress said
 
 abbrev pub WorksBy : Bool → Seat → Option Seat → (steps answer : ℕ) → Type 0
-WorksBy true s held steps answer = IsRefusedCall s held 33 answer
-WorksBy false s held steps answer = Works s held steps answer
+WorksBy true seat held steps answer = IsRefusedCall seat held 33 answer
+WorksBy false seat held steps answer = Works seat held steps answer
 
 -- a helper or the control makes so many steps at most
 abbrev pub WorksOn : Option Seat → Option Seat → (steps answer : ℕ) → Type 0

@@ -19,10 +19,10 @@ seats_in (o ∷ others) = seat_in o ++ seats_in others
 
 -- Whether a seat is one of a heap of so many whose number is its place; whether it has ended, or is a helper's; whether it has ended.
 abbrev pub seat_shows : Asked → (count place : ℕ) → Seat → Bool
-seat_shows Open count place s = true
-seat_shows Numbered count place s = (number_of s == place) && (seat_count (config_of s).mutators (config_of s).helpers == count)
-seat_shows Over count place s = (kind_of s == 2) || (state_number (state_in s) == 2)
-seat_shows Ended count place s = state_number (state_in s) == 2
+seat_shows Open count place seat = true
+seat_shows Numbered count place seat = (number_of seat == place) && (seat_count (config_of seat).mutators (config_of seat).helpers == count)
+seat_shows Over count place seat = (kind_of seat == 2) || (state_number (state_in seat) == 2)
+seat_shows Ended count place seat = state_number (state_in seat) == 2
 
 abbrev pub shows : Asked → (count place : ℕ) → Option Seat → Bool
 shows asked count place None = false

@@ -21,18 +21,18 @@ any_held (None ∷ others) = any_held others
 any_held (Some seat ∷ others) = true
 
 -- they hold the seats of one heap that was opened, before its first event, in the order of their numbers
-pub record HoldFreshSeats (c : Config) (held : List (Option Seat)) : Type 0 where
+pub record HoldFreshSeats (config : Config) (held : List (Option Seat)) : Type 0 where
   pub seats : List Seat
-  pub fresh : AreFreshSeats c (heap_opening c) seats
+  pub fresh : AreFreshSeats config (heap_opening config) seats
   pub each : held ≡ map Some seats
 
 -- the configuration has these sizes
-pub record HasSizes (sizes : Configuration) (c : Config) : Type 0 where
-  pub regions : c.regions ≡ sizes.regions
-  pub region_words : c.region_words ≡ sizes.region_words
-  pub mutators : c.mutators ≡ sizes.mutators
-  pub helpers : c.helpers ≡ sizes.helpers
-  pub reserve : c.reserve ≡ sizes.reserve
+pub record HasSizes (sizes : Configuration) (config : Config) : Type 0 where
+  pub regions : config.regions ≡ sizes.regions
+  pub region_words : config.region_words ≡ sizes.region_words
+  pub mutators : config.mutators ≡ sizes.mutators
+  pub helpers : config.helpers ≡ sizes.helpers
+  pub reserve : config.reserve ≡ sizes.reserve
 
 -- the first of the sizes that is outside its range
 abbrev pub fault_in : Configuration → Option BadConfig

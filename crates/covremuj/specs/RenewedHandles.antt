@@ -35,8 +35,8 @@ AnswersRenewing (o ∷ others) answer = AnswersBySeats (each_shows Open (o ∷ o
 pub record AreFollowedHere (olds : List Seat) (following : Following) : Type 0 where
   pub sizes : Config
   pub start : Stage Actor
-  pub config : (k : ℕ) (s : Seat) → slice_get olds k ≡ Some s → config_of s ≡ sizes
-  pub begun : (k : ℕ) (s : Seat) → slice_get olds k ≡ Some s → start_of_seat s ≡ start
+  pub config : (index : ℕ) (seat : Seat) → slice_get olds index ≡ Some seat → config_of seat ≡ sizes
+  pub begun : (index : ℕ) (seat : Seat) → slice_get olds index ≡ Some seat → start_of_seat seat ≡ start
   pub followed : AreFollowed sizes start olds following.renewal following.seats.items
 
 -- Handles hold the seats of such a heap, and the answer is what came of the renewal.

@@ -14,16 +14,16 @@ use Rattle.image_graph.proofs.BufferTurns.{no_more_seats}
 use Rattle.cycle_words.specs.Evacuation.Begun.{CanBegin}
 use Rattle.cycle_words.proofs.Evacuation.CanBegin.{evacuation_can_begin}
 
-begin_prop : (c : Config) (m : Word → ℕ) → IsProp (CanBegin c m)
-begin_prop c m = hlevel (le_prop, ℕ_set, Bool-set)
+begin_prop : (config : Config) (memory : Word → ℕ) → IsProp (CanBegin config memory)
+begin_prop config memory = hlevel (le_prop, ℕ_set, Bool-set)
 
-pub can_begin_some : (c : Config) (words : List ℕ) → MarksSome c (view c words) → CanBegin c (final_marked c (view c words))
-can_begin_some c words marks = ∥∥₁_elim marks (begin_prop c (final_marked c (view c words)))
-    (λ h. evacuation_can_begin c (view c words) h.1 h.2 h.3 h.0 h.4 h.5 (no_more_seats c words))
+pub can_begin_some : (config : Config) (words : List ℕ) → MarksSome config (view config words) → CanBegin config (final_marked config (view config words))
+can_begin_some config words marks = ∥∥₁_elim marks (begin_prop config (final_marked config (view config words)))
+    (λ h. evacuation_can_begin config (view config words) h.1 h.2 h.3 h.0 h.4 h.5 (no_more_seats config words))
 
 -- by the images before marking was ended and after
 pub begins_after : (one two : Image) → MarksSome (config_of one) (memory_of one) → config_of two ≡ config_of one → memory_of two ≡ final_marked (config_of one) (memory_of one)
     → CanBegin (config_of two) (memory_of two)
 begins_after one two marks config words =
-    subst (λ (k : Config). CanBegin k (memory_of two)) (sym config)
+    subst (λ (config : Config). CanBegin config (memory_of two)) (sym config)
     (subst (CanBegin (config_of one)) (sym words) (can_begin_some (config_of one) (words_of one) marks))

@@ -53,47 +53,47 @@ unfolding bits_of
 bits_none_yet test = refl
 
 -- where all else of a candidate holds, its garbage decides
-pub garbage_decides : (c : Config) (m : Word → ℕ) (r : ℕ) → bit_at (m Free) r ≡ 0 → is_pinned c m r ≡ false → is_current c m r ≡ false → m (Top r) ≡ m (Tams r)
-    → is_candidate c m r ≡ nat_le (c.region_words / 4) (garbage c m r)
-garbage_decides c m r free pin seat top =
-    let enough = nat_le (c.region_words / 4) (garbage c m r) in
-    ap (λ b. b && not (is_pinned c m r) && not (is_current c m r) && (m (Top r) == m (Tams r)) && enough) (eq-eqb (bit_at (m Free) r) 0 free)
-    ∙ ap (λ b. not b && not (is_current c m r) && (m (Top r) == m (Tams r)) && enough) pin
-    ∙ ap (λ b. not b && (m (Top r) == m (Tams r)) && enough) seat
-    ∙ ap (λ b. b && enough) (eq-eqb (m (Top r)) (m (Tams r)) top)
+pub garbage_decides : (config : Config) (memory : Word → ℕ) (region : ℕ) → bit_at (memory Free) region ≡ 0 → is_pinned config memory region ≡ false → is_current config memory region ≡ false → memory (Top region) ≡ memory (Tams region)
+    → is_candidate config memory region ≡ nat_le (config.region_words / 4) (garbage config memory region)
+garbage_decides config memory region free pin seat top =
+    let enough = nat_le (config.region_words / 4) (garbage config memory region) in
+    ap (λ b. b && not (is_pinned config memory region) && not (is_current config memory region) && (memory (Top region) == memory (Tams region)) && enough) (eq-eqb (bit_at (memory Free) region) 0 free)
+    ∙ ap (λ b. not b && not (is_current config memory region) && (memory (Top region) == memory (Tams region)) && enough) pin
+    ∙ ap (λ b. not b && (memory (Top region) == memory (Tams region)) && enough) seat
+    ∙ ap (λ b. b && enough) (eq-eqb (memory (Top region)) (memory (Tams region)) top)
 
 -- what a region adds is at most what lives in it
-pub adds_few : (live : List ℕ) (set r q bound : ℕ) → slice_index live q ≤ bound → adds live set r q ≤ bound
-adds_few live set r q bound few =
-    cond_both ((bit_at set q == 1) && not (comes_before (slice_index live) r q)) (slice_index live q) 0 (λ x. x ≤ bound) (λ _. few) (λ _. omega arith)
+pub adds_few : (live : List ℕ) (set r index bound : ℕ) → slice_index live index ≤ bound → adds live set r index ≤ bound
+adds_few live set r index bound few =
+    cond_both ((bit_at set index == 1) && not (comes_before (slice_index live) r index)) (slice_index live index) 0 (λ x. x ≤ bound) (λ _. few) (λ _. omega arith)
 
 -- a table of the first so many regions
-pub record AreLiveBelow (c : Config) (m : Word → ℕ) (live : List ℕ) (n : ℕ) : Type 0 where
+pub record AreLiveBelow (config : Config) (memory : Word → ℕ) (live : List ℕ) (n : ℕ) : Type 0 where
   pub long : length live ≡ 64
-  pub small : (r : ℕ) → r < 64 → slice_index live r ≤ most_live
-  pub is : (r : ℕ) → r < n → is_candidate c m r ≡ true → slice_index live r ≡ live_words c m r
+  pub small : (index : ℕ) → index < 64 → slice_index live index ≤ most_live
+  pub is : (index : ℕ) → index < n → is_candidate config memory index ≡ true → slice_index live index ≡ live_words config memory index
 
-pub live_none : (c : Config) (m : Word → ℕ) → AreLiveBelow c m (replicate 64 0) 0
-live_none c m = record {
+pub live_none : (config : Config) (memory : Word → ℕ) → AreLiveBelow config memory (replicate 64 0) 0
+live_none config memory = record {
   long = length-replicate {A = ℕ} 64 0;
   small = λ r below. (let none = get_or-replicate {A = ℕ} 64 r 0 0 below in omega (arith, none));
   is = λ r below. absurd (omega (arith, below));
 }
 
-pub live_more : (c : Config) (m : Word → ℕ) (live : List ℕ) (n words : ℕ) → n < 64 → (is_candidate c m n ≡ true → words ≡ live_words c m n) → words ≤ most_live → AreLiveBelow c m live n
-    → AreLiveBelow c m (slice_set live n words) (n + 1)
-live_more c m live n words few is bound before =
-    let inside : n < length live = omega (arith, few, before.long) in
+pub live_more : (config : Config) (memory : Word → ℕ) (live : List ℕ) (index words : ℕ) → index < 64 → (is_candidate config memory index ≡ true → words ≡ live_words config memory index) → words ≤ most_live → AreLiveBelow config memory live index
+    → AreLiveBelow config memory (slice_set live index words) (index + 1)
+live_more config memory live index words few is bound before =
+    let inside : index < length live = omega (arith, few, before.long) in
     record {
-      long = length-set live n words ∙ before.long;
+      long = length-set live index words ∙ before.long;
       small = λ r below. ⊎_elim
-          (λ (here : r ≡ n). (let there : slice_index (slice_set live n words) r ≡ words = ap (slice_index (slice_set live n words)) here ∙ get_or-set_same live n words 0 inside in omega (arith, there, bound)))
-          (λ (other : r ≢ n). (let there : slice_index (slice_set live n words) r ≡ slice_index live r = get_or-set_other live n r words 0 other in omega (arith, there, before.small r below)))
-          (cases_eq r n);
+          (λ (here : r ≡ index). (let there : slice_index (slice_set live index words) r ≡ words = ap (slice_index (slice_set live index words)) here ∙ get_or-set_same live index words 0 inside in omega (arith, there, bound)))
+          (λ (other : r ≢ index). (let there : slice_index (slice_set live index words) r ≡ slice_index live r = get_or-set_other live index r words 0 other in omega (arith, there, before.small r below)))
+          (cases_eq r index);
       is = λ r below told. ⊎_elim
-          (λ (here : r ≡ n). ap (slice_index (slice_set live n words)) here ∙ get_or-set_same live n words 0 inside ∙ is (ap (is_candidate c m) (sym here) ∙ told) ∙ ap (live_words c m) (sym here))
-          (λ (other : r ≢ n). get_or-set_other live n r words 0 other ∙ before.is r (omega (arith, below, other)) told)
-          (cases_eq r n);
+          (λ (here : r ≡ index). ap (slice_index (slice_set live index words)) here ∙ get_or-set_same live index words 0 inside ∙ is (ap (is_candidate config memory) (sym here) ∙ told) ∙ ap (live_words config memory) (sym here))
+          (λ (other : r ≢ index). get_or-set_other live index r words 0 other ∙ before.is r (omega (arith, below, other)) told)
+          (cases_eq r index);
     }
 
 -- what was counted of a candidate, as the number that a table has of it
@@ -106,7 +106,7 @@ counted_few None words bound is few = omega (arith, is)
 counted_few (Some n) words bound is few = omega (arith, is, few)
 
 -- the digit of a region tells whether the test does
-digit_tells : (b : Bool) → (one b == 1) ≡ b
+digit_tells : (holds : Bool) → (one holds == 1) ≡ holds
 digit_tells true = refl
 digit_tells false = refl
 
@@ -120,43 +120,43 @@ before_same : (f g : ℕ → ℕ) (q r : ℕ) → f q ≡ g q → f r ≡ g r �
 before_same f g q r first second =
     ap (λ x. nat_lt x (f r) || ((x == f r) && nat_lt q r)) first ∙ ap (λ y. nat_lt (g q) y || ((g q == y) && nat_lt q r)) second
 
-module _ (c : Config) (m : Word → ℕ) (live : List ℕ) (are : AreLive c m live) where
+module _ (config : Config) (memory : Word → ℕ) (live : List ℕ) (are : AreLive config memory live) where
   abbrev candidate : ℕ → Bool
-  candidate = is_candidate c m
+  candidate = is_candidate config memory
 
   abbrev lives : ℕ → ℕ
-  lives = live_words c m
+  lives = live_words config memory
 
   abbrev candidates : ℕ
-  candidates = bits_of candidate 0 c.regions
+  candidates = bits_of candidate 0 config.regions
 
   -- what one candidate adds up to another is the same by the table and by the words
-  same_added : (r q : ℕ) → r < c.regions → candidate r ≡ true → q < c.regions
-      → (if candidate q && not (comes_before (slice_index live) r q) then slice_index live q else 0) ≡ (if candidate q && not (comes_before lives r q) then lives q else 0)
-  same_added r q below is inside = ⊎_elim
-      (λ (told : candidate q ≡ true).
-      ap (λ b. if candidate q && not b then slice_index live q else 0) (before_same (slice_index live) lives r q (are.is r below is) (are.is q inside told))
-      ∙ ap (λ n. if candidate q && not (comes_before lives r q) then n else 0) (are.is q inside told))
-      (λ (none : candidate q ≡ false).
-      ap (λ b. if b && not (comes_before (slice_index live) r q) then slice_index live q else 0) none
-      ∙ sym (ap (λ b. if b && not (comes_before lives r q) then lives q else 0) none))
-      (cases_Bool (candidate q))
+  same_added : (other_region region : ℕ) → other_region < config.regions → candidate other_region ≡ true → region < config.regions
+      → (if candidate region && not (comes_before (slice_index live) other_region region) then slice_index live region else 0) ≡ (if candidate region && not (comes_before lives other_region region) then lives region else 0)
+  same_added other_region region below is inside = ⊎_elim
+      (λ (told : candidate region ≡ true).
+      ap (λ b. if candidate region && not b then slice_index live region else 0) (before_same (slice_index live) lives other_region region (are.is other_region below is) (are.is region inside told))
+      ∙ ap (λ n. if candidate region && not (comes_before lives other_region region) then n else 0) (are.is region inside told))
+      (λ (none : candidate region ≡ false).
+      ap (λ b. if b && not (comes_before (slice_index live) other_region region) then slice_index live region else 0) none
+      ∙ sym (ap (λ b. if b && not (comes_before lives other_region region) then lives region else 0) none))
+      (cases_Bool (candidate region))
 
-  pub up_to_is : (r : ℕ) → r < c.regions → candidate r ≡ true → up_to live candidates c.regions r ≡ live_up_to c.regions lives candidate r
-  up_to_is r below is =
-      sum_same (adds live candidates r)
-      (λ q. if candidate q && not (comes_before lives r q) then lives q else 0) c.regions
+  pub up_to_is : (region : ℕ) → region < config.regions → candidate region ≡ true → up_to live candidates config.regions region ≡ live_up_to config.regions lives candidate region
+  up_to_is region below is =
+      sum_same (adds live candidates region)
+      (λ q. if candidate q && not (comes_before lives region q) then lives q else 0) config.regions
       (λ q inside.
-      ap (λ b. if b && not (comes_before (slice_index live) r q) then slice_index live q else 0) (member_tells candidate c.regions q inside)
-      ∙ same_added r q below is inside)
+      ap (λ b. if b && not (comes_before (slice_index live) region q) then slice_index live q else 0) (member_tells candidate config.regions q inside)
+      ∙ same_added region q below is inside)
 
-  pub fits_is : (r limit : ℕ) → r < c.regions
-      → ((bit_at candidates r == 1) && nat_le (up_to live candidates c.regions r) limit) ≡ is_in_front c.regions limit lives candidate r
-  fits_is r limit below =
-      ap (λ b. b && nat_le (up_to live candidates c.regions r) limit) (member_tells candidate c.regions r below)
+  pub fits_is : (region limit : ℕ) → region < config.regions
+      → ((bit_at candidates region == 1) && nat_le (up_to live candidates config.regions region) limit) ≡ is_in_front config.regions limit lives candidate region
+  fits_is region limit below =
+      ap (λ b. b && nat_le (up_to live candidates config.regions region) limit) (member_tells candidate config.regions region below)
       ∙ ⊎_elim
-      (λ (told : candidate r ≡ true). ap (λ n. candidate r && nat_le n limit) (up_to_is r below told))
-      (λ (none : candidate r ≡ false).
-      ap (λ b. b && nat_le (up_to live candidates c.regions r) limit) none
-      ∙ sym (ap (λ b. b && nat_le (live_up_to c.regions lives candidate r) limit) none))
-      (cases_Bool (candidate r))
+      (λ (told : candidate region ≡ true). ap (λ n. candidate region && nat_le n limit) (up_to_is region below told))
+      (λ (none : candidate region ≡ false).
+      ap (λ b. b && nat_le (up_to live candidates config.regions region) limit) none
+      ∙ sym (ap (λ b. b && nat_le (live_up_to config.regions lives candidate region) limit) none))
+      (cases_Bool (candidate region))

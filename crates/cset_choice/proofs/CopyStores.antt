@@ -22,15 +22,15 @@ use Rattle.cset_choice.specs.Steps.{words_copied}
 
 -- nothing is copied yet
 
-none_copied_at : (from to : ℕ) (m : Word → ℕ) (w : Word) → m w ≡ words_copied from to 0 m w
-none_copied_at from to m (Heap x) = none_yet (m (Heap (from + (x - to)))) (m (Heap x))
+none_copied_at : (from to : ℕ) (memory : Word → ℕ) (word : Word) → memory word ≡ words_copied from to 0 memory word
+none_copied_at from to memory (Heap x) = none_yet (memory (Heap (from + (x - to)))) (memory (Heap x))
   where
     none_yet : (y z : ℕ) → z ≡ cond (nat_le to x && nat_lt x (to + 0)) y z
     none_yet y z = grind (arith, nat_tests)
-none_copied_at from to m _ = refl
+none_copied_at from to memory _ = refl
 
-pub none_copied : (from to : ℕ) (m : Word → ℕ) → m ≡ words_copied from to 0 m
-none_copied from to m = fun_ext (λ w. none_copied_at from to m w)
+pub none_copied : (from to : ℕ) (memory : Word → ℕ) → memory ≡ words_copied from to 0 memory
+none_copied from to memory = fun_ext (λ w. none_copied_at from to memory w)
 
 -- one word more
 
@@ -48,26 +48,26 @@ unread from to n y z apart = ⊎_elim
     (λ (behind : to + n ≤ from + n). grind (arith, nat_tests))
     apart
 
-module _ (from to n all : ℕ) (m : Word → ℕ) (below : n < all) (apart : (from + all ≤ to) ⊎ (to + all ≤ from)) where
+module _ (from to n all : ℕ) (memory : Word → ℕ) (below : n < all) (apart : (from + all ≤ to) ⊎ (to + all ≤ from)) where
   not_written : (from + n < to) ⊎ (to + n ≤ from + n)
   not_written = ⊎_elim
       (λ (before : from + all ≤ to). inl (omega (arith, before, below)))
       (λ (behind : to + all ≤ from). inr (omega (arith, behind, below)))
       apart
 
-  pub still_there : words_copied from to n m (Heap (from + n)) ≡ m (Heap (from + n))
-  still_there = unread from to n (m (Heap (from + (from + n - to)))) (m (Heap (from + n))) not_written
+  pub still_there : words_copied from to n memory (Heap (from + n)) ≡ memory (Heap (from + n))
+  still_there = unread from to n (memory (Heap (from + (from + n - to)))) (memory (Heap (from + n))) not_written
 
-  copied_next_at : (w : Word) → write (words_copied from to n m) (Heap (to + n)) (m (Heap (from + n))) w ≡ words_copied from to (n + 1) m w
+  copied_next_at : (word : Word) → write (words_copied from to n memory) (Heap (to + n)) (memory (Heap (from + n))) word ≡ words_copied from to (n + 1) memory word
   copied_next_at (Heap x) = ⊎_elim
       (λ (here : x ≡ to + n).
       let back : n ≡ x - to = omega (arith, here) in
-      copy_here to n x (m (Heap (from + n))) (m (Heap (from + (x - to)))) (m (Heap x)) here (ap (λ k. m (Heap (from + k))) back))
-      (λ (other : x ≢ to + n). copy_elsewhere to n x (m (Heap (from + n))) (m (Heap (from + (x - to)))) (m (Heap x)) other)
+      copy_here to n x (memory (Heap (from + n))) (memory (Heap (from + (x - to)))) (memory (Heap x)) here (ap (λ k. memory (Heap (from + k))) back))
+      (λ (other : x ≢ to + n). copy_elsewhere to n x (memory (Heap (from + n))) (memory (Heap (from + (x - to)))) (memory (Heap x)) other)
       (cases_eq x (to + n))
   copied_next_at _ = refl
 
-  pub copied_next : write (words_copied from to n m) (Heap (to + n)) (m (Heap (from + n))) ≡ words_copied from to (n + 1) m
+  pub copied_next : write (words_copied from to n memory) (Heap (to + n)) (memory (Heap (from + n))) ≡ words_copied from to (n + 1) memory
   copied_next = fun_ext copied_next_at
 
 -- the whole copy
@@ -77,80 +77,80 @@ heap_copied : (a to n x h y z : ℕ)
     ≡ cond (a == x) h (cond (to == x) plain_header (cond (nat_lt to x && nat_lt x (to + n)) y z))
 heap_copied a to n x h y z = grind (arith, nat_tests)
 
-module _ (c : Config) (m : Word → ℕ) (a r : ℕ) where
+module _ (config : Config) (memory : Word → ℕ) (other_address region : ℕ) where
   abbrev to : ℕ
-  to = top_address c m r
+  to = top_address config memory region
 
   abbrev n : ℕ
-  n = words_at m a
+  n = words_at memory other_address
 
   -- the words after these stores
   abbrev pub copied_by_stores : (address words top free header : ℕ) → Word → ℕ
   copied_by_stores address words top free header =
-      write (write (write (write (words_copied a address words m) (Heap address) plain_header) (Top r) top) Free free) (Heap a) header
+      write (write (write (write (words_copied other_address address words memory) (Heap address) plain_header) (Top region) top) Free free) (Heap other_address) header
 
-  copied_stores_at : (w : Word) → copied_by_stores to n (m (Top r) + n) (bit_and (m Free) (all_but r)) (header_word to) w ≡ copied_to c m a r w
+  copied_stores_at : (word : Word) → copied_by_stores to n (memory (Top region) + n) (bit_and (memory Free) (all_but region)) (header_word to) word ≡ copied_to config memory other_address region word
   unfolding copied_to
-  copied_stores_at (Heap x) = heap_copied a to n x (header_word to) (m (Heap (a + (x - to)))) (m (Heap x))
+  copied_stores_at (Heap x) = heap_copied other_address to n x (header_word to) (memory (Heap (other_address + (x - to)))) (memory (Heap x))
   copied_stores_at _ = refl
 
-  pub copied_stores : (address words top free header : ℕ) → address ≡ to → words ≡ n → top ≡ m (Top r) + n → free ≡ bit_and (m Free) (all_but r) → header ≡ header_word to
-      → copied_by_stores address words top free header ≡ copied_to c m a r
+  pub copied_stores : (address words top free header : ℕ) → address ≡ to → words ≡ n → top ≡ memory (Top region) + n → free ≡ bit_and (memory Free) (all_but region) → header ≡ header_word to
+      → copied_by_stores address words top free header ≡ copied_to config memory other_address region
   copied_stores address words top free header at long grown taken names =
       ap (λ k. copied_by_stores k words top free header) at
       ∙ ap (λ k. copied_by_stores to k top free header) long
       ∙ ap (λ k. copied_by_stores to n k free header) grown
-      ∙ ap (λ k. copied_by_stores to n (m (Top r) + n) k header) taken
-      ∙ ap (copied_by_stores to n (m (Top r) + n) (bit_and (m Free) (all_but r))) names
+      ∙ ap (λ k. copied_by_stores to n (memory (Top region) + n) k header) taken
+      ∙ ap (copied_by_stores to n (memory (Top region) + n) (bit_and (memory Free) (all_but region))) names
       ∙ fun_ext copied_stores_at
 
   -- the current copy is the new one
-  pub header_names_copy : copied_to c m a r (Heap a) ≡ header_word to
+  pub header_names_copy : copied_to config memory other_address region (Heap other_address) ≡ header_word to
   unfolding copied_to
-  header_names_copy = cond-true (a == a) (header_word to) _ (eq-eqb a a refl)
+  header_names_copy = cond-true (other_address == other_address) (header_word to) _ (eq-eqb other_address other_address refl)
 
 -- the region that is found
-pub found_room : (c : Config) (m : Word → ℕ) (a r : ℕ) → copy_room c m a ≡ Some r
-    → (r < c.regions) × IsOutside (m Cset) r × (m (Top r) + words_at m a ≤ c.region_words)
-found_room c m a r found =
-    let lowest = has_room c.region_words (tops_outside c.region_words (m Cset) (λ q. m (Top q))) (words_at m a) c.regions r found in
-    let outside = outside_with_room c.region_words (m Cset) (λ q. m (Top q)) r (words_at m a) (omega arith) lowest.room in
-    let own = own_top c.region_words (m Cset) (λ q. m (Top q)) r outside in
+pub found_room : (config : Config) (memory : Word → ℕ) (a region : ℕ) → copy_room config memory a ≡ Some region
+    → (region < config.regions) × IsOutside (memory Cset) region × (memory (Top region) + words_at memory a ≤ config.region_words)
+found_room config memory a region found =
+    let lowest = has_room config.region_words (tops_outside config.region_words (memory Cset) (λ q. memory (Top q))) (words_at memory a) config.regions region found in
+    let outside = outside_with_room config.region_words (memory Cset) (λ q. memory (Top q)) region (words_at memory a) (omega arith) lowest.room in
+    let own = own_top config.region_words (memory Cset) (λ q. memory (Top q)) region outside in
     (lowest.below, outside, omega (arith, lowest.room, own))
 
 -- the copy lies apart from the old one
-pub copies_apart : (c : Config) (m : Word → ℕ) (a r : ℕ) → CanCopyOut c m a → IsOutside (m Cset) r → m (Top r) + words_at m a ≤ c.region_words
-    → (a + words_at m a ≤ top_address c m r) ⊎ (top_address c m r + words_at m a ≤ a)
-copies_apart c m a r can outside room =
-    let size = words_at m a in
-    let to = top_address c m r in
+pub copies_apart : (config : Config) (memory : Word → ℕ) (address region : ℕ) → CanCopyOut config memory address → IsOutside (memory Cset) region → memory (Top region) + words_at memory address ≤ config.region_words
+    → (address + words_at memory address ≤ top_address config memory region) ⊎ (top_address config memory region + words_at memory address ≤ address)
+copies_apart config memory address region can outside room =
+    let size = words_at memory address in
+    let to = top_address config memory region in
     let lies = can.lies in
     let member = can.in_set in
-    let differ : region_with c a ≢ r = λ same. (let inside : bit_at (m Cset) r ≡ 1 = subst (IsIn (m Cset)) same member in omega (arith, inside, outside)) in
-    let first = regions_apart c (region_with c a) r (a + 0) to size differ (of_its_region c a 0 can.above (omega (arith, lies))) (omega arith) (omega (arith, room)) in
-    let last = regions_apart c (region_with c a) r (a + (size - 1)) to size differ (of_its_region c a (size - 1) can.above (omega (arith, lies))) (omega arith) (omega (arith, room)) in
+    let differ : region_with config address ≢ region = λ same. (let inside : bit_at (memory Cset) region ≡ 1 = subst (IsIn (memory Cset)) same member in omega (arith, inside, outside)) in
+    let first = regions_apart config (region_with config address) region (address + 0) to size differ (of_its_region config address 0 can.above (omega (arith, lies))) (omega arith) (omega (arith, room)) in
+    let last = regions_apart config (region_with config address) region (address + (size - 1)) to size differ (of_its_region config address (size - 1) can.above (omega (arith, lies))) (omega arith) (omega (arith, room)) in
     ⊎_elim
-    (λ (begins : a + 0 < to). ⊎_elim
-    (λ (ends : a + (size - 1) < to). inl (omega (arith, ends)))
-    (λ (behind : to + size ≤ a + (size - 1)). absurd (omega (arith, behind, begins)))
+    (λ (begins : address + 0 < to). ⊎_elim
+    (λ (ends : address + (size - 1) < to). inl (omega (arith, ends)))
+    (λ (behind : to + size ≤ address + (size - 1)). absurd (omega (arith, behind, begins)))
     last)
-    (λ (behind : to + size ≤ a + 0). inr (omega (arith, behind)))
+    (λ (behind : to + size ≤ address + 0). inr (omega (arith, behind)))
     first
 
 -- the address of the copy is that of the current copy then
-pub copy_is_now : (c : Config) (m : Word → ℕ) (a copy : ℕ) → copy_address c m a ≡ Some copy → copy ≡ now_in (copied_out c m a) a
-copy_is_now c m a copy found = by_room (copy_room c m a) found
+pub copy_is_now : (config : Config) (memory : Word → ℕ) (a copy : ℕ) → copy_address config memory a ≡ Some copy → copy ≡ now_in (copied_out config memory a) a
+copy_is_now config memory a copy found = by_room (copy_room config memory a) found
   where
-    by_room : (o : Option ℕ) → copy_in c m o ≡ Some copy → copy ≡ now_in (copied_in c m a o) a
+    by_room : (o : Option ℕ) → copy_in config memory o ≡ Some copy → copy ≡ now_in (copied_in config memory a o) a
     by_room None is = absurd (none-some copy is)
     by_room (Some r) is =
-        let at : top_address c m r ≡ copy = same_Some (top_address c m r) copy is in
-        sym at ∙ sym (now_is (copied_to c m a r) a (top_address c m r) (header_names_copy c m a r))
+        let at : top_address config memory r ≡ copy = same_Some (top_address config memory r) copy is in
+        sym at ∙ sym (now_is (copied_to config memory a r) a (top_address config memory r) (header_names_copy config memory a r))
 
 -- and there is one where some region has room
-pub some_copy : (c : Config) (m : Word → ℕ) (a : ℕ) → copy_room c m a ≢ None → copy_address c m a ≡ None → ⊥
-some_copy c m a room none = by_room (copy_room c m a) room none
+pub some_copy : (config : Config) (memory : Word → ℕ) (a : ℕ) → copy_room config memory a ≢ None → copy_address config memory a ≡ None → ⊥
+some_copy config memory a room none = by_room (copy_room config memory a) room none
   where
-    by_room : (o : Option ℕ) → o ≢ None → copy_in c m o ≡ None → ⊥
+    by_room : (found : Option ℕ) → found ≢ None → copy_in config memory found ≡ None → ⊥
     by_room None some is = some refl
-    by_room (Some r) some is = none-some (top_address c m r) (sym is)
+    by_room (Some r) some is = none-some (top_address config memory r) (sym is)

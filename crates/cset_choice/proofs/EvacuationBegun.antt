@@ -10,57 +10,57 @@ use Rattle.cycle_words.specs.Evacuation.Copied.{copied_out, copy_in}
 use Rattle.cycle_words.specs.Evacuation.Begun.{is_collected, moved_out, cleared_at, with_set, roots_cleared, evac_started, evac_spared, evac_begun}
 
 -- the set is stored
-set_stored_at : (m : Word → ℕ) (set : ℕ) (w : Word) → write m Cset set w ≡ with_set m set w
-set_stored_at m set Cset = refl
-set_stored_at m set _ = refl
+set_stored_at : (memory : Word → ℕ) (set : ℕ) (word : Word) → write memory Cset set word ≡ with_set memory set word
+set_stored_at memory set Cset = refl
+set_stored_at memory set _ = refl
 
-pub set_stored : (m : Word → ℕ) (set : ℕ) → write m Cset set ≡ with_set m set
-set_stored m set = fun_ext (set_stored_at m set)
+pub set_stored : (memory : Word → ℕ) (set : ℕ) → write memory Cset set ≡ with_set memory set
+set_stored memory set = fun_ext (set_stored_at memory set)
 
 -- evacuation begins
-started_at : (m : Word → ℕ) (w : Word) → write (write (write m Evac 0) Claim 0) Phase 2 w ≡ evac_started m w
-started_at m Phase = refl
-started_at m Evac = refl
-started_at m Claim = refl
-started_at m _ = refl
+started_at : (memory : Word → ℕ) (word : Word) → write (write (write memory Evac 0) Claim 0) Phase 2 word ≡ evac_started memory word
+started_at memory Phase = refl
+started_at memory Evac = refl
+started_at memory Claim = refl
+started_at memory _ = refl
 
-pub started : (m : Word → ℕ) → write (write (write m Evac 0) Claim 0) Phase 2 ≡ evac_started m
-started m = fun_ext (started_at m)
+pub started : (memory : Word → ℕ) → write (write (write memory Evac 0) Claim 0) Phase 2 ≡ evac_started memory
+started memory = fun_ext (started_at memory)
 
-pub begun : (c : Config) (m : Word → ℕ) (set : ℕ) → set ≢ 0 → evac_started (roots_cleared c m set) ≡ evac_begun c m set
-begun c m set some = fun_ext (λ w. sym (cond-false (set == 0) (evac_spared m w) (evac_started (roots_cleared c m set) w) (ne_eqb set 0 some)))
+pub begun : (config : Config) (memory : Word → ℕ) (set : ℕ) → set ≢ 0 → evac_started (roots_cleared config memory set) ≡ evac_begun config memory set
+begun config memory set some = fun_ext (λ w. sym (cond-false (set == 0) (evac_spared memory w) (evac_started (roots_cleared config memory set) w) (ne_eqb set 0 some)))
 
 -- or is spared
-spared_at : (m : Word → ℕ) (w : Word) → write (write (write m Cset 0) Claim 0) Phase 0 w ≡ evac_spared m w
-spared_at m Phase = refl
-spared_at m Cset = refl
-spared_at m Claim = refl
-spared_at m _ = refl
+spared_at : (memory : Word → ℕ) (word : Word) → write (write (write memory Cset 0) Claim 0) Phase 0 word ≡ evac_spared memory word
+spared_at memory Phase = refl
+spared_at memory Cset = refl
+spared_at memory Claim = refl
+spared_at memory _ = refl
 
-pub spared : (m : Word → ℕ) → write (write (write m Cset 0) Claim 0) Phase 0 ≡ evac_spared m
-spared m = fun_ext (spared_at m)
+pub spared : (memory : Word → ℕ) → write (write (write memory Cset 0) Claim 0) Phase 0 ≡ evac_spared memory
+spared memory = fun_ext (spared_at memory)
 
-pub not_begun : (c : Config) (m : Word → ℕ) (set : ℕ) → set ≡ 0 → evac_spared m ≡ evac_begun c m set
-not_begun c m set none = fun_ext (λ w. sym (cond-true (set == 0) (evac_spared m w) (evac_started (roots_cleared c m set) w) (eq-eqb set 0 none)))
+pub not_begun : (config : Config) (memory : Word → ℕ) (set : ℕ) → set ≡ 0 → evac_spared memory ≡ evac_begun config memory set
+not_begun config memory set none = fun_ext (λ w. sym (cond-true (set == 0) (evac_spared memory w) (evac_started (roots_cleared config memory set) w) (eq-eqb set 0 none)))
 
 -- one place
-pub not_cleared : (c : Config) (m : Word → ℕ) (place : Word) → is_collected c m (m place) ≡ false → m ≡ cleared_at c m place
+pub not_cleared : (config : Config) (memory : Word → ℕ) (place : Word) → is_collected config memory (memory place) ≡ false → memory ≡ cleared_at config memory place
 unfolding cleared_at
-not_cleared c m place outside = fun_ext (λ w. sym (cond-false (is_collected c m (m place)) _ (m w) outside))
+not_cleared config memory place outside = fun_ext (λ w. sym (cond-false (is_collected config memory (memory place)) _ (memory w) outside))
 
-pub cleared : (c : Config) (m : Word → ℕ) (place : Word) → is_collected c m (m place) ≡ true
-    → write (moved_out c m (m place)) place (now_in (moved_out c m (m place)) (m place)) ≡ cleared_at c m place
+pub cleared : (config : Config) (memory : Word → ℕ) (place : Word) → is_collected config memory (memory place) ≡ true
+    → write (moved_out config memory (memory place)) place (now_in (moved_out config memory (memory place)) (memory place)) ≡ cleared_at config memory place
 unfolding cleared_at
-cleared c m place collected = fun_ext (λ w. sym (cond-true (is_collected c m (m place)) _ (m w) collected))
+cleared config memory place collected = fun_ext (λ w. sym (cond-true (is_collected config memory (memory place)) _ (memory w) collected))
 
 -- one object
-pub moved_before : (c : Config) (m : Word → ℕ) (a : ℕ) → is_forwarded (m (Heap a)) ≡ true → m ≡ moved_out c m a
-moved_before c m a forwarded = fun_ext (λ w. sym (cond-true (is_forwarded (m (Heap a))) (m w) (copied_out c m a w) forwarded))
+pub moved_before : (config : Config) (memory : Word → ℕ) (address : ℕ) → is_forwarded (memory (Heap address)) ≡ true → memory ≡ moved_out config memory address
+moved_before config memory address forwarded = fun_ext (λ w. sym (cond-true (is_forwarded (memory (Heap address))) (memory w) (copied_out config memory address w) forwarded))
 
-pub moved_now : (c : Config) (m : Word → ℕ) (a : ℕ) → is_forwarded (m (Heap a)) ≡ false → copied_out c m a ≡ moved_out c m a
-moved_now c m a plain = fun_ext (λ w. sym (cond-false (is_forwarded (m (Heap a))) (m w) (copied_out c m a w) plain))
+pub moved_now : (config : Config) (memory : Word → ℕ) (address : ℕ) → is_forwarded (memory (Heap address)) ≡ false → copied_out config memory address ≡ moved_out config memory address
+moved_now config memory address plain = fun_ext (λ w. sym (cond-false (is_forwarded (memory (Heap address))) (memory w) (copied_out config memory address w) plain))
 
 -- where some region has room there is a copy
-pub some_copy : (c : Config) (m : Word → ℕ) (room : Option ℕ) → room ≢ None → IsSome (copy_in c m room)
-some_copy c m None some = absurd (some refl)
-some_copy c m (Some r) some = refl
+pub some_copy : (config : Config) (memory : Word → ℕ) (room : Option ℕ) → room ≢ None → IsSome (copy_in config memory room)
+some_copy config memory None some = absurd (some refl)
+some_copy config memory (Some r) some = refl

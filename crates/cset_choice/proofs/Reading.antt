@@ -5,13 +5,13 @@ use Rattle.heap_words.specs.Words.{Word, Heap, IsWord, word_at}
 use Rattle.image_graph.specs.Make.{AreInHeap}
 
 -- what was read at the place of a word is the word
-pub read : (c k : Config) (m : Word → ℕ) (w : Word) (at value : ℕ) → k ≡ c → IsWord c w → at ≡ word_at k w
-    → ((v : Word) → IsWord c v → word_at c v ≡ at → value ≡ m v) → value ≡ m w
-read c k m w at value same is place named = named w is (ap (λ (j : Config). word_at j w) (sym same) ∙ sym place)
+pub read : (config other_config : Config) (memory : Word → ℕ) (word : Word) (at value : ℕ) → other_config ≡ config → IsWord config word → at ≡ word_at other_config word
+    → ((other_word : Word) → IsWord config other_word → word_at config other_word ≡ at → value ≡ memory other_word) → value ≡ memory word
+read config other_config memory word at value same is place named = named word is (ap (λ (config : Config). word_at config word) (sym same) ∙ sym place)
 
 -- a word of a part of the heap
-pub word_in : (c k : Config) (a n i : ℕ) → k ≡ c → AreInHeap c a n → i < n → IsWord k (Heap (a + i))
-word_in c k a n i same inside below = subst (λ (j : Config). IsWord j (Heap (a + i))) (sym same) (omega (arith, inside.from), omega (arith, inside.to, below))
+pub word_in : (config other_config : Config) (address n i : ℕ) → other_config ≡ config → AreInHeap config address n → i < n → IsWord other_config (Heap (address + i))
+word_in config other_config address n i same inside below = subst (λ (config : Config). IsWord config (Heap (address + i))) (sym same) (omega (arith, inside.from), omega (arith, inside.to, below))
 
-pub first_in : (c k : Config) (a n : ℕ) → k ≡ c → AreInHeap c a n → 0 < n → IsWord k (Heap a)
-first_in c k a n same inside some = subst (λ (j : Config). IsWord j (Heap a)) (sym same) (inside.from, omega (arith, inside.to, some))
+pub first_in : (config other_config : Config) (address n : ℕ) → other_config ≡ config → AreInHeap config address n → 0 < n → IsWord other_config (Heap address)
+first_in config other_config address n same inside some = subst (λ (config : Config). IsWord config (Heap address)) (sym same) (inside.from, omega (arith, inside.to, some))

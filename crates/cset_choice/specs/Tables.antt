@@ -12,14 +12,14 @@ abbrev pub most_live : ℕ
 most_live = 17213423616
 
 -- a table of 64 numbers has the live words of each candidate; what it has at another region says nothing
-pub record AreLive (c : Config) (memory : Word → ℕ) (live : List ℕ) : Type 0 where
+pub record AreLive (config : Config) (memory : Word → ℕ) (live : List ℕ) : Type 0 where
   pub long : length live ≡ 64
-  pub small : (r : ℕ) → r < 64 → slice_index live r ≤ most_live
-  pub is : (r : ℕ) → r < c.regions → is_candidate c memory r ≡ true → slice_index live r ≡ live_words c memory r
+  pub small : (region : ℕ) → region < 64 → slice_index live region ≤ most_live
+  pub is : (region : ℕ) → region < config.regions → is_candidate config memory region ≡ true → slice_index live region ≡ live_words config memory region
 
 -- what a region adds to what lives, by a table, in the regions of a set up to another one, in the order of the choice
 abbrev pub adds : (live : List ℕ) (set : ℕ) → ℕ → ℕ → ℕ
-adds live set r q = if (bit_at set q == 1) && not (comes_before (slice_index live) r q) then slice_index live q else 0
+adds live set r index = if (bit_at set index == 1) && not (comes_before (slice_index live) r index) then slice_index live index else 0
 
 -- what lives in all of them
 abbrev pub up_to : (live : List ℕ) (set regions : ℕ) → ℕ → ℕ

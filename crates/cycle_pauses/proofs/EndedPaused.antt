@@ -46,38 +46,38 @@ set_is_freed_first c m g asking r whole =
     }
 
 -- words that represent a graph are such that a cycle can be ended
-pub can_end : (c : Config) (m : Word → ℕ) (g : Graph) (asking : ℕ → Asking) → Represents c m g asking → HasNoMoreSeats c m → CanEnd c m
-can_end c m g asking r seats = record {
-  finishes = representing_can_finish c m g asking r seats;
-  holds = λ short. let h = (short_is_pause c m g asking r seats short).holds in ∣ (g, h.0, h.1, h.2, h.3, h.4) ∣₁;
+pub can_end : (config : Config) (memory : Word → ℕ) (graph : Graph) (asking : ℕ → Asking) → Represents config memory graph asking → HasNoMoreSeats config memory → CanEnd config memory
+can_end config memory graph asking r seats = record {
+  finishes = representing_can_finish config memory graph asking r seats;
+  holds = λ short. let h = (short_is_pause config memory graph asking r seats short).holds in ∣ (graph, h.0, h.1, h.2, h.3, h.4) ∣₁;
 }
 
 -- That a cycle can be ended is one fact.
-can_copy_out_prop : (c : Config) (m : Word → ℕ) (a : ℕ) → IsProp (CanCopyOut c m a)
-can_copy_out_prop c m a = hlevel (le_prop, ℕ_set)
+can_copy_out_prop : (config : Config) (memory : Word → ℕ) (a : ℕ) → IsProp (CanCopyOut config memory a)
+can_copy_out_prop config memory a = hlevel (le_prop, ℕ_set)
 
-can_copy_from_prop : (c : Config) (n : ℕ) (m : Word → ℕ) (a : ℕ) → IsProp (CanCopyFrom c m a n)
+can_copy_from_prop : (config : Config) (n : ℕ) (memory : Word → ℕ) (a : ℕ) → IsProp (CanCopyFrom config memory a n)
 unfolding CanCopyFrom
-can_copy_from_prop c zero m a = hlevel
-can_copy_from_prop c (suc n) m a = hlevel (can_copy_out_prop c m a, can_copy_from_prop c n (copied_out c m a) (a + 1), can_copy_from_prop c n m (a + 1))
+can_copy_from_prop config zero memory a = hlevel
+can_copy_from_prop config (suc n) memory a = hlevel (can_copy_out_prop config memory a, can_copy_from_prop config n (copied_out config memory a) (a + 1), can_copy_from_prop config n memory (a + 1))
 
-inside_prop : (c : Config) (word : ℕ) → IsProp (IsInside c word)
-inside_prop c word = hlevel (le_prop, ℕ_set)
+inside_prop : (config : Config) (word : ℕ) → IsProp (IsInside config word)
+inside_prop config word = hlevel (le_prop, ℕ_set)
 
-can_update_prop : (c : Config) (m : Word → ℕ) → IsProp (CanUpdateAll c m)
-can_update_prop c m = hlevel (le_prop, ℕ_set)
+can_update_prop : (config : Config) (memory : Word → ℕ) → IsProp (CanUpdateAll config memory)
+can_update_prop config memory = hlevel (le_prop, ℕ_set)
 
-can_fill_prop : (c : Config) (m : Word → ℕ) (r : ℕ) → IsProp (CanFill c m r)
-can_fill_prop c m r = hlevel le_prop
+can_fill_prop : (config : Config) (memory : Word → ℕ) (r : ℕ) → IsProp (CanFill config memory r)
+can_fill_prop config memory r = hlevel le_prop
 
-can_free_prop : (c : Config) (m : Word → ℕ) → IsProp (CanFree c m)
-can_free_prop c m = hlevel (le_prop, can_fill_prop c m)
+can_free_prop : (config : Config) (memory : Word → ℕ) → IsProp (CanFree config memory)
+can_free_prop config memory = hlevel (le_prop, can_fill_prop config memory)
 
-pub can_end_prop : (c : Config) (m : Word → ℕ) → IsProp (CanEnd c m)
-can_end_prop c m =
+pub can_end_prop : (config : Config) (memory : Word → ℕ) → IsProp (CanEnd config memory)
+can_end_prop config memory =
     hlevel (
-      inside_prop c,
-      can_copy_from_prop c (c.regions * c.region_words) (let_go c m) c.region_words,
-      can_update_prop c (all_copied c (let_go c m)),
-      can_free_prop c (all_updated c (all_copied c (let_go c m))),
+      inside_prop config,
+      can_copy_from_prop config (config.regions * config.region_words) (let_go config memory) config.region_words,
+      can_update_prop config (all_copied config (let_go config memory)),
+      can_free_prop config (all_updated config (all_copied config (let_go config memory))),
     )

@@ -29,134 +29,134 @@ use Rattle.cycle_words.proofs.Finishing.Fields.{low_spared}
 use Rattle.cycle_pauses.specs.Ended.{ended, CanEnd}
 
 -- the same memory at a word
-at_word : (x y : Word → ℕ) (word : Word) → x ≡ y → x word ≡ y word
-at_word x y word is = ap (λ (f : Word → ℕ). f word) is
+at_word : (memory other_memory : Word → ℕ) (word : Word) → memory ≡ other_memory → memory word ≡ other_memory word
+at_word memory other_memory word is = ap (λ (memory : Word → ℕ). memory word) is
 
 -- Copying changes words of the heap, tops and the free word alone.
-copied_from_same : (c : Config) (n : ℕ) (m : Word → ℕ) (a : ℕ) (word : Word) → (MayChange word → ⊥) → copied_from c m a n word ≡ m word
-copied_from_same c zero m a word fixed = at_word (copied_from c m a zero) m word (copied_none c m a 0)
-copied_from_same c (suc n) m a word fixed = ⊎_elim
-    (λ (left : is_left c m a ≡ true). ⊎_elim
-    (λ (room : has_copy_room c m a ≡ true).
-    at_word (copied_from c m a (suc n)) (copied_from c (copied_out c m a) (a + 1) n) word (copied_next c m a n left room)
-    ∙ copied_from_same c n (copied_out c m a) (a + 1) word fixed ∙ copied_same c m a word fixed)
-    (λ (none : has_copy_room c m a ≡ false). at_word (copied_from c m a (suc n)) m word (copied_stuck c m a n left none))
-    (cases_Bool (has_copy_room c m a)))
-    (λ (other : is_left c m a ≡ false).
-    at_word (copied_from c m a (suc n)) (copied_from c m (a + 1) n) word (copied_skips c m a n other) ∙ copied_from_same c n m (a + 1) word fixed)
-    (cases_Bool (is_left c m a))
+copied_from_same : (config : Config) (n : ℕ) (memory : Word → ℕ) (address : ℕ) (word : Word) → (MayChange word → ⊥) → copied_from config memory address n word ≡ memory word
+copied_from_same config zero memory address word fixed = at_word (copied_from config memory address zero) memory word (copied_none config memory address 0)
+copied_from_same config (suc n) memory address word fixed = ⊎_elim
+    (λ (left : is_left config memory address ≡ true). ⊎_elim
+    (λ (room : has_copy_room config memory address ≡ true).
+    at_word (copied_from config memory address (suc n)) (copied_from config (copied_out config memory address) (address + 1) n) word (copied_next config memory address n left room)
+    ∙ copied_from_same config n (copied_out config memory address) (address + 1) word fixed ∙ copied_same config memory address word fixed)
+    (λ (none : has_copy_room config memory address ≡ false). at_word (copied_from config memory address (suc n)) memory word (copied_stuck config memory address n left none))
+    (cases_Bool (has_copy_room config memory address)))
+    (λ (other : is_left config memory address ≡ false).
+    at_word (copied_from config memory address (suc n)) (copied_from config memory (address + 1) n) word (copied_skips config memory address n other) ∙ copied_from_same config n memory (address + 1) word fixed)
+    (cases_Bool (is_left config memory address))
 
-pub all_copied_same : (c : Config) (m : Word → ℕ) (word : Word) → (MayChange word → ⊥) → all_copied c m word ≡ m word
-all_copied_same c m word fixed =
-    of_two (m Phase == 2) (copied_from c m c.region_words (c.regions * c.region_words) word) (m word) (m word)
-    (copied_from_same c (c.regions * c.region_words) m c.region_words word fixed) refl
+pub all_copied_same : (config : Config) (memory : Word → ℕ) (word : Word) → (MayChange word → ⊥) → all_copied config memory word ≡ memory word
+all_copied_same config memory word fixed =
+    of_two (memory Phase == 2) (copied_from config memory config.region_words (config.regions * config.region_words) word) (memory word) (memory word)
+    (copied_from_same config (config.regions * config.region_words) memory config.region_words word fixed) refl
 
 -- Serving who waits changes no word that making an object leaves.
-served_same : (c : Config) (m : Word → ℕ) (word : Word) → ((w : Word → ℕ) (t r : ℕ) → made_in c w t r word ≡ w word) → (n : ℕ) → served c m n word ≡ m word
-served_same c m word made zero = served_first c m word
-served_same c m word made (suc n) = ⊎_elim
-    (λ (none : served c m n (Wait n) ≡ 0). turn_idle c m n word none ∙ served_same c m word made n)
-    (λ (some : served c m n (Wait n) ≢ 0).
-    turn_waits c m n word some ∙ by_room (served c m n) (room_for c (served c m n) n) ∙ served_same c m word made n)
-    (cases_eq (served c m n (Wait n)) 0)
+served_same : (config : Config) (memory : Word → ℕ) (word : Word) → ((other_memory : Word → ℕ) (t r : ℕ) → made_in config other_memory t r word ≡ other_memory word) → (mutator : ℕ) → served config memory mutator word ≡ memory word
+served_same config memory word made zero = served_first config memory word
+served_same config memory word made (suc mutator) = ⊎_elim
+    (λ (none : served config memory mutator (Wait mutator) ≡ 0). turn_idle config memory mutator word none ∙ served_same config memory word made mutator)
+    (λ (some : served config memory mutator (Wait mutator) ≢ 0).
+    turn_waits config memory mutator word some ∙ by_room (served config memory mutator) (room_for config (served config memory mutator) mutator) ∙ served_same config memory word made mutator)
+    (cases_eq (served config memory mutator (Wait mutator)) 0)
   where
-    by_room : (w : Word → ℕ) (o : Option ℕ) → served_in c w n o word ≡ w word
-    by_room w None = refl
-    by_room w (Some r) = made w n r
+    by_room : (other_memory : Word → ℕ) (found : Option ℕ) → served_in config other_memory mutator found word ≡ other_memory word
+    by_room other_memory None = refl
+    by_room other_memory (Some r) = made other_memory mutator r
 
 -- So words before the image stay where a cycle is finished, ..
-finished_same : (c : Config) (m : Word → ℕ) (word : Word) → ((n : Word → ℕ) → set_freed c (all_updated c n) word ≡ n word) → (MayChange word → ⊥)
-    → ((w : Word → ℕ) (t r : ℕ) → made_in c w t r word ≡ w word) → finished_from c m word ≡ m word
-finished_same c m word updates fixed made =
-    let copies = all_copied_same c m word fixed in
-    of_two (is_room_for_all c m) (served c (cycle_finished c m) c.mutators word) (all_copied c m word) (m word)
-    (served_same c (cycle_finished c m) word made c.mutators ∙ updates (all_copied c m) ∙ copies) copies
+finished_same : (config : Config) (m : Word → ℕ) (word : Word) → ((n : Word → ℕ) → set_freed config (all_updated config n) word ≡ n word) → (MayChange word → ⊥)
+    → ((w : Word → ℕ) (t r : ℕ) → made_in config w t r word ≡ w word) → finished_from config m word ≡ m word
+finished_same config m word updates fixed made =
+    let copies = all_copied_same config m word fixed in
+    of_two (is_room_for_all config m) (served config (cycle_finished config m) config.mutators word) (all_copied config m word) (m word)
+    (served_same config (cycle_finished config m) word made config.mutators ∙ updates (all_copied config m) ∙ copies) copies
 
-finished_from_before : (c : Config) (m : Word → ℕ) (word : Word) → is_image word ≡ false → finished_from c m word ≡ m word
+finished_from_before : (config : Config) (memory : Word → ℕ) (word : Word) → is_image word ≡ false → finished_from config memory word ≡ memory word
 unfolding made_in
-finished_from_before c m Pause other = finished_same c m Pause (λ n. refl) (λ never. never) (λ w t r. refl)
-finished_from_before c m Left other = finished_same c m Left (λ n. refl) (λ never. never) (λ w t r. refl)
-finished_from_before c m End other = finished_same c m End (λ n. refl) (λ never. never) (λ w t r. refl)
-finished_from_before c m (State s) other = finished_same c m (State s) (λ n. refl) (λ never. never) (λ w t r. refl)
-finished_from_before c m _ other = absurd (true≢false other)
+finished_from_before config memory Pause other = finished_same config memory Pause (λ n. refl) (λ never. never) (λ w t r. refl)
+finished_from_before config memory Left other = finished_same config memory Left (λ n. refl) (λ never. never) (λ w t r. refl)
+finished_from_before config memory End other = finished_same config memory End (λ n. refl) (λ never. never) (λ w t r. refl)
+finished_from_before config memory (State s) other = finished_same config memory (State s) (λ n. refl) (λ never. never) (λ w t r. refl)
+finished_from_before config memory _ other = absurd (true≢false other)
 
-finished_before : (c : Config) (m : Word → ℕ) (word : Word) → is_image word ≡ false → finished c m word ≡ m word
-finished_before c m word other = finished_from_before c (let_go c m) word other ∙ let_go_same word (of_image word other) c m (seat_count c.mutators c.helpers)
+finished_before : (config : Config) (memory : Word → ℕ) (word : Word) → is_image word ≡ false → finished config memory word ≡ memory word
+finished_before config memory word other = finished_from_before config (let_go config memory) word other ∙ let_go_same word (of_image word other) config memory (seat_count config.mutators config.helpers)
 
 -- .. and where it is ended in its pause.
-pub ended_before : (c : Config) (m : Word → ℕ) (word : Word) → is_image word ≡ false → ended c m word ≡ m word
-ended_before c m word other =
-    of_two (is_whole c m) (finished c m word) (full c (finished c m) word) (m word) (finished_before c m word other)
-    (full_before c (finished c m) word other ∙ finished_before c m word other)
+pub ended_before : (config : Config) (memory : Word → ℕ) (word : Word) → is_image word ≡ false → ended config memory word ≡ memory word
+ended_before config memory word other =
+    of_two (is_whole config memory) (finished config memory word) (full config (finished config memory) word) (memory word) (finished_before config memory word other)
+    (full_before config (finished config memory) word other ∙ finished_before config memory word other)
 
 -- Words that are no words of the table read 0 once all that is left was copied, ..
-copied_from_outside : (c : Config) (n : ℕ) (m : Word → ℕ) (a : ℕ) → CanCopyFrom c m a n → IsZeroOutside c m → IsZeroOutside c (copied_from c m a n)
+copied_from_outside : (config : Config) (n : ℕ) (memory : Word → ℕ) (address : ℕ) → CanCopyFrom config memory address n → IsZeroOutside config memory → IsZeroOutside config (copied_from config memory address n)
 unfolding CanCopyFrom
-copied_from_outside c zero m a can nothing = subst (IsZeroOutside c) (sym (copied_none c m a 0)) nothing
-copied_from_outside c (suc n) m a can nothing = ⊎_elim
-    (λ (left : is_left c m a ≡ true). ⊎_elim
-    (λ (room : has_copy_room c m a ≡ true).
+copied_from_outside config zero memory address can nothing = subst (IsZeroOutside config) (sym (copied_none config memory address 0)) nothing
+copied_from_outside config (suc n) memory address can nothing = ⊎_elim
+    (λ (left : is_left config memory address ≡ true). ⊎_elim
+    (λ (room : has_copy_room config memory address ≡ true).
     let object = (can.0 left).0 in
-    subst (IsZeroOutside c) (sym (copied_next c m a n left room))
-    (copied_from_outside c n (copied_out c m a) (a + 1) ((can.0 left).1 room)
-    (copied_outside c m a object (copies_out c m a object.above object.in_set (room_found c m a room)) nothing)))
-    (λ (none : has_copy_room c m a ≡ false). subst (IsZeroOutside c) (sym (copied_stuck c m a n left none)) nothing)
-    (cases_Bool (has_copy_room c m a)))
-    (λ (other : is_left c m a ≡ false).
-    subst (IsZeroOutside c) (sym (copied_skips c m a n other)) (copied_from_outside c n m (a + 1) (can.1 other) nothing))
-    (cases_Bool (is_left c m a))
+    subst (IsZeroOutside config) (sym (copied_next config memory address n left room))
+    (copied_from_outside config n (copied_out config memory address) (address + 1) ((can.0 left).1 room)
+    (copied_outside config memory address object (copies_out config memory address object.above object.in_set (room_found config memory address room)) nothing)))
+    (λ (none : has_copy_room config memory address ≡ false). subst (IsZeroOutside config) (sym (copied_stuck config memory address n left none)) nothing)
+    (cases_Bool (has_copy_room config memory address)))
+    (λ (other : is_left config memory address ≡ false).
+    subst (IsZeroOutside config) (sym (copied_skips config memory address n other)) (copied_from_outside config n memory (address + 1) (can.1 other) nothing))
+    (cases_Bool (is_left config memory address))
 
-all_copied_outside : (c : Config) (m : Word → ℕ) → (m Phase ≡ 2 → CanCopyFrom c m c.region_words (c.regions * c.region_words)) → IsZeroOutside c m → IsZeroOutside c (all_copied c m)
-all_copied_outside c m can nothing word other = ⊎_elim
-    (λ (on : m Phase ≡ 2).
-    cond-true (m Phase == 2) (copied_from c m c.region_words (c.regions * c.region_words) word) (m word) (eq-eqb (m Phase) 2 on)
-    ∙ copied_from_outside c (c.regions * c.region_words) m c.region_words (can on) nothing word other)
-    (λ (off : m Phase ≢ 2).
-    cond-false (m Phase == 2) (copied_from c m c.region_words (c.regions * c.region_words) word) (m word) (ne_eqb (m Phase) 2 off) ∙ nothing word other)
-    (cases_eq (m Phase) 2)
+all_copied_outside : (config : Config) (memory : Word → ℕ) → (memory Phase ≡ 2 → CanCopyFrom config memory config.region_words (config.regions * config.region_words)) → IsZeroOutside config memory → IsZeroOutside config (all_copied config memory)
+all_copied_outside config memory can nothing word other = ⊎_elim
+    (λ (on : memory Phase ≡ 2).
+    cond-true (memory Phase == 2) (copied_from config memory config.region_words (config.regions * config.region_words) word) (memory word) (eq-eqb (memory Phase) 2 on)
+    ∙ copied_from_outside config (config.regions * config.region_words) memory config.region_words (can on) nothing word other)
+    (λ (off : memory Phase ≢ 2).
+    cond-false (memory Phase == 2) (copied_from config memory config.region_words (config.regions * config.region_words) word) (memory word) (ne_eqb (memory Phase) 2 off) ∙ nothing word other)
+    (cases_eq (memory Phase) 2)
 
 -- .. once all references were updated, ..
-null_updated : (c : Config) (m : Word → ℕ) (v : ℕ) → v ≡ 0 → updated_word c m v ≡ 0
-null_updated c m v null = low_spared c m v (omega (arith, null)) ∙ null
+null_updated : (config : Config) (memory : Word → ℕ) (v : ℕ) → v ≡ 0 → updated_word config memory v ≡ 0
+null_updated config memory v null = low_spared config memory v (omega (arith, null)) ∙ null
 
-all_updated_outside : (c : Config) (m : Word → ℕ) → IsZeroOutside c m → IsZeroOutside c (all_updated c m)
-all_updated_outside c m nothing (Heap x) other =
-    of_two (is_kept_field c m x) (updated_word c m (m (Heap x))) (m (Heap x)) 0 (null_updated c m (m (Heap x)) (nothing (Heap x) other)) (nothing (Heap x) other)
-all_updated_outside c m nothing (Root t i) other = null_updated c m (m (Root t i)) (nothing (Root t i) other)
-all_updated_outside c m nothing (Answer t) other = null_updated c m (m (Answer t)) (nothing (Answer t) other)
-all_updated_outside c m nothing word other = nothing word other
+all_updated_outside : (config : Config) (memory : Word → ℕ) → IsZeroOutside config memory → IsZeroOutside config (all_updated config memory)
+all_updated_outside config memory nothing (Heap x) other =
+    of_two (is_kept_field config memory x) (updated_word config memory (memory (Heap x))) (memory (Heap x)) 0 (null_updated config memory (memory (Heap x)) (nothing (Heap x) other)) (nothing (Heap x) other)
+all_updated_outside config memory nothing (Root t i) other = null_updated config memory (memory (Root t i)) (nothing (Root t i) other)
+all_updated_outside config memory nothing (Answer t) other = null_updated config memory (memory (Answer t)) (nothing (Answer t) other)
+all_updated_outside config memory nothing word other = nothing word other
 
-filled_outside : (c : Config) (in_region gone : ℕ → Bool) (m : Word → ℕ) → IsZeroOutside c m → IsZeroOutside c (filled_in c in_region gone m)
-filled_outside c in_region gone m nothing (Heap x) other =
-    cond-false (in_region (region_with c x) && begins c m x && gone x) (filler_header (object_words (m (Heap (x + 1))))) (m (Heap x))
-    (and_left (in_region (region_with c x) && begins c m x) (gone x) (and_right (in_region (region_with c x)) (begins c m x) (none_begins c m x (outside_heap c x other))))
+filled_outside : (config : Config) (in_region gone : ℕ → Bool) (memory : Word → ℕ) → IsZeroOutside config memory → IsZeroOutside config (filled_in config in_region gone memory)
+filled_outside config in_region gone memory nothing (Heap x) other =
+    cond-false (in_region (region_with config x) && begins config memory x && gone x) (filler_header (object_words (memory (Heap (x + 1))))) (memory (Heap x))
+    (and_left (in_region (region_with config x) && begins config memory x) (gone x) (and_right (in_region (region_with config x)) (begins config memory x) (none_begins config memory x (outside_heap config x other))))
     ∙ nothing (Heap x) other
-filled_outside c in_region gone m nothing word other = nothing word other
+filled_outside config in_region gone memory nothing word other = nothing word other
 
-set_freed_outside : (c : Config) (m : Word → ℕ) → IsZeroOutside c m → IsZeroOutside c (set_freed c m)
-set_freed_outside c m nothing Evac other = refl
-set_freed_outside c m nothing Ask other = refl
-set_freed_outside c m nothing word other =
-    cycle_outside c (set_left c m)
-    (freed_outside c (is_to_free c m) (filled_in c (is_to_stay c m) (has_moved m) m) (filled_outside c (is_to_stay c m) (has_moved m) m nothing)) word other
+set_freed_outside : (config : Config) (memory : Word → ℕ) → IsZeroOutside config memory → IsZeroOutside config (set_freed config memory)
+set_freed_outside config memory nothing Evac other = refl
+set_freed_outside config memory nothing Ask other = refl
+set_freed_outside config memory nothing word other =
+    cycle_outside config (set_left config memory)
+    (freed_outside config (is_to_free config memory) (filled_in config (is_to_stay config memory) (has_moved memory) memory) (filled_outside config (is_to_stay config memory) (has_moved memory) memory nothing)) word other
 
 -- .. once the cycle is finished, ..
-finished_outside : (c : Config) (m : Word → ℕ) → CanFinish c m → IsZeroOutside c m → IsZeroOutside c (finished c m)
-finished_outside c m can nothing word other =
-    let w : Word → ℕ = let_go c m in
-    let copies = all_copied_outside c (let_go c m) can.copies (let_go_outside c m nothing can.buffers) in
-    of_two (is_room_for_all c w) (served c (cycle_finished c w) c.mutators word) (all_copied c w word) 0
-    (served_outside c (cycle_finished c w) c.mutators (omega arith)
-    (set_freed_outside c (all_updated c (all_copied c w)) (all_updated_outside c (all_copied c w) copies)) word other)
+finished_outside : (config : Config) (memory : Word → ℕ) → CanFinish config memory → IsZeroOutside config memory → IsZeroOutside config (finished config memory)
+finished_outside config memory can nothing word other =
+    let w : Word → ℕ = let_go config memory in
+    let copies = all_copied_outside config (let_go config memory) can.copies (let_go_outside config memory nothing can.buffers) in
+    of_two (is_room_for_all config w) (served config (cycle_finished config w) config.mutators word) (all_copied config w word) 0
+    (served_outside config (cycle_finished config w) config.mutators (omega arith)
+    (set_freed_outside config (all_updated config (all_copied config w)) (all_updated_outside config (all_copied config w) copies)) word other)
     (copies word other)
 
 -- .. and once the cycle is ended in its pause.
-pub ended_outside : (c : Config) (m : Word → ℕ) → CanEnd c m → IsZeroOutside c m → IsZeroOutside c (ended c m)
-ended_outside c m can nothing word other =
-    let finishes = finished_outside c m can.finishes nothing in
+pub ended_outside : (config : Config) (memory : Word → ℕ) → CanEnd config memory → IsZeroOutside config memory → IsZeroOutside config (ended config memory)
+ended_outside config memory can nothing word other =
+    let finishes = finished_outside config memory can.finishes nothing in
     ⊎_elim
-    (λ (whole : is_whole c m ≡ true). cond-true (is_whole c m) (finished c m word) (full c (finished c m) word) whole ∙ finishes word other)
-    (λ (short : is_whole c m ≡ false).
-    cond-false (is_whole c m) (finished c m word) (full c (finished c m) word) short
-    ∙ ∥∥₁_elim (can.holds short) (hlevel ℕ_set) (λ h. full_zero c (finished c m) h.0 (h.1, h.2, h.3, h.4) finishes word other))
-    (cases_Bool (is_whole c m))
+    (λ (whole : is_whole config memory ≡ true). cond-true (is_whole config memory) (finished config memory word) (full config (finished config memory) word) whole ∙ finishes word other)
+    (λ (short : is_whole config memory ≡ false).
+    cond-false (is_whole config memory) (finished config memory word) (full config (finished config memory) word) short
+    ∙ ∥∥₁_elim (can.holds short) (hlevel ℕ_set) (λ h. full_zero config (finished config memory) h.0 (h.1, h.2, h.3, h.4) finishes word other))
+    (cases_Bool (is_whole config memory))

@@ -20,68 +20,68 @@ use Rattle.cycle_pauses.proofs.Evacuation.Outside.{of_two, next_before}
 use Rattle.cycle_pauses.proofs.Finished.{ended_before}
 
 -- settling leaves the words before the image
-settled_before : (c : Config) (m : Word → ℕ) (word : Word) → is_image word ≡ false → buffers_settled c m word ≡ m word
-settled_before c m word other = settled_same word (of_image word other) c m (seat_count c.mutators c.helpers)
+settled_before : (config : Config) (memory : Word → ℕ) (word : Word) → is_image word ≡ false → buffers_settled config memory word ≡ memory word
+settled_before config memory word other = settled_same word (of_image word other) config memory (seat_count config.mutators config.helpers)
 
 -- so does the beginning of marking, ..
-begun_before : (c : Config) (m : Word → ℕ) (word : Word) → is_image word ≡ false → marking_begun c m word ≡ m word
-begun_before c m Pause other = refl
-begun_before c m Left other = refl
-begun_before c m End other = refl
-begun_before c m (State s) other = refl
-begun_before c m _ other = absurd (true≢false other)
+begun_before : (config : Config) (memory : Word → ℕ) (word : Word) → is_image word ≡ false → marking_begun config memory word ≡ memory word
+begun_before config memory Pause other = refl
+begun_before config memory Left other = refl
+begun_before config memory End other = refl
+begun_before config memory (State s) other = refl
+begun_before config memory _ other = absurd (true≢false other)
 
-init_before : (c : Config) (m : Word → ℕ) (word : Word) → is_image word ≡ false → init_marked c m word ≡ m word
-init_before c m word other = begun_before c (buffers_settled c m) word other ∙ settled_before c m word other
+init_before : (config : Config) (memory : Word → ℕ) (word : Word) → is_image word ≡ false → init_marked config memory word ≡ memory word
+init_before config memory word other = begun_before config (buffers_settled config memory) word other ∙ settled_before config memory word other
 
 -- .. that of updating, and its end
-updating_before : (c : Config) (m : Word → ℕ) (word : Word) → is_image word ≡ false → updating_begun c m word ≡ m word
-updating_before c m Pause other = refl
-updating_before c m Left other = refl
-updating_before c m End other = refl
-updating_before c m (State s) other = refl
-updating_before c m _ other = absurd (true≢false other)
+updating_before : (config : Config) (memory : Word → ℕ) (word : Word) → is_image word ≡ false → updating_begun config memory word ≡ memory word
+updating_before config memory Pause other = refl
+updating_before config memory Left other = refl
+updating_before config memory End other = refl
+updating_before config memory (State s) other = refl
+updating_before config memory _ other = absurd (true≢false other)
 
-init_updated_before : (c : Config) (m : Word → ℕ) (word : Word) → is_image word ≡ false → init_updated c m word ≡ m word
-init_updated_before c m word other = updating_before c (buffers_settled c m) word other ∙ settled_before c m word other
+init_updated_before : (config : Config) (memory : Word → ℕ) (word : Word) → is_image word ≡ false → init_updated config memory word ≡ memory word
+init_updated_before config memory word other = updating_before config (buffers_settled config memory) word other ∙ settled_before config memory word other
 
-final_updated_before : (c : Config) (m : Word → ℕ) (word : Word) → is_image word ≡ false → final_updated c m word ≡ m word
-final_updated_before c m Pause other = refl
-final_updated_before c m Left other = refl
-final_updated_before c m End other = refl
-final_updated_before c m (State s) other = refl
-final_updated_before c m _ other = absurd (true≢false other)
+final_updated_before : (config : Config) (memory : Word → ℕ) (word : Word) → is_image word ≡ false → final_updated config memory word ≡ memory word
+final_updated_before config memory Pause other = refl
+final_updated_before config memory Left other = refl
+final_updated_before config memory End other = refl
+final_updated_before config memory (State s) other = refl
+final_updated_before config memory _ other = absurd (true≢false other)
 
-cycle_before : (c : Config) (m : Word → ℕ) (word : Word) → is_image word ≡ false → next_in_cycle c m word ≡ m word
-cycle_before c m word other =
-    of_two (m Phase == 0) (init_marked c m word) (if m Phase == 1 then evac_next c m word else (if m Phase == 2 then init_updated c m word else final_updated c m word)) (m word) (init_before c m word other)
-    (of_two (m Phase == 1) (evac_next c m word) (if m Phase == 2 then init_updated c m word else final_updated c m word) (m word) (next_before c m word other)
-    (of_two (m Phase == 2) (init_updated c m word) (final_updated c m word) (m word) (init_updated_before c m word other) (final_updated_before c m word other)))
+cycle_before : (config : Config) (memory : Word → ℕ) (word : Word) → is_image word ≡ false → next_in_cycle config memory word ≡ memory word
+cycle_before config memory word other =
+    of_two (memory Phase == 0) (init_marked config memory word) (if memory Phase == 1 then evac_next config memory word else (if memory Phase == 2 then init_updated config memory word else final_updated config memory word)) (memory word) (init_before config memory word other)
+    (of_two (memory Phase == 1) (evac_next config memory word) (if memory Phase == 2 then init_updated config memory word else final_updated config memory word) (memory word) (next_before config memory word other)
+    (of_two (memory Phase == 2) (init_updated config memory word) (final_updated config memory word) (memory word) (init_updated_before config memory word other) (final_updated_before config memory word other)))
 
-past_marking_before : (c : Config) (m : Word → ℕ) (word : Word) → is_image word ≡ false → past_marking c m word ≡ m word
-past_marking_before c m word other = of_two (m Phase == 1) (evac_next c m word) (m word) (m word) (next_before c m word other) refl
+past_marking_before : (config : Config) (memory : Word → ℕ) (word : Word) → is_image word ≡ false → past_marking config memory word ≡ memory word
+past_marking_before config memory word other = of_two (memory Phase == 1) (evac_next config memory word) (memory word) (memory word) (next_before config memory word other) refl
 
-room_before : (c : Config) (m : Word → ℕ) (word : Word) → is_image word ≡ false → room_made c m word ≡ m word
-room_before c m word other =
-    of_two (m Phase == 0) (full c m word) (ended c (past_marking c m) word) (m word) (full_before c m word other)
-    (ended_before c (past_marking c m) word other ∙ past_marking_before c m word other)
+room_before : (config : Config) (memory : Word → ℕ) (word : Word) → is_image word ≡ false → room_made config memory word ≡ memory word
+room_before config memory word other =
+    of_two (memory Phase == 0) (full config memory word) (ended config (past_marking config memory) word) (memory word) (full_before config memory word other)
+    (ended_before config (past_marking config memory) word other ∙ past_marking_before config memory word other)
 
-collected_before : (c : Config) (m : Word → ℕ) (word : Word) → is_image word ≡ false → collected c m word ≡ m word
-collected_before c m word other =
-    of_two (is_room_needed m) (room_made c m word) (next_in_cycle c m word) (m word) (room_before c m word other) (cycle_before c m word other)
+collected_before : (config : Config) (memory : Word → ℕ) (word : Word) → is_image word ≡ false → collected config memory word ≡ memory word
+collected_before config memory word other =
+    of_two (is_room_needed memory) (room_made config memory word) (next_in_cycle config memory word) (memory word) (room_before config memory word other) (cycle_before config memory word other)
 
 -- a pause keeps the length of the image
-pub collected_length : (c : Config) (image : List ℕ) → length (collect_image c image) ≡ image_words c
-collected_length c image = image_of_length c (collected c (image_view c image))
+pub collected_length : (config : Config) (image : List ℕ) → length (collect_image config image) ≡ image_words config
+collected_length config image = image_of_length config (collected config (image_view config image))
 
 -- by their names the words of the table are those that it makes of them
-pub collected_by_name : (c : Config) (image : List ℕ) (word : Word) → IsWord c word → image_view c (collect_image c image) word ≡ collected c (image_view c image) word
-collected_by_name c image = word_by_name c image (collected c (image_view c image)) (collected_before c (image_view c image))
+pub collected_by_name : (config : Config) (image : List ℕ) (word : Word) → IsWord config word → image_view config (collect_image config image) word ≡ collected config (image_view config image) word
+collected_by_name config image = word_by_name config image (collected config (image_view config image)) (collected_before config (image_view config image))
 
 -- and a table that reads so is the image, behind zeros
-pub collected_table : (c : Config) (image table : List ℕ) → length table ≡ table_words c
-    → ((word : Word) → IsWord c word → view c table word ≡ collected c (image_view c image) word) → table ≡ replicate (image_start c) 0 ++ collect_image c image
-collected_table c image = table_by_name c image (collected c (image_view c image)) (collected_before c (image_view c image))
+pub collected_table : (config : Config) (image table : List ℕ) → length table ≡ table_words config
+    → ((word : Word) → IsWord config word → view config table word ≡ collected config (image_view config image) word) → table ≡ replicate (image_start config) 0 ++ collect_image config image
+collected_table config image = table_by_name config image (collected config (image_view config image)) (collected_before config (image_view config image))
 
 pub table_is_collected : TableIsCollected
-table_is_collected c image table long whole can is = collected_table c image table whole (λ word inside. ap (λ (m : Word → ℕ). m word) is)
+table_is_collected c image table long whole can is = collected_table c image table whole (λ word inside. ap (λ (memory : Word → ℕ). memory word) is)

@@ -53,41 +53,41 @@ use Rattle.cycle_pauses.proofs.Finished.{ended_outside}
 use Rattle.cycle_pauses.proofs.EndedPaused.{ended_is_paused, can_end, can_end_prop}
 
 -- there is no collection set in phases 0 and 1
-calm_in : (c : Config) (m : Word → ℕ) (g : Graph) (asking : ℕ → Asking) (r : Represents c m g asking) → m Phase < 2 → m Cset ≡ 0
-calm_in c m g asking r low = r.shared.phased.cset_is low
+calm_in : (config : Config) (memory : Word → ℕ) (graph : Graph) (asking : ℕ → Asking) (r : Represents config memory graph asking) → memory Phase < 2 → memory Cset ≡ 0
+calm_in config memory graph asking r low = r.shared.phased.cset_is low
 
 -- one of two
-pick : (b : Bool) (x y : Word → ℕ) → b ≡ true → (λ word. if b then x word else y word) ≡ x
-pick b x y is = fun_ext (λ word. cond-true b (x word) (y word) is)
+pick : (holds : Bool) (memory other_memory : Word → ℕ) → holds ≡ true → (λ word. if holds then memory word else other_memory word) ≡ memory
+pick holds memory other_memory is = fun_ext (λ word. cond-true holds (memory word) (other_memory word) is)
 
-skip : (b : Bool) (x y : Word → ℕ) → b ≡ false → (λ word. if b then x word else y word) ≡ y
-skip b x y is = fun_ext (λ word. cond-false b (x word) (y word) is)
+skip : (holds : Bool) (memory other_memory : Word → ℕ) → holds ≡ false → (λ word. if holds then memory word else other_memory word) ≡ other_memory
+skip holds memory other_memory is = fun_ext (λ word. cond-false holds (memory word) (other_memory word) is)
 
 -- no seat but those of the heap has a buffer in an image
-no_more_seats : (c : Config) (words : List ℕ) → HasNoMoreSeats c (view c words)
-no_more_seats c words seat past = view_none c words (Current seat) (le-ltb seat (seat_count c.mutators c.helpers) past)
+no_more_seats : (config : Config) (words : List ℕ) → HasNoMoreSeats config (view config words)
+no_more_seats config words seat past = view_none config words (Current seat) (le-ltb seat (seat_count config.mutators config.helpers) past)
 
 -- the words past marking represent the same graph
-past_marking_represents : (c : Config) (m : Word → ℕ) (g : Graph) (asking : ℕ → Asking) → Represents c m g asking → HasNoMoreSeats c m → Represents c (past_marking c m) g asking
-past_marking_represents c m g asking r seats = ⊎_elim
-    (λ (on : (m Phase == 1) ≡ true).
-    subst (λ w. Represents c w g asking) (sym (pick (m Phase == 1) (evac_next c m) m on)) (evacuation_represents c m g asking r (eqb-true (m Phase) 1 on) seats))
-    (λ (off : (m Phase == 1) ≡ false). subst (λ w. Represents c w g asking) (sym (skip (m Phase == 1) (evac_next c m) m off)) r)
-    (cases_Bool (m Phase == 1))
+past_marking_represents : (config : Config) (memory : Word → ℕ) (graph : Graph) (asking : ℕ → Asking) → Represents config memory graph asking → HasNoMoreSeats config memory → Represents config (past_marking config memory) graph asking
+past_marking_represents config memory graph asking r seats = ⊎_elim
+    (λ (on : (memory Phase == 1) ≡ true).
+    subst (λ w. Represents config w graph asking) (sym (pick (memory Phase == 1) (evac_next config memory) memory on)) (evacuation_represents config memory graph asking r (eqb-true (memory Phase) 1 on) seats))
+    (λ (off : (memory Phase == 1) ≡ false). subst (λ w. Represents config w graph asking) (sym (skip (memory Phase == 1) (evac_next config memory) memory off)) r)
+    (cases_Bool (memory Phase == 1))
 
 -- and no other seats have buffers then
-past_marking_seats : (c : Config) (m : Word → ℕ) → HasNoMoreSeats c m → HasNoMoreSeats c (past_marking c m)
-past_marking_seats c m seats seat past = of_two (m Phase == 1) (evac_next c m (Current seat)) (m (Current seat)) 0 (next_current c m seat ∙ seats seat past) (seats seat past)
+past_marking_seats : (config : Config) (memory : Word → ℕ) → HasNoMoreSeats config memory → HasNoMoreSeats config (past_marking config memory)
+past_marking_seats config memory seats seat past = of_two (memory Phase == 1) (evac_next config memory (Current seat)) (memory (Current seat)) 0 (next_current config memory seat ∙ seats seat past) (seats seat past)
 
-can_collect : (c : Config) (m : Word → ℕ) (g : Graph) (asking : ℕ → Asking) (r : Represents c m g asking) → HasNoMoreSeats c m
-    → CanPause c m (live c m g asking (by_copies c m g asking r)) r.ghost.owner (promises_of c g asking) g
-can_collect c m g asking r seats = record {
-  holds = holds_by c m g asking (by_copies c m g asking r);
-  sized = are_sized c m g asking (by_copies c m g asking r);
+can_collect : (config : Config) (memory : Word → ℕ) (graph : Graph) (asking : ℕ → Asking) (r : Represents config memory graph asking) → HasNoMoreSeats config memory
+    → CanPause config memory (live config memory graph asking (by_copies config memory graph asking r)) r.ghost.owner (promises_of config graph asking) graph
+can_collect config memory graph asking r seats = record {
+  holds = holds_by config memory graph asking (by_copies config memory graph asking r);
+  sized = are_sized config memory graph asking (by_copies config memory graph asking r);
   phase_is = r.shared.phased.phase_is;
-  uncollected = λ none. calm_in c m g asking r (omega (arith, none));
-  marking = λ on. is_marking c m g asking r (calm_in c m g asking r (omega (arith, on))) on;
-  ends = λ needed runs. can_end c (past_marking c m) g asking (past_marking_represents c m g asking r seats) (past_marking_seats c m seats);
+  uncollected = λ none. calm_in config memory graph asking r (omega (arith, none));
+  marking = λ on. is_marking config memory graph asking r (calm_in config memory graph asking r (omega (arith, on))) on;
+  ends = λ needed runs. can_end config (past_marking config memory) graph asking (past_marking_represents config memory graph asking r seats) (past_marking_seats config memory seats);
 }
 
 pub representing_can_collect : RepresentingCanCollect
@@ -95,8 +95,8 @@ representing_can_collect c image g asking r =
     let m : Word → ℕ = image_view c image in
     ∣ (g, live c m g asking (by_copies c m g asking r), r.ghost.owner, promises_of c g asking, can_collect c (image_view c image) g asking r (no_more_seats c (replicate (image_start c) 0 ++ image))) ∣₁
 
-can_begin_prop : (c : Config) (m : Word → ℕ) → IsProp (CanBegin c m)
-can_begin_prop c m = hlevel (le_prop, ℕ_set, Bool-set)
+can_begin_prop : (config : Config) (memory : Word → ℕ) → IsProp (CanBegin config memory)
+can_begin_prop config memory = hlevel (le_prop, ℕ_set, Bool-set)
 
 pub ended_can_begin : EndedCanBegin
 ended_can_begin c m can on seats = ∥∥₁_elim can (can_begin_prop c (final_marked c m)) (λ some. evacuation_can_begin c m some.1 some.2 some.3 some.0 some.4.holds (some.4.marking on) seats)
@@ -114,98 +114,98 @@ unset word k is = ⊎_elim
     (cases_eq (bit_at word k) 0)
 
 -- nobody waits, and no copier was out of room
-pub record IsCalm (m : Word → ℕ) : Type 0 where
-  pub unasked : bit_at (m Ask) 1 ≡ 0
-  pub room : m Phase ≡ 2 → is_out_of_room (m Evac) ≡ false
+pub record IsCalm (memory : Word → ℕ) : Type 0 where
+  pub unasked : bit_at (memory Ask) 1 ≡ 0
+  pub room : memory Phase ≡ 2 → is_out_of_room (memory Evac) ≡ false
 
-calm_if : (m : Word → ℕ) → is_room_needed m ≡ false → IsCalm m
-calm_if m none = parts (bit_at (m Ask) 1 == 1) (m Phase == 2) (is_out_of_room (m Evac)) refl refl refl none
+calm_if : (memory : Word → ℕ) → is_room_needed memory ≡ false → IsCalm memory
+calm_if memory none = parts (bit_at (memory Ask) 1 == 1) (memory Phase == 2) (is_out_of_room (memory Evac)) refl refl refl none
   where
-    parts : (x y z : Bool) → (bit_at (m Ask) 1 == 1) ≡ x → (m Phase == 2) ≡ y → is_out_of_room (m Evac) ≡ z → (x || (y && z)) ≡ false → IsCalm m
+    parts : (x y z : Bool) → (bit_at (memory Ask) 1 == 1) ≡ x → (memory Phase == 2) ≡ y → is_out_of_room (memory Evac) ≡ z → (x || (y && z)) ≡ false → IsCalm memory
     parts true y z is_x is_y is_z both = absurd (true≢false both)
     parts false true true is_x is_y is_z both = absurd (true≢false both)
-    parts false true false is_x is_y is_z both = record { unasked = unset (m Ask) 1 is_x; room = λ two. is_z }
-    parts false false z is_x is_y is_z both = record { unasked = unset (m Ask) 1 is_x; room = λ two. absurd (true≢false (sym (eq-eqb (m Phase) 2 two) ∙ is_y)) }
+    parts false true false is_x is_y is_z both = record { unasked = unset (memory Ask) 1 is_x; room = λ two. is_z }
+    parts false false z is_x is_y is_z both = record { unasked = unset (memory Ask) 1 is_x; room = λ two. absurd (true≢false (sym (eq-eqb (memory Phase) 2 two) ∙ is_y)) }
 
 -- one of six: where room is needed it is in full, or ends the cycle; else the step of the cycle that the phase tells
-pub data Which (c : Config) (m : Word → ℕ) : Type 0 where
-  in_full : m Phase ≡ 0 → collected c m ≡ full c m → Which c m
-  to_end : is_room_needed m ≡ true → (m Phase ≢ 0) → collected c m ≡ ended c (past_marking c m) → Which c m
-  to_mark : IsCalm m → m Phase ≡ 0 → collected c m ≡ init_marked c m → Which c m
-  to_evacuate : IsCalm m → m Phase ≡ 1 → collected c m ≡ evac_next c m → Which c m
-  to_update : IsCalm m → m Phase ≡ 2 → collected c m ≡ init_updated c m → Which c m
-  to_free : IsCalm m → (m Phase ≢ 0) → (m Phase ≢ 1) → (m Phase ≢ 2) → collected c m ≡ final_updated c m → Which c m
+pub data Which (config : Config) (memory : Word → ℕ) : Type 0 where
+  in_full : memory Phase ≡ 0 → collected config memory ≡ full config memory → Which config memory
+  to_end : is_room_needed memory ≡ true → (memory Phase ≢ 0) → collected config memory ≡ ended config (past_marking config memory) → Which config memory
+  to_mark : IsCalm memory → memory Phase ≡ 0 → collected config memory ≡ init_marked config memory → Which config memory
+  to_evacuate : IsCalm memory → memory Phase ≡ 1 → collected config memory ≡ evac_next config memory → Which config memory
+  to_update : IsCalm memory → memory Phase ≡ 2 → collected config memory ≡ init_updated config memory → Which config memory
+  to_free : IsCalm memory → (memory Phase ≢ 0) → (memory Phase ≢ 1) → (memory Phase ≢ 2) → collected config memory ≡ final_updated config memory → Which config memory
 
 differ : (n k : ℕ) → (n == k) ≡ false → n ≢ k
 differ n k other same = true≢false (sym (eq-eqb n k same) ∙ other)
 
-module _ (c : Config) (m : Word → ℕ) where
+module _ (config : Config) (memory : Word → ℕ) where
   abbrev late : Word → ℕ
-  late word = if m Phase == 2 then init_updated c m word else final_updated c m word
+  late word = if memory Phase == 2 then init_updated config memory word else final_updated config memory word
 
   abbrev later : Word → ℕ
-  later word = if m Phase == 1 then evac_next c m word else late word
+  later word = if memory Phase == 1 then evac_next config memory word else late word
 
-  by_phase : IsCalm m → collected c m ≡ next_in_cycle c m → Which c m
+  by_phase : IsCalm memory → collected config memory ≡ next_in_cycle config memory → Which config memory
   by_phase calm on = ⊎_elim
-      (λ (zero_one : (m Phase == 0) ≡ true). Which.to_mark calm (eqb-true (m Phase) 0 zero_one) (on ∙ pick (m Phase == 0) (init_marked c m) later zero_one))
-      (λ (not_0 : (m Phase == 0) ≡ false).
-      let after_0 = on ∙ skip (m Phase == 0) (init_marked c m) later not_0 in
+      (λ (zero_one : (memory Phase == 0) ≡ true). Which.to_mark calm (eqb-true (memory Phase) 0 zero_one) (on ∙ pick (memory Phase == 0) (init_marked config memory) later zero_one))
+      (λ (not_0 : (memory Phase == 0) ≡ false).
+      let after_0 = on ∙ skip (memory Phase == 0) (init_marked config memory) later not_0 in
       ⊎_elim
-      (λ (one : (m Phase == 1) ≡ true). Which.to_evacuate calm (eqb-true (m Phase) 1 one) (after_0 ∙ pick (m Phase == 1) (evac_next c m) late one))
-      (λ (not_1 : (m Phase == 1) ≡ false).
-      let after_1 = after_0 ∙ skip (m Phase == 1) (evac_next c m) late not_1 in
+      (λ (one : (memory Phase == 1) ≡ true). Which.to_evacuate calm (eqb-true (memory Phase) 1 one) (after_0 ∙ pick (memory Phase == 1) (evac_next config memory) late one))
+      (λ (not_1 : (memory Phase == 1) ≡ false).
+      let after_1 = after_0 ∙ skip (memory Phase == 1) (evac_next config memory) late not_1 in
       ⊎_elim
-      (λ (two : (m Phase == 2) ≡ true). Which.to_update calm (eqb-true (m Phase) 2 two) (after_1 ∙ pick (m Phase == 2) (init_updated c m) (final_updated c m) two))
-      (λ (not_2 : (m Phase == 2) ≡ false).
-      Which.to_free calm (differ (m Phase) 0 not_0) (differ (m Phase) 1 not_1) (differ (m Phase) 2 not_2) (after_1 ∙ skip (m Phase == 2) (init_updated c m) (final_updated c m) not_2))
-      (cases_Bool (m Phase == 2)))
-      (cases_Bool (m Phase == 1)))
-      (cases_Bool (m Phase == 0))
+      (λ (two : (memory Phase == 2) ≡ true). Which.to_update calm (eqb-true (memory Phase) 2 two) (after_1 ∙ pick (memory Phase == 2) (init_updated config memory) (final_updated config memory) two))
+      (λ (not_2 : (memory Phase == 2) ≡ false).
+      Which.to_free calm (differ (memory Phase) 0 not_0) (differ (memory Phase) 1 not_1) (differ (memory Phase) 2 not_2) (after_1 ∙ skip (memory Phase == 2) (init_updated config memory) (final_updated config memory) not_2))
+      (cases_Bool (memory Phase == 2)))
+      (cases_Bool (memory Phase == 1)))
+      (cases_Bool (memory Phase == 0))
 
-  by_room : is_room_needed m ≡ true → Which c m
+  by_room : is_room_needed memory ≡ true → Which config memory
   by_room needed =
-      let on = pick (is_room_needed m) (room_made c m) (next_in_cycle c m) needed in
+      let on = pick (is_room_needed memory) (room_made config memory) (next_in_cycle config memory) needed in
       ⊎_elim
-      (λ (zero_phase : (m Phase == 0) ≡ true). Which.in_full (eqb-true (m Phase) 0 zero_phase) (on ∙ pick (m Phase == 0) (full c m) (ended c (past_marking c m)) zero_phase))
-      (λ (runs : (m Phase == 0) ≡ false). Which.to_end needed (differ (m Phase) 0 runs) (on ∙ skip (m Phase == 0) (full c m) (ended c (past_marking c m)) runs))
-      (cases_Bool (m Phase == 0))
+      (λ (zero_phase : (memory Phase == 0) ≡ true). Which.in_full (eqb-true (memory Phase) 0 zero_phase) (on ∙ pick (memory Phase == 0) (full config memory) (ended config (past_marking config memory)) zero_phase))
+      (λ (runs : (memory Phase == 0) ≡ false). Which.to_end needed (differ (memory Phase) 0 runs) (on ∙ skip (memory Phase == 0) (full config memory) (ended config (past_marking config memory)) runs))
+      (cases_Bool (memory Phase == 0))
 
-  pub which : Which c m
+  pub which : Which config memory
   which = ⊎_elim
-      (λ (needed : is_room_needed m ≡ true). by_room needed)
-      (λ (none : is_room_needed m ≡ false). by_phase (calm_if m none) (skip (is_room_needed m) (room_made c m) (next_in_cycle c m) none))
-      (cases_Bool (is_room_needed m))
+      (λ (needed : is_room_needed memory ≡ true). by_room needed)
+      (λ (none : is_room_needed memory ≡ false). by_phase (calm_if memory none) (skip (is_room_needed memory) (room_made config memory) (next_in_cycle config memory) none))
+      (cases_Bool (is_room_needed memory))
 
 -- Words that are no words of the table are 0 after a pause.
-collected_outside : (c : Config) (image : List ℕ) (g : Graph) (block : Plot) (owner : ℕ → Option ℕ) (p : Promises) → CanPause c (image_view c image) block owner p g → IsZeroOutside c (collected c (image_view c image))
-collected_outside c image g block owner p can = by_which (which c (image_view c image))
+collected_outside : (config : Config) (image : List ℕ) (graph : Graph) (block : Plot) (owner : ℕ → Option ℕ) (promises : Promises) → CanPause config (image_view config image) block owner promises graph → IsZeroOutside config (collected config (image_view config image))
+collected_outside config image graph block owner promises can = by_which (which config (image_view config image))
   where
-    none : IsZeroOutside c (image_view c image)
-    none word out = view_none c (replicate (image_start c) 0 ++ image) word out
+    none : IsZeroOutside config (image_view config image)
+    none word out = view_none config (replicate (image_start config) 0 ++ image) word out
 
-    evacuated : image_view c image Phase ≡ 1 → IsZeroOutside c (evac_next c (image_view c image))
+    evacuated : image_view config image Phase ≡ 1 → IsZeroOutside config (evac_next config (image_view config image))
     evacuated on =
-        let m : Word → ℕ = image_view c image in
+        let m : Word → ℕ = image_view config image in
         let marking = can.marking on in
-        let begin = evacuation_can_begin c m block owner p g can.holds marking (no_more_seats c (replicate (image_start c) 0 ++ image)) in
-        begun_outside c (final_marked c m) (chosen c (final_marked c m)) (can_clear_in_turn c (final_marked c m) begin) (final_outside c m block owner p g can.holds none marking)
+        let begin = evacuation_can_begin config m block owner promises graph can.holds marking (no_more_seats config (replicate (image_start config) 0 ++ image)) in
+        begun_outside config (final_marked config m) (chosen config (final_marked config m)) (can_clear_in_turn config (final_marked config m) begin) (final_outside config m block owner promises graph can.holds none marking)
 
-    past_outside : IsZeroOutside c (past_marking c (image_view c image))
+    past_outside : IsZeroOutside config (past_marking config (image_view config image))
     past_outside = ⊎_elim
-        (λ (on : (image_view c image Phase == 1) ≡ true).
-        subst (IsZeroOutside c) (sym (pick (image_view c image Phase == 1) (evac_next c (image_view c image)) (image_view c image) on)) (evacuated (eqb-true (image_view c image Phase) 1 on)))
-        (λ (off : (image_view c image Phase == 1) ≡ false).
-        subst (IsZeroOutside c) (sym (skip (image_view c image Phase == 1) (evac_next c (image_view c image)) (image_view c image) off)) none)
-        (cases_Bool (image_view c image Phase == 1))
+        (λ (on : (image_view config image Phase == 1) ≡ true).
+        subst (IsZeroOutside config) (sym (pick (image_view config image Phase == 1) (evac_next config (image_view config image)) (image_view config image) on)) (evacuated (eqb-true (image_view config image Phase) 1 on)))
+        (λ (off : (image_view config image Phase == 1) ≡ false).
+        subst (IsZeroOutside config) (sym (skip (image_view config image Phase == 1) (evac_next config (image_view config image)) (image_view config image) off)) none)
+        (cases_Bool (image_view config image Phase == 1))
 
-    by_which : Which c (image_view c image) → IsZeroOutside c (collected c (image_view c image))
-    by_which (Which.in_full idle is) = subst (IsZeroOutside c) (sym is) (holds_outside c (replicate (image_start c) 0 ++ image) g (block, owner, p, can.holds))
-    by_which (Which.to_end needed runs is) = subst (IsZeroOutside c) (sym is) (ended_outside c (past_marking c (image_view c image)) (can.ends needed runs) past_outside)
-    by_which (Which.to_mark calm begins is) = subst (IsZeroOutside c) (sym is) (init_outside c (image_view c image) block owner p g can.holds none (can.uncollected begins))
-    by_which (Which.to_evacuate calm on is) = subst (IsZeroOutside c) (sym is) (evacuated on)
-    by_which (Which.to_update calm on is) = subst (IsZeroOutside c) (sym is) (update.init_outside c (image_view c image) (buffers_inside c (image_view c image) block can.holds.objects.plotted can.holds.buffers) none)
-    by_which (Which.to_free calm not_0 not_1 not_2 is) = subst (IsZeroOutside c) (sym is) (update.final_outside c (image_view c image) none)
+    by_which : Which config (image_view config image) → IsZeroOutside config (collected config (image_view config image))
+    by_which (Which.in_full idle is) = subst (IsZeroOutside config) (sym is) (holds_outside config (replicate (image_start config) 0 ++ image) graph (block, owner, promises, can.holds))
+    by_which (Which.to_end needed runs is) = subst (IsZeroOutside config) (sym is) (ended_outside config (past_marking config (image_view config image)) (can.ends needed runs) past_outside)
+    by_which (Which.to_mark calm begins is) = subst (IsZeroOutside config) (sym is) (init_outside config (image_view config image) block owner promises graph can.holds none (can.uncollected begins))
+    by_which (Which.to_evacuate calm on is) = subst (IsZeroOutside config) (sym is) (evacuated on)
+    by_which (Which.to_update calm on is) = subst (IsZeroOutside config) (sym is) (update.init_outside config (image_view config image) (buffers_inside config (image_view config image) block can.holds.objects.plotted can.holds.buffers) none)
+    by_which (Which.to_free calm not_0 not_1 not_2 is) = subst (IsZeroOutside config) (sym is) (update.final_outside config (image_view config image) none)
 
 pub image_is_collected : ImageIsCollected
 image_is_collected c image long can = fun_ext (λ word. ⊎_elim
@@ -216,36 +216,36 @@ image_is_collected c image long can = fun_ext (λ word. ⊎_elim
     (cases_Bool (is_word c word)))
 
 -- What a pause owes that is due.
-module _ (c : Config) (image : List ℕ) (g : Graph) (asking : ℕ → Asking) (r : Represents c (image_view c image) g asking) (due : IsDue c (image_view c image)) where
+module _ (config : Config) (image : List ℕ) (graph : Graph) (asking : ℕ → Asking) (r : Represents config (image_view config image) graph asking) (due : IsDue config (image_view config image)) where
   abbrev m : Word → ℕ
-  m = image_view c image
+  m = image_view config image
 
   -- where nobody waits nobody asks
-  nobody : IsCalm m → (t refs nums : ℕ) → t < c.mutators → asking t ≡ asks refs nums → ⊥
-  nobody calm t refs nums inside is = let waits = r.heard t refs nums inside is in let none = calm.unasked in omega (arith, waits, none)
+  nobody : IsCalm m → (mutator refs nums : ℕ) → mutator < config.mutators → asking mutator ≡ asks refs nums → ⊥
+  nobody calm mutator refs nums inside is = let waits = r.heard mutator refs nums inside is in let none = calm.unasked in omega (arith, waits, none)
 
   -- so a step of the cycle owes that the words represent the same graph
-  step_paused : IsCalm m → (after : Word → ℕ) → collected c m ≡ after → Represents c after g asking → IsPaused c m (collected c m) g asking
-  step_paused calm after is stands = subst (λ words. IsPaused c m words g asking) (sym is) (idle_pause c m after g asking (nobody calm) stands)
+  step_paused : IsCalm m → (after : Word → ℕ) → collected config m ≡ after → Represents config after graph asking → IsPaused config m (collected config m) graph asking
+  step_paused calm after is stands = subst (λ words. IsPaused config m words graph asking) (sym is) (idle_pause config m after graph asking (nobody calm) stands)
 
-  which_paused : Which c m → IsPaused c m (collected c m) g asking
-  which_paused (Which.in_full idle is) = subst (λ words. IsPaused c m words g asking) (sym is) (paused c m g asking (by_copies c m g asking r))
+  which_paused : Which config m → IsPaused config m (collected config m) graph asking
+  which_paused (Which.in_full idle is) = subst (λ words. IsPaused config m words graph asking) (sym is) (paused config m graph asking (by_copies config m graph asking r))
   which_paused (Which.to_end needed runs is) =
-      let past = past_marking_represents c m g asking r (no_more_seats c (replicate (image_start c) 0 ++ image)) in
-      subst (λ words. IsPaused c m words g asking) (sym is) (paused_from c (past_marking c m) m (ended c (past_marking c m)) g asking
-      (ended_is_paused c (past_marking c m) g asking past (past_marking_seats c m (no_more_seats c (replicate (image_start c) 0 ++ image)))))
-  which_paused (Which.to_mark calm begins is) = step_paused calm (init_marked c m) is (beginning_represents c m g asking r begins (nobody calm))
+      let past = past_marking_represents config m graph asking r (no_more_seats config (replicate (image_start config) 0 ++ image)) in
+      subst (λ words. IsPaused config m words graph asking) (sym is) (paused_from config (past_marking config m) m (ended config (past_marking config m)) graph asking
+      (ended_is_paused config (past_marking config m) graph asking past (past_marking_seats config m (no_more_seats config (replicate (image_start config) 0 ++ image)))))
+  which_paused (Which.to_mark calm begins is) = step_paused calm (init_marked config m) is (beginning_represents config m graph asking r begins (nobody calm))
   which_paused (Which.to_evacuate calm on is) =
-      step_paused calm (evac_next c m) is (evacuation_represents c m g asking r on (no_more_seats c (replicate (image_start c) 0 ++ image)))
+      step_paused calm (evac_next config m) is (evacuation_represents config m graph asking r on (no_more_seats config (replicate (image_start config) 0 ++ image)))
   which_paused (Which.to_update calm on is) =
-      step_paused calm (init_updated c m) is (updating_begins c m g asking r on (calm.room on) (due (omega (arith, on)) calm.unasked))
+      step_paused calm (init_updated config m) is (updating_begins config m graph asking r on (calm.room on) (due (omega (arith, on)) calm.unasked))
   which_paused (Which.to_free calm not_0 not_1 not_2 is) =
       let few = r.shared.phased.phase_is in
       let on : m Phase ≡ 3 = omega (arith, few, not_0, not_1, not_2) in
-      step_paused calm (final_updated c m) is (updating_ends c m g asking r on (due (omega (arith, on)) calm.unasked))
+      step_paused calm (final_updated config m) is (updating_ends config m graph asking r on (due (omega (arith, on)) calm.unasked))
 
-  collected_paused : IsPaused c m (collected c m) g asking
-  collected_paused = which_paused (which c m)
+  collected_paused : IsPaused config m (collected config m) graph asking
+  collected_paused = which_paused (which config m)
 
 pub collect_is_pause : CollectIsPause
 collect_is_pause = record {

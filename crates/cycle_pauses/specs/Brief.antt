@@ -38,7 +38,7 @@ pub record IsMadeOfPart (inside : Word → Bool) (whole : Word → ℕ) (made pa
 -- Where no room is needed a pause of phase 0 is made of the words off the heap, and one of phase 2 or 3 of those before the words of the mutators.
 -- Of the others it writes only such as become other than 0.
 pub record CollectsByPart : Type 0 where
-  pub begins : (c : Config) (whole part : Word → ℕ) → IsPartOf is_off_heap whole part → is_room_needed part ≡ false → part Phase ≡ idle_phase
-      → IsMadeOfPart is_off_heap whole (collected c whole) (collected c part)
-  pub updates : (c : Config) (whole part : Word → ℕ) → IsPartOf is_ahead whole part → is_room_needed part ≡ false → part Phase ≢ idle_phase → part Phase ≢ marking_phase
-      → IsMadeOfPart is_ahead whole (collected c whole) (collected c part)
+  pub begins : (config : Config) (whole part : Word → ℕ) → IsPartOf is_off_heap whole part → is_room_needed part ≡ false → part Phase ≡ idle_phase
+      → IsMadeOfPart is_off_heap whole (collected config whole) (collected config part)
+  pub updates : (config : Config) (whole part : Word → ℕ) → IsPartOf is_ahead whole part → is_room_needed part ≡ false → part Phase ≢ idle_phase → part Phase ≢ marking_phase
+      → IsMadeOfPart is_ahead whole (collected config whole) (collected config part)

@@ -27,21 +27,21 @@ is_room_needed memory = (bit_at (memory Ask) 1 == 1) || ((memory Phase == evacua
 -- The next step of the cycle: marking begins; it ends and evacuation begins; evacuation ends and the updating of references begins; or
 -- that ends, and the cycle with it.
 abbrev pub next_in_cycle : Config → (Word → ℕ) → Word → ℕ
-next_in_cycle c memory word =
-    if memory Phase == idle_phase then init_marked c memory word
-    else (if memory Phase == marking_phase then evac_next c memory word else (if memory Phase == evacuation_phase then init_updated c memory word else final_updated c memory word))
+next_in_cycle config memory word =
+    if memory Phase == idle_phase then init_marked config memory word
+    else (if memory Phase == marking_phase then evac_next config memory word else (if memory Phase == evacuation_phase then init_updated config memory word else final_updated config memory word))
 
 -- The words past marking, from which a cycle is ended in its pause: where objects are marked, marking ends and evacuation begins.
 abbrev pub past_marking : Config → (Word → ℕ) → Word → ℕ
-past_marking c memory word = if memory Phase == marking_phase then evac_next c memory word else memory word
+past_marking config memory word = if memory Phase == marking_phase then evac_next config memory word else memory word
 
 -- The words once there is room: where no cycle runs the heap is collected in full, and else the cycle is ended.
 abbrev pub room_made : Config → (Word → ℕ) → Word → ℕ
-room_made c memory word = if memory Phase == idle_phase then full c memory word else ended c (past_marking c memory) word
+room_made config memory word = if memory Phase == idle_phase then full config memory word else ended config (past_marking config memory) word
 
 -- The words after a pause. Where room is needed it is made; else the cycle goes on.
 abbrev pub collected : Config → (Word → ℕ) → Word → ℕ
-collected c memory word = if is_room_needed memory then room_made c memory word else next_in_cycle c memory word
+collected config memory word = if is_room_needed memory then room_made config memory word else next_in_cycle config memory word
 
 -- the words of the image after it, in the order of their places
 abbrev pub collect_image : Change
@@ -49,14 +49,14 @@ collect_image c image = map (λ k. collected c (image_view c image) (name_of c (
 
 -- What a pause needs of the words: they hold a graph, by pieces each of which says how many words it has; nothing is collected while
 -- nothing runs; while objects are marked, what holds then; and where room is needed while a cycle runs, the cycle can be ended.
-pub record CanPause (c : Config) (memory : Word → ℕ) (block : Plot) (owner : ℕ → Option ℕ) (p : Promises) (g : Graph) : Type 0 where
-  pub holds : HoldsBy c memory block owner p g
+pub record CanPause (config : Config) (memory : Word → ℕ) (block : Plot) (owner : ℕ → Option ℕ) (promises : Promises) (graph : Graph) : Type 0 where
+  pub holds : HoldsBy config memory block owner promises graph
   pub sized : AreSized memory block
   pub phase_is : memory Phase ≤ updating_phase
   pub uncollected : memory Phase ≡ idle_phase → memory Cset ≡ 0
-  pub marking : memory Phase ≡ marking_phase → IsMarking c memory block
-  pub ends : is_room_needed memory ≡ true → memory Phase ≢ idle_phase → CanEnd c (past_marking c memory)
+  pub marking : memory Phase ≡ marking_phase → IsMarking config memory block
+  pub ends : is_room_needed memory ≡ true → memory Phase ≢ idle_phase → CanEnd config (past_marking config memory)
 
 -- so it is in some way
 abbrev pub CanPauseSome : Config → (Word → ℕ) → Type 0
-CanPauseSome c memory = ∥ ((g : Graph) × (block : Plot) × (owner : ℕ → Option ℕ) × (p : Promises) × CanPause c memory block owner p g) ∥₁
+CanPauseSome config memory = ∥ ((graph : Graph) × (block : Plot) × (owner : ℕ → Option ℕ) × (promises : Promises) × CanPause config memory block owner promises graph) ∥₁

@@ -9,10 +9,10 @@ use Rattle.cycle_words.specs.Finishing.Finish.{CanFinish, finished, is_whole}
 -- The words after a cycle was ended in its pause. Where an object or a request found no room, the heap is collected in full from the
 -- words that finishing leaves.
 abbrev pub ended : Config → (Word → ℕ) → Word → ℕ
-ended c memory word = if is_whole c memory then finished c memory word else full c (finished c memory) word
+ended config memory word = if is_whole config memory then finished config memory word else full config (finished config memory) word
 
 -- A cycle can be ended in its pause: it can be finished, and where that falls short the words that it leaves hold a graph, by pieces each of
 -- which says how many words it has.
-pub record CanEnd (c : Config) (memory : Word → ℕ) : Type 0 where
-  pub finishes : CanFinish c memory
-  pub holds : is_whole c memory ≡ false → HoldsSized c (finished c memory)
+pub record CanEnd (config : Config) (memory : Word → ℕ) : Type 0 where
+  pub finishes : CanFinish config memory
+  pub holds : is_whole config memory ≡ false → HoldsSized config (finished config memory)

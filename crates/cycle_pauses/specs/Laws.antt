@@ -21,39 +21,39 @@ use Rattle.cycle_pauses.specs.Collect.{is_room_needed, past_marking, collected, 
 
 -- A cycle that is ended in its pause is what a pause owes: the words stand for the same graph, and each mutator that asks is answered.
 abbrev pub EndedIsPaused : Type 0
-EndedIsPaused = (c : Config) (memory : Word → ℕ) (g : Graph) (asking : ℕ → Asking) → Represents c memory g asking → HasNoMoreSeats c memory
-    → IsPaused c memory (ended c memory) g asking
+EndedIsPaused = (config : Config) (memory : Word → ℕ) (graph : Graph) (asking : ℕ → Asking) → Represents config memory graph asking → HasNoMoreSeats config memory
+    → IsPaused config memory (ended config memory) graph asking
 
 -- Once buffers were let go, each region that was in the collection set and is not pinned is freed, and who waits is served from the words that this leaves.
-pub record IsFreedFirst (c : Config) (memory : Word → ℕ) : Type 0 where
-  pub freed : (r : ℕ) → r < c.regions → IsIn (memory Cset) r → is_pinned c memory r ≡ false → IsFreed (cycle_finished c (let_go c memory)) r
-  pub served_then : ended c memory ≡ served c (cycle_finished c (let_go c memory)) c.mutators
+pub record IsFreedFirst (config : Config) (memory : Word → ℕ) : Type 0 where
+  pub freed : (region : ℕ) → region < config.regions → IsIn (memory Cset) region → is_pinned config memory region ≡ false → IsFreed (cycle_finished config (let_go config memory)) region
+  pub served_then : ended config memory ≡ served config (cycle_finished config (let_go config memory)) config.mutators
 
 -- So it is where finishing the cycle is enough.
 abbrev pub SetIsFreedFirst : Type 0
-SetIsFreedFirst = (c : Config) (memory : Word → ℕ) (g : Graph) (asking : ℕ → Asking) → Represents c memory g asking → is_whole c memory ≡ true → IsFreedFirst c memory
+SetIsFreedFirst = (config : Config) (memory : Word → ℕ) (graph : Graph) (asking : ℕ → Asking) → Represents config memory graph asking → is_whole config memory ≡ true → IsFreedFirst config memory
 
 -- Words of an image that represent a graph are such that a pause can collect.
 abbrev pub RepresentingCanCollect : Type 0
-RepresentingCanCollect = (c : Config) (image : List ℕ) (g : Graph) (asking : ℕ → Asking) → Represents c (image_view c image) g asking → CanPauseSome c (image_view c image)
+RepresentingCanCollect = (config : Config) (image : List ℕ) (graph : Graph) (asking : ℕ → Asking) → Represents config (image_view config image) graph asking → CanPauseSome config (image_view config image)
 
 -- Where such a pause ends marking, evacuation can begin.
 abbrev pub EndedCanBegin : Type 0
-EndedCanBegin = (c : Config) (memory : Word → ℕ) → CanPauseSome c memory → memory Phase ≡ marking_phase → HasNoMoreSeats c memory → CanBegin c (final_marked c memory)
+EndedCanBegin = (config : Config) (memory : Word → ℕ) → CanPauseSome config memory → memory Phase ≡ marking_phase → HasNoMoreSeats config memory → CanBegin config (final_marked config memory)
 
 -- And where such a pause makes room while a cycle runs, the cycle can be ended.
 abbrev pub RunningCanEnd : Type 0
-RunningCanEnd = (c : Config) (memory : Word → ℕ) → CanPauseSome c memory → is_room_needed memory ≡ true → memory Phase ≢ idle_phase → CanEnd c (past_marking c memory)
+RunningCanEnd = (config : Config) (memory : Word → ℕ) → CanPauseSome config memory → is_room_needed memory ≡ true → memory Phase ≢ idle_phase → CanEnd config (past_marking config memory)
 
 -- By their names the words of an image after a pause are those that the pause makes of its words.
 abbrev pub ImageIsCollected : Type 0
-ImageIsCollected = (c : Config) (image : List ℕ) → length image ≡ image_words c → CanPauseSome c (image_view c image)
-    → image_view c (collect_image c image) ≡ collected c (image_view c image)
+ImageIsCollected = (config : Config) (image : List ℕ) → length image ≡ image_words config → CanPauseSome config (image_view config image)
+    → image_view config (collect_image config image) ≡ collected config (image_view config image)
 
 -- So a table that reads as a pause makes of an image is that image after it, behind words that are 0.
 abbrev pub TableIsCollected : Type 0
-TableIsCollected = (c : Config) (image table : List ℕ) → length image ≡ image_words c → length table ≡ table_words c → CanPauseSome c (image_view c image)
-    → view c table ≡ collected c (image_view c image) → table ≡ replicate (image_start c) 0 ++ collect_image c image
+TableIsCollected = (config : Config) (image table : List ℕ) → length image ≡ image_words config → length table ≡ table_words config → CanPauseSome config (image_view config image)
+    → view config table ≡ collected config (image_view config image) → table ≡ replicate (image_start config) 0 ++ collect_image config image
 
 -- Each step of the cycle, and making room where a mutator waits or a copier found none, is what a pause owes: it keeps the graph,
 -- answers each mutator that asks, and refuses an object only where the heap is crowded.

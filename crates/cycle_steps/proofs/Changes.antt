@@ -54,39 +54,39 @@ same_marking memory = fun_ext (λ word. ⊎_elim
 pub marking_loaded : (memory : Word → ℕ) (at : Word) → with_marking memory memory ≡ touched memory (touch at loads)
 marking_loaded memory at = same_marking memory ∙ load_keeps memory at
 
-module _ (c : Config) (u : World) (seat : ℕ) (marking : Word → ℕ) (recording : ℕ → Option ℕ) (scanning : ℕ → Option Scan) where
+module _ (config : Config) (world : World) (seat : ℕ) (marking : Word → ℕ) (recording : ℕ → Option ℕ) (scanning : ℕ → Option Scan) where
   -- the world after such a step
   abbrev pub world_after : World
-  world_after = record { memory = with_marking u.memory marking; block = u.block; ghost = with_scanning (with_recording u.ghost recording) scanning; graph = u.graph }
+  world_after = record { memory = with_marking world.memory marking; block = world.block; ghost = with_scanning (with_recording world.ghost recording) scanning; graph = world.graph }
 
   -- What the change keeps: units that are claimed, what is grey and what is noted stay so, each field of the snapshot that a scan has still to come to is such
   -- a one, or done; marks and entries are objects; and what is another seat's stays as it is.
   pub record IsMarkingStep : Type 0 where
-    pub phase : u.memory Phase ≡ 1
-    pub claims : u.memory Claim ≤ marking Claim
-    pub greys : (a : ℕ) → HasMark c (λ n. u.memory (Grey n)) a → HasMark c (λ n. marking (Grey n)) a
-    pub noted : (v : ℕ) → NotedIn c u v → IsNoted c (λ n. marking (Grey n)) (λ t. marking (Count t)) (λ t k. marking (Buffer t k)) recording v
-    pub scanned : (a refs nums k : ℕ) (name : Name) → u.ghost.snapshot.block a ≡ Some (thing name refs nums) → k < refs
-        → IsToScan c (λ n. u.memory (Black n)) u.ghost.scanning a k
-        → IsToScan c (λ n. marking (Black n)) scanning a k ⊎ NeedsNoMarking u.ghost.snapshot (IsNoted c (λ n. marking (Grey n)) (λ t. marking (Count t)) (λ t k. marking (Buffer t k)) recording) a k
-    pub grey_marks : AreMarks c (λ n. marking (Grey n)) u.block
-    pub black_marks : AreMarks c (λ n. marking (Black n)) u.block
-    pub entries : AreEntries c (λ t. marking (Count t)) (λ t k. marking (Buffer t k)) u.block
-    pub counts : (j : ℕ) → j ≢ seat → marking (Count j) ≡ u.memory (Count j)
-    pub buffers : (j k : ℕ) → j ≢ seat → marking (Buffer j k) ≡ u.memory (Buffer j k)
-    pub recorded : (j : ℕ) → j ≢ seat → recording j ≡ u.ghost.recording j
-    pub scans : (j : ℕ) → j ≢ seat → scanning j ≡ u.ghost.scanning j
+    pub phase : world.memory Phase ≡ 1
+    pub claims : world.memory Claim ≤ marking Claim
+    pub greys : (a : ℕ) → HasMark config (λ n. world.memory (Grey n)) a → HasMark config (λ n. marking (Grey n)) a
+    pub noted : (v : ℕ) → NotedIn config world v → IsNoted config (λ n. marking (Grey n)) (λ t. marking (Count t)) (λ t index. marking (Buffer t index)) recording v
+    pub scanned : (a refs nums index : ℕ) (name : Name) → world.ghost.snapshot.block a ≡ Some (thing name refs nums) → index < refs
+        → IsToScan config (λ n. world.memory (Black n)) world.ghost.scanning a index
+        → IsToScan config (λ n. marking (Black n)) scanning a index ⊎ NeedsNoMarking world.ghost.snapshot (IsNoted config (λ n. marking (Grey n)) (λ t. marking (Count t)) (λ t index. marking (Buffer t index)) recording) a index
+    pub grey_marks : AreMarks config (λ n. marking (Grey n)) world.block
+    pub black_marks : AreMarks config (λ n. marking (Black n)) world.block
+    pub entries : AreEntries config (λ t. marking (Count t)) (λ t index. marking (Buffer t index)) world.block
+    pub counts : (j : ℕ) → j ≢ seat → marking (Count j) ≡ world.memory (Count j)
+    pub buffers : (j index : ℕ) → j ≢ seat → marking (Buffer j index) ≡ world.memory (Buffer j index)
+    pub recorded : (j : ℕ) → j ≢ seat → recording j ≡ world.ghost.recording j
+    pub scans : (j : ℕ) → j ≢ seat → scanning j ≡ world.ghost.scanning j
 
-  module _ (shared : Shared c u) (step : IsMarkingStep) where
+  module _ (shared : Shared config world) (step : IsMarkingStep) where
     -- no reference of the snapshot is lost
-    snapshot_after : KeepsSnapshot c (u.memory Phase) (λ n. marking (Grey n)) (λ n. marking (Black n)) (λ t. marking (Count t)) (λ t k. marking (Buffer t k))
-        (λ r. u.memory (Top r)) (λ r. u.memory (Tams r)) (λ a. u.memory (Heap a)) u.block u.ghost.snapshot recording scanning
+    snapshot_after : KeepsSnapshot config (world.memory Phase) (λ n. marking (Grey n)) (λ n. marking (Black n)) (λ t. marking (Count t)) (λ t k. marking (Buffer t k))
+        (λ r. world.memory (Top r)) (λ r. world.memory (Tams r)) (λ a. world.memory (Heap a)) world.block world.ghost.snapshot recording scanning
     snapshot_after = record {
       empty = shared.marked.empty;
-      traced = traced_scanned c u.ghost.snapshot (λ a. u.memory (Heap a)) (λ n. u.memory (Black n)) u.ghost.scanning
-          (IsNoted c (λ n. marking (Grey n)) (λ t. marking (Count t)) (λ t k. marking (Buffer t k)) recording) (λ n. marking (Black n)) scanning step.scanned
-          (traced_noted c u.ghost.snapshot (λ a. u.memory (Heap a)) (λ n. u.memory (Black n)) u.ghost.scanning (NotedIn c u)
-          (IsNoted c (λ n. marking (Grey n)) (λ t. marking (Count t)) (λ t k. marking (Buffer t k)) recording) step.noted shared.marked.traced);
+      traced = traced_scanned config world.ghost.snapshot (λ a. world.memory (Heap a)) (λ n. world.memory (Black n)) world.ghost.scanning
+          (IsNoted config (λ n. marking (Grey n)) (λ t. marking (Count t)) (λ t k. marking (Buffer t k)) recording) (λ n. marking (Black n)) scanning step.scanned
+          (traced_noted config world.ghost.snapshot (λ a. world.memory (Heap a)) (λ n. world.memory (Black n)) world.ghost.scanning (NotedIn config world)
+          (IsNoted config (λ n. marking (Grey n)) (λ t. marking (Count t)) (λ t k. marking (Buffer t k)) recording) step.noted shared.marked.traced);
       led = shared.marked.led;
       old = shared.marked.old;
       kept = shared.marked.kept;
@@ -104,10 +104,10 @@ module _ (c : Config) (u : World) (seat : ℕ) (marking : Word → ℕ) (recordi
     }
 
     -- it is not so that objects are evacuated
-    evacuating_after : IsEvacuating c (u.memory Phase) (u.memory Cset) (u.memory Evac) (marking Claim) (u.memory Free) (λ r. u.memory (Top r)) (λ r. u.memory (Tams r)) (λ a. u.memory (Heap a)) (λ n. marking (Black n))
-        u.block u.ghost.owner u.ghost.copying u.ghost.working
+    evacuating_after : IsEvacuating config (world.memory Phase) (world.memory Cset) (world.memory Evac) (marking Claim) (world.memory Free) (λ r. world.memory (Top r)) (λ r. world.memory (Tams r)) (λ a. world.memory (Heap a)) (λ n. marking (Black n))
+        world.block world.ghost.owner world.ghost.copying world.ghost.working
     evacuating_after =
-        let other : 2 ≤ u.memory Phase → ⊥ = λ on. (let is = step.phase in omega (arith, is, on)) in
+        let other : 2 ≤ world.memory Phase → ⊥ = λ on. (let is = step.phase in omega (arith, is, on)) in
         let was = shared.evacuated in
         record {
           moved = was.moved;
@@ -118,11 +118,11 @@ module _ (c : Config) (u : World) (seat : ℕ) (marking : Word → ℕ) (recordi
         }
 
     -- nothing changes of copies
-    copies_after : (j : ℕ) → RelyCopies c j u world_after
-    copies_after j = rely_copies c u world_after j (same_plot c u world_after refl refl refl (λ r is. refl)) refl refl (λ a k b seated counted inside is from below. refl)
+    copies_after : (j : ℕ) → RelyCopies config j world world_after
+    copies_after j = rely_copies config world world_after j (same_plot config world world_after refl refl refl (λ r is. refl)) refl refl (λ a k b seated counted inside is from below. refl)
 
     -- machines share what they should
-    pub shared_after : Shared c world_after
+    pub shared_after : Shared config world_after
     shared_after = record {
       parsable = shared.parsable;
       contents = shared.contents;
@@ -136,11 +136,11 @@ module _ (c : Config) (u : World) (seat : ℕ) (marking : Word → ℕ) (recordi
     }
 
     -- what holds of marking holds
-    marks_kept : KeepsMarks c u world_after
+    marks_kept : KeepsMarks config world world_after
     marks_kept = record { phase = refl; snapshot = refl; markable = λ on a is. is; shapes = λ a is. refl; noted = step.noted }
 
     -- the facts of the seat's machine stand
-    pub keeps_after : Keeps c seat u world_after
+    pub keeps_after : Keeps config seat world world_after
     keeps_after = record {
       names = λ a name is. is;
       targets = λ a refs nums name is. is;
@@ -159,7 +159,7 @@ module _ (c : Config) (u : World) (seat : ℕ) (marking : Word → ℕ) (recordi
     }
 
     -- others can rely on what they knew
-    pub others_after : (j : ℕ) → j ≢ seat → Rely c j u world_after
+    pub others_after : (j : ℕ) → j ≢ seat → Rely config j world world_after
     others_after j differs = record {
       names = λ a name is. is;
       targets = λ a refs nums name is. is;
@@ -202,5 +202,5 @@ module _ (c : Config) (u : World) (seat : ℕ) (marking : Word → ℕ) (recordi
     }
 
     -- the step owes no more
-    pub step_after : (t : Touch) (facts : World → Type 0) → with_marking u.memory marking ≡ touched u.memory t → facts world_after → PartStep c u seat t (λ w. facts w × SameWork u w seat × (w.block ≡ u.block))
+    pub step_after : (t : Touch) (facts : World → Type 0) → with_marking world.memory marking ≡ touched world.memory t → facts world_after → PartStep config world seat t (λ w. facts w × SameWork world w seat × (w.block ≡ world.block))
     step_after t facts memory own = record { world = world_after; memory = memory; graph = refl; shared = shared_after; own = (own, record { copying = refl; working = refl }, refl); keeps = keeps_after; others = others_after }

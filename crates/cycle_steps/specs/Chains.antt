@@ -11,32 +11,32 @@ use Rattle.heap_world.specs.World.{World, thing, IsMarkable, IsYoung, NotedIn, S
 use Rattle.cycle_steps.specs.Scanning.{scan_at}
 
 -- marking has still to come to an object: it is not black, and stood below its region's top at mark start
-pub record IsStillOpen (c : Config) (w : World) (a : ℕ) : Type 0 where
-  pub unmarked : mark_at c (λ n. w.memory (Black n)) a ≡ 0
-  pub old : IsYoung c (λ r. w.memory (Tams r)) a → ⊥
+pub record IsStillOpen (config : Config) (world : World) (a : ℕ) : Type 0 where
+  pub unmarked : mark_at config (λ n. world.memory (Black n)) a ≡ 0
+  pub old : IsYoung config (λ r. world.memory (Tams r)) a → ⊥
 
 -- a field of an object names an address
-pub record IsNamedBy (w : World) (a k value : ℕ) : Type 0 where
+pub record IsNamedBy (world : World) (address k value : ℕ) : Type 0 where
   pub name : Name
   pub refs : ℕ
   pub nums : ℕ
-  pub object : w.block a ≡ Some (thing name refs nums)
+  pub object : world.block address ≡ Some (thing name refs nums)
   pub below : k < refs
-  pub word : w.memory (Heap (a + 3 + k)) ≡ value
+  pub word : world.memory (Heap (address + 3 + k)) ≡ value
   pub some : value ≢ 0
 
 -- Marking comes to an object by a chain of open objects. The first is noted: it is grey, in a buffer, or in a mutator's hand to be
 -- recorded; or a field names it that a machine in a scan has still to load or to make grey. Each other one is named by a field of the
 -- one before.
-pub data IsChained (c : Config) (w : World) : ℕ → Type 0 where
-  begins : (a : ℕ) → NotedIn c w a → IsStillOpen c w a → IsChained c w a
-  in_scan : (seat o at k a : ℕ) → seat < seat_count c.mutators c.helpers → w.ghost.scanning seat ≡ Some (scan_at o at) → at ≤ k → IsNamedBy w o k a → IsStillOpen c w a → IsChained c w a
-  goes_on : (o k a : ℕ) → IsChained c w o → IsNamedBy w o k a → IsStillOpen c w a → IsChained c w a
+pub data IsChained (config : Config) (world : World) : ℕ → Type 0 where
+  begins : (a : ℕ) → NotedIn config world a → IsStillOpen config world a → IsChained config world a
+  in_scan : (seat o at k a : ℕ) → seat < seat_count config.mutators config.helpers → world.ghost.scanning seat ≡ Some (scan_at o at) → at ≤ k → IsNamedBy world o k a → IsStillOpen config world a → IsChained config world a
+  goes_on : (o k a : ℕ) → IsChained config world o → IsNamedBy world o k a → IsStillOpen config world a → IsChained config world a
 
 -- an object is marked, or was allocated since mark start, or marking comes to it
 abbrev pub IsSafe : Config → World → ℕ → Type 0
-IsSafe c w a = HasMark c (λ n. w.memory (Black n)) a ⊎ (IsYoung c (λ r. w.memory (Tams r)) a ⊎ IsChained c w a)
+IsSafe config world a = HasMark config (λ n. world.memory (Black n)) a ⊎ (IsYoung config (λ r. world.memory (Tams r)) a ⊎ IsChained config world a)
 
 -- While objects are marked, each object is safe. So is each that a root or a field names, for these name objects.
 abbrev pub MarkingComes : Type 0
-MarkingComes = (c : Config) (w : World) → Shared c w → w.memory Phase ≡ marking_phase → (a : ℕ) → IsMarkable w.block a → IsSafe c w a
+MarkingComes = (config : Config) (world : World) → Shared config world → world.memory Phase ≡ marking_phase → (address : ℕ) → IsMarkable world.block address → IsSafe config world address

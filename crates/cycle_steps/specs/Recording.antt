@@ -15,11 +15,11 @@ recording_of _ v = Some v
 
 -- Objects are marked, and the address is one that can be. The mutator has it in hand until it is recorded; it scans nothing, and has no
 -- room in hand.
-pub record CanRecord (c : Config) (w : World) (mutator v : ℕ) (at : RememberSpot) : Type 0 where
-  pub seated : mutator < c.mutators
-  pub phase : w.memory Phase ≡ marking_phase
-  pub markable : IsMarkable w.block v
-  pub recording : w.ghost.recording mutator ≡ recording_of at v
-  pub scanning : w.ghost.scanning mutator ≡ None
-  pub hands : (a words : ℕ) → w.block a ≡ Some (hand mutator words) → ⊥
-  pub words : CanRemember c w.memory mutator v at
+pub record CanRecord (config : Config) (world : World) (mutator recorded : ℕ) (at : RememberSpot) : Type 0 where
+  pub seated : mutator < config.mutators
+  pub phase : world.memory Phase ≡ marking_phase
+  pub markable : IsMarkable world.block recorded
+  pub recording : world.ghost.recording mutator ≡ recording_of at recorded
+  pub scanning : world.ghost.scanning mutator ≡ None
+  pub hands : (address words : ℕ) → world.block address ≡ Some (hand mutator words) → ⊥
+  pub words : CanRemember config world.memory mutator recorded at

@@ -25,36 +25,36 @@ scanning_of (SetGrey address field refs found) = Some (scan_at address field)
 scanning_of _ = None
 
 -- bits of one word mark objects
-pub record MarkObjects (c : Config) (block : Plot) (word bits : ℕ) : Type 0 where
+pub record MarkObjects (config : Config) (block : Plot) (word bits : ℕ) : Type 0 where
   pub small : bits < 2 ^ 64
-  pub of_objects : (k : ℕ) → k < 64 → bit_at bits k ≡ 1 → IsMarkable block (address_at c word k)
+  pub of_objects : (k : ℕ) → k < 64 → bit_at bits k ≡ 1 → IsMarkable block (address_at config word k)
 
 -- an address is that of an object that can be marked, with so many references, of which the field is one
-pub record IsAtField (w : World) (address field refs : ℕ) : Type 0 where
-  pub object : IsMarkable w.block address
-  pub refs_are : refs_in (w.memory (Heap (address + 1))) ≡ refs
+pub record IsAtField (world : World) (address field refs : ℕ) : Type 0 where
+  pub object : IsMarkable world.block address
+  pub refs_are : refs_in (world.memory (Heap (address + 1))) ≡ refs
   pub below : field < refs
 
 -- If an object of the snapshot is there, its field is done, or had then what was found.
 abbrev pub IsDoneOrFound : Config → World → ℕ → ℕ → ℕ → Type 0
-IsDoneOrFound c w address field found = (name : Name) (refs nums : ℕ) → w.ghost.snapshot.block address ≡ Some (thing name refs nums) → field < refs
-    → NeedsNoMarking w.ghost.snapshot (NotedIn c w) address field ⊎ (was_at w.ghost.snapshot address field ≡ found)
+IsDoneOrFound config world address field found = (name : Name) (refs nums : ℕ) → world.ghost.snapshot.block address ≡ Some (thing name refs nums) → field < refs
+    → NeedsNoMarking world.ghost.snapshot (NotedIn config world) address field ⊎ (was_at world.ghost.snapshot address field ≡ found)
 
 -- what holds of the words and of the snapshot, by where the machine stands
 abbrev pub ScanFacts : Config → World → ScanSpot → Type 0
-ScanFacts c w (LoadBlack word grey) = MarkObjects c w.block word grey
-ScanFacts c w (SetBlack address) = IsMarkable w.block address
-ScanFacts c w (LoadShape address) = IsMarkable w.block address
-ScanFacts c w (LoadField address field refs) = IsAtField w address field refs
-ScanFacts c w (SetGrey address field refs found) = IsAtField w address field refs × IsMarkable w.block found × IsDoneOrFound c w address field found
-ScanFacts c w _ = ⊤
+ScanFacts config world (LoadBlack word grey) = MarkObjects config world.block word grey
+ScanFacts config world (SetBlack address) = IsMarkable world.block address
+ScanFacts config world (LoadShape address) = IsMarkable world.block address
+ScanFacts config world (LoadField address field refs) = IsAtField world address field refs
+ScanFacts config world (SetGrey address field refs found) = IsAtField world address field refs × IsMarkable world.block found × IsDoneOrFound config world address field found
+ScanFacts config world _ = ⊤
 
 -- Objects are marked, and the machine is in the scan of which its spot tells. It records nothing, and has no room in hand.
-pub record CanScan (c : Config) (w : World) (seat : ℕ) (at : ScanSpot) : Type 0 where
-  pub seated : seat < seat_count c.mutators c.helpers
-  pub phase : w.memory Phase ≡ marking_phase
-  pub scanning : w.ghost.scanning seat ≡ scanning_of at
-  pub records_none : w.ghost.recording seat ≡ None
-  pub ready : is_ready c at ≡ true
-  pub hands : (a words : ℕ) → w.block a ≡ Some (hand seat words) → ⊥
-  pub facts : ScanFacts c w at
+pub record CanScan (config : Config) (world : World) (seat : ℕ) (at : ScanSpot) : Type 0 where
+  pub seated : seat < seat_count config.mutators config.helpers
+  pub phase : world.memory Phase ≡ marking_phase
+  pub scanning : world.ghost.scanning seat ≡ scanning_of at
+  pub records_none : world.ghost.recording seat ≡ None
+  pub ready : is_ready config at ≡ true
+  pub hands : (address words : ℕ) → world.block address ≡ Some (hand seat words) → ⊥
+  pub facts : ScanFacts config world at

@@ -16,42 +16,42 @@ use Rattle.cycle_words.specs.StillHolds.{IsUnpinned}
 use Rattle.cycle_words.proofs.Evacuation.RegionAddresses.{from_base, some_words}
 
 -- the same are, where pin slots are the same
-pub same_pinned : (c : Config) (m n : Word → ℕ) → ((t i : ℕ) → n (Pin t i) ≡ m (Pin t i)) → (r : ℕ) → is_pinned c n r ≡ is_pinned c m r
-same_pinned c m n same r =
-    let words : ◌≡◌ {A = ℕ → ℕ → ℕ} (λ t i. n (Pin t i)) (λ t i. m (Pin t i)) = fun_ext (λ t. fun_ext (same t)) in
-    ap (λ (f : ℕ → ℕ → ℕ). list_any (λ t. list_any (λ i. lies_in c r (f t i)) (range_with_len 0 4)) (range_with_len 0 c.mutators)) words
+pub same_pinned : (config : Config) (memory other_memory : Word → ℕ) → ((mutator index : ℕ) → other_memory (Pin mutator index) ≡ memory (Pin mutator index)) → (r : ℕ) → is_pinned config other_memory r ≡ is_pinned config memory r
+same_pinned config memory other_memory same r =
+    let words : ◌≡◌ {A = ℕ → ℕ → ℕ} (λ mutator index. other_memory (Pin mutator index)) (λ mutator index. memory (Pin mutator index)) = fun_ext (λ mutator. fun_ext (same mutator)) in
+    ap (λ (f : ℕ → ℕ → ℕ). list_any (λ mutator. list_any (λ index. lies_in config r (f mutator index)) (range_with_len 0 4)) (range_with_len 0 config.mutators)) words
 
-module _ (c : Config) (m : Word → ℕ) where
+module _ (config : Config) (memory : Word → ℕ) where
   -- the region of what a slot holds is pinned
-  pub slot_pins : (t i : ℕ) → t < c.mutators → i < 4 → c.region_words ≤ m (Pin t i) → is_pinned c m (region_with c (m (Pin t i))) ≡ true
-  slot_pins t i inside few above =
-      let again = from_base c.region_words (m (Pin t i)) (some_words c) above in
-      let rest = mod_below (m (Pin t i)) c.region_words (some_words c) in
-      pins_region c m (region_with c (m (Pin t i))) t i inside few (omega (arith, again)) (omega (arith, again, rest))
+  pub slot_pins : (mutator index : ℕ) → mutator < config.mutators → index < 4 → config.region_words ≤ memory (Pin mutator index) → is_pinned config memory (region_with config (memory (Pin mutator index))) ≡ true
+  slot_pins mutator index inside few above =
+      let again = from_base config.region_words (memory (Pin mutator index)) (some_words config) above in
+      let rest = mod_below (memory (Pin mutator index)) config.region_words (some_words config) in
+      pins_region config memory (region_with config (memory (Pin mutator index))) mutator index inside few (omega (arith, again)) (omega (arith, again, rest))
 
   -- so no slot holds an address of a region that is not pinned
-  pub unpinned_there : (a : ℕ) → c.region_words ≤ a → is_pinned c m (region_with c a) ≡ false → IsUnpinned c m a
-  unpinned_there a above unpinned t i inside few same =
-      let high : c.region_words ≤ m (Pin t i) = omega (arith, above, same) in
-      true≢false (sym (slot_pins t i inside few high) ∙ ap (λ k. is_pinned c m (region_with c k)) same ∙ unpinned)
+  pub unpinned_there : (address : ℕ) → config.region_words ≤ address → is_pinned config memory (region_with config address) ≡ false → IsUnpinned config memory address
+  unpinned_there address above unpinned t i inside few same =
+      let high : config.region_words ≤ memory (Pin t i) = omega (arith, above, same) in
+      true≢false (sym (slot_pins t i inside few high) ∙ ap (λ k. is_pinned config memory (region_with config k)) same ∙ unpinned)
 
 -- No pin slot holds an address of the collection set.
 abbrev pub PinsOutside : Config → (Word → ℕ) → Type 0
-PinsOutside c m = (t i : ℕ) → t < c.mutators → i < 4 → is_collected c m (m (Pin t i)) ≡ false
+PinsOutside config memory = (mutator index : ℕ) → mutator < config.mutators → index < 4 → is_collected config memory (memory (Pin mutator index)) ≡ false
 
 -- So it is where no region of the set is pinned, ..
-pub pins_outside : (c : Config) (m : Word → ℕ) → ((r : ℕ) → IsIn (m Cset) r → is_pinned c m r ≡ false) → PinsOutside c m
-pins_outside c m unpinned t i inside few = false_from_ne_true (is_collected c m (m (Pin t i))) (λ collected.
-    let both = and_parts (nat_le c.region_words (m (Pin t i))) (bit_at (m Cset) (region_with c (m (Pin t i))) == 1) collected in
-    let above = leb-true c.region_words (m (Pin t i)) both.0 in
-    let member = eqb-true (bit_at (m Cset) (region_with c (m (Pin t i)))) 1 both.1 in
-    true≢false (sym (slot_pins c m t i inside few above) ∙ unpinned (region_with c (m (Pin t i))) member))
+pub pins_outside : (config : Config) (memory : Word → ℕ) → ((region : ℕ) → IsIn (memory Cset) region → is_pinned config memory region ≡ false) → PinsOutside config memory
+pins_outside config memory unpinned t i inside few = false_from_ne_true (is_collected config memory (memory (Pin t i))) (λ collected.
+    let both = and_parts (nat_le config.region_words (memory (Pin t i))) (bit_at (memory Cset) (region_with config (memory (Pin t i))) == 1) collected in
+    let above = leb-true config.region_words (memory (Pin t i)) both.0 in
+    let member = eqb-true (bit_at (memory Cset) (region_with config (memory (Pin t i)))) 1 both.1 in
+    true≢false (sym (slot_pins config memory t i inside few above) ∙ unpinned (region_with config (memory (Pin t i))) member))
 
 -- .. and then no slot holds an object of the set.
-pub unpinned_inside : (c : Config) (m : Word → ℕ) → PinsOutside c m → (a : ℕ) → is_collected c m a ≡ true → IsUnpinned c m a
-unpinned_inside c m outside a collected t i inside few same = true≢false (sym collected ∙ ap (is_collected c m) (sym same) ∙ outside t i inside few)
+pub unpinned_inside : (config : Config) (memory : Word → ℕ) → PinsOutside config memory → (a : ℕ) → is_collected config memory a ≡ true → IsUnpinned config memory a
+unpinned_inside config memory outside a collected t i inside few same = true≢false (sym collected ∙ ap (is_collected config memory) (sym same) ∙ outside t i inside few)
 
 -- It stays so where pin slots and the set are the same.
-pub still_outside : (c : Config) (m n : Word → ℕ) → ((t i : ℕ) → n (Pin t i) ≡ m (Pin t i)) → n Cset ≡ m Cset → PinsOutside c m → PinsOutside c n
-still_outside c m n same set outside t i inside few =
-    ap (is_collected c n) (same t i) ∙ ap (λ k. nat_le c.region_words (m (Pin t i)) && (bit_at k (region_with c (m (Pin t i))) == 1)) set ∙ outside t i inside few
+pub still_outside : (config : Config) (memory other_memory : Word → ℕ) → ((mutator index : ℕ) → other_memory (Pin mutator index) ≡ memory (Pin mutator index)) → other_memory Cset ≡ memory Cset → PinsOutside config memory → PinsOutside config other_memory
+still_outside config memory other_memory same set outside mutator index inside few =
+    ap (is_collected config other_memory) (same mutator index) ∙ ap (λ k. nat_le config.region_words (memory (Pin mutator index)) && (bit_at k (region_with config (memory (Pin mutator index))) == 1)) set ∙ outside mutator index inside few

@@ -14,46 +14,46 @@ use Rattle.cycle_words.proofs.Finishing.Whole.{nobody_is, nobody_from, waits_if_
 use Rattle.cycle_words.specs.Finishing.Finish.{is_to_free, set_left, set_freed, cycle_finished, finished_from, nobody_waits}
 
 -- the end of the cycle
-ended_at : (c : Config) (m : Word → ℕ) (w : Word) → write (write (cycle_ended (set_left c m)) Evac 0) Ask 0 w ≡ set_freed c m w
-ended_at c m Evac = refl
-ended_at c m Ask = refl
-ended_at c m _ = refl
+ended_at : (config : Config) (memory : Word → ℕ) (word : Word) → write (write (cycle_ended (set_left config memory)) Evac 0) Ask 0 word ≡ set_freed config memory word
+ended_at config memory Evac = refl
+ended_at config memory Ask = refl
+ended_at config memory _ = refl
 
-pub ended : (c : Config) (m : Word → ℕ) → write (write (cycle_ended (set_left c m)) Evac 0) Ask 0 ≡ set_freed c m
-ended c m = fun_ext (ended_at c m)
+pub ended : (config : Config) (memory : Word → ℕ) → write (write (cycle_ended (set_left config memory)) Evac 0) Ask 0 ≡ set_freed config memory
+ended config memory = fun_ext (ended_at config memory)
 
-module _ (c : Config) (m : Word → ℕ) where
-  pub stops_short : is_room_for_all c m ≡ false → all_copied c m ≡ finished_from c m
-  stops_short none = fun_ext (λ w. sym (cond-false (is_room_for_all c m) (served c (cycle_finished c m) c.mutators w) (all_copied c m w) none))
+module _ (config : Config) (memory : Word → ℕ) where
+  pub stops_short : is_room_for_all config memory ≡ false → all_copied config memory ≡ finished_from config memory
+  stops_short none = fun_ext (λ w. sym (cond-false (is_room_for_all config memory) (served config (cycle_finished config memory) config.mutators w) (all_copied config memory w) none))
 
-  pub is_short : is_room_for_all c m ≡ false → (is_room_for_all c m && nobody_waits c (finished_from c m)) ≡ false
-  is_short none = and_left (is_room_for_all c m) (nobody_waits c (finished_from c m)) none
+  pub is_short : is_room_for_all config memory ≡ false → (is_room_for_all config memory && nobody_waits config (finished_from config memory)) ≡ false
+  is_short none = and_left (is_room_for_all config memory) (nobody_waits config (finished_from config memory)) none
 
-  pub goes_through : is_room_for_all c m ≡ true → served c (cycle_finished c m) c.mutators ≡ finished_from c m
-  goes_through room = fun_ext (λ w. sym (cond-true (is_room_for_all c m) (served c (cycle_finished c m) c.mutators w) (all_copied c m w) room))
+  pub goes_through : is_room_for_all config memory ≡ true → served config (cycle_finished config memory) config.mutators ≡ finished_from config memory
+  goes_through room = fun_ext (λ w. sym (cond-true (is_room_for_all config memory) (served config (cycle_finished config memory) config.mutators w) (all_copied config memory w) room))
 
 -- who waits once all had their turn
-module _ (c : Config) (m : Word → ℕ) where
+module _ (config : Config) (memory : Word → ℕ) where
   abbrev after : Word → ℕ
-  after = served c m c.mutators
+  after = served config memory config.mutators
 
-  pub all_served : ((t : ℕ) → IsLeft c m t → ⊥) → nobody_waits c after ≡ true
-  all_served none = nobody_from c after (λ t below. ⊎_elim
-      (λ (done : after (Wait t) ≡ 0). done)
-      (λ (some : after (Wait t) ≢ 0). absurd (none t (left_if_waits c m t below some)))
-      (cases_eq (after (Wait t)) 0))
+  pub all_served : ((mutator : ℕ) → IsLeft config memory mutator → ⊥) → nobody_waits config after ≡ true
+  all_served none = nobody_from config after (λ mutator below. ⊎_elim
+      (λ (done : after (Wait mutator) ≡ 0). done)
+      (λ (some : after (Wait mutator) ≢ 0). absurd (none mutator (left_if_waits config memory mutator below some)))
+      (cases_eq (after (Wait mutator)) 0))
 
-  pub not_all_served : (t : ℕ) → IsLeft c m t → nobody_waits c after ≡ false
-  not_all_served t left = false_from_ne_true (nobody_waits c after) (λ all. waits_if_left c m t left (nobody_is c after all t left.below))
+  pub not_all_served : (t : ℕ) → IsLeft config memory t → nobody_waits config after ≡ false
+  not_all_served t left = false_from_ne_true (nobody_waits config after) (λ all. waits_if_left config memory t left (nobody_is config after all t left.below))
 
 -- what a whole cycle tells
-pub whole_is : (c : Config) (m : Word → ℕ) → is_room_for_all c m ≡ true → (is_room_for_all c m && nobody_waits c (finished_from c m)) ≡ nobody_waits c (served c (cycle_finished c m) c.mutators)
-whole_is c m room = ap (λ b. b && nobody_waits c (finished_from c m)) room ∙ ap (nobody_waits c) (sym (goes_through c m room))
+pub whole_is : (config : Config) (memory : Word → ℕ) → is_room_for_all config memory ≡ true → (is_room_for_all config memory && nobody_waits config (finished_from config memory)) ≡ nobody_waits config (served config (cycle_finished config memory) config.mutators)
+whole_is config memory room = ap (λ b. b && nobody_waits config (finished_from config memory)) room ∙ ap (nobody_waits config) (sym (goes_through config memory room))
 
 -- no region uses more words than it has then
-pub within_still : (c : Config) (m : Word → ℕ) → AreWithin c m → AreWithin c (set_freed c (all_updated c m))
-within_still c m within r below = either (is_to_free c (all_updated c m) r) (m (Top r)) (within r below)
+pub within_still : (config : Config) (memory : Word → ℕ) → AreWithin config memory → AreWithin config (set_freed config (all_updated config memory))
+within_still config memory within r below = either (is_to_free config (all_updated config memory) r) (memory (Top r)) (within r below)
   where
-    either : (b : Bool) (top : ℕ) → top ≤ c.region_words → cond b 0 top ≤ c.region_words
+    either : (holds : Bool) (top : ℕ) → top ≤ config.region_words → cond holds 0 top ≤ config.region_words
     either true top fits = omega arith
     either false top fits = fits

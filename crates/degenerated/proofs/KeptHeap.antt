@@ -17,27 +17,27 @@ use Rattle.image_graph.proofs.Read.{heap_length}
 use Rattle.degenerated.specs.Steps.{kept_now}
 
 -- images that have kept the same words
-pub kept_same : (i j : Image) → config_of j ≡ config_of i → places_of j ≡ places_of i → kept_now j ≡ kept_now i
-kept_same i j config places = ap (λ (k : Config). now_of k.region_words (places_of j)) config ∙ ap (now_of (config_of i).region_words) places
+pub kept_same : (image other_image : Image) → config_of other_image ≡ config_of image → places_of other_image ≡ places_of image → kept_now other_image ≡ kept_now image
+kept_same image other_image config places = ap (λ (config : Config). now_of config.region_words (places_of other_image)) config ∙ ap (now_of (config_of image).region_words) places
 
 -- what was kept are the words of the heap at that time
-pub kept_from : (i j : Image) → IsUnchanged i j → places_of j ≡ heap_in (config_of i) (words_of i) → kept_now j ≡ now_of (config_of i).region_words (heap_in (config_of i) (words_of i))
-kept_from i j same kept = ap (λ (k : Config). now_of k.region_words (places_of j)) same.config ∙ ap (now_of (config_of i).region_words) kept
+pub kept_from : (image other_image : Image) → IsUnchanged image other_image → places_of other_image ≡ heap_in (config_of image) (words_of image) → kept_now other_image ≡ now_of (config_of image).region_words (heap_in (config_of image) (words_of image))
+kept_from image other_image same kept = ap (λ (config : Config). now_of config.region_words (places_of other_image)) same.config ∙ ap (now_of (config_of image).region_words) kept
 
 -- a word of the heap, in the slice
-heap_word : (c : Config) (words : List ℕ) → length words ≡ table_words c → (a : ℕ) → c.region_words ≤ a → word_of c.region_words (heap_in c words) a ≡ view c words (Heap a)
-heap_word c words whole a above =
-    let at : heap_start c + (a - c.region_words) ≡ word_at c (Heap a) = omega (arith, above) in
+heap_word : (config : Config) (words : List ℕ) → length words ≡ table_words config → (address : ℕ) → config.region_words ≤ address → word_of config.region_words (heap_in config words) address ≡ view config words (Heap address)
+heap_word config words whole address above =
+    let at : heap_start config + (address - config.region_words) ≡ word_at config (Heap address) = omega (arith, above) in
     ⊎_elim
-    (λ (below : a < heap_end c).
-    ap (λ xs. get_or xs (a - c.region_words) 0) (heap_part c words)
-    ∙ get_or-take (heap_size c) (drop (heap_start c) words) (a - c.region_words) 0 (omega (arith, below, above))
-    ∙ get_or-drop (heap_start c) words (a - c.region_words) 0
-    ∙ ap (λ k. get_or words k 0) at ∙ sym (view_word c words (Heap a) (above, below)))
-    (λ (past : heap_end c ≤ a).
-    get_or_past (heap_in c words) (a - c.region_words) 0 (omega (arith, heap_length c words whole, past, above)) ∙ sym (view_none c words (Heap a) (grind (arith, nat_tests))))
-    (cases_lt a (heap_end c))
+    (λ (below : address < heap_end config).
+    ap (λ xs. get_or xs (address - config.region_words) 0) (heap_part config words)
+    ∙ get_or-take (heap_size config) (drop (heap_start config) words) (address - config.region_words) 0 (omega (arith, below, above))
+    ∙ get_or-drop (heap_start config) words (address - config.region_words) 0
+    ∙ ap (λ k. get_or words k 0) at ∙ sym (view_word config words (Heap address) (above, below)))
+    (λ (past : heap_end config ≤ address).
+    get_or_past (heap_in config words) (address - config.region_words) 0 (omega (arith, heap_length config words whole, past, above)) ∙ sym (view_none config words (Heap address) (grind (arith, nat_tests))))
+    (cases_lt address (heap_end config))
 
 -- so an address leads where its header says
-pub kept_is : (c : Config) (words : List ℕ) → length words ≡ table_words c → (a : ℕ) → c.region_words ≤ a → now_of c.region_words (heap_in c words) a ≡ now_in (view c words) a
-kept_is c words whole a above = ap (λ h. cond (is_forwarded h) (forwardee_in h) a) (heap_word c words whole a above)
+pub kept_is : (config : Config) (words : List ℕ) → length words ≡ table_words config → (a : ℕ) → config.region_words ≤ a → now_of config.region_words (heap_in config words) a ≡ now_in (view config words) a
+kept_is config words whole a above = ap (λ h. cond (is_forwarded h) (forwardee_in h) a) (heap_word config words whole a above)

@@ -17,46 +17,46 @@ use Rattle.degenerated.specs.Steps.{updated_by, fields_updated, is_of_first, row
 use Rattle.degenerated.proofs.KeptHeap.{kept_is}
 use Rattle.degenerated.proofs.UpdatedFields.{field_stays, lies_there}
 
-module _ (c : Config) (now : ℕ → ℕ) (m : Word → ℕ) where
+module _ (config : Config) (now : ℕ → ℕ) (memory : Word → ℕ) where
   -- the roots of a mutator
 
-  none_of_row_at : (t : ℕ) (w : Word) → m w ≡ row_updated c now t 0 m w
-  none_of_row_at t (Root u i) = none_yet (updated_by c now m (m (Root u i))) (m (Root u i))
+  none_of_row_at : (t : ℕ) (word : Word) → memory word ≡ row_updated config now t 0 memory word
+  none_of_row_at t (Root u i) = none_yet (updated_by config now memory (memory (Root u i))) (memory (Root u i))
     where
       none_yet : (x y : ℕ) → y ≡ cond ((t == u) && nat_lt i 0) x y
       none_yet x y = grind (arith, nat_tests)
   none_of_row_at t _ = refl
 
-  pub none_of_row : (t : ℕ) → m ≡ row_updated c now t 0 m
+  pub none_of_row : (t : ℕ) → memory ≡ row_updated config now t 0 memory
   none_of_row t = fun_ext (none_of_row_at t)
 
   one_of_row : (value before : ℕ → ℕ → ℕ) (t i u j : ℕ)
       → cond ((t == u) && (i == j)) (value t i) (cond ((t == u) && nat_lt j i) (value u j) (before u j)) ≡ cond ((t == u) && nat_lt j (i + 1)) (value u j) (before u j)
   one_of_row value before t i u j = grind (arith, nat_tests)
 
-  row_next_at : (t i : ℕ) (w : Word) → write (row_updated c now t i m) (Root t i) (updated_by c now m (m (Root t i))) w ≡ row_updated c now t (i + 1) m w
-  row_next_at t i (Root u j) = one_of_row (λ x y. updated_by c now m (m (Root x y))) (λ x y. m (Root x y)) t i u j
-  row_next_at t i _ = refl
+  row_next_at : (mutator index : ℕ) (word : Word) → write (row_updated config now mutator index memory) (Root mutator index) (updated_by config now memory (memory (Root mutator index))) word ≡ row_updated config now mutator (index + 1) memory word
+  row_next_at mutator index (Root u j) = one_of_row (λ x y. updated_by config now memory (memory (Root x y))) (λ x y. memory (Root x y)) mutator index u j
+  row_next_at mutator index _ = refl
 
-  pub row_next : (t i : ℕ) → write (row_updated c now t i m) (Root t i) (updated_by c now m (m (Root t i))) ≡ row_updated c now t (i + 1) m
-  row_next t i = fun_ext (row_next_at t i)
+  pub row_next : (mutator index : ℕ) → write (row_updated config now mutator index memory) (Root mutator index) (updated_by config now memory (memory (Root mutator index))) ≡ row_updated config now mutator (index + 1) memory
+  row_next mutator index = fun_ext (row_next_at mutator index)
 
-  pub row_still : (t i : ℕ) → row_updated c now t i m (Root t i) ≡ m (Root t i)
-  row_still t i = not_yet (updated_by c now m (m (Root t i))) (m (Root t i))
+  pub row_still : (mutator index : ℕ) → row_updated config now mutator index memory (Root mutator index) ≡ memory (Root mutator index)
+  row_still mutator index = not_yet (updated_by config now memory (memory (Root mutator index))) (memory (Root mutator index))
     where
-      not_yet : (x y : ℕ) → cond ((t == t) && nat_lt i i) x y ≡ y
+      not_yet : (x y : ℕ) → cond ((mutator == mutator) && nat_lt index index) x y ≡ y
       not_yet x y = grind (arith, nat_tests)
 
   -- the roots of all mutators
 
-  no_roots_at : (w : Word) → m w ≡ roots_updated c now 0 m w
-  no_roots_at (Root u i) = none_yet (updated_by c now m (m (Root u i))) (m (Root u i))
+  no_roots_at : (word : Word) → memory word ≡ roots_updated config now 0 memory word
+  no_roots_at (Root u i) = none_yet (updated_by config now memory (memory (Root u i))) (memory (Root u i))
     where
       none_yet : (x y : ℕ) → y ≡ cond (nat_lt u 0 && nat_lt i 16) x y
       none_yet x y = grind (arith, nat_tests)
   no_roots_at _ = refl
 
-  pub no_roots : m ≡ roots_updated c now 0 m
+  pub no_roots : memory ≡ roots_updated config now 0 memory
   no_roots = fun_ext no_roots_at
 
   one_row : (value : ℕ → ℕ) (t u i x : ℕ)
@@ -64,85 +64,85 @@ module _ (c : Config) (now : ℕ → ℕ) (m : Word → ℕ) where
       ≡ cond (nat_lt u (t + 1) && nat_lt i 16) (value x) x
   one_row value t u i x = grind (arith, nat_tests)
 
-  roots_next_at : (t : ℕ) (w : Word) → row_updated c now t 16 (roots_updated c now t m) w ≡ roots_updated c now (t + 1) m w
-  roots_next_at t (Root u i) = one_row (updated_by c now m) t u i (m (Root u i))
+  roots_next_at : (t : ℕ) (word : Word) → row_updated config now t 16 (roots_updated config now t memory) word ≡ roots_updated config now (t + 1) memory word
+  roots_next_at t (Root u i) = one_row (updated_by config now memory) t u i (memory (Root u i))
   roots_next_at t _ = refl
 
-  pub roots_next : (t : ℕ) → row_updated c now t 16 (roots_updated c now t m) ≡ roots_updated c now (t + 1) m
+  pub roots_next : (t : ℕ) → row_updated config now t 16 (roots_updated config now t memory) ≡ roots_updated config now (t + 1) memory
   roots_next t = fun_ext (roots_next_at t)
 
   -- the answers
 
-  no_answers_at : (w : Word) → m w ≡ answers_updated c now 0 m w
-  no_answers_at (Answer u) = none_yet (updated_by c now m (m (Answer u))) (m (Answer u))
+  no_answers_at : (word : Word) → memory word ≡ answers_updated config now 0 memory word
+  no_answers_at (Answer u) = none_yet (updated_by config now memory (memory (Answer u))) (memory (Answer u))
     where
       none_yet : (x y : ℕ) → y ≡ cond (nat_lt u 0) x y
       none_yet x y = grind (arith, nat_tests)
   no_answers_at _ = refl
 
-  pub no_answers : m ≡ answers_updated c now 0 m
+  pub no_answers : memory ≡ answers_updated config now 0 memory
   no_answers = fun_ext no_answers_at
 
   one_answer : (value before : ℕ → ℕ) (t u : ℕ) → cond (t == u) (value t) (cond (nat_lt u t) (value u) (before u)) ≡ cond (nat_lt u (t + 1)) (value u) (before u)
   one_answer value before t u = grind (arith, nat_tests)
 
-  answers_next_at : (t : ℕ) (w : Word) → write (answers_updated c now t m) (Answer t) (updated_by c now m (m (Answer t))) w ≡ answers_updated c now (t + 1) m w
-  answers_next_at t (Answer u) = one_answer (λ x. updated_by c now m (m (Answer x))) (λ x. m (Answer x)) t u
-  answers_next_at t _ = refl
+  answers_next_at : (mutator : ℕ) (word : Word) → write (answers_updated config now mutator memory) (Answer mutator) (updated_by config now memory (memory (Answer mutator))) word ≡ answers_updated config now (mutator + 1) memory word
+  answers_next_at mutator (Answer u) = one_answer (λ x. updated_by config now memory (memory (Answer x))) (λ x. memory (Answer x)) mutator u
+  answers_next_at mutator _ = refl
 
-  pub answers_next : (t : ℕ) → write (answers_updated c now t m) (Answer t) (updated_by c now m (m (Answer t))) ≡ answers_updated c now (t + 1) m
-  answers_next t = fun_ext (answers_next_at t)
+  pub answers_next : (mutator : ℕ) → write (answers_updated config now mutator memory) (Answer mutator) (updated_by config now memory (memory (Answer mutator))) ≡ answers_updated config now (mutator + 1) memory
+  answers_next mutator = fun_ext (answers_next_at mutator)
 
-  pub answer_still : (t : ℕ) → answers_updated c now t m (Answer t) ≡ m (Answer t)
-  answer_still t = not_yet (updated_by c now m (m (Answer t))) (m (Answer t))
+  pub answer_still : (mutator : ℕ) → answers_updated config now mutator memory (Answer mutator) ≡ memory (Answer mutator)
+  answer_still mutator = not_yet (updated_by config now memory (memory (Answer mutator))) (memory (Answer mutator))
     where
-      not_yet : (x y : ℕ) → cond (nat_lt t t) x y ≡ y
+      not_yet : (x y : ℕ) → cond (nat_lt mutator mutator) x y ≡ y
       not_yet x y = grind (arith, nat_tests)
 
 -- all together, by the headers as they were
-module _ (c : Config) (words : List ℕ) (whole : length words ≡ table_words c) where
+module _ (config : Config) (words : List ℕ) (whole : length words ≡ table_words config) where
   abbrev m : Word → ℕ
-  m = view c words
+  m = view config words
 
   abbrev now : ℕ → ℕ
-  now = now_of c.region_words (heap_in c words)
+  now = now_of config.region_words (heap_in config words)
 
   abbrev fields : Word → ℕ
-  fields = fields_updated c now (is_of_first c c.regions) m
+  fields = fields_updated config now (is_of_first config config.regions) m
 
   -- null stays null
-  null_stays : updated_word c m 0 ≡ 0
-  null_stays = low_spared c m 0 (omega arith)
+  null_stays : updated_word config m 0 ≡ 0
+  null_stays = low_spared config m 0 (omega arith)
 
-  same_update : (v : ℕ) → updated_by c now m v ≡ updated_word c m v
-  same_update v = ⊎_elim
-      (λ (is : is_collected c m v ≡ true).
-      let parts = and_parts (nat_le c.region_words v) (bit_at (m Cset) (region_with c v) == 1) is in
-      ap (λ y. cond (is_collected c m v) y v) (kept_is c words whole v (leb-true c.region_words v parts.0)))
-      (λ (no : is_collected c m v ≡ false). cond-false (is_collected c m v) (now v) v no ∙ sym (cond-false (is_collected c m v) (now_in m v) v no))
-      (cases_Bool (is_collected c m v))
+  same_update : (address : ℕ) → updated_by config now m address ≡ updated_word config m address
+  same_update address = ⊎_elim
+      (λ (is : is_collected config m address ≡ true).
+      let parts = and_parts (nat_le config.region_words address) (bit_at (m Cset) (region_with config address) == 1) is in
+      ap (λ y. cond (is_collected config m address) y address) (kept_is config words whole address (leb-true config.region_words address parts.0)))
+      (λ (no : is_collected config m address ≡ false). cond-false (is_collected config m address) (now address) address no ∙ sym (cond-false (is_collected config m address) (now_in m address) address no))
+      (cases_Bool (is_collected config m address))
 
   -- a word that is there is updated, and another one is null
-  there_or_null : (b : Bool) (x : ℕ) → (b ≡ false → x ≡ 0) → cond b (updated_by c now m x) x ≡ updated_word c m x
+  there_or_null : (holds : Bool) (x : ℕ) → (holds ≡ false → x ≡ 0) → cond holds (updated_by config now m x) x ≡ updated_word config m x
   there_or_null true x none = same_update x
-  there_or_null false x none = none refl ∙ sym null_stays ∙ ap (updated_word c m) (sym (none refl))
+  there_or_null false x none = none refl ∙ sym null_stays ∙ ap (updated_word config m) (sym (none refl))
 
-  all_at : (w : Word) → answers_updated c now c.mutators (roots_updated c now c.mutators fields) w ≡ all_updated c m w
-  all_at (Heap x) =
-      by_field (is_of_first c c.regions x) (is_kept_field c m x) (updated_by c now m (m (Heap x))) (m (Heap x)) (λ is. within x is)
-      ∙ ap (λ y. cond (is_kept_field c m x) y (m (Heap x))) (same_update (m (Heap x)))
+  all_at : (word : Word) → answers_updated config now config.mutators (roots_updated config now config.mutators fields) word ≡ all_updated config m word
+  all_at (Heap address) =
+      by_field (is_of_first config config.regions address) (is_kept_field config m address) (updated_by config now m (m (Heap address))) (m (Heap address)) (λ is. within address is)
+      ∙ ap (λ other_address. cond (is_kept_field config m address) other_address (m (Heap address))) (same_update (m (Heap address)))
     where
-      within : (x : ℕ) → is_kept_field c m x ≡ true → is_of_first c c.regions x ≡ true
-      within y is =
-          let lies = lies_there c m y (field_stays c m y is) in
-          lt-ltb (region_with c y) c.regions lies.of_region
+      within : (address : ℕ) → is_kept_field config m address ≡ true → is_of_first config config.regions address ≡ true
+      within other_address is =
+          let lies = lies_there config m other_address (field_stays config m other_address is) in
+          lt-ltb (region_with config other_address) config.regions lies.of_region
 
-      by_field : (a f : Bool) (v u : ℕ) → (f ≡ true → a ≡ true) → cond (a && f) v u ≡ cond f v u
-      by_field a true v u is = ap (λ z. cond (z && true) v u) (is refl)
-      by_field a false v u is = ap (λ z. cond z v u) (and_right a false refl)
-  all_at (Root t i) = there_or_null (nat_lt t c.mutators && nat_lt i 16) (m (Root t i)) (λ no. view_none c words (Root t i) no)
-  all_at (Answer t) = there_or_null (nat_lt t c.mutators) (m (Answer t)) (λ no. view_none c words (Answer t) no)
+      by_field : (holds other_holds : Bool) (v u : ℕ) → (other_holds ≡ true → holds ≡ true) → cond (holds && other_holds) v u ≡ cond other_holds v u
+      by_field holds true v u is = ap (λ z. cond (z && true) v u) (is refl)
+      by_field holds false v u is = ap (λ z. cond z v u) (and_right holds false refl)
+  all_at (Root t i) = there_or_null (nat_lt t config.mutators && nat_lt i 16) (m (Root t i)) (λ no. view_none config words (Root t i) no)
+  all_at (Answer t) = there_or_null (nat_lt t config.mutators) (m (Answer t)) (λ no. view_none config words (Answer t) no)
   all_at _ = refl
 
-  pub all : answers_updated c now c.mutators (roots_updated c now c.mutators fields) ≡ all_updated c m
+  pub all : answers_updated config now config.mutators (roots_updated config now config.mutators fields) ≡ all_updated config m
   all = fun_ext all_at

@@ -12,19 +12,19 @@ use Rattle.image_graph.proofs.Rows.{row_above, base_below}
 use Rattle.image_graph.proofs.Starts.{same_starts}
 
 -- the region of an address of the heap
-pub own_region : (c : Config) (a : ℕ) → c.region_words ≤ a → (base_of c (region_with c a) ≤ a) × (a < base_of c (region_with c a) + c.region_words)
-own_region c a above =
-    let row : (region_with c a + 1) * c.region_words ≡ a / c.region_words * c.region_words = ap (λ k. k * c.region_words) (row_above c a above) in
-    (base_below c a above, omega (arith, row, div-add-mod' a c.region_words, mod_below a c.region_words (omega (arith, c.in_range.least_words))))
+pub own_region : (config : Config) (address : ℕ) → config.region_words ≤ address → (base_of config (region_with config address) ≤ address) × (address < base_of config (region_with config address) + config.region_words)
+own_region config address above =
+    let row : (region_with config address + 1) * config.region_words ≡ address / config.region_words * config.region_words = ap (λ k. k * config.region_words) (row_above config address above) in
+    (base_below config address above, omega (arith, row, div-add-mod' address config.region_words, mod_below address config.region_words (omega (arith, config.in_range.least_words))))
 
 -- an address in use lies above the base of its region and below the top
-pub used_parts : (c : Config) (m : Word → ℕ) (a : ℕ) → is_in_use c m a ≡ true
-    → (c.region_words ≤ a) × (region_with c a < c.regions) × (a - base_of c (region_with c a) < m (Top (region_with c a)))
-used_parts c m a is =
-    let region = region_with c a in
-    let low = and_parts (nat_le c.region_words a) (nat_lt region c.regions && nat_lt (a - base_of c region) (m (Top region))) is in
-    let rest = and_parts (nat_lt region c.regions) (nat_lt (a - base_of c region) (m (Top region))) low.1 in
-    (leb-true c.region_words a low.0, ltb-true region c.regions rest.0, ltb-true (a - base_of c region) (m (Top region)) rest.1)
+pub used_parts : (config : Config) (memory : Word → ℕ) (a : ℕ) → is_in_use config memory a ≡ true
+    → (config.region_words ≤ a) × (region_with config a < config.regions) × (a - base_of config (region_with config a) < memory (Top (region_with config a)))
+used_parts config memory a is =
+    let region = region_with config a in
+    let low = and_parts (nat_le config.region_words a) (nat_lt region config.regions && nat_lt (a - base_of config region) (memory (Top region))) is in
+    let rest = and_parts (nat_lt region config.regions) (nat_lt (a - base_of config region) (memory (Top region))) low.1 in
+    (leb-true config.region_words a low.0, ltb-true region config.regions rest.0, ltb-true (a - base_of config region) (memory (Top region)) rest.1)
 
 -- a choice is the same where what it rests on is
 pub same_choice : (new_test old_test new_begins old_begins new_left old_left : Bool) (new_value old_value new_rest old_rest : ℕ) → new_test ≡ old_test → (old_test ≡ true → new_begins ≡ old_begins) → (old_test ≡ true → old_begins ≡ true → new_left ≡ old_left) → (old_test ≡ true → old_begins ≡ true → old_left ≡ true → new_value ≡ old_value) → new_rest ≡ old_rest
@@ -38,76 +38,76 @@ same_choice new_test true new_begins true new_left true new_value old_value new_
     ap (λ b. cond (b && new_begins && new_left) new_value new_rest) same ∙ ap (λ b. cond (true && b && new_left) new_value new_rest) (begun refl) ∙ ap (λ b. cond (true && true && b) new_value new_rest) (left refl refl) ∙ value refl refl refl
 
 -- Two memories with the same words in a region.
-module _ (c : Config) (m n : Word → ℕ) (r : ℕ) (fills : CanFill c m r) (top : n (Top r) ≡ m (Top r))
-    (same : (x : ℕ) → base_of c r ≤ x → x < base_of c r + c.region_words → n (Heap x) ≡ m (Heap x)) where
+module _ (config : Config) (memory other_memory : Word → ℕ) (region : ℕ) (fills : CanFill config memory region) (top : other_memory (Top region) ≡ memory (Top region))
+    (same : (x : ℕ) → base_of config region ≤ x → x < base_of config region + config.region_words → other_memory (Heap x) ≡ memory (Heap x)) where
   abbrev base : ℕ
-  base = base_of c r
+  base = base_of config region
 
   abbrev heap : ℕ → ℕ
-  heap x = m (Heap x)
+  heap address = memory (Heap address)
 
-  same_header : (s : ℕ) → s < m (Top r) → n (Heap (base + s)) ≡ m (Heap (base + s))
+  same_header : (s : ℕ) → s < memory (Top region) → other_memory (Heap (base + s)) ≡ memory (Heap (base + s))
   same_header s below = same (base + s) (omega arith) (omega (arith, below, fills.within))
 
-  same_shape : (s : ℕ) → BeginsAt c m r s → s < m (Top r) → is_filler (m (Heap (base + s))) ≡ false → n (Heap (base + s + 1)) ≡ m (Heap (base + s + 1))
+  same_shape : (s : ℕ) → BeginsAt config memory region s → s < memory (Top region) → is_filler (memory (Heap (base + s))) ≡ false → other_memory (Heap (base + s + 1)) ≡ memory (Heap (base + s + 1))
   same_shape s is below object =
-      let size : stride_at heap (base + s) ≡ object_words (m (Heap (base + s + 1))) = cond-false (is_filler (heap (base + s))) (heap (base + s) / 4) (object_words (heap (base + s + 1))) object in
+      let size : stride_at heap (base + s) ≡ object_words (memory (Heap (base + s + 1))) = cond-false (is_filler (heap (base + s))) (heap (base + s) / 4) (object_words (heap (base + s + 1))) object in
       let ends = fills.ends s below is in
       same (base + s + 1) (omega arith) (omega (arith, ends, size, fills.within))
 
-  same_stride : (s : ℕ) → BeginsAt c m r s → s < m (Top r) → stride_at (λ x. n (Heap x)) (base + s) ≡ stride_at heap (base + s)
+  same_stride : (s : ℕ) → BeginsAt config memory region s → s < memory (Top region) → stride_at (λ x. other_memory (Heap x)) (base + s) ≡ stride_at heap (base + s)
   same_stride s is below =
       let header = same_header s below in
       ⊎_elim
-      (λ (only : is_filler (m (Heap (base + s))) ≡ true).
-      cond-true (is_filler (n (Heap (base + s)))) (n (Heap (base + s)) / 4) (object_words (n (Heap (base + s + 1)))) (ap is_filler header ∙ only)
+      (λ (only : is_filler (memory (Heap (base + s))) ≡ true).
+      cond-true (is_filler (other_memory (Heap (base + s)))) (other_memory (Heap (base + s)) / 4) (object_words (other_memory (Heap (base + s + 1)))) (ap is_filler header ∙ only)
       ∙ ap (λ h. h / 4) header
-      ∙ sym (cond-true (is_filler (m (Heap (base + s)))) (m (Heap (base + s)) / 4) (object_words (m (Heap (base + s + 1)))) only))
-      (λ (object : is_filler (m (Heap (base + s))) ≡ false).
-      cond-false (is_filler (n (Heap (base + s)))) (n (Heap (base + s)) / 4) (object_words (n (Heap (base + s + 1)))) (ap is_filler header ∙ object)
+      ∙ sym (cond-true (is_filler (memory (Heap (base + s)))) (memory (Heap (base + s)) / 4) (object_words (memory (Heap (base + s + 1)))) only))
+      (λ (object : is_filler (memory (Heap (base + s))) ≡ false).
+      cond-false (is_filler (other_memory (Heap (base + s)))) (other_memory (Heap (base + s)) / 4) (object_words (other_memory (Heap (base + s + 1)))) (ap is_filler header ∙ object)
       ∙ ap object_words (same_shape s is below object)
-      ∙ sym (cond-false (is_filler (m (Heap (base + s)))) (m (Heap (base + s)) / 4) (object_words (m (Heap (base + s + 1)))) object))
-      (cases_Bool (is_filler (m (Heap (base + s)))))
+      ∙ sym (cond-false (is_filler (memory (Heap (base + s)))) (memory (Heap (base + s)) / 4) (object_words (memory (Heap (base + s + 1)))) object))
+      (cases_Bool (is_filler (memory (Heap (base + s)))))
 
-  same_start : (k : ℕ) → k < m (Top r) → start_of (λ x. n (Heap x)) base k ≡ start_of heap base k
-  same_start = same_starts heap (λ x. n (Heap x)) base (m (Top r)) same_stride
+  same_start : (k : ℕ) → k < memory (Top region) → start_of (λ x. other_memory (Heap x)) base k ≡ start_of heap base k
+  same_start = same_starts heap (λ x. other_memory (Heap x)) base (memory (Top region)) same_stride
 
-  pub can_fill_too : CanFill c n r
+  pub can_fill_too : CanFill config other_memory region
   can_fill_too = record {
     within = omega (arith, top, fills.within);
     ends = λ k below begun.
-        let low : k < m (Top r) = omega (arith, top, below) in
+        let low : k < memory (Top region) = omega (arith, top, below) in
         let is : start_of heap base k ≡ k = sym (same_start k low) ∙ begun in
         let ends = fills.ends k low is in
         omega (arith, ends, same_stride k is low, top);
   }
 
   -- the same begins there
-  module _ (a : ℕ) (here : region_with c a ≡ r) where
-    same_use : is_in_use c n a ≡ is_in_use c m a
-    same_use = ap (λ t. nat_le c.region_words a && (nat_lt (region_with c a) c.regions && nat_lt (a - base_of c (region_with c a)) t)) (ap (λ q. n (Top q)) here ∙ top ∙ ap (λ q. m (Top q)) (sym here))
+  module _ (address : ℕ) (here : region_with config address ≡ region) where
+    same_use : is_in_use config other_memory address ≡ is_in_use config memory address
+    same_use = ap (λ t. nat_le config.region_words address && (nat_lt (region_with config address) config.regions && nat_lt (address - base_of config (region_with config address)) t)) (ap (λ q. other_memory (Top q)) here ∙ top ∙ ap (λ q. memory (Top q)) (sym here))
 
-    below_top : is_in_use c m a ≡ true → a - base < m (Top r)
-    below_top used = subst (λ q. a - base_of c q < m (Top q)) here (used_parts c m a used).2
+    below_top : is_in_use config memory address ≡ true → address - base < memory (Top region)
+    below_top used = subst (λ q. address - base_of config q < memory (Top q)) here (used_parts config memory address used).2
 
-    pub same_begin : begins c n a ≡ begins c m a
+    pub same_begin : begins config other_memory address ≡ begins config memory address
     same_begin = ⊎_elim
-        (λ (used : is_in_use c m a ≡ true).
-        let object : object_of c n a ≡ object_of c m a =
-        ap (λ q. base_of c q + start_of (λ x. n (Heap x)) (base_of c q) (a - base_of c q)) here ∙ ap (λ k. base + k) (same_start (a - base) (below_top used))
-        ∙ ap (λ q. base_of c q + start_of heap (base_of c q) (a - base_of c q)) (sym here) in
-        ap (λ b. b && (object_of c n a == a)) same_use ∙ ap (λ o. is_in_use c m a && (o == a)) object)
-        (λ (unused : is_in_use c m a ≡ false).
-        and_left (is_in_use c n a) (object_of c n a == a) (same_use ∙ unused) ∙ sym (and_left (is_in_use c m a) (object_of c m a == a) unused))
-        (cases_Bool (is_in_use c m a))
+        (λ (used : is_in_use config memory address ≡ true).
+        let object : object_of config other_memory address ≡ object_of config memory address =
+        ap (λ q. base_of config q + start_of (λ x. other_memory (Heap x)) (base_of config q) (address - base_of config q)) here ∙ ap (λ k. base + k) (same_start (address - base) (below_top used))
+        ∙ ap (λ q. base_of config q + start_of heap (base_of config q) (address - base_of config q)) (sym here) in
+        ap (λ b. b && (object_of config other_memory address == address)) same_use ∙ ap (λ o. is_in_use config memory address && (o == address)) object)
+        (λ (unused : is_in_use config memory address ≡ false).
+        and_left (is_in_use config other_memory address) (object_of config other_memory address == address) (same_use ∙ unused) ∙ sym (and_left (is_in_use config memory address) (object_of config memory address == address) unused))
+        (cases_Bool (is_in_use config memory address))
 
-    pub shape_there : begins c m a ≡ true → is_filler (m (Heap a)) ≡ false → n (Heap (a + 1)) ≡ m (Heap (a + 1))
+    pub shape_there : begins config memory address ≡ true → is_filler (memory (Heap address)) ≡ false → other_memory (Heap (address + 1)) ≡ memory (Heap (address + 1))
     shape_there begun object =
-        let parts = and_parts (is_in_use c m a) (object_of c m a == a) begun in
-        let low : base ≤ a = subst (λ q. base_of c q ≤ a) here (own_region c a (used_parts c m a parts.0).0).0 in
-        let begins_here : base_of c (region_with c a) + start_of heap (base_of c (region_with c a)) (a - base_of c (region_with c a)) ≡ a = eqb-true (object_of c m a) a parts.1 in
-        let begins_there : base + start_of heap base (a - base) ≡ a = subst (λ q. base_of c q + start_of heap (base_of c q) (a - base_of c q) ≡ a) here begins_here in
-        let at : base + (a - base) ≡ a = omega (arith, low) in
-        ap (λ x. n (Heap (x + 1))) (sym at)
-        ∙ same_shape (a - base) (omega (arith, begins_there, low)) (below_top parts.0) (ap (λ x. is_filler (m (Heap x))) at ∙ object)
-        ∙ ap (λ x. m (Heap (x + 1))) at
+        let parts = and_parts (is_in_use config memory address) (object_of config memory address == address) begun in
+        let low : base ≤ address = subst (λ q. base_of config q ≤ address) here (own_region config address (used_parts config memory address parts.0).0).0 in
+        let begins_here : base_of config (region_with config address) + start_of heap (base_of config (region_with config address)) (address - base_of config (region_with config address)) ≡ address = eqb-true (object_of config memory address) address parts.1 in
+        let begins_there : base + start_of heap base (address - base) ≡ address = subst (λ q. base_of config q + start_of heap (base_of config q) (address - base_of config q) ≡ address) here begins_here in
+        let at : base + (address - base) ≡ address = omega (arith, low) in
+        ap (λ x. other_memory (Heap (x + 1))) (sym at)
+        ∙ same_shape (address - base) (omega (arith, begins_there, low)) (below_top parts.0) (ap (λ x. is_filler (memory (Heap x))) at ∙ object)
+        ∙ ap (λ x. memory (Heap (x + 1))) at

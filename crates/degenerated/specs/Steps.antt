@@ -13,50 +13,50 @@ use Rattle.cycle_words.specs.Finishing.Copies.{is_left, has_copy_room}
 
 -- the words after the turn of an address: an object that is left there was copied out, if some region has room
 abbrev pub turn_taken : Config → (Word → ℕ) → ℕ → Word → ℕ
-turn_taken c memory a word = if is_left c memory a then copied_out c memory a word else memory word
+turn_taken config memory a word = if is_left config memory a then copied_out config memory a word else memory word
 
 -- nothing is left at an address, or it finds room
 abbrev pub has_turn_room : Config → (Word → ℕ) → ℕ → Bool
-has_turn_room c memory a = if is_left c memory a then has_copy_room c memory a else true
+has_turn_room config memory address = if is_left config memory address then has_copy_room config memory address else true
 
 -- to what an address leads by the words that an image has kept
 abbrev pub kept_now : Image → ℕ → ℕ
-kept_now i = now_of (config_of i).region_words (places_of i)
+kept_now image = now_of (config_of image).region_words (places_of image)
 
 -- What a word becomes, where a function says to what the address of an object of the collection set leads: by the headers as they were
 -- before any word was updated.
 abbrev pub updated_by : Config → (now : ℕ → ℕ) → (Word → ℕ) → ℕ → ℕ
-updated_by c now memory word = if is_collected c memory word then now word else word
+updated_by config now memory word = if is_collected config memory word then now word else word
 
 -- the words after the references at a set of addresses were updated
 abbrev pub fields_updated : Config → (now : ℕ → ℕ) → (ℕ → Bool) → (Word → ℕ) → Word → ℕ
-fields_updated c now set memory (Heap x) = if set x && is_kept_field c memory x then updated_by c now memory (memory (Heap x)) else memory (Heap x)
-fields_updated c now set memory word = memory word
+fields_updated config now set memory (Heap x) = if set x && is_kept_field config memory x then updated_by config now memory (memory (Heap x)) else memory (Heap x)
+fields_updated config now set memory word = memory word
 
 -- sets of addresses: one, those of a region below an offset, those of a region, and those of so many regions
 abbrev pub is_at : ℕ → ℕ → Bool
 is_at a x = a == x
 
 abbrev pub is_below : Config → (region offset : ℕ) → ℕ → Bool
-is_below c r k x = nat_le (base_of c r) x && nat_lt x (base_of c r + k)
+is_below config other_region k x = nat_le (base_of config other_region) x && nat_lt x (base_of config other_region + k)
 
 abbrev pub is_of : Config → (region : ℕ) → ℕ → Bool
-is_of c r x = region_with c x == r
+is_of config r address = region_with config address == r
 
 abbrev pub is_of_first : Config → (regions : ℕ) → ℕ → Bool
-is_of_first c n x = nat_lt (region_with c x) n
+is_of_first config n address = nat_lt (region_with config address) n
 
 -- the words after so many roots of a mutator were updated
 abbrev pub row_updated : Config → (now : ℕ → ℕ) → (mutator roots : ℕ) → (Word → ℕ) → Word → ℕ
-row_updated c now t n memory (Root u i) = if (t == u) && nat_lt i n then updated_by c now memory (memory (Root u i)) else memory (Root u i)
-row_updated c now t n memory word = memory word
+row_updated config now t n memory (Root u i) = if (t == u) && nat_lt i n then updated_by config now memory (memory (Root u i)) else memory (Root u i)
+row_updated config now t n memory word = memory word
 
 -- the words after the roots of so many mutators were updated
 abbrev pub roots_updated : Config → (now : ℕ → ℕ) → (mutators : ℕ) → (Word → ℕ) → Word → ℕ
-roots_updated c now n memory (Root u i) = if nat_lt u n && nat_lt i 16 then updated_by c now memory (memory (Root u i)) else memory (Root u i)
-roots_updated c now n memory word = memory word
+roots_updated config now n memory (Root u i) = if nat_lt u n && nat_lt i 16 then updated_by config now memory (memory (Root u i)) else memory (Root u i)
+roots_updated config now n memory word = memory word
 
 -- the words after the answers of so many mutators were updated
 abbrev pub answers_updated : Config → (now : ℕ → ℕ) → (mutators : ℕ) → (Word → ℕ) → Word → ℕ
-answers_updated c now n memory (Answer u) = if nat_lt u n then updated_by c now memory (memory (Answer u)) else memory (Answer u)
-answers_updated c now n memory word = memory word
+answers_updated config now n memory (Answer u) = if nat_lt u n then updated_by config now memory (memory (Answer u)) else memory (Answer u)
+answers_updated config now n memory word = memory word

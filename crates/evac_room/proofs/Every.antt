@@ -56,17 +56,17 @@ holds_next word copiers number spot wish made next holds here kept = record {
   is_word = kept.is_word;
   few = omega (arith, holds.few, length-set copiers number next);
   counts = omega (arith, holds.counts, kept.counts, counted_set copiers number spot next here, begun_weight spot wish);
-  mine = λ k other at_k. by_number k other at_k (nat_eq k number) refl;
+  mine = λ index other at_k. by_number index other at_k (nat_eq index number) refl;
 }
   where
-    by_number : (k : ℕ) (other : RoomSpot) → slice_get (slice_set copiers number next) k ≡ Some other → (b : Bool) → nat_eq k number ≡ b → Mine made other
-    by_number k other at_k true is =
-        let same : k ≡ number = grind (arith, nat_tests) in
+    by_number : (index : ℕ) (other : RoomSpot) → slice_get (slice_set copiers number next) index ≡ Some other → (b : Bool) → nat_eq index number ≡ b → Mine made other
+    by_number index other at_k true is =
+        let same : index ≡ number = grind (arith, nat_tests) in
         let is_next : next ≡ other = cc (at_k, same, slice_get-set_same copiers number spot next here) in
         subst (λ x. Mine made x) is_next kept.mine
-    by_number k other at_k false is =
-        let apart : k ≢ number = grind (arith, nat_tests) in
-        mine_stays word made other kept.bit_stays (holds.mine k other (sym (slice_get-set_other copiers number k next apart) ∙ at_k))
+    by_number index other at_k false is =
+        let apart : index ≢ number = grind (arith, nat_tests) in
+        mine_stays word made other kept.bit_stays (holds.mine index other (sym (slice_get-set_other copiers number index next apart) ∙ at_k))
 
 -- a stage with one word
 abbrev pub at_word : ℕ → List RoomSpot → Stage RoomSpot
@@ -149,15 +149,15 @@ later_reached copiers steps more few =
 pub answer_says : (s : Stage RoomSpot) (step : Event Wish) (answer : Copying) → IsCounting s → answer_to s step ≡ Some answer → Says (counter s) answer
 answer_says s step answer sound = by_machine (slice_get s.machines step.number) refl
   where
-    by_takes : (spot : RoomSpot) (b : Bool) → slice_get s.machines step.number ≡ Some spot → takes_at spot step.order ≡ b
-        → (if b then Some (copying_at (wish_begun spot step.order) (counter s)) else None) ≡ Some answer → Says (counter s) answer
+    by_takes : (spot : RoomSpot) (holds : Bool) → slice_get s.machines step.number ≡ Some spot → takes_at spot step.order ≡ holds
+        → (if holds then Some (copying_at (wish_begun spot step.order) (counter s)) else None) ≡ Some answer → Says (counter s) answer
     by_takes spot true here takes is =
         let same : copying_at (wish_begun spot step.order) (counter s) ≡ answer = cc (is) in
         subst (λ x. Says (counter s) x) same
         (each_says (counter s) (wish_begun spot step.order) (can_step (counter s) s.machines step.number spot step.order sound.holds here takes))
     by_takes spot false here takes is = absurd (cc (is))
 
-    by_machine : (m : Option RoomSpot) → slice_get s.machines step.number ≡ m → answer_by (counter s) step.order m ≡ Some answer → Says (counter s) answer
+    by_machine : (found : Option RoomSpot) → slice_get s.machines step.number ≡ found → answer_by (counter s) step.order found ≡ Some answer → Says (counter s) answer
     by_machine None here is = absurd (cc (is))
     by_machine (Some spot) here is = by_takes spot (takes_at spot step.order) here refl is
 
@@ -170,15 +170,15 @@ inside_by_answer _ next is = absurd (cc (is))
 pub act_inside : (s : Stage RoomSpot) (step : Event Wish) → IsCounting s → answer_to s step ≡ Some copying.Inside → slice_get (act copier_kind s step).machines step.number ≡ Some Inside
 act_inside s step sound = by_machine (slice_get s.machines step.number) refl
   where
-    by_takes : (spot : RoomSpot) (b : Bool) → slice_get s.machines step.number ≡ Some spot → takes_at spot step.order ≡ b
-        → (if b then Some (copying_at (wish_begun spot step.order) (counter s)) else None) ≡ Some copying.Inside → slice_get (act copier_kind s step).machines step.number ≡ Some Inside
+    by_takes : (spot : RoomSpot) (holds : Bool) → slice_get s.machines step.number ≡ Some spot → takes_at spot step.order ≡ holds
+        → (if holds then Some (copying_at (wish_begun spot step.order) (counter s)) else None) ≡ Some copying.Inside → slice_get (act copier_kind s step).machines step.number ≡ Some Inside
     by_takes spot true here takes is =
         let next_is : next_at (wish_begun spot step.order) (counter s) ≡ Inside = inside_by_answer (says_at (wish_begun spot step.order) (counter s)) _ (cc (is)) in
         ap (λ x. slice_get x.machines step.number) (act-event copier_kind s step spot (record { here = here; takes = takes }) ∙ moved_is s step.number spot step.order sound.one)
         ∙ slice_get-set_same s.machines step.number spot _ here ∙ ap (λ x. Some x) next_is
     by_takes spot false here takes is = absurd (cc (is))
 
-    by_machine : (m : Option RoomSpot) → slice_get s.machines step.number ≡ m → answer_by (counter s) step.order m ≡ Some copying.Inside → slice_get (act copier_kind s step).machines step.number ≡ Some Inside
+    by_machine : (found : Option RoomSpot) → slice_get s.machines step.number ≡ found → answer_by (counter s) step.order found ≡ Some copying.Inside → slice_get (act copier_kind s step).machines step.number ≡ Some Inside
     by_machine None here is = absurd (cc (is))
     by_machine (Some spot) here is = by_takes spot (takes_at spot step.order) here refl is
 

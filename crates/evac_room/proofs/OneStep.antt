@@ -60,13 +60,13 @@ each_keeps word Inside can = absurd (cc (can.going))
 each_keeps word Stopped can = absurd (cc (can.going))
 each_keeps word Look can = by_bit (is_out_of_room word) (count_of word == 0) refl refl
   where
-    by_bit : (b z : Bool) → is_out_of_room word ≡ b → (count_of word == 0) ≡ z → IsKept word Look word (if b then (if z then Stopped else Look) else Raise word)
+    by_bit : (holds other_holds : Bool) → is_out_of_room word ≡ holds → (count_of word == 0) ≡ other_holds → IsKept word Look word (if holds then (if other_holds then Stopped else Look) else Raise word)
     by_bit true true out none = record { is_word = can.is_word; counts = refl; bit_stays = λ h. h; quiet_stays = λ q. refl; mine = tt }
     by_bit true false out none = record { is_word = can.is_word; counts = refl; bit_stays = λ h. h; quiet_stays = λ q. refl; mine = tt }
-    by_bit false z out none = record { is_word = can.is_word; counts = refl; bit_stays = λ h. h; quiet_stays = λ q. refl; mine = grind (arith, nat_tests) }
+    by_bit false other_holds out none = record { is_word = can.is_word; counts = refl; bit_stays = λ h. h; quiet_stays = λ q. refl; mine = grind (arith, nat_tests) }
 each_keeps word (Raise found) can = by_found (word == found) refl
   where
-    by_found : (b : Bool) → (word == found) ≡ b → IsKept word (Raise found) (if b then found + 1 else word) (if b then Inside else Look)
+    by_found : (holds : Bool) → (word == found) ≡ holds → IsKept word (Raise found) (if holds then found + 1 else word) (if holds then Inside else Look)
     by_found true is = let same : word ≡ found = grind (arith, nat_tests) in let clear : found < 2 ^ 63 = can.mine in record {
       is_word = omega arith;
       counts = omega (arith, can.few);
@@ -86,7 +86,7 @@ each_keeps word Lower can =
 each_keeps word Ask can = record { is_word = can.is_word; counts = refl; bit_stays = λ h. h; quiet_stays = λ q. refl; mine = tt }
 each_keeps word (Mark found) can = by_found (word == found) refl
   where
-    by_found : (b : Bool) → (word == found) ≡ b → IsKept word (Mark found) (if b then marked found else word) (if b then Wait else Ask)
+    by_found : (holds : Bool) → (word == found) ≡ holds → IsKept word (Mark found) (if holds then marked found else word) (if holds then Wait else Ask)
     by_found true is = let same : word ≡ found = grind (arith, nat_tests) in let some : 1 ≤ count_of word = can.is_in refl in
         let some_found : 1 ≤ count_of found = subst (λ n. 1 ≤ count_of n) same some in record {
           is_word = omega (arith, can.is_word);
@@ -98,7 +98,7 @@ each_keeps word (Mark found) can = by_found (word == found) refl
     by_found false is = record { is_word = can.is_word; counts = refl; bit_stays = λ h. h; quiet_stays = λ q. refl; mine = tt }
 each_keeps word Wait can = by_count (count_of word == 0) refl
   where
-    by_count : (z : Bool) → (count_of word == 0) ≡ z → IsKept word Wait word (if z then Stopped else Wait)
+    by_count : (other_holds : Bool) → (count_of word == 0) ≡ other_holds → IsKept word Wait word (if other_holds then Stopped else Wait)
     by_count true none = record { is_word = can.is_word; counts = refl; bit_stays = λ h. h; quiet_stays = λ q. refl; mine = tt }
     by_count false none = record { is_word = can.is_word; counts = refl; bit_stays = λ h. h; quiet_stays = λ q. refl; mine = can.mine }
 
@@ -108,14 +108,14 @@ each_says word Inside can = absurd (cc (can.going))
 each_says word Stopped can = absurd (cc (can.going))
 each_says word Look can = by_bit (is_out_of_room word) (count_of word == 0) refl refl
   where
-    by_bit : (b z : Bool) → is_out_of_room word ≡ b → (count_of word == 0) ≡ z
-        → Says word (said (if b then (if z then Done else Again) else More) (if b then (if z then Stopped else Look) else Raise word))
+    by_bit : (holds other_holds : Bool) → is_out_of_room word ≡ holds → (count_of word == 0) ≡ other_holds
+        → Says word (said (if holds then (if other_holds then Done else Again) else More) (if holds then (if other_holds then Stopped else Look) else Raise word))
     by_bit true true out none = record { stopped_is_quiet = λ is. record { out_of_room = out; nobody = grind (arith, nat_tests) }; none_enters = λ q is. cc }
     by_bit true false out none = record { stopped_is_quiet = λ is. absurd (cc (is)); none_enters = λ q is. cc }
-    by_bit false z out none = record { stopped_is_quiet = λ is. absurd (cc (is)); none_enters = λ q is. cc }
+    by_bit false other_holds out none = record { stopped_is_quiet = λ is. absurd (cc (is)); none_enters = λ q is. cc }
 each_says word (Raise found) can = by_found (word == found) refl
   where
-    by_found : (b : Bool) → (word == found) ≡ b → Says word (said (if b then Done else Again) (if b then Inside else Look))
+    by_found : (holds : Bool) → (word == found) ≡ holds → Says word (said (if holds then Done else Again) (if holds then Inside else Look))
     by_found true is = let same : word ≡ found = grind (arith, nat_tests) in let clear : found < 2 ^ 63 = can.mine in
         record { stopped_is_quiet = λ is. absurd (cc (is)); none_enters = λ q is. grind (arith, nat_tests, q.out_of_room) }
     by_found false is = record { stopped_is_quiet = λ is. absurd (cc (is)); none_enters = λ q is. cc }
@@ -123,12 +123,12 @@ each_says word Lower can = record { stopped_is_quiet = λ is. absurd (cc (is)); 
 each_says word Ask can = record { stopped_is_quiet = λ is. absurd (cc (is)); none_enters = λ q is. cc }
 each_says word (Mark found) can = by_found (word == found)
   where
-    by_found : (b : Bool) → Says word (said (if b then More else Again) (if b then Wait else Ask))
+    by_found : (holds : Bool) → Says word (said (if holds then More else Again) (if holds then Wait else Ask))
     by_found true = record { stopped_is_quiet = λ is. absurd (cc (is)); none_enters = λ q is. cc }
     by_found false = record { stopped_is_quiet = λ is. absurd (cc (is)); none_enters = λ q is. cc }
 each_says word Wait can = by_count (count_of word == 0) refl
   where
-    by_count : (z : Bool) → (count_of word == 0) ≡ z → Says word (said (if z then Done else Again) (if z then Stopped else Wait))
+    by_count : (other_holds : Bool) → (count_of word == 0) ≡ other_holds → Says word (said (if other_holds then Done else Again) (if other_holds then Stopped else Wait))
     by_count true none = record { stopped_is_quiet = λ is. record { out_of_room = can.mine; nobody = grind (arith, nat_tests) }; none_enters = λ q is. cc }
     by_count false none = record { stopped_is_quiet = λ is. absurd (cc (is)); none_enters = λ q is. cc }
 

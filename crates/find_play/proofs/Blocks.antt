@@ -4,16 +4,16 @@ use Rattle.std.proofs.lemmas.List.{drop_all}
 use Rattle.find_play.specs.declared.draft.Block.{Block}
 use Rattle.find_play.specs.Drafts.{is_loop, has_loop}
 
-pub loop_found : (d : Block) (blocks : List Block) (i : ℕ) (whole : Bool) → i < length blocks → true ≡ is_loop (get_or blocks i d) → has_loop (drop i blocks) ≡ whole → true ≡ whole
+pub loop_found : (piece : Block) (blocks : List Block) (index : ℕ) (whole : Bool) → index < length blocks → true ≡ is_loop (get_or blocks index piece) → has_loop (drop index blocks) ≡ whole → true ≡ whole
 unfolding has_loop
-loop_found d blocks i whole lt here so_far =
-    let one : has_loop (drop i blocks) ≡ true = rw (drop-cons blocks i d, ← here) refl in
+loop_found piece blocks index whole lt here so_far =
+    let one : has_loop (drop index blocks) ≡ true = rw (drop-cons blocks index piece, ← here) refl in
     sym one ∙ so_far
 
-pub loop_goes_on : (d : Block) (blocks : List Block) (i : ℕ) (whole : Bool) → i < length blocks → false ≡ is_loop (get_or blocks i d) → has_loop (drop i blocks) ≡ whole → has_loop (drop (i + 1) blocks) ≡ whole
+pub loop_goes_on : (piece : Block) (blocks : List Block) (index : ℕ) (whole : Bool) → index < length blocks → false ≡ is_loop (get_or blocks index piece) → has_loop (drop index blocks) ≡ whole → has_loop (drop (index + 1) blocks) ≡ whole
 unfolding has_loop
-loop_goes_on d blocks i whole lt other so_far =
-    let one : has_loop (drop i blocks) ≡ has_loop (drop (i + 1) blocks) = rw (add-one, drop-cons blocks i d, ← other) refl in
+loop_goes_on piece blocks index whole lt other so_far =
+    let one : has_loop (drop index blocks) ≡ has_loop (drop (index + 1) blocks) = rw (add-one, drop-cons blocks index piece, ← other) refl in
     sym one ∙ so_far
 
 pub loops_end : (blocks : List Block) (i : ℕ) (whole : Bool) → length blocks ≤ i → has_loop (drop i blocks) ≡ whole → false ≡ whole

@@ -15,19 +15,19 @@ some_if : (n m : ℕ) → n < m → Some n ≡ cond (nat_lt n m) (Some n) None
 some_if n m lt = grind (arith, nat_tests)
 
 -- the first index at which a test holds
-pub position_is : {X : Type 0} (p : X → Bool) (xs : List X) (n : ℕ) (d : X) → n < length xs → ((k : ℕ) → k < n → p (get_or xs k d) ≡ false) → p (get_or xs n d) ≡ true → Some n ≡ position p xs
-position_is p xs n d lt before here =
-    let is : position_or_len p xs ≡ n = position_or_len_is p xs n d (omega arith) before (λ _. here) in
-    subst (λ (m : ℕ). Some n ≡ cond (nat_lt m (length xs)) (Some m) None) (sym is) (some_if n (length xs) lt)
+pub position_is : {X : Type 0} (p : X → Bool) (xs : List X) (other_index : ℕ) (d : X) → other_index < length xs → ((index : ℕ) → index < other_index → p (get_or xs index d) ≡ false) → p (get_or xs other_index d) ≡ true → Some other_index ≡ position p xs
+position_is p xs other_index d lt before here =
+    let is : position_or_len p xs ≡ other_index = position_or_len_is p xs other_index d (omega arith) before (λ _. here) in
+    subst (λ (m : ℕ). Some other_index ≡ cond (nat_lt m (length xs)) (Some m) None) (sym is) (some_if other_index (length xs) lt)
 
 -- a reply that fits is found
-pub never_broken : (w : Wanted) (h : List Entry) (i : ℕ) (e : Entry) → slice_get h i ≡ Some e → fits w e.reply ≡ true → false ≡ list_all (λ x. not (fits w x.reply)) h
-never_broken w h i e at is =
-    sym (list_all_at (λ (x : Entry). not (fits w x.reply)) h i e (slice_get_within h i e at) (ap (λ (x : Entry). not (fits w x.reply)) (get_or_from_slice_get h i e e at) ∙ ap not is))
+pub never_broken : (w : Wanted) (entries : List Entry) (index : ℕ) (entry : Entry) → slice_get entries index ≡ Some entry → fits w entry.reply ≡ true → false ≡ list_all (λ x. not (fits w x.reply)) entries
+never_broken w entries index entry at is =
+    sym (list_all_at (λ (entry : Entry). not (fits w entry.reply)) entries index entry (slice_get_within entries index entry at) (ap (λ (entry : Entry). not (fits w entry.reply)) (get_or_from_slice_get entries index entry entry at) ∙ ap not is))
 
 -- one that does not is passed over
-pub never_on : (w : Wanted) (h : List Entry) (i : ℕ) (e : Entry) (whole : Bool) → slice_get h i ≡ Some e → fits w e.reply ≡ false → list_all (λ x. not (fits w x.reply)) (drop i h) ≡ whole → list_all (λ x. not (fits w x.reply)) (drop (i + 1) h) ≡ whole
-never_on w h i e whole at is sofar =
+pub never_on : (w : Wanted) (entries : List Entry) (index : ℕ) (entry : Entry) (whole : Bool) → slice_get entries index ≡ Some entry → fits w entry.reply ≡ false → list_all (λ x. not (fits w x.reply)) (drop index entries) ≡ whole → list_all (λ x. not (fits w x.reply)) (drop (index + 1) entries) ≡ whole
+never_on w entries index entry whole at is sofar =
     let p : Entry → Bool = λ x. not (fits w x.reply) in
-    let fine : p (get_or h i e) ≡ true = ap p (get_or_from_slice_get h i e e at) ∙ ap not is in
-    sym (at_drop_more (list_all p) h i e (slice_get_within h i e at) ∙ ap (λ (b : Bool). b && list_all p (drop (i + 1) h)) fine) ∙ sofar
+    let fine : p (get_or entries index entry) ≡ true = ap p (get_or_from_slice_get entries index entry entry at) ∙ ap not is in
+    sym (at_drop_more (list_all p) entries index entry (slice_get_within entries index entry at) ∙ ap (λ (holds : Bool). holds && list_all p (drop (index + 1) entries)) fine) ∙ sofar

@@ -15,7 +15,7 @@ use Rattle.find_play.specs.Meaning.{fits_last, behind, move_by, move_at, Runs, G
 
 -- what is left of a program and of its returns
 abbrev pub room : List Statement → Thread → ℕ
-room program t = t.left * (length program + 1) + (length program - t.at)
+room program thread = thread.left * (length program + 1) + (length program - thread.at)
 
 -- where a move leads: further, or it gives something and stands behind it
 abbrev IsFurther : List Statement → ℕ → Move → Type 0
@@ -28,7 +28,7 @@ further_if : (program : List Statement) (at a b : ℕ) (test : Bool) → at < le
 further_if program at a b true h x y = (h, x)
 further_if program at a b false h x y = (h, y)
 
-further : (program : List Statement) (reply : Option Reply) (at : ℕ) (o : Option Statement) → slice_get program at ≡ o → IsFurther program at (move_by program reply at o)
+further : (program : List Statement) (reply : Option Reply) (at : ℕ) (found : Option Statement) → slice_get program at ≡ found → IsFurther program at (move_by program reply at found)
 further program reply at None h = tt
 further program reply at (Some (statement.Run c)) h = tt
 further program reply at (Some (statement.Keep note)) h = (slice_get_within program at (statement.Keep note) h, refl)
@@ -50,17 +50,17 @@ less_back : (n at first left : ℕ) → left * (n + 1) + (n - first) < suc left 
 less_back n at first left = omega arith
 
 -- a thread that keeps a note has less room then
-pub keeps_less : (program : List Statement) (reply : Option Reply) (note : ℕ) (t u : Thread) (next : Next) → Runs program reply t next u → next ≡ Keep note → room program u < room program t
-keeps_less program reply note t u next (Gave at left to _ h) is =
+pub keeps_less : (program : List Statement) (reply : Option Reply) (note : ℕ) (thread other_thread : Thread) (next : Next) → Runs program reply thread next other_thread → next ≡ Keep note → room program other_thread < room program thread
+keeps_less program reply note thread other_thread next (Gave at left to _ h) is =
     let at_end : IsFurther program at (Gives (Keep note) to) = subst (λ k. IsFurther program at (Gives k to)) is (leads program reply at (Gives next to) h) in
     less_on (length program) at to left at_end.0 (omega (arith, at_end.1))
-keeps_less program reply note t u next (Went at left to _ _ h runs) is =
+keeps_less program reply note thread other_thread next (Went at left to _ _ h runs) is =
     let on = leads program reply at (Goes to) h in
-    let less = keeps_less program reply note (record { at = to; left = left }) u next runs is in
+    let less = keeps_less program reply note (record { at = to; left = left }) other_thread next runs is in
     let more = less_on (length program) at to left on.0 on.1 in
     omega (arith, less, more)
-keeps_less program reply note t u next (Returned at left first _ _ h runs) is =
-    let less = keeps_less program reply note (record { at = first; left = left }) u next runs is in
+keeps_less program reply note thread other_thread next (Returned at left first _ _ h runs) is =
+    let less = keeps_less program reply note (record { at = first; left = left }) other_thread next runs is in
     let more = less_back (length program) at first left in
     omega (arith, less, more)
-keeps_less program reply note t u next (Stopped at first h) is = absurd cc
+keeps_less program reply note thread other_thread next (Stopped at first h) is = absurd cc

@@ -6,16 +6,16 @@ use Rattle.find_play.specs.declared.kind.LineKind.{LineKind}
 use Rattle.find_play.specs.declared.kind.LineKind.TheVariants.{Bounds}
 use Rattle.find_play.specs.Kinds.{line_word, kind_of_word}
 
-pub kind_found : (kinds : List LineKind) (i : ℕ) (w : List ℕ) (whole : Option LineKind) → i < length kinds → true ≡ is_same w (line_word (get_or kinds i Bounds)) → kind_of_word (drop i kinds) w ≡ whole → whole ≡ Some (get_or kinds i Bounds)
+pub kind_found : (kinds : List LineKind) (index : ℕ) (w : List ℕ) (whole : Option LineKind) → index < length kinds → true ≡ is_same w (line_word (get_or kinds index Bounds)) → kind_of_word (drop index kinds) w ≡ whole → whole ≡ Some (get_or kinds index Bounds)
 unfolding kind_of_word
-kind_found kinds i w whole lt same so_far =
-    let one : kind_of_word (drop i kinds) w ≡ Some (get_or kinds i Bounds) = rw (drop-cons kinds i Bounds, ← same) refl in
+kind_found kinds index w whole lt same so_far =
+    let one : kind_of_word (drop index kinds) w ≡ Some (get_or kinds index Bounds) = rw (drop-cons kinds index Bounds, ← same) refl in
     sym so_far ∙ one
 
-pub kind_goes_on : (kinds : List LineKind) (i : ℕ) (w : List ℕ) (whole : Option LineKind) → i < length kinds → false ≡ is_same w (line_word (get_or kinds i Bounds)) → kind_of_word (drop i kinds) w ≡ whole → kind_of_word (drop (i + 1) kinds) w ≡ whole
+pub kind_goes_on : (kinds : List LineKind) (index : ℕ) (w : List ℕ) (whole : Option LineKind) → index < length kinds → false ≡ is_same w (line_word (get_or kinds index Bounds)) → kind_of_word (drop index kinds) w ≡ whole → kind_of_word (drop (index + 1) kinds) w ≡ whole
 unfolding kind_of_word
-kind_goes_on kinds i w whole lt other so_far =
-    let one : kind_of_word (drop i kinds) w ≡ kind_of_word (drop (i + 1) kinds) w = rw (add-one, drop-cons kinds i Bounds, ← other) refl in
+kind_goes_on kinds index w whole lt other so_far =
+    let one : kind_of_word (drop index kinds) w ≡ kind_of_word (drop (index + 1) kinds) w = rw (add-one, drop-cons kinds index Bounds, ← other) refl in
     sym one ∙ so_far
 
 pub kinds_end : (kinds : List LineKind) (i : ℕ) (w : List ℕ) (whole : Option LineKind) → length kinds ≤ i → kind_of_word (drop i kinds) w ≡ whole → whole ≡ None

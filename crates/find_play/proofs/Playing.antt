@@ -7,13 +7,13 @@ use Rattle.shen_graph.specs.History.{Entry}
 use Rattle.find_play.specs.Plays.{Programs, Scene, Plays, Then, IsPlay}
 use Rattle.find_play.specs.Scenes.{IsNextEntry}
 
-pub played_on : (programs : Programs) (returns notes : ℕ) (h : List Entry) (i : ℕ) (e : Entry) (s t : Scene) → slice_get h i ≡ Some e → IsPlay programs returns notes (take i h) s → IsNextEntry programs e s t → IsPlay programs returns notes (take (i + 1) h) t
-played_on programs returns notes h i e s t at play answers =
-    let more : take (i + 1) h ≡ take i h ++ e ∷ [] = take_more h i e (slice_get_within h i e at) ∙ ap (λ (x : Entry). take i h ++ x ∷ []) (get_or_from_slice_get h i e e at) in
+pub played_on : (programs : Programs) (returns notes : ℕ) (entries : List Entry) (index : ℕ) (entry : Entry) (scene other_scene : Scene) → slice_get entries index ≡ Some entry → IsPlay programs returns notes (take index entries) scene → IsNextEntry programs entry scene other_scene → IsPlay programs returns notes (take (index + 1) entries) other_scene
+played_on programs returns notes entries index entry scene other_scene at play answers =
+    let more : take (index + 1) entries ≡ take index entries ++ entry ∷ [] = take_more entries index entry (slice_get_within entries index entry at) ∙ ap (λ (entry : Entry). take index entries ++ entry ∷ []) (get_or_from_slice_get entries index entry entry at) in
     record {
       begun = play.begun;
       begins = play.begins;
       plays =
-          subst (λ (es : List Entry). Plays programs play.begun es t) (sym more)
-          (Then (take i h) e answers.number s t play.plays answers.thread answers.was answers.steps);
+          subst (λ (es : List Entry). Plays programs play.begun es other_scene) (sym more)
+          (Then (take index entries) entry answers.number scene other_scene play.plays answers.thread answers.was answers.steps);
     }

@@ -62,10 +62,10 @@ pinned_reply : (version : ℕ) (w : List ℕ) (other : Result Value TestWhy) (v 
     → (other ≡ Ok v → IsReply version w v) → IsReply version w v
 pinned_reply version w other v e others = by_tests (ltb 1 version) (is_same w (codes "pinned")) refl refl e
   where
-    by_tests : (a b : Bool) → ltb 1 version ≡ a → is_same w (codes "pinned") ≡ b → cond (a && b) (Ok (value.Wanted wanted.Pinned)) other ≡ Ok v → IsReply version w v
+    by_tests : (holds other_holds : Bool) → ltb 1 version ≡ holds → is_same w (codes "pinned") ≡ other_holds → cond (holds && other_holds) (Ok (value.Wanted wanted.Pinned)) other ≡ Ok v → IsReply version w v
     by_tests true true later same e = (wanted.Pinned, sym (same_ok _ _ e), same_text w (codes "pinned") (sym same), ltb-true 1 version later)
     by_tests true false later same e = others e
-    by_tests false b later same e = others e
+    by_tests false other_holds later same e = others e
 
 number_reply : (version : ℕ) (w : List ℕ) (v : Value) → number_wanted w ≡ Ok v → IsReply version w v
 number_reply version w v e = by_test (is_plain_number w) e
@@ -98,45 +98,45 @@ is_small_slot (slot.Small most) = ltb most 18446744073709551616
 is_small_slot (slot.Large least most) = ltb most 18446744073709551616
 is_small_slot _ = true
 
-pub value_said : (d : Told) (k : LineKind) (s : Slot) (w : List ℕ) (v : Value) → is_small_slot s ≡ true → value_in d k s w ≡ Ok v → Says d k s v w
+pub value_said : (told : Told) (kind : LineKind) (s : Slot) (w : List ℕ) (v : Value) → is_small_slot s ≡ true → value_in told kind s w ≡ Ok v → Says told kind s v w
 unfolding value_in
-value_said d k slot.Nothing w v small e = absurd cc
-value_said d k (slot.Small most) w v small e = by_number (number_between 0 most w) refl e
+value_said told kind slot.Nothing w v small e = absurd cc
+value_said told kind (slot.Small most) w v small e = by_number (number_between 0 most w) refl e
   where
-    by_number : (r : Result ℕ TestWhy) → number_between 0 most w ≡ r → as_small r ≡ Ok v → Says d k (slot.Small most) v w
-    by_number (Ok n) is e = let said = number_said 0 most n w (ltb-true most _ small) is in subst (λ (u : Value). Says d k (slot.Small most) u w) (same_ok _ _ e) (said.0, said.2)
+    by_number : (r : Result ℕ TestWhy) → number_between 0 most w ≡ r → as_small r ≡ Ok v → Says told kind (slot.Small most) v w
+    by_number (Ok n) is e = let said = number_said 0 most n w (ltb-true most _ small) is in subst (λ (u : Value). Says told kind (slot.Small most) u w) (same_ok _ _ e) (said.0, said.2)
     by_number (Err why) is e = absurd cc
-value_said d k (slot.Large least most) w v small e = by_number (number_between least most w) refl e
+value_said told kind (slot.Large least most) w v small e = by_number (number_between least most w) refl e
   where
-    by_number : (r : Result ℕ TestWhy) → number_between least most w ≡ r → as_large r ≡ Ok v → Says d k (slot.Large least most) v w
-    by_number (Ok n) is e = subst (λ (u : Value). Says d k (slot.Large least most) u w) (same_ok _ _ e) (number_said least most n w (ltb-true most _ small) is)
+    by_number : (r : Result ℕ TestWhy) → number_between least most w ≡ r → as_large r ≡ Ok v → Says told kind (slot.Large least most) v w
+    by_number (Ok n) is e = subst (λ (u : Value). Says told kind (slot.Large least most) u w) (same_ok _ _ e) (number_said least most n w (ltb-true most _ small) is)
     by_number (Err why) is e = absurd cc
-value_said d k slot.Root w v small e = by_number (number_of d.roots w) refl e
+value_said told kind slot.Root w v small e = by_number (number_of told.roots w) refl e
   where
-    by_test : (n : ℕ) (test : Bool) → ltb n 16 ≡ test → number_of d.roots w ≡ Some n → cond test (Ok (value.Small n)) (Err why.Name) ≡ Ok v → Says d k slot.Root v w
-    by_test n true small is e = subst (λ (u : Value). Says d k slot.Root u w) (same_ok _ _ e) (is, omega (arith, ltb-true n 16 small))
+    by_test : (n : ℕ) (test : Bool) → ltb n 16 ≡ test → number_of told.roots w ≡ Some n → cond test (Ok (value.Small n)) (Err why.Name) ≡ Ok v → Says told kind slot.Root v w
+    by_test n true small is e = subst (λ (u : Value). Says told kind slot.Root u w) (same_ok _ _ e) (is, omega (arith, ltb-true n 16 small))
     by_test n false small is e = absurd cc
 
-    by_number : (o : Option ℕ) → number_of d.roots w ≡ o → as_root o ≡ Ok v → Says d k slot.Root v w
+    by_number : (found : Option ℕ) → number_of told.roots w ≡ found → as_root found ≡ Ok v → Says told kind slot.Root v w
     by_number (Some n) is e = by_test n (ltb n 16) refl is e
     by_number None is e = absurd cc
-value_said d k slot.Note w v small e = by_number (number_of d.notes w) refl e
+value_said told kind slot.Note w v small e = by_number (number_of told.notes w) refl e
   where
-    by_number : (o : Option ℕ) → number_of d.notes w ≡ o → as_index (as_number o) ≡ Ok v → Says d k slot.Note v w
-    by_number (Some n) is e = subst (λ (u : Value). Says d k slot.Note u w) (same_ok _ _ e) is
+    by_number : (found : Option ℕ) → number_of told.notes w ≡ found → as_index (as_number found) ≡ Ok v → Says told kind slot.Note v w
+    by_number (Some n) is e = subst (λ (u : Value). Says told kind slot.Note u w) (same_ok _ _ e) is
     by_number None is e = absurd cc
-value_said d k slot.Place w v small e = by_number (number_of d.place_names w) refl e
+value_said told kind slot.Place w v small e = by_number (number_of told.place_names w) refl e
   where
-    by_number : (o : Option ℕ) → number_of d.place_names w ≡ o → as_index (as_number o) ≡ Ok v → Says d k slot.Place v w
-    by_number (Some n) is e = subst (λ (u : Value). Says d k slot.Place u w) (same_ok _ _ e) is
+    by_number : (found : Option ℕ) → number_of told.place_names w ≡ found → as_index (as_number found) ≡ Ok v → Says told kind slot.Place v w
+    by_number (Some n) is e = subst (λ (u : Value). Says told kind slot.Place u w) (same_ok _ _ e) is
     by_number None is e = absurd cc
-value_said d k slot.Wanted w v small e =
-    let said = reply_said d.version w v e in
-    subst (λ (u : Value). Says d k slot.Wanted u w) (sym said.1) (said.2, said.3)
-value_said d k slot.Fresh w v small e = by_tests (is_name w) (number_of (names_beside d k) w) refl refl e
+value_said told kind slot.Wanted w v small e =
+    let said = reply_said told.version w v e in
+    subst (λ (u : Value). Says told kind slot.Wanted u w) (sym said.1) (said.2, said.3)
+value_said told kind slot.Fresh w v small e = by_tests (is_name w) (number_of (names_beside told kind) w) refl refl e
   where
-    by_tests : (name : Bool) (number : Option ℕ) → is_name w ≡ name → number_of (names_beside d k) w ≡ number → cond (name && is_none number) (Ok value.Nothing) (Err why.Fresh) ≡ Ok v → Says d k slot.Fresh v w
-    by_tests true None is free e = subst (λ (u : Value). Says d k slot.Fresh u w) (same_ok _ _ e) (is, free)
+    by_tests : (name : Bool) (number : Option ℕ) → is_name w ≡ name → number_of (names_beside told kind) w ≡ number → cond (name && is_none number) (Ok value.Nothing) (Err why.Fresh) ≡ Ok v → Says told kind slot.Fresh v w
+    by_tests true None is free e = subst (λ (u : Value). Says told kind slot.Fresh u w) (same_ok _ _ e) (is, free)
     by_tests true (Some n) is free e = absurd cc
     by_tests false number is free e = absurd cc
 
@@ -154,37 +154,37 @@ nothing_said : (s : Slot) (v : Value) → without_word s ≡ Ok v → (s ≡ slo
 nothing_said slot.Nothing v e = (refl, sym (same_ok _ _ e))
 nothing_said _ v e = absurd cc
 
-pub values_said : (d : Told) (k : LineKind) (ss : List Slot) (ws : List (List ℕ)) (vs : List Value) → are_small ss ≡ true → values_in d k ss ws ≡ Ok vs → AreSaid d k ss vs ws
+pub values_said : (told : Told) (kind : LineKind) (ss : List Slot) (ws : List (List ℕ)) (vs : List Value) → are_small ss ≡ true → values_in told kind ss ws ≡ Ok vs → AreSaid told kind ss vs ws
 unfolding values_in take_value
-values_said d k [] [] vs small e = subst (λ (us : List Value). AreSaid d k [] us []) (same_ok [] vs e) tt
-values_said d k [] (w ∷ ws) vs small e = absurd cc
-values_said d k (s ∷ ss) [] vs small e = by_value (λ more is. values_said d k ss [] more (both (is_small_slot s) (are_small ss) small).1 is) (with_rest (without_word s) []) refl e
+values_said told kind [] [] vs small e = subst (λ (us : List Value). AreSaid told kind [] us []) (same_ok [] vs e) tt
+values_said told kind [] (w ∷ ws) vs small e = absurd cc
+values_said told kind (s ∷ ss) [] vs small e = by_value (λ more is. values_said told kind ss [] more (both (is_small_slot s) (are_small ss) small).1 is) (with_rest (without_word s) []) refl e
   where
-    by_rest : ((more : List Value) → values_in d k ss [] ≡ Ok more → AreSaid d k ss more []) → (x : Value × List (List ℕ)) (r : Result (List Value) TestWhy)
-        → with_rest (without_word s) [] ≡ Ok x → values_in d k ss x.1 ≡ r → with_first x.0 r ≡ Ok vs → AreSaid d k (s ∷ ss) vs []
+    by_rest : ((more : List Value) → values_in told kind ss [] ≡ Ok more → AreSaid told kind ss more []) → (x : Value × List (List ℕ)) (r : Result (List Value) TestWhy)
+        → with_rest (without_word s) [] ≡ Ok x → values_in told kind ss x.1 ≡ r → with_first x.0 r ≡ Ok vs → AreSaid told kind (s ∷ ss) vs []
     by_rest later x (Err why) t is e = absurd cc
     by_rest later x (Ok more) t is e =
         let first = taken (without_word s) [] x t in
         let none = nothing_said s x.0 first.0 in
-        let others = later more (subst (λ (us : List (List ℕ)). values_in d k ss us ≡ Ok more) first.1 is) in
-        subst (λ (us : List Value). AreSaid d k (s ∷ ss) us []) (same_ok (x.0 ∷ more) vs e) (none.0, none.1, others)
+        let others = later more (subst (λ (us : List (List ℕ)). values_in told kind ss us ≡ Ok more) first.1 is) in
+        subst (λ (us : List Value). AreSaid told kind (s ∷ ss) us []) (same_ok (x.0 ∷ more) vs e) (none.0, none.1, others)
 
-    by_value : ((more : List Value) → values_in d k ss [] ≡ Ok more → AreSaid d k ss more []) → (r : Result (Value × List (List ℕ)) TestWhy)
-        → with_rest (without_word s) [] ≡ r → then_values r (λ rest. values_in d k ss rest) ≡ Ok vs → AreSaid d k (s ∷ ss) vs []
+    by_value : ((more : List Value) → values_in told kind ss [] ≡ Ok more → AreSaid told kind ss more []) → (r : Result (Value × List (List ℕ)) TestWhy)
+        → with_rest (without_word s) [] ≡ r → then_values r (λ rest. values_in told kind ss rest) ≡ Ok vs → AreSaid told kind (s ∷ ss) vs []
     by_value later (Err why) t e = absurd cc
-    by_value later (Ok x) t e = by_rest later x (values_in d k ss x.1) t refl e
-values_said d k (s ∷ ss) (w ∷ ws) vs small e = by_value (λ more is. values_said d k ss ws more (both (is_small_slot s) (are_small ss) small).1 is) (with_rest (value_in d k s w) ws) refl e
+    by_value later (Ok x) t e = by_rest later x (values_in told kind ss x.1) t refl e
+values_said told kind (s ∷ ss) (w ∷ ws) vs small e = by_value (λ more is. values_said told kind ss ws more (both (is_small_slot s) (are_small ss) small).1 is) (with_rest (value_in told kind s w) ws) refl e
   where
-    by_rest : ((more : List Value) → values_in d k ss ws ≡ Ok more → AreSaid d k ss more ws) → (x : Value × List (List ℕ)) (r : Result (List Value) TestWhy)
-        → with_rest (value_in d k s w) ws ≡ Ok x → values_in d k ss x.1 ≡ r → with_first x.0 r ≡ Ok vs → AreSaid d k (s ∷ ss) vs (w ∷ ws)
+    by_rest : ((more : List Value) → values_in told kind ss ws ≡ Ok more → AreSaid told kind ss more ws) → (x : Value × List (List ℕ)) (r : Result (List Value) TestWhy)
+        → with_rest (value_in told kind s w) ws ≡ Ok x → values_in told kind ss x.1 ≡ r → with_first x.0 r ≡ Ok vs → AreSaid told kind (s ∷ ss) vs (w ∷ ws)
     by_rest later x (Err why) t is e = absurd cc
     by_rest later x (Ok more) t is e =
-        let first = taken (value_in d k s w) ws x t in
+        let first = taken (value_in told kind s w) ws x t in
         let pass = both (is_small_slot s) (are_small ss) small in
-        let others = later more (subst (λ (us : List (List ℕ)). values_in d k ss us ≡ Ok more) first.1 is) in
-        subst (λ (us : List Value). AreSaid d k (s ∷ ss) us (w ∷ ws)) (same_ok (x.0 ∷ more) vs e) (value_said d k s w x.0 pass.0 first.0, others)
+        let others = later more (subst (λ (us : List (List ℕ)). values_in told kind ss us ≡ Ok more) first.1 is) in
+        subst (λ (us : List Value). AreSaid told kind (s ∷ ss) us (w ∷ ws)) (same_ok (x.0 ∷ more) vs e) (value_said told kind s w x.0 pass.0 first.0, others)
 
-    by_value : ((more : List Value) → values_in d k ss ws ≡ Ok more → AreSaid d k ss more ws) → (r : Result (Value × List (List ℕ)) TestWhy)
-        → with_rest (value_in d k s w) ws ≡ r → then_values r (λ rest. values_in d k ss rest) ≡ Ok vs → AreSaid d k (s ∷ ss) vs (w ∷ ws)
+    by_value : ((more : List Value) → values_in told kind ss ws ≡ Ok more → AreSaid told kind ss more ws) → (r : Result (Value × List (List ℕ)) TestWhy)
+        → with_rest (value_in told kind s w) ws ≡ r → then_values r (λ rest. values_in told kind ss rest) ≡ Ok vs → AreSaid told kind (s ∷ ss) vs (w ∷ ws)
     by_value later (Err why) t e = absurd cc
-    by_value later (Ok x) t e = by_rest later x (values_in d k ss x.1) t refl e
+    by_value later (Ok x) t e = by_rest later x (values_in told kind ss x.1) t refl e

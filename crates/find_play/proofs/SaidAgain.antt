@@ -49,7 +49,7 @@ digits_first n w small other = by_test (is_same (decimal n) w) refl
     by_test true same = let one = decimal_is_number n small in let e = same_text (decimal n) w (sym same) in let two = ap is_plain_number e in absurd cc
     by_test false same = same
 
-none_and : (b : Bool) → (b && false) ≡ false
+none_and : (holds : Bool) → (holds && false) ≡ false
 none_and true = refl
 none_and false = refl
 
@@ -84,35 +84,35 @@ reply_again version (wanted.Number n) w e fits =
 
 -- ---- values
 
-pub value_again : (d : Told) (k : LineKind) (s : Slot) (w : List ℕ) (v : Value) → is_small_slot s ≡ true → Says d k s v w → value_in d k s w ≡ Ok v
+pub value_again : (told : Told) (kind : LineKind) (s : Slot) (w : List ℕ) (v : Value) → is_small_slot s ≡ true → Says told kind s v w → value_in told kind s w ≡ Ok v
 unfolding value_in
-value_again d k slot.Nothing w v small said = absurd said
-value_again d k (slot.Small most) w (value.Small n) small said = rw (number_again 0 most n w (ltb-true most _ small) said.0 (omega arith) said.1) refl
-value_again d k (slot.Large least most) w (value.Large n) small said = rw (number_again least most n w (ltb-true most _ small) said.0 said.1 said.2) refl
-value_again d k slot.Root w (value.Small n) small said = rw (said.0, below n said.1) refl
+value_again told kind slot.Nothing w v small said = absurd said
+value_again told kind (slot.Small most) w (value.Small n) small said = rw (number_again 0 most n w (ltb-true most _ small) said.0 (omega arith) said.1) refl
+value_again told kind (slot.Large least most) w (value.Large n) small said = rw (number_again least most n w (ltb-true most _ small) said.0 said.1 said.2) refl
+value_again told kind slot.Root w (value.Small n) small said = rw (said.0, below n said.1) refl
   where
     below : (n : ℕ) → n ≤ 15 → ltb n 16 ≡ true
     below n le = grind (arith, nat_tests)
-value_again d k slot.Note w (value.Index n) small said = rw said refl
-value_again d k slot.Place w (value.Index n) small said = rw said refl
-value_again d k slot.Wanted w (value.Wanted x) small said = reply_again d.version x w said.0 said.1
-value_again d k slot.Fresh w value.Nothing small said = rw (said.0, said.1) refl
-value_again d k _ w _ small said = absurd said
+value_again told kind slot.Note w (value.Index n) small said = rw said refl
+value_again told kind slot.Place w (value.Index n) small said = rw said refl
+value_again told kind slot.Wanted w (value.Wanted x) small said = reply_again told.version x w said.0 said.1
+value_again told kind slot.Fresh w value.Nothing small said = rw (said.0, said.1) refl
+value_again told kind _ w _ small said = absurd said
 
-pub values_again : (d : Told) (k : LineKind) (ss : List Slot) (ws : List (List ℕ)) (vs : List Value) → are_small ss ≡ true → AreSaid d k ss vs ws → values_in d k ss ws ≡ Ok vs
+pub values_again : (told : Told) (kind : LineKind) (ss : List Slot) (ws : List (List ℕ)) (vs : List Value) → are_small ss ≡ true → AreSaid told kind ss vs ws → values_in told kind ss ws ≡ Ok vs
 unfolding values_in take_value
-values_again d k [] [] [] small said = refl
-values_again d k [] [] (v ∷ vs) small said = absurd said
-values_again d k [] (w ∷ ws) [] small said = absurd said
-values_again d k [] (w ∷ ws) (v ∷ vs) small said = absurd said
-values_again d k (s ∷ ss) [] [] small said = absurd said
-values_again d k (s ∷ ss) (w ∷ ws) [] small said = absurd said
-values_again d k (s ∷ ss) [] (v ∷ vs) small said =
+values_again told kind [] [] [] small said = refl
+values_again told kind [] [] (v ∷ vs) small said = absurd said
+values_again told kind [] (w ∷ ws) [] small said = absurd said
+values_again told kind [] (w ∷ ws) (v ∷ vs) small said = absurd said
+values_again told kind (s ∷ ss) [] [] small said = absurd said
+values_again told kind (s ∷ ss) (w ∷ ws) [] small said = absurd said
+values_again told kind (s ∷ ss) [] (v ∷ vs) small said =
     let pass = both (is_small_slot s) (are_small ss) small in
-    rw (said.0, said.1, values_again d k ss [] vs pass.1 said.2) refl
-values_again d k (s ∷ ss) (w ∷ ws) (v ∷ vs) small said =
+    rw (said.0, said.1, values_again told kind ss [] vs pass.1 said.2) refl
+values_again told kind (s ∷ ss) (w ∷ ws) (v ∷ vs) small said =
     let pass = both (is_small_slot s) (are_small ss) small in
-    rw (value_again d k s w v pass.0 said.0, values_again d k ss ws vs pass.1 said.1) refl
+    rw (value_again told kind s w v pass.0 said.0, values_again told kind ss ws vs pass.1 said.1) refl
 
 -- ---- lines
 
@@ -127,22 +127,22 @@ none_later [] = true
 none_later (k ∷ ks) = not (is_later k) && none_later ks
 
 -- where none of these is later, a kind among them is not
-not_later : (ks : List LineKind) (k : LineKind) → none_later ks ≡ true → Contains ks k → is_later k ≡ false
+not_later : (ks : List LineKind) (kind : LineKind) → none_later ks ≡ true → Contains ks kind → is_later kind ≡ false
 unfolding none_later
-not_later [] k none there = absurd (Contains-nil k there)
-not_later (x ∷ ks) k none there =
+not_later [] kind none there = absurd (Contains-nil kind there)
+not_later (x ∷ ks) kind none there =
     let pass = both (not (is_later x)) (none_later ks) none in
-    elim (Contains-cons_cases x ks k there) [
+    elim (Contains-cons_cases x ks kind there) [
       | inl same ↦ ap is_later (sym same) ∙ not_true (is_later x) pass.0
-      | inr behind ↦ not_later ks k pass.1 behind
+      | inr behind ↦ not_later ks kind pass.1 behind
     ]
   where
-    not_true : (b : Bool) → not b ≡ true → b ≡ false
+    not_true : (holds : Bool) → not holds ≡ true → holds ≡ false
     not_true true e = absurd cc
     not_true false e = refl
 
 -- a kind of version 1, whatever kinds follow
-named_first : (more : List LineKind) (k : LineKind) → is_later k ≡ false → kind_of_word (first_line_kinds ++ more) (line_word k) ≡ Some k
+named_first : (more : List LineKind) (kind : LineKind) → is_later kind ≡ false → kind_of_word (first_line_kinds ++ more) (line_word kind) ≡ Some kind
 unfolding kind_of_word
 named_first more (line.Command command.Pin) first = absurd cc
 named_first more (line.Command command.Unpin) first = absurd cc
@@ -150,7 +150,7 @@ named_first more (line.Command _) first = refl
 named_first more line.Bounds first = refl
 named_first more _ first = refl
 
-named_later : (k : LineKind) → is_later k ≡ true → kind_of_word (first_line_kinds ++ later_line_kinds) (line_word k) ≡ Some k
+named_later : (kind : LineKind) → is_later kind ≡ true → kind_of_word (first_line_kinds ++ later_line_kinds) (line_word kind) ≡ Some kind
 unfolding kind_of_word
 named_later (line.Command command.Pin) later = refl
 named_later (line.Command command.Unpin) later = refl
@@ -158,24 +158,24 @@ named_later (line.Command _) later = absurd cc
 named_later line.Bounds later = absurd cc
 named_later _ later = absurd cc
 
-named_all : (k : LineKind) (later : Bool) → is_later k ≡ later → kind_of_word (first_line_kinds ++ later_line_kinds) (line_word k) ≡ Some k
-named_all k true is = named_later k is
-named_all k false is = named_first later_line_kinds k is
+named_all : (kind : LineKind) (later : Bool) → is_later kind ≡ later → kind_of_word (first_line_kinds ++ later_line_kinds) (line_word kind) ≡ Some kind
+named_all kind true is = named_later kind is
+named_all kind false is = named_first later_line_kinds kind is
 
-first_there : (k : LineKind) → Contains first_line_kinds k → kind_of_word first_line_kinds (line_word k) ≡ Some k
+first_there : (kind : LineKind) → Contains first_line_kinds kind → kind_of_word first_line_kinds (line_word kind) ≡ Some kind
 unfolding none_later
-first_there k there = named_first [] k (not_later first_line_kinds k refl there)
+first_there kind there = named_first [] kind (not_later first_line_kinds kind refl there)
 
 -- a kind that a version has is the one that has its word
-named : (version : ℕ) (k : LineKind) → Contains (line_kinds version) k → kind_of_word (line_kinds version) (line_word k) ≡ Some k
-named version k there = by_test (ltb version 2) there
+named : (version : ℕ) (kind : LineKind) → Contains (line_kinds version) kind → kind_of_word (line_kinds version) (line_word kind) ≡ Some kind
+named version kind there = by_test (ltb version 2) there
   where
-    by_test : (b : Bool) → Contains (cond b first_line_kinds (first_line_kinds ++ later_line_kinds)) k → kind_of_word (cond b first_line_kinds (first_line_kinds ++ later_line_kinds)) (line_word k) ≡ Some k
-    by_test true in_first = first_there k in_first
-    by_test false any = named_all k (is_later k) refl
+    by_test : (holds : Bool) → Contains (cond holds first_line_kinds (first_line_kinds ++ later_line_kinds)) kind → kind_of_word (cond holds first_line_kinds (first_line_kinds ++ later_line_kinds)) (line_word kind) ≡ Some kind
+    by_test true in_first = first_there kind in_first
+    by_test false any = named_all kind (is_later kind) refl
 
 -- a line that is said is read
-pub line_again : (d : Told) (ws : List (List ℕ)) (k : LineKind) (vs : List Value) → IsLineSaid d ws k vs → line_in d ws ≡ Ok (k, vs)
-line_again d [] k vs said = absurd said
-line_again d (w ∷ ws) k vs said =
-    rw (said.0, named d.version k said.1, said.2, values_again d k (line_slots k) ws vs (line_small k) said.3) refl
+pub line_again : (told : Told) (ws : List (List ℕ)) (kind : LineKind) (vs : List Value) → IsLineSaid told ws kind vs → line_in told ws ≡ Ok (kind, vs)
+line_again told [] kind vs said = absurd said
+line_again told (w ∷ ws) kind vs said =
+    rw (said.0, named told.version kind said.1, said.2, values_again told kind (line_slots kind) ws vs (line_small kind) said.3) refl

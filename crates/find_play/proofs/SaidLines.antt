@@ -19,51 +19,51 @@ use Rattle.find_play.specs.Lines.{values_in, of_kind, words_of, line_in}
 use Rattle.find_play.specs.Spelling.{IsLineSaid}
 use Rattle.find_play.proofs.Said.{are_small, values_said}
 
-command_small : (k : CommandKind) → are_small (command_slots k) ≡ true
+command_small : (kind : CommandKind) → are_small (command_slots kind) ≡ true
 command_small New = refl
 command_small _ = refl
 
-pub line_small : (k : LineKind) → are_small (line_slots k) ≡ true
-line_small (line.Command k) = command_small k
+pub line_small : (kind : LineKind) → are_small (line_slots kind) ≡ true
+line_small (line.Command kind) = command_small kind
 line_small _ = refl
 
-kind_spelled : (ks : List LineKind) (w : List ℕ) (k : LineKind) → kind_of_word ks w ≡ Some k → w ≡ line_word k
+kind_spelled : (ks : List LineKind) (w : List ℕ) (kind : LineKind) → kind_of_word ks w ≡ Some kind → w ≡ line_word kind
 unfolding kind_of_word
-kind_spelled [] w k e = absurd cc
-kind_spelled (x ∷ ks) w k e = by_test (is_same w (line_word x)) refl (kind_spelled ks w k) e
+kind_spelled [] w kind e = absurd cc
+kind_spelled (x ∷ ks) w kind e = by_test (is_same w (line_word x)) refl (kind_spelled ks w kind) e
   where
-    by_test : (test : Bool) → is_same w (line_word x) ≡ test → (kind_of_word ks w ≡ Some k → w ≡ line_word k) → cond test (Some x) (kind_of_word ks w) ≡ Some k → w ≡ line_word k
-    by_test true same others e = same_text w (line_word x) (sym same) ∙ ap line_word (same_some x k e)
+    by_test : (test : Bool) → is_same w (line_word x) ≡ test → (kind_of_word ks w ≡ Some kind → w ≡ line_word kind) → cond test (Some x) (kind_of_word ks w) ≡ Some kind → w ≡ line_word kind
+    by_test true same others e = same_text w (line_word x) (sym same) ∙ ap line_word (same_some x kind e)
     by_test false other others e = others e
 
 -- the kind that has the word is among them
-kind_there : (ks : List LineKind) (w : List ℕ) (k : LineKind) → kind_of_word ks w ≡ Some k → Contains ks k
+kind_there : (ks : List LineKind) (w : List ℕ) (kind : LineKind) → kind_of_word ks w ≡ Some kind → Contains ks kind
 unfolding kind_of_word
-kind_there [] w k e = absurd cc
-kind_there (x ∷ ks) w k e = by_test (is_same w (line_word x)) (kind_there ks w k) e
+kind_there [] w kind e = absurd cc
+kind_there (x ∷ ks) w kind e = by_test (is_same w (line_word x)) (kind_there ks w kind) e
   where
-    by_test : (test : Bool) → (kind_of_word ks w ≡ Some k → Contains ks k) → cond test (Some x) (kind_of_word ks w) ≡ Some k → Contains (x ∷ ks) k
-    by_test true others e = subst (Contains (x ∷ ks)) (same_some x k e) (0, omega arith, refl)
-    by_test false others e = Contains-append_right (x ∷ []) ks k (others e)
+    by_test : (test : Bool) → (kind_of_word ks w ≡ Some kind → Contains ks kind) → cond test (Some x) (kind_of_word ks w) ≡ Some kind → Contains (x ∷ ks) kind
+    by_test true others e = subst (Contains (x ∷ ks)) (same_some x kind e) (0, omega arith, refl)
+    by_test false others e = Contains-append_right (x ∷ []) ks kind (others e)
 
 same_pair : (x y : LineKind × List Value) → ◌≡◌ {A = Result (LineKind × List Value) TestWhy} (Ok x) (Ok y) → x ≡ y
 same_pair x y e = cc
 
-pub line_said : (d : Told) (ws : List (List ℕ)) (k : LineKind) (vs : List Value) → line_in d ws ≡ Ok (k, vs) → IsLineSaid d ws k vs
-line_said d [] k vs e = absurd cc
-line_said d (w ∷ ws) k vs e = by_kind (kind_of_word (line_kinds d.version) w) refl e
+pub line_said : (told : Told) (ws : List (List ℕ)) (kind : LineKind) (vs : List Value) → line_in told ws ≡ Ok (kind, vs) → IsLineSaid told ws kind vs
+line_said told [] kind vs e = absurd cc
+line_said told (w ∷ ws) kind vs e = by_kind (kind_of_word (line_kinds told.version) w) refl e
   where
-    by_values : (j : LineKind) (r : Result (List Value) TestWhy) → kind_of_word (line_kinds d.version) w ≡ Some j → allows d j ≡ true → values_in d j (line_slots j) ws ≡ r → of_kind j r ≡ Ok (k, vs) → IsLineSaid d (w ∷ ws) k vs
-    by_values j (Err why) named allowed is e = absurd cc
-    by_values j (Ok us) named allowed is e =
-        let made : LineKind × List Value = (j, us) in
-        let wanted : LineKind × List Value = (k, vs) in
-        subst (λ (x : LineKind × List Value). IsLineSaid d (w ∷ ws) x.0 x.1) (same_pair made wanted e) (kind_spelled (line_kinds d.version) w j named, kind_there (line_kinds d.version) w j named, allowed, values_said d j (line_slots j) ws us (line_small j) is)
+    by_values : (other_kind : LineKind) (r : Result (List Value) TestWhy) → kind_of_word (line_kinds told.version) w ≡ Some other_kind → allows told other_kind ≡ true → values_in told other_kind (line_slots other_kind) ws ≡ r → of_kind other_kind r ≡ Ok (kind, vs) → IsLineSaid told (w ∷ ws) kind vs
+    by_values other_kind (Err why) named allowed is e = absurd cc
+    by_values other_kind (Ok us) named allowed is e =
+        let made : LineKind × List Value = (other_kind, us) in
+        let wanted : LineKind × List Value = (kind, vs) in
+        subst (λ (x : LineKind × List Value). IsLineSaid told (w ∷ ws) x.0 x.1) (same_pair made wanted e) (kind_spelled (line_kinds told.version) w other_kind named, kind_there (line_kinds told.version) w other_kind named, allowed, values_said told other_kind (line_slots other_kind) ws us (line_small other_kind) is)
 
-    by_allowed : (j : LineKind) (test : Bool) → kind_of_word (line_kinds d.version) w ≡ Some j → allows d j ≡ test → cond test (of_kind j (values_in d j (line_slots j) ws)) (Err why.Place) ≡ Ok (k, vs) → IsLineSaid d (w ∷ ws) k vs
-    by_allowed j true named allowed e = by_values j (values_in d j (line_slots j) ws) named allowed refl e
-    by_allowed j false named allowed e = absurd cc
+    by_allowed : (other_kind : LineKind) (test : Bool) → kind_of_word (line_kinds told.version) w ≡ Some other_kind → allows told other_kind ≡ test → cond test (of_kind other_kind (values_in told other_kind (line_slots other_kind) ws)) (Err why.Place) ≡ Ok (kind, vs) → IsLineSaid told (w ∷ ws) kind vs
+    by_allowed other_kind true named allowed e = by_values other_kind (values_in told other_kind (line_slots other_kind) ws) named allowed refl e
+    by_allowed other_kind false named allowed e = absurd cc
 
-    by_kind : (o : Option LineKind) → kind_of_word (line_kinds d.version) w ≡ o → words_of d o ws ≡ Ok (k, vs) → IsLineSaid d (w ∷ ws) k vs
-    by_kind (Some j) named e = by_allowed j (allows d j) named refl e
+    by_kind : (found : Option LineKind) → kind_of_word (line_kinds told.version) w ≡ found → words_of told found ws ≡ Ok (kind, vs) → IsLineSaid told (w ∷ ws) kind vs
+    by_kind (Some other_kind) named e = by_allowed other_kind (allows told other_kind) named refl e
     by_kind None named e = absurd cc

@@ -19,18 +19,18 @@ use Rattle.find_play.proofs.Following.{lines_then}
 
 -- ---- one line
 
-pub no_end : (d : Told) (bytes text : List ℕ) → parts 10 bytes ≡ text ∷ [] → 1 ≤ length bytes → LineStops d (parts 10 bytes) (whys.Trace EndOfLine)
-no_end d bytes text e some = subst (λ (ts : List (List ℕ)). LineStops d ts (whys.Trace EndOfLine)) (sym e) (by_text text (bytes_of_last bytes text e))
+pub no_end : (told : Told) (bytes text : List ℕ) → parts 10 bytes ≡ text ∷ [] → 1 ≤ length bytes → LineStops told (parts 10 bytes) (whys.Trace EndOfLine)
+no_end told bytes text e some = subst (λ (ts : List (List ℕ)). LineStops told ts (whys.Trace EndOfLine)) (sym e) (by_text text (bytes_of_last bytes text e))
   where
-    by_text : (text : List ℕ) → bytes ≡ text → LineStops d (text ∷ []) (whys.Trace EndOfLine)
+    by_text : (text : List ℕ) → bytes ≡ text → LineStops told (text ∷ []) (whys.Trace EndOfLine)
     by_text [] same = absurd (omega (arith, some, ap length same))
     by_text (b ∷ text) same = refl
 
-pub at_fault : (d : Told) (bytes text rest : List ℕ) (why : TestWhy) → parts 10 bytes ≡ text ∷ parts 10 rest → line_in d (parts 32 text) ≡ Err why → LineStops d (parts 10 bytes) why
-at_fault d bytes text rest why e is = subst (λ (ts : List (List ℕ)). LineStops d ts why) (sym (e ∙ ap (λ (ts : List (List ℕ)). text ∷ ts) (cut_parts 10 rest))) is
+pub at_fault : (told : Told) (bytes text rest : List ℕ) (why : TestWhy) → parts 10 bytes ≡ text ∷ parts 10 rest → line_in told (parts 32 text) ≡ Err why → LineStops told (parts 10 bytes) why
+at_fault told bytes text rest why e is = subst (λ (ts : List (List ℕ)). LineStops told ts why) (sym (e ∙ ap (λ (ts : List (List ℕ)). text ∷ ts) (cut_parts 10 rest))) is
 
-pub one_follows : (d now : Told) (text name : List ℕ) (k : LineKind) (vs : List Value) → line_in d (parts 32 text) ≡ Ok (k, vs) → name ≡ name_among (parts 32 text) → now ≡ added d k vs name → TestLineFollows d text now
-one_follows d now text name k vs is named adds = (k, vs, line_said d (parts 32 text) k vs is, adds ∙ ap (added d k vs) named)
+pub one_follows : (told now : Told) (text name : List ℕ) (kind : LineKind) (vs : List Value) → line_in told (parts 32 text) ≡ Ok (kind, vs) → name ≡ name_among (parts 32 text) → now ≡ added told kind vs name → TestLineFollows told text now
+one_follows told now text name kind vs is named adds = (kind, vs, line_said told (parts 32 text) kind vs is, adds ∙ ap (added told kind vs) named)
 
 -- what stands before the end of a line, the end, and what is behind it
 pub line_shorter : (bytes text rest : List ℕ) → parts 10 bytes ≡ text ∷ parts 10 rest → length rest + 1 ≤ length bytes
@@ -42,24 +42,24 @@ same_fault line said n why e = (cc, cc)
 
 -- ---- lines
 
-pub none_told : (d : Told) (first : ℕ) (bytes : List ℕ) → HasToldLines d first bytes bytes first d
-none_told d first bytes = record { lines = []; cut = refl; lead = refl; number = omega arith }
+pub none_told : (told : Told) (first : ℕ) (bytes : List ℕ) → HasToldLines told first bytes bytes first told
+none_told told first bytes = record { lines = []; cut = refl; lead = refl; number = omega arith }
 
-pub line_told : (d e now : Told) (first : ℕ) (bytes rest behind : List ℕ) (n : ℕ) → HasToldLines d first bytes rest n e → HasToldLine e rest behind now → HasToldLines d first bytes behind (n + 1) now
-line_told d e now first bytes rest behind n taken one = record {
+pub line_told : (told other_told now : Told) (first : ℕ) (bytes rest behind : List ℕ) (n : ℕ) → HasToldLines told first bytes rest n other_told → HasToldLine other_told rest behind now → HasToldLines told first bytes behind (n + 1) now
+line_told told other_told now first bytes rest behind n taken one = record {
   lines = taken.lines ++ one.text ∷ [];
   cut = taken.cut ∙ ap (λ (ts : List (List ℕ)). taken.lines ++ ts) one.cut ∙ sym (append_assoc taken.lines (one.text ∷ []) (parts 10 behind));
-  lead = lines_then d e now taken.lines one.text taken.lead one.follows;
+  lead = lines_then told other_told now taken.lines one.text taken.lead one.follows;
   number = let sizes = length-append taken.lines (one.text ∷ []) in omega (arith, taken.number, sizes);
 }
 
-pub stops_behind : (d e : Told) (first : ℕ) (bytes rest : List ℕ) (n m : ℕ) (why : TestWhy) → HasToldLines d first bytes rest n e → m ≡ n → LineStops e (parts 10 rest) why → StopsBehind d first bytes m why
-stops_behind d e first bytes rest n m why taken same stops = record {
+pub stops_behind : (told other_told : Told) (first : ℕ) (bytes rest : List ℕ) (n m : ℕ) (why : TestWhy) → HasToldLines told first bytes rest n other_told → m ≡ n → LineStops other_told (parts 10 rest) why → StopsBehind told first bytes m why
+stops_behind told other_told first bytes rest n m why taken same stops = record {
   before = taken.lines;
   from_it = parts 10 rest;
   cut = taken.cut;
   number = same ∙ taken.number;
-  said = e;
+  said = other_told;
   lead = taken.lead;
   cause = stops;
 }

@@ -28,33 +28,33 @@ use Rattle.find_play.proofs.Following.{version_stays, IsEnding, Ends, all_end, o
 -- ---- one head
 
 -- a head, and what is behind it, are one
-same_head : (v w : ℕ) (c d : Config) (rest after : List ℕ) → IsVersion v → IsVersion w → IsNarrow c → IsNarrow d → header v c ++ rest ≡ header w d ++ after → (v ≡ w) × (c ≡ d) × (rest ≡ after)
-same_head v w c d rest after known other p q e =
-    let one : HeadNumbers × List ℕ = (numbers_in_head v c, rest) in
-    let two : HeadNumbers × List ℕ = (numbers_in_head w d, after) in
-    let same : one ≡ two = same_some one two (sym (sizes_again v c rest known p) ∙ ap sizes_at e ∙ sizes_again w d after other q) in (
+same_head : (v w : ℕ) (config other_config : Config) (rest after : List ℕ) → IsVersion v → IsVersion w → IsNarrow config → IsNarrow other_config → header v config ++ rest ≡ header w other_config ++ after → (v ≡ w) × (config ≡ other_config) × (rest ≡ after)
+same_head v w config other_config rest after known other p q e =
+    let one : HeadNumbers × List ℕ = (numbers_in_head v config, rest) in
+    let two : HeadNumbers × List ℕ = (numbers_in_head w other_config, after) in
+    let same : one ≡ two = same_some one two (sym (sizes_again v config rest known p) ∙ ap sizes_at e ∙ sizes_again w other_config after other q) in (
       ap (λ (x : HeadNumbers × List ℕ). x.0.version) same,
-      same_config c d (ap (λ (x : HeadNumbers × List ℕ). get_or x.0.heap 0 0) same) (ap (λ (x : HeadNumbers × List ℕ). get_or x.0.heap 1 0) same)
+      same_config config other_config (ap (λ (x : HeadNumbers × List ℕ). get_or x.0.heap 0 0) same) (ap (λ (x : HeadNumbers × List ℕ). get_or x.0.heap 1 0) same)
           (ap (λ (x : HeadNumbers × List ℕ). get_or x.0.threads 0 0) same) (ap (λ (x : HeadNumbers × List ℕ). get_or x.0.threads 1 0) same) (ap (λ (x : HeadNumbers × List ℕ). get_or x.0.heap 2 0) same),
       ap (λ (x : HeadNumbers × List ℕ). x.1) same,
     )
 
 -- what holds of a head and what is behind it holds of the same
-of_same : (P : ℕ → Config → List ℕ → Type 0) (v w : ℕ) (c d : Config) (rest after : List ℕ) → (v ≡ w) × (c ≡ d) × (rest ≡ after) → P v c rest → P w d after
-of_same P v w c d rest after same holds =
-    subst (P w d) same.2 (subst (λ (e : Config). P w e rest) same.1 (subst (λ (u : ℕ). P u c rest) same.0 holds))
+of_same : (P : ℕ → Config → List ℕ → Type 0) (v w : ℕ) (config other_config : Config) (rest after : List ℕ) → (v ≡ w) × (config ≡ other_config) × (rest ≡ after) → P v config rest → P w other_config after
+of_same P v w config other_config rest after same holds =
+    subst (P w other_config) same.2 (subst (λ (config : Config). P w config rest) same.1 (subst (λ (u : ℕ). P u config rest) same.0 holds))
 
 -- ---- one test
 
-said_once : (config : Config) (d : Told) (t u : TestSaid) → IsWholeTest config d t → IsWholeTest config d u → t ≡ u
-said_once config d t u a b =
+said_once : (config : Config) (told : Told) (t u : TestSaid) → IsWholeTest config told t → IsWholeTest config told u → t ≡ u
+said_once config told t u a b =
     let bounds : t.bounds ≡ u.bounds = same_some t.bounds u.bounds (sym a.bounds ∙ b.bounds) in
-    a.test_is ∙ ap (λ (x : Bounds). said_in_all config x d) bounds ∙ sym b.test_is
+    a.test_is ∙ ap (λ (x : Bounds). said_in_all config x told) bounds ∙ sym b.test_is
 
 body_once : (version : ℕ) (config : Config) (bytes : List ℕ) (t u : TestSaid) → IsTestBody version config bytes t → IsTestBody version config bytes u → t ≡ u
 body_once version config bytes t u a b =
     let one = one_end (untold version config.mutators) a.lines b.lines a.said b.said ([] ∷ []) ([] ∷ []) a.lead b.lead (sym a.cut ∙ b.cut) (inr (refl, a.whole.whole)) (inr (refl, b.whole.whole)) in
-    said_once config b.said t u (subst (λ (d : Told). IsWholeTest config d t) one.1 a.whole) b.whole
+    said_once config b.said t u (subst (λ (told : Told). IsWholeTest config told t) one.1 a.whole) b.whole
 
 pub test_once : (bytes : List ℕ) (t u : TestSaid) → IsTest bytes t → IsTest bytes u → t ≡ u
 test_once bytes t u a b =
@@ -79,10 +79,10 @@ never_both bytes t n why a r = by_part r.stops
 
 -- ---- refused once
 
-body_refused_once : (d : Told) (bytes : List ℕ) (n m : ℕ) (why other : TestWhy) → StopsBehind d 4 bytes n why → StopsBehind d 4 bytes m other → (n ≡ m) × (why ≡ other)
-body_refused_once d bytes n m why other s t =
-    let one = one_end d s.before t.before s.said t.said s.from_it t.from_it s.lead t.lead (sym s.cut ∙ t.cut) (inl (why, s.cause)) (inl (other, t.cause)) in
-    let cause = subst (λ (e : Told). LineStops e t.from_it why) one.1 (subst (λ (ts : List (List ℕ)). LineStops s.said ts why) one.2 s.cause) in
+body_refused_once : (told : Told) (bytes : List ℕ) (n m : ℕ) (why other : TestWhy) → StopsBehind told 4 bytes n why → StopsBehind told 4 bytes m other → (n ≡ m) × (why ≡ other)
+body_refused_once told bytes n m why other s t =
+    let one = one_end told s.before t.before s.said t.said s.from_it t.from_it s.lead t.lead (sym s.cut ∙ t.cut) (inl (why, s.cause)) (inl (other, t.cause)) in
+    let cause = subst (λ (told : Told). LineStops told t.from_it why) one.1 (subst (λ (ts : List (List ℕ)). LineStops s.said ts why) one.2 s.cause) in
     (omega (arith, s.number, t.number, one.0), one_cause t.said t.from_it why other cause t.cause)
 
 pub refused_once : (bytes : List ℕ) (n m : ℕ) (why other : TestWhy) → RefusesTest bytes n why → RefusesTest bytes m other → (n ≡ m) × (why ≡ other)
@@ -99,13 +99,13 @@ refused_once bytes n m why other r q = by_part r.stops q.stops
 
 -- ---- one or the other
 
-no_bounds : (d : Told) → has_all_threads d ≡ true → d.bounds ≡ None → ⊥
-no_bounds d whole none = by_tests (eqb (length d.programs) d.threads) (eqb (length d.blocks) 0) (rw none at whole)
+no_bounds : (told : Told) → has_all_threads told ≡ true → told.bounds ≡ None → ⊥
+no_bounds told whole none = by_tests (eqb (length told.programs) told.threads) (eqb (length told.blocks) 0) (rw none at whole)
   where
-    by_tests : (a b : Bool) → ((a && b) && false) ≡ true → ⊥
+    by_tests : (holds other_holds : Bool) → ((holds && other_holds) && false) ≡ true → ⊥
     by_tests true true e = cc
     by_tests true false e = cc
-    by_tests false b e = cc
+    by_tests false other_holds e = cc
 
 -- a body behind a head is a test
 whole_test : (bytes : List ℕ) (version : ℕ) (config : Config) (rest : List ℕ) (said : ℕ) → version ≡ said → length bytes ≤ most_bytes → IsVersion version → IsNarrow config → bytes ≡ header version config ++ rest
@@ -117,18 +117,18 @@ whole_test bytes version config rest said same short known narrow head t version
       known = subst IsVersion one known;
       narrow = subst IsNarrow two narrow;
       behind = rest;
-      head = head ∙ ap (λ (v : ℕ). header v config ++ rest) one ∙ ap (λ (c : Config). header t.version c ++ rest) two;
+      head = head ∙ ap (λ (v : ℕ). header v config ++ rest) one ∙ ap (λ (config : Config). header t.version config ++ rest) two;
       body = of_same (λ v c bs. IsTestBody v c bs t) version t.version config t.config rest rest (one, two, refl) body;
       short = short;
     }
 
 -- what was said of all threads is a test
-whole_said : (config : Config) (d : Told) → has_all_threads d ≡ true → (bounds : Bounds) × IsWholeTest config d (said_in_all config bounds d)
-whole_said config d whole = by_bounds d.bounds refl
+whole_said : (config : Config) (told : Told) → has_all_threads told ≡ true → (bounds : Bounds) × IsWholeTest config told (said_in_all config bounds told)
+whole_said config told whole = by_bounds told.bounds refl
   where
-    by_bounds : (o : Option Bounds) → d.bounds ≡ o → (bounds : Bounds) × IsWholeTest config d (said_in_all config bounds d)
+    by_bounds : (found : Option Bounds) → told.bounds ≡ found → (bounds : Bounds) × IsWholeTest config told (said_in_all config bounds told)
     by_bounds (Some b) is = (b, record { whole = whole; bounds = is; test_is = refl })
-    by_bounds None is = absurd (no_bounds d whole is)
+    by_bounds None is = absurd (no_bounds told whole is)
 
 behind_head : (bytes : List ℕ) (version : ℕ) (config : Config) (rest : List ℕ) → length bytes ≤ most_bytes → IsVersion version → IsNarrow config → bytes ≡ header version config ++ rest
     → ((t : TestSaid) × IsTest bytes t) ⊎ ((n : ℕ) × (why : TestWhy) × RefusesTest bytes n why)
@@ -150,7 +150,7 @@ behind_head bytes version config rest short known narrow head = by_ends (subst (
 pub test_or_refused : (bytes : List ℕ) → length bytes ≤ most_bytes → ((t : TestSaid) × IsTest bytes t) ⊎ ((n : ℕ) × (why : TestWhy) × RefusesTest bytes n why)
 test_or_refused bytes short = by_head (head_or_none bytes)
   where
-    by_trace : HasNoHead bytes → ((v : ℕ) × (c : Config) × (scripts : List (List Command)) × (items : List Item) × Reads bytes v c scripts items) ⊎ ((n : ℕ) × (why : Why) × Refused bytes n why)
+    by_trace : HasNoHead bytes → ((v : ℕ) × (config : Config) × (scripts : List (List Command)) × (items : List Item) × Reads bytes v config scripts items) ⊎ ((n : ℕ) × (why : Why) × Refused bytes n why)
         → ((t : TestSaid) × IsTest bytes t) ⊎ ((n : ℕ) × (why : TestWhy) × RefusesTest bytes n why)
     by_trace none (inl t) = absurd (none t.0 t.1 _ t.4.known t.4.narrow t.4.spelled)
     by_trace none (inr r) = inr (r.0, whys.Trace r.1, record { stops = inl (record { no_head = none; cause = r.1; why_is = refl; stops = r.2.0 }); short = short })

@@ -49,7 +49,7 @@ at vs i = slice_index_or vs i value.Nothing
 -- a command, whose numbers are small but that which is written
 abbrev pub command_said : CommandKind → List Value → Command
 command_said commands.Wr vs = command.Wr (small_said (at vs 0)) (small_said (at vs 1)) (large_said (at vs 2))
-command_said k vs = command_from k (small_said (at vs 0) ∷ small_said (at vs 1) ∷ small_said (at vs 2) ∷ small_said (at vs 3) ∷ [])
+command_said kind vs = command_from kind (small_said (at vs 0) ∷ small_said (at vs 1) ∷ small_said (at vs 2) ∷ small_said (at vs 3) ∷ [])
 
 -- a line of what is claimed
 abbrev pub claim_said : LineKind → List Value → Claim
@@ -70,18 +70,18 @@ claim_said _ vs = claim.Or
 
 -- the program of the thread that began last
 abbrev pub last_program : Told → List Statement
-last_program d = slice_index_or d.programs (length d.programs - 1) []
+last_program told = slice_index_or told.programs (length told.programs - 1) []
 
 -- that thread does this, too
 abbrev pub does : Told → Statement → Told
-does d s = record d { programs = slice_set d.programs (length d.programs - 1) (last_program d ++ s ∷ []) }
+does told s = record told { programs = slice_set told.programs (length told.programs - 1) (last_program told ++ s ∷ []) }
 
 -- a block begins, or the innermost ends
 abbrev pub with_block : Told → Block → Told
-with_block d b = record d { blocks = d.blocks ++ b ∷ [] }
+with_block told piece = record told { blocks = told.blocks ++ piece ∷ [] }
 
 abbrev pub without_block : Told → Told
-without_block d = record d { blocks = take (length d.blocks - 1) d.blocks }
+without_block told = record told { blocks = take (length told.blocks - 1) told.blocks }
 
 -- the end of a block: a loop goes back to its first statement
 abbrev pub block_end : Option Block → Statement
@@ -92,29 +92,29 @@ block_end _ = statement.End
 
 -- this is claimed, too
 abbrev pub claiming : Told → Claim → Told
-claiming d c = record d { claims = d.claims ++ c ∷ [] }
+claiming told c = record told { claims = told.claims ++ c ∷ [] }
 
 -- a place has this name, and is there
 abbrev pub placing : Told → List ℕ → Place → Told
-placing d name p = record d { place_names = d.place_names ++ name ∷ []; places = d.places ++ p ∷ [] }
+placing told name place = record told { place_names = told.place_names ++ name ∷ []; places = told.places ++ place ∷ [] }
 
 -- What a line of a program, or of what is claimed, adds with these values. A loop's first statement is the one behind its `loop`, and
 -- the number of that is how many statements the program has then.
 abbrev pub stated : Told → LineKind → List Value → Told
-stated d (line.Command k) vs = does d (statement.Run (command_said k vs))
-stated d line.Keep vs = does d (statement.Keep (index_said (at vs 0)))
-stated d line.Loop vs = with_block (does d statement.Loop) (block.Loop (length (last_program (does d statement.Loop))))
-stated d line.Until vs = does d (statement.Until (wanted_said (at vs 0)))
-stated d line.If vs = with_block (does d (statement.If (wanted_said (at vs 0)))) block.Then
-stated d line.Else vs = with_block (without_block (does d statement.Else)) block.Else
-stated d line.End vs = does (without_block d) (block_end (innermost d))
-stated d k vs = claiming d (claim_said k vs)
+stated told (line.Command kind) vs = does told (statement.Run (command_said kind vs))
+stated told line.Keep vs = does told (statement.Keep (index_said (at vs 0)))
+stated told line.Loop vs = with_block (does told statement.Loop) (block.Loop (length (last_program (does told statement.Loop))))
+stated told line.Until vs = does told (statement.Until (wanted_said (at vs 0)))
+stated told line.If vs = with_block (does told (statement.If (wanted_said (at vs 0)))) block.Then
+stated told line.Else vs = with_block (without_block (does told statement.Else)) block.Else
+stated told line.End vs = does (without_block told) (block_end (innermost told))
+stated told kind vs = claiming told (claim_said kind vs)
 
 -- What a line of any kind adds with these values. Some give this name.
 abbrev pub added : Told → LineKind → List Value → List ℕ → Told
-added d line.Bounds vs name = record d { bounds = Some (record { preemptions = large_said (at vs 0); steps = large_said (at vs 1); returns = large_said (at vs 2) }) }
-added d line.Note vs name = record d { notes = d.notes ++ name ∷ [] }
-added d line.Place vs name = placing d name (record { from = index_said (at vs 1); field = small_said (at vs 2) })
-added d line.Thread vs name = record d { roots = codes "hub" ∷ []; programs = d.programs ++ [] ∷ [] }
-added d line.Root vs name = record d { roots = d.roots ++ name ∷ [] }
-added d k vs name = stated d k vs
+added told line.Bounds vs name = record told { bounds = Some (record { preemptions = large_said (at vs 0); steps = large_said (at vs 1); returns = large_said (at vs 2) }) }
+added told line.Note vs name = record told { notes = told.notes ++ name ∷ [] }
+added told line.Place vs name = placing told name (record { from = index_said (at vs 1); field = small_said (at vs 2) })
+added told line.Thread vs name = record told { roots = codes "hub" ∷ []; programs = told.programs ++ [] ∷ [] }
+added told line.Root vs name = record told { roots = told.roots ++ name ∷ [] }
+added told kind vs name = stated told kind vs

@@ -74,7 +74,7 @@ fact_slots _ = slots Nothing Nothing Nothing Nothing
 
 -- of any line
 abbrev pub line_slots : LineKind → List Slot
-line_slots (line.Command k) = command_slots k
+line_slots (line.Command kind) = command_slots kind
 line_slots line.Bounds = slots (Large 0 1000) (Large 1 4000000000) (Large 0 1000000) Nothing
 line_slots line.Note = slots Fresh Nothing Nothing Nothing
 line_slots line.Root = slots Fresh Nothing Nothing Nothing
@@ -83,7 +83,7 @@ line_slots line.Keep = slots Note Nothing Nothing Nothing
 line_slots line.Until = slots Wanted Nothing Nothing Nothing
 line_slots line.If = slots Wanted Nothing Nothing Nothing
 line_slots line.Never = slots Wanted Nothing Nothing Nothing
-line_slots k = fact_slots k
+line_slots kind = fact_slots kind
 
 -- each kind of version 1 once
 abbrev pub first_line_kinds : List LineKind

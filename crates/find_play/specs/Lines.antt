@@ -41,20 +41,20 @@ fresh_in names w = if is_name w && is_none (number_of names w) then Ok value.Not
 
 -- the names of which a line of this kind gives another
 abbrev pub names_beside : Told → LineKind → List (List ℕ)
-names_beside d line.Note = d.notes
-names_beside d line.Place = d.place_names
-names_beside d _ = d.roots
+names_beside told line.Note = told.notes
+names_beside told line.Place = told.place_names
+names_beside told _ = told.roots
 
 -- a word where this is to stand
 unfoldable pub value_in : Told → LineKind → Slot → List ℕ → Result Value TestWhy
-value_in d k slot.Nothing w = Err why.Line
-value_in d k (slot.Small most) w = as_small (number_between 0 most w)
-value_in d k (slot.Large least most) w = as_large (number_between least most w)
-value_in d k slot.Root w = as_root (number_of d.roots w)
-value_in d k slot.Note w = as_index (as_number (number_of d.notes w))
-value_in d k slot.Place w = as_index (as_number (number_of d.place_names w))
-value_in d k slot.Wanted w = wanted_in d.version w
-value_in d k slot.Fresh w = fresh_in (names_beside d k) w
+value_in told kind slot.Nothing w = Err why.Line
+value_in told kind (slot.Small most) w = as_small (number_between 0 most w)
+value_in told kind (slot.Large least most) w = as_large (number_between least most w)
+value_in told kind slot.Root w = as_root (number_of told.roots w)
+value_in told kind slot.Note w = as_index (as_number (number_of told.notes w))
+value_in told kind slot.Place w = as_index (as_number (number_of told.place_names w))
+value_in told kind slot.Wanted w = wanted_in told.version w
+value_in told kind slot.Fresh w = fresh_in (names_beside told kind) w
 
 abbrev pub with_rest : Result Value TestWhy → List (List ℕ) → Result (Value × List (List ℕ)) TestWhy
 with_rest (Ok v) ws = Ok (v, ws)
@@ -67,8 +67,8 @@ without_word _ = Err why.Line
 
 -- the next of these words, and those behind it
 unfoldable pub take_value : Told → LineKind → Slot → List (List ℕ) → Result (Value × List (List ℕ)) TestWhy
-take_value d k s [] = with_rest (without_word s) []
-take_value d k s (w ∷ ws) = with_rest (value_in d k s w) ws
+take_value told kind s [] = with_rest (without_word s) []
+take_value told kind s (w ∷ ws) = with_rest (value_in told kind s w) ws
 
 abbrev pub with_first : Value → Result (List Value) TestWhy → Result (List Value) TestWhy
 with_first v (Ok vs) = Ok (v ∷ vs)
@@ -80,24 +80,24 @@ then_values (Ok x) further = with_first x.0 (further x.1)
 
 -- these words, from left to right, where these are to stand, and no more
 unfoldable pub values_in : Told → LineKind → List Slot → List (List ℕ) → Result (List Value) TestWhy
-values_in d k [] [] = Ok []
-values_in d k [] (w ∷ ws) = Err why.Line
-values_in d k (s ∷ ss) ws = then_values (take_value d k s ws) (λ rest. values_in d k ss rest)
+values_in told kind [] [] = Ok []
+values_in told kind [] (w ∷ ws) = Err why.Line
+values_in told kind (s ∷ ss) ws = then_values (take_value told kind s ws) (λ rest. values_in told kind ss rest)
 
 abbrev pub of_kind : LineKind → Result (List Value) TestWhy → Result (LineKind × List Value) TestWhy
-of_kind k (Ok vs) = Ok (k, vs)
-of_kind k (Err e) = Err e
+of_kind kind (Ok vs) = Ok (kind, vs)
+of_kind kind (Err e) = Err e
 
 -- the words behind the first, in a line of this kind
 abbrev pub words_behind : Told → LineKind → List (List ℕ) → Result (LineKind × List Value) TestWhy
-words_behind d k ws = if allows d k then of_kind k (values_in d k (line_slots k) ws) else Err why.Place
+words_behind told kind ws = if allows told kind then of_kind kind (values_in told kind (line_slots kind) ws) else Err why.Place
 
 abbrev pub words_of : Told → Option LineKind → List (List ℕ) → Result (LineKind × List Value) TestWhy
-words_of d None ws = Err why.Line
-words_of d (Some k) ws = words_behind d k ws
+words_of told None ws = Err why.Line
+words_of told (Some k) ws = words_behind told k ws
 
 -- A line of these words: its kind and what they say, or the first cause for which it is refused. First its kind is looked at,
 -- then whether such a line may stand there, and then the words from left to right.
 abbrev pub line_in : Told → List (List ℕ) → Result (LineKind × List Value) TestWhy
-line_in d [] = Err why.Line
-line_in d (w ∷ ws) = words_of d (kind_of_word (line_kinds d.version) w) ws
+line_in told [] = Err why.Line
+line_in told (w ∷ ws) = words_of told (kind_of_word (line_kinds told.version) w) ws

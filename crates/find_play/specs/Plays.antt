@@ -50,13 +50,13 @@ pub record StepsOn (programs : Programs) (number : ℕ) (reply : Option Reply) (
 -- the first so many threads have begun, in their order
 pub data Begun (programs : Programs) (first : Scene) : ℕ → Scene → Type 0 where
   Nobody : Begun programs first 0 first
-  Another : (n : ℕ) (u v : Scene) → Begun programs first n u → StepsOn programs n None u v → Begun programs first (n + 1) v
+  Another : (n : ℕ) (scene other_scene : Scene) → Begun programs first n scene → StepsOn programs n None scene other_scene → Begun programs first (n + 1) other_scene
 
 -- Each entry of a history is the command that its thread was to give, and with the reply the thread goes on.
 pub data Plays (programs : Programs) (first : Scene) : List Entry → Scene → Type 0 where
   Nothing : Plays programs first [] first
-  Then : (es : List Entry) (e : Entry) (number : ℕ) (u v : Scene) → Plays programs first es u → e.thread ≡ number + 1 → slice_index_or u.acts number Done ≡ Command e.command
-      → StepsOn programs number (Some e.reply) u v → Plays programs first (es ++ e ∷ []) v
+  Then : (es : List Entry) (entry : Entry) (number : ℕ) (scene other_scene : Scene) → Plays programs first es scene → entry.thread ≡ number + 1 → slice_index_or scene.acts number Done ≡ Command entry.command
+      → StepsOn programs number (Some entry.reply) scene other_scene → Plays programs first (es ++ entry ∷ []) other_scene
 
 -- The history is one of these programs, each of whose threads may go back so often, and has so many notes.
 pub record IsPlay (programs : Programs) (returns notes : ℕ) (history : List Entry) (end : Scene) : Type 0 where
@@ -66,7 +66,7 @@ pub record IsPlay (programs : Programs) (returns notes : ℕ) (history : List En
 
 -- the entry is not the command that its thread is to give
 abbrev pub IsNotItsCommand : Scene → Entry → Type 0
-IsNotItsCommand scene e = (number : ℕ) → e.thread ≡ number + 1 → slice_index_or scene.acts number Done ≢ Command e.command
+IsNotItsCommand scene entry = (number : ℕ) → entry.thread ≡ number + 1 → slice_index_or scene.acts number Done ≢ Command entry.command
 
 -- Up to one entry the history is one of these programs, and that entry is refused.
 pub record IsNoPlay (programs : Programs) (returns notes : ℕ) (history : List Entry) : Type 0 where

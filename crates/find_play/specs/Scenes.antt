@@ -9,8 +9,8 @@ abbrev pub scene : Cast → Scene
 scene c = record { threads = c.threads; acts = c.acts; notes = c.notes.items }
 
 -- the entry is the command that its thread was to give, and with the reply it went on
-pub record IsNextEntry (programs : Programs) (e : Entry) (before after : Scene) : Type 0 where
+pub record IsNextEntry (programs : Programs) (entry : Entry) (before after : Scene) : Type 0 where
   pub number : ℕ
-  pub thread : e.thread ≡ number + 1
-  pub was : slice_index_or before.acts number Done ≡ Command e.command
-  pub steps : StepsOn programs number (Some e.reply) before after
+  pub thread : entry.thread ≡ number + 1
+  pub was : slice_index_or before.acts number Done ≡ Command entry.command
+  pub steps : StepsOn programs number (Some entry.reply) before after

@@ -36,23 +36,23 @@ FitsWhenWanted version _ = Unit {0}
 -- Where this is to stand, that is said by the word: a number in its range, the number of the first name that the word is,
 -- what a reply is asked to be; or the word is a name that none of the names has, beside which a line of this kind puts it.
 abbrev pub Says : Told → LineKind → Slot → Value → List ℕ → Type 0
-Says d k (slot.Small most) (value.Small n) w = (w ≡ decimal n) × (n ≤ most)
-Says d k (slot.Large least most) (value.Large n) w = (w ≡ decimal n) × (least ≤ n) × (n ≤ most)
-Says d k slot.Root (value.Small n) w = (number_of d.roots w ≡ Some n) × (n ≤ 15)
-Says d k slot.Note (value.Index n) w = number_of d.notes w ≡ Some n
-Says d k slot.Place (value.Index n) w = number_of d.place_names w ≡ Some n
-Says d k slot.Wanted (value.Wanted x) w = (w ≡ wanted_word x) × FitsWhenWanted d.version x
-Says d k slot.Fresh value.Nothing w = (is_name w ≡ true) × (number_of (names_beside d k) w ≡ None)
-Says d k _ _ w = ⊥
+Says told kind (slot.Small most) (value.Small n) w = (w ≡ decimal n) × (n ≤ most)
+Says told kind (slot.Large least most) (value.Large n) w = (w ≡ decimal n) × (least ≤ n) × (n ≤ most)
+Says told kind slot.Root (value.Small n) w = (number_of told.roots w ≡ Some n) × (n ≤ 15)
+Says told kind slot.Note (value.Index n) w = number_of told.notes w ≡ Some n
+Says told kind slot.Place (value.Index n) w = number_of told.place_names w ≡ Some n
+Says told kind slot.Wanted (value.Wanted x) w = (w ≡ wanted_word x) × FitsWhenWanted told.version x
+Says told kind slot.Fresh value.Nothing w = (is_name w ≡ true) × (number_of (names_beside told kind) w ≡ None)
+Says told kind _ _ w = ⊥
 
 -- that is said by these words, one for each value, and none where nothing is to stand
 abbrev pub AreSaid : Told → LineKind → List Slot → List Value → List (List ℕ) → Type 0
-AreSaid d k [] [] [] = Unit {0}
-AreSaid d k (s ∷ ss) (v ∷ vs) [] = (s ≡ slot.Nothing) × (v ≡ value.Nothing) × AreSaid d k ss vs []
-AreSaid d k (s ∷ ss) (v ∷ vs) (w ∷ ws) = Says d k s v w × AreSaid d k ss vs ws
-AreSaid d k _ _ _ = ⊥
+AreSaid told kind [] [] [] = Unit {0}
+AreSaid told kind (s ∷ ss) (v ∷ vs) [] = (s ≡ slot.Nothing) × (v ≡ value.Nothing) × AreSaid told kind ss vs []
+AreSaid told kind (s ∷ ss) (v ∷ vs) (w ∷ ws) = Says told kind s v w × AreSaid told kind ss vs ws
+AreSaid told kind _ _ _ = ⊥
 
 -- a line of these words: the word of its kind, which the version has, and then words that say its values; and such a line may stand there
 abbrev pub IsLineSaid : Told → List (List ℕ) → LineKind → List Value → Type 0
-IsLineSaid d [] k vs = ⊥
-IsLineSaid d (w ∷ ws) k vs = (w ≡ line_word k) × Contains (line_kinds d.version) k × (allows d k ≡ true) × AreSaid d k (line_slots k) vs ws
+IsLineSaid told [] kind vs = ⊥
+IsLineSaid told (w ∷ ws) kind vs = (w ≡ line_word kind) × Contains (line_kinds told.version) kind × (allows told kind ≡ true) × AreSaid told kind (line_slots kind) vs ws

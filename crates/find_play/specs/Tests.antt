@@ -31,12 +31,12 @@ name_among words = slice_index_or words 1 []
 
 -- this text, with the end of its line, may stand behind what was said; and what is said with it
 abbrev pub TestLineFollows : Told → List ℕ → Told → Type 0
-TestLineFollows d text next = (k : LineKind) × (vs : List Value) × IsLineSaid d (parts space text) k vs × (next ≡ added d k vs (name_among (parts space text)))
+TestLineFollows told text next = (kind : LineKind) × (vs : List Value) × IsLineSaid told (parts space text) kind vs × (next ≡ added told kind vs (name_among (parts space text)))
 
 -- these lines follow one on the other
 abbrev pub TestLinesFollow : Told → List (List ℕ) → Told → Type 0
-TestLinesFollow d [] end = d ≡ end
-TestLinesFollow d (text ∷ texts) end = (next : Told) × TestLineFollows d text next × TestLinesFollow next texts end
+TestLinesFollow told [] end = told ≡ end
+TestLinesFollow told (text ∷ texts) end = (next : Told) × TestLineFollows told text next × TestLinesFollow next texts end
 
 -- ---- tests
 
@@ -53,17 +53,17 @@ pub record TestSaid : Type 0 where
 
 -- what a test in memory is
 abbrev pub test_said : Test → TestSaid
-test_said t = record { version = t.version; config = t.config; bounds = t.bounds; programs = t.programs.items; notes = t.notes; place_names = t.place_names; places = t.places.items; claims = t.claims.items }
+test_said test = record { version = test.version; config = test.config; bounds = test.bounds; programs = test.programs.items; notes = test.notes; place_names = test.place_names; places = test.places.items; claims = test.claims.items }
 
 -- what lines that are behind the head of this configuration, and give these bounds, say in all
 abbrev pub said_in_all : Config → Bounds → Told → TestSaid
-said_in_all config bounds d = record { version = d.version; config = config; bounds = bounds; programs = d.programs; notes = d.notes; place_names = d.place_names; places = d.places; claims = d.claims }
+said_in_all config bounds told = record { version = told.version; config = config; bounds = bounds; programs = told.programs; notes = told.notes; place_names = told.place_names; places = told.places; claims = told.claims }
 
 -- what was said is a whole test, which is this one
-pub record IsWholeTest (config : Config) (d : Told) (test : TestSaid) : Type 0 where
-  pub whole : has_all_threads d ≡ true
-  pub bounds : d.bounds ≡ Some test.bounds
-  pub test_is : test ≡ said_in_all config test.bounds d
+pub record IsWholeTest (config : Config) (told : Told) (test : TestSaid) : Type 0 where
+  pub whole : has_all_threads told ≡ true
+  pub bounds : told.bounds ≡ Some test.bounds
+  pub test_is : test ≡ said_in_all config test.bounds told
 
 -- Behind the head of this version and configuration the bytes are lines that follow one on the other, each with its end, and say this
 -- test.
@@ -87,23 +87,23 @@ pub record IsTest (bytes : List ℕ) (test : TestSaid) : Type 0 where
 
 -- the bytes end here, with this text behind the last end of a line
 abbrev pub test_end_cause : Told → List ℕ → Option TestWhy
-test_end_cause d [] = if has_all_threads d then None else Some whys.More
-test_end_cause d (b ∷ text) = Some (whys.Trace EndOfLine)
+test_end_cause told [] = if has_all_threads told then None else Some whys.More
+test_end_cause told (b ∷ text) = Some (whys.Trace EndOfLine)
 
 -- the first cause for which the first of these lines, the last of which has no end, may not stand there
 abbrev pub LineStops : Told → List (List ℕ) → TestWhy → Type 0
-LineStops d [] why = ⊥
-LineStops d (text ∷ []) why = test_end_cause d text ≡ Some why
-LineStops d (text ∷ next ∷ more) why = line_in d (parts space text) ≡ Err why
+LineStops told [] why = ⊥
+LineStops told (text ∷ []) why = test_end_cause told text ≡ Some why
+LineStops told (text ∷ next ∷ more) why = line_in told (parts space text) ≡ Err why
 
 -- where the first line of the bytes has this number, line n is the first at fault, and why
-pub record StopsBehind (d : Told) (first : ℕ) (bytes : List ℕ) (n : ℕ) (why : TestWhy) : Type 0 where
+pub record StopsBehind (told : Told) (first : ℕ) (bytes : List ℕ) (n : ℕ) (why : TestWhy) : Type 0 where
   pub before : List (List ℕ)
   pub from_it : List (List ℕ)
   pub cut : parts newline bytes ≡ before ++ from_it
   pub number : n ≡ first + length before
   pub said : Told
-  pub lead : TestLinesFollow d before said
+  pub lead : TestLinesFollow told before said
   pub cause : LineStops said from_it why
 
 -- bytes that do not begin with the head of a trace are refused as a trace is
@@ -132,14 +132,14 @@ pub record RefusesTest (bytes : List ℕ) (n : ℕ) (why : TestWhy) : Type 0 whe
 
 -- Lines that follow were taken from the front of the bytes, the first of which has this number; the next, of what is left, would be
 -- line n.
-pub record HasToldLines (d : Told) (first : ℕ) (bytes rest : List ℕ) (n : ℕ) (now : Told) : Type 0 where
+pub record HasToldLines (told : Told) (first : ℕ) (bytes rest : List ℕ) (n : ℕ) (now : Told) : Type 0 where
   pub lines : List (List ℕ)
   pub cut : parts newline bytes ≡ lines ++ parts newline rest
-  pub lead : TestLinesFollow d lines now
+  pub lead : TestLinesFollow told lines now
   pub number : n ≡ first + length lines
 
 -- the first line of the bytes may stand there, and the rest is behind it
-pub record HasToldLine (d : Told) (bytes rest : List ℕ) (now : Told) : Type 0 where
+pub record HasToldLine (told : Told) (bytes rest : List ℕ) (now : Told) : Type 0 where
   pub text : List ℕ
   pub cut : parts newline bytes ≡ text ∷ parts newline rest
-  pub follows : TestLineFollows d text now
+  pub follows : TestLineFollows told text now

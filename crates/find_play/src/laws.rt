@@ -11,8 +11,8 @@ ghost use Rattle.find_play.specs.Tests.{TestSaid, IsTest, RefusesTest};
 
 /// A law: what is read of the words of a line is a line of these words, which may stand there; and such a line is read as that.
 pub fn lines_are_of_their_words()
-    ensures said { (d : Told) (words : List (List ℕ)) (kind : Kind) (values : List Word) → line_in d words ≡ Ok (kind, values) → IsLineSaid d words kind values }
-    ensures read { (d : Told) (words : List (List ℕ)) (kind : Kind) (values : List Word) → IsLineSaid d words kind values → line_in d words ≡ Ok (kind, values) }
+    ensures said { (told : Told) (words : List (List ℕ)) (kind : Kind) (values : List Word) → line_in told words ≡ Ok (kind, values) → IsLineSaid told words kind values }
+    ensures read { (told : Told) (words : List (List ℕ)) (kind : Kind) (values : List Word) → IsLineSaid told words kind values → line_in told words ≡ Ok (kind, values) }
 {}
 
 /// A law: bytes are one test at most.

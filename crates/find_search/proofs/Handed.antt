@@ -55,7 +55,7 @@ left_other m t work below differ =
 join_at : (a b : Jobs) (t : ℕ) → t < 8 → progress_of (joined a b) t ≡ one_of (progress_of a t) (progress_of b t)
 join_at a b t below = get_or-map-range_with_len (λ mutator. one_of (progress_of a mutator) (progress_of b mutator)) 0 8 t t None below (omega arith)
 
-one_of_none : (o : Option Progress) → one_of o None ≡ o
+one_of_none : (found : Option Progress) → one_of found None ≡ found
 one_of_none None = refl
 one_of_none (Some p) = refl
 
@@ -68,14 +68,14 @@ by_number P m t here there = by_order (cases_lt t m) (cases_lt m t)
     by_order (inr _) (inl above) = there (λ same. absurd (omega (arith, above, same)))
     by_order (inr low) (inr high) = let same : m ≡ t = omega (arith, low, high) in subst P same here
 
-not_some : (o : Option Progress) → o ≡ None → IsSome o → ⊥
-not_some o none some = false≢true (subst (λ p. IsSome p) none some)
+not_some : (found : Option Progress) → found ≡ None → IsSome found → ⊥
+not_some found none some = false≢true (subst (λ p. IsSome p) none some)
 
 -- the work of one mutator, taken from that of some scripts of which its own is the last
-pub work_of_one : (scripts : List (List Command)) (script : List Command) (m : ℕ) → m < 8 → length scripts ≡ m → IsWorkOf m script (parted 8 m (opened (scripts ++ script ∷ [])))
-work_of_one scripts script m below count = record {
-  own = own_part m (opened (scripts ++ script ∷ [])) below ∙ progress_of-opened (scripts ++ script ∷ []) m few ∙ ap (option_map begun) last;
-  others = λ t within differ. other_part m t (opened (scripts ++ script ∷ [])) within differ;
+pub work_of_one : (scripts : List (List Command)) (script : List Command) (index : ℕ) → index < 8 → length scripts ≡ index → IsWorkOf index script (parted 8 index (opened (scripts ++ script ∷ [])))
+work_of_one scripts script index below count = record {
+  own = own_part index (opened (scripts ++ script ∷ [])) below ∙ progress_of-opened (scripts ++ script ∷ []) index few ∙ ap (option_map begun) last;
+  others = λ t within differ. other_part index t (opened (scripts ++ script ∷ [])) within differ;
 }
   where
     few : length (scripts ++ script ∷ []) ≤ 8
@@ -83,10 +83,10 @@ work_of_one scripts script m below count = record {
         let long : length (scripts ++ script ∷ []) ≡ length scripts + 1 = length_push scripts script in
         omega (arith, below, count, long)
 
-    last : slice_get (scripts ++ script ∷ []) m ≡ Some script
+    last : slice_get (scripts ++ script ∷ []) index ≡ Some script
     last =
         let long : length (scripts ++ script ∷ []) ≡ length scripts + 1 = length_push scripts script in
-        slice_get-get_or (scripts ++ script ∷ []) m script (omega (arith, count, long)) ∙ ap Some (get_or_push scripts script script m count)
+        slice_get-get_or (scripts ++ script ∷ []) index script (omega (arith, count, long)) ∙ ap Some (get_or_push scripts script script index count)
 
 -- what is left of work lacks the mutator
 pub apart : (m : ℕ) (script : List Command) (old fresh : Jobs) → m < 8 → IsWorkOf m script fresh → (t : ℕ) → HasScript (left_over 8 m old) t → HasScript fresh t → ⊥
@@ -110,69 +110,69 @@ handed_over m script old fresh below is = record {
 }
 
 -- a mutator whose last command was answered rests
-pub rests : (p : Plain) (jobs : Jobs) (t : ℕ) → CanRun p jobs → t < (config_of p).mutators → next_of jobs t ≡ None → is_resting (machine_at p t) ≡ false → ⊥
-rests p jobs t can below none busy =
+pub rests : (plain : Plain) (jobs : Jobs) (t : ℕ) → CanRun plain jobs → t < (config_of plain).mutators → next_of jobs t ≡ None → is_resting (machine_at plain t) ≡ false → ⊥
+rests plain jobs t can below none busy =
     let more = can.busy t below busy in
     let here = slice_get-get_or (script_in jobs t) (length (replies_of jobs t)) Gc more in
     cc
 
 -- what can run can run with another script of a mutator whose last command was answered
-pub can_run_on : (p : Plain) (m : ℕ) (script : List Command) (old new : Jobs) → CanRun p old → (config_of p).mutators ≤ 8 → m < (config_of p).mutators → next_of old m ≡ None → IsHandedOver m script old new → All IsValid script
-    → made_of_machine (machine_at p m) + length script < most_objects → CanRun p new
-can_run_on p m script old new can few below none is valid names = record {
+pub can_run_on : (plain : Plain) (m : ℕ) (script : List Command) (old new : Jobs) → CanRun plain old → (config_of plain).mutators ≤ 8 → m < (config_of plain).mutators → next_of old m ≡ None → IsHandedOver m script old new → All IsValid script
+    → made_of_machine (machine_at plain m) + length script < most_objects → CanRun plain new
+can_run_on plain m script old new can few below none is valid names = record {
   orders = can.orders;
-  jobs_are = λ t within. by_number (λ n. n < (config_of p).mutators → HasScript new n) m t
+  jobs_are = λ t within. by_number (λ n. n < (config_of plain).mutators → HasScript new n) m t
       (λ _. subst (λ o. IsSome o) (sym is.own) refl)
       (λ differ here. subst (λ o. IsSome o) (sym (is.others t (omega (arith, few, here)) differ)) (can.jobs_are t here))
       within;
-  commands = λ t within. by_number (λ n. n < (config_of p).mutators → All IsValid (script_in new n)) m t
+  commands = λ t within. by_number (λ n. n < (config_of plain).mutators → All IsValid (script_in new n)) m t
       (λ _. subst (λ o. All IsValid (unwrap_or o (begun [])).script) (sym is.own) valid)
       (λ differ here. subst (λ o. All IsValid (unwrap_or o (begun [])).script) (sym (is.others t (omega (arith, few, here)) differ)) (can.commands t here))
       within;
-  busy = λ t within. by_number (λ n. n < (config_of p).mutators → is_resting (machine_at p n) ≡ false → length (replies_of new n) < length (script_in new n)) m t
-      (λ _ is_busy. absurd (rests p old m can below none is_busy))
-      (λ differ here. subst (λ o. is_resting (machine_at p t) ≡ false → length (unwrap_or o (begun [])).replies < length (unwrap_or o (begun [])).script) (sym (is.others t (omega (arith, few, here)) differ)) (can.busy t here))
+  busy = λ t within. by_number (λ n. n < (config_of plain).mutators → is_resting (machine_at plain n) ≡ false → length (replies_of new n) < length (script_in new n)) m t
+      (λ _ is_busy. absurd (rests plain old m can below none is_busy))
+      (λ differ here. subst (λ o. is_resting (machine_at plain t) ≡ false → length (unwrap_or o (begun [])).replies < length (unwrap_or o (begun [])).script) (sym (is.others t (omega (arith, few, here)) differ)) (can.busy t here))
       within;
-  made = λ t within. by_number (λ n. n < (config_of p).mutators → made_of_machine (machine_at p n) + length (script_in new n) < most_objects + (length (replies_of new n) + at_hand_of (machine_at p n))) m t
+  made = λ t within. by_number (λ n. n < (config_of plain).mutators → made_of_machine (machine_at plain n) + length (script_in new n) < most_objects + (length (replies_of new n) + at_hand_of (machine_at plain n))) m t
       (λ _. let own = ap (λ o. length (unwrap_or o (begun [])).script) is.own in omega (arith, own, names))
-      (λ differ here. subst (λ o. made_of_machine (machine_at p t) + length (unwrap_or o (begun [])).script < most_objects + (length (unwrap_or o (begun [])).replies + at_hand_of (machine_at p t))) (sym (is.others t (omega (arith, few, here)) differ)) (can.made t here))
+      (λ differ here. subst (λ o. made_of_machine (machine_at plain t) + length (unwrap_or o (begun [])).script < most_objects + (length (unwrap_or o (begun [])).replies + at_hand_of (machine_at plain t))) (sym (is.others t (omega (arith, few, here)) differ)) (can.made t here))
       within;
 }
 
-either_turn : (b : Bool) → (b ≡ false → ⊥) → b ≡ true
+either_turn : (holds : Bool) → (holds ≡ false → ⊥) → holds ≡ true
 either_turn true other = refl
 either_turn false other = absurd (other refl)
 
 -- what is not false is true
-pub is_so : (b : Bool) → (b ≡ false → ⊥) → b ≡ true
-is_so b other = either_turn b other
+pub is_so : (holds : Bool) → (holds ≡ false → ⊥) → holds ≡ true
+is_so holds other = either_turn holds other
 
 -- between two steps no order is pending
-pub no_order : (p : Plain) (jobs : Jobs) (number : ℕ) → CanRun p jobs → order_at p number ≡ Nothing
-no_order p jobs number can = by_place (cases_lt number (length (orders_of p)))
+pub no_order : (plain : Plain) (jobs : Jobs) (number : ℕ) → CanRun plain jobs → order_at plain number ≡ Nothing
+no_order plain jobs number can = by_place (cases_lt number (length (orders_of plain)))
   where
-    by_place : (number < length (orders_of p)) ⊎ (length (orders_of p) ≤ number) → order_at p number ≡ Nothing
+    by_place : (number < length (orders_of plain)) ⊎ (length (orders_of plain) ≤ number) → order_at plain number ≡ Nothing
     by_place (inl below) = can.orders number Nothing below
-    by_place (inr past) = get_or_past (orders_of p) number Nothing past
+    by_place (inr past) = get_or_past (orders_of plain) number Nothing past
 
 gone : (spot : ControlSpot) (image : List ℕ) → (if is_gone spot then false else true) ≡ false → stored_image spot image ≡ None
 gone (StoreWord index extent) image h = absurd cc
 gone _ image h = refl
 
-over : (m : Machine) → takes_of m Nothing ≡ false → image_read m ≡ None
-over (mutating m) h = refl
-over (helping m) h = refl
+over : (machine : Machine) → takes_of machine Nothing ≡ false → image_read machine ≡ None
+over (mutating machine) h = refl
+over (helping machine) h = refl
 over (controlling k) h = gone k.spot k.image h
 
 -- a machine that has no turn stores no image
-pub stores_none : (p : Plain) (jobs : Jobs) (number : ℕ) → CanRun p jobs → has_turn p number ≡ false → image_read (machine_at p number) ≡ None
-stores_none p jobs number can off = over (machine_at p number) (ap (takes_of (machine_at p number)) (sym (no_order p jobs number can)) ∙ off)
+pub stores_none : (plain : Plain) (jobs : Jobs) (number : ℕ) → CanRun plain jobs → has_turn plain number ≡ false → image_read (machine_at plain number) ≡ None
+stores_none plain jobs number can off = over (machine_at plain number) (ap (takes_of (machine_at plain number)) (sym (no_order plain jobs number can)) ∙ off)
 
 -- a script of a command in range, or of none
-pub script_valid : (o : Option Command) → IfSome o IsValid → All IsValid (short_script o)
+pub script_valid : (found : Option Command) → IfSome found IsValid → All IsValid (short_script found)
 script_valid None h = λ k d below. absurd (omega (arith, below))
 script_valid (Some c) h = λ k d below. let first : 0 ≡ k = omega (arith, below) in subst (λ n. IsValid (get_or (c ∷ []) n d)) first h
 
-pub script_short : (o : Option Command) → length (short_script o) ≤ 1
+pub script_short : (found : Option Command) → length (short_script found) ≤ 1
 script_short None = omega arith
 script_short (Some c) = omega arith

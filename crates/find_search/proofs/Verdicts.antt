@@ -22,7 +22,7 @@ run_of : (test : Test) (bytes : List ℕ) (steps version : ℕ) (config : Config
     → history ≡ history_of config scripts items steps
     → ShowsGraph text config.mutators (after (first_graph config) (history_of config scripts items steps))
     → IsRunOf test.config bytes steps history text.rows
-run_of test bytes steps version config scripts items history text same reads whole is shows = subst (λ (c : Config). IsRunOf c bytes steps history text.rows) same run
+run_of test bytes steps version config scripts items history text same reads whole is shows = subst (λ (config : Config). IsRunOf config bytes steps history text.rows) same run
   where
     run : IsRunOf config bytes steps history text.rows
     run = record {

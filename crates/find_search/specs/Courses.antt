@@ -25,18 +25,18 @@ pub record IsHandedOver (mutator : ℕ) (script : List Command) (old new : Jobs)
 
 -- how many machines there are, and how many of them are mutators
 abbrev pub machines_in : Course → ℕ
-machines_in c = seats_of c.plain
+machines_in course = seats_of course.plain
 
 abbrev pub mutators_in : Course → ℕ
-mutators_in c = (config_of c.plain).mutators
+mutators_in course = (config_of course.plain).mutators
 
 -- the control is not storing a new image
 abbrev pub HasControlEnded : Course → Type 0
-HasControlEnded c = image_read (machine_at c.plain (control_number (config_of c.plain))) ≡ None
+HasControlEnded course = image_read (machine_at course.plain (control_number (config_of course.plain))) ≡ None
 
 -- the mutator has no call in progress
 abbrev pub IsResting : Course → ℕ → Type 0
-IsResting c number = is_resting (machine_at c.plain number) ≡ true
+IsResting course number = is_resting (machine_at course.plain number) ≡ true
 
 abbrev pub DoMutatorsRest : Course → Type 0
-DoMutatorsRest c = (number : ℕ) → number < (config_of c.plain).mutators → IsResting c number
+DoMutatorsRest course = (number : ℕ) → number < (config_of course.plain).mutators → IsResting course number

@@ -18,7 +18,7 @@ index_prop index = le_prop
 slot_prop : (slot : ℕ) → IsProp (IsSlot slot)
 slot_prop slot = le_prop
 
-pub valid_prop : (c : Command) → IsProp (IsValid c)
+pub valid_prop : (command : Command) → IsProp (IsValid command)
 valid_prop (New dst refs nums) = λ x y. λ i. (root_prop dst x.0 y.0 i, size_prop refs x.1 y.1 i, size_prop nums x.2 y.2 i)
 valid_prop (Get dst src field) = λ x y. λ i. (root_prop dst x.0 y.0 i, root_prop src x.1 y.1 i, index_prop field x.2 y.2 i)
 valid_prop (Set obj field val) = λ x y. λ i. (root_prop obj x.0 y.0 i, index_prop field x.1 y.1 i, root_prop val x.2 y.2 i)

@@ -31,78 +31,78 @@ use Rattle.full_cycle.specs.Collect.{HoldsWalked}
 use Rattle.full_cycle.proofs.Holding.{parsed}
 
 -- where each piece is an object, or only fills, nobody has free words of a buffer
-no_spare : (block : Plot) → AreThings block → (a seat words : ℕ) → block a ≡ Some (spare seat words) → ⊥
-no_spare block things a seat words is = ⊎_elim
+no_spare : (block : Plot) → AreThings block → (address seat words : ℕ) → block address ≡ Some (spare seat words) → ⊥
+no_spare block things address seat words is = ⊎_elim
     (λ (object : (name : Name) × (refs : ℕ) × (nums : ℕ) × (spare seat words ≡ thing name refs nums)). true≢false (ap is_loose object.3))
     (λ (fills : (n : ℕ) × (1 ≤ n) × (spare seat words ≡ filler n)). none-some seat (sym (ap room_of fills.2)))
-    (things a (spare seat words) is)
+    (things address (spare seat words) is)
 
-module _ (c : Config) (m : Word → ℕ) (block : Plot) (owner : ℕ → Option ℕ) (p : Promises) (g : Graph) (holds : HoldsBy c m block owner p g)
-    (walk : AreParsed c (is_row_pinned c m) (λ r. m (Top r)) (λ a. m (Heap a)) block) where
+module _ (config : Config) (memory : Word → ℕ) (block : Plot) (owner : ℕ → Option ℕ) (promises : Promises) (graph : Graph) (holds : HoldsBy config memory block owner promises graph)
+    (walk : AreParsed config (is_row_pinned config memory) (λ r. memory (Top r)) (λ a. memory (Heap a)) block) where
   abbrev more : Graph
-  more = with_promised g p
+  more = with_promised graph promises
 
   abbrev after : Word → ℕ
-  after = packed_in c m
+  after = packed_in config memory
 
   -- what the graph reaches, the graph with promises reaches
-  reach_more : (n : Name) → IsReachable g n → IsReachable more n
-  reach_more _ (reach.from_root t i n is) =
-      let at = holds.rooted.no_more_roots t i n is in
-      let pinned : Reference = name_in (g.pin t (i - 17)) in
-      reach.from_root t i n
-      (cond-false (i == 16) (p.ref t) (cond (nat_le 17 i && nat_lt i 21) pinned (g.root t i)) (ne_eqb i 16 (λ e. omega (arith, e, at.3)))
-      ∙ cond-false (nat_le 17 i && nat_lt i 21) pinned (g.root t i) (and_left (nat_le 17 i) (nat_lt i 21) (lt-leb 17 i (omega (arith, at.3)))) ∙ is)
+  reach_more : (name : Name) → IsReachable graph name → IsReachable more name
+  reach_more _ (reach.from_root t i name is) =
+      let at = holds.rooted.no_more_roots t i name is in
+      let pinned : Reference = name_in (graph.pin t (i - 17)) in
+      reach.from_root t i name
+      (cond-false (i == 16) (promises.ref t) (cond (nat_le 17 i && nat_lt i 21) pinned (graph.root t i)) (ne_eqb i 16 (λ e. omega (arith, e, at.3)))
+      ∙ cond-false (nat_le 17 i && nat_lt i 21) pinned (graph.root t i) (and_left (nat_le 17 i) (nat_lt i 21) (lt-leb 17 i (omega (arith, at.3)))) ∙ is)
   reach_more _ (reach.from_pin t i held is) =
       let at = holds.rooted.no_more_pins t i held is in
       let index : 17 + i - 17 ≡ i = omega arith in
       reach.from_root t (17 + i) held.name
-      (cond-false (17 + i == 16) (p.ref t) (cond (nat_le 17 (17 + i) && nat_lt (17 + i) 21) (name_in (g.pin t (17 + i - 17))) (g.root t (17 + i))) (ne_eqb (17 + i) 16 (λ e. omega (arith, e)))
-      ∙ cond-true (nat_le 17 (17 + i) && nat_lt (17 + i) 21) (name_in (g.pin t (17 + i - 17))) (g.root t (17 + i))
+      (cond-false (17 + i == 16) (promises.ref t) (cond (nat_le 17 (17 + i) && nat_lt (17 + i) 21) (name_in (graph.pin t (17 + i - 17))) (graph.root t (17 + i))) (ne_eqb (17 + i) 16 (λ e. omega (arith, e)))
+      ∙ cond-true (nat_le 17 (17 + i) && nat_lt (17 + i) 21) (name_in (graph.pin t (17 + i - 17))) (graph.root t (17 + i))
       (and_from (nat_le 17 (17 + i)) (nat_lt (17 + i) 21) (le-leb 17 (17 + i) (omega arith)) (lt-ltb (17 + i) 21 (omega (arith, at.3))))
-      ∙ ap (λ k. name_in (g.pin t k)) index ∙ ap name_in is)
-  reach_more _ (reach.from_field k n field reached is) =
-      reach.from_field k n field (reach_more k reached) (ap (λ (o : Object). slice_get o.refs field) (old_object c.mutators g p holds.unreached k reached) ∙ is)
+      ∙ ap (λ k. name_in (graph.pin t k)) index ∙ ap name_in is)
+  reach_more _ (reach.from_field k name field reached is) =
+      reach.from_field k name field (reach_more k reached) (ap (λ (object : Object). slice_get object.refs field) (old_object config.mutators graph promises holds.unreached k reached) ∙ is)
 
   -- so it is an object
-  has_object : (n : Name) → IsReachable g n → (o : Object) × (g.object n ≡ Some o)
-  has_object n reached =
-      let at = reached_is_held c (λ r. m (Top r)) (λ a. m (Heap a)) block (now_in m) (IsAmong (held_words c m)) more holds.objects n (reach_more n reached) in
-      let object = holds.objects.each at.0 at.1 at.2 n at.3 at.4 in
+  has_object : (name : Name) → IsReachable graph name → (o : Object) × (graph.object name ≡ Some o)
+  has_object name reached =
+      let at = reached_is_held config (λ r. memory (Top r)) (λ a. memory (Heap a)) block (now_in memory) (IsAmong (held_words config memory)) more holds.objects name (reach_more name reached) in
+      let object = holds.objects.each at.0 at.1 at.2 name at.3 at.4 in
       ⊎_elim
-      (λ (promised : same_reference (p.ref n.thread) (Some n) ≡ true). absurd (holds.unreached.fresh n.thread n (same_reference-true (p.ref n.thread) n promised) reached))
-      (λ (other : same_reference (p.ref n.thread) (Some n) ≡ false).
-      (object.0, sym (cond-false (same_reference (p.ref n.thread) (Some n)) (Some (blank (p.refs n.thread) (p.nums n.thread))) (g.object n) other) ∙ object.1))
-      (cases_Bool (same_reference (p.ref n.thread) (Some n)))
+      (λ (promised : same_reference (promises.ref name.thread) (Some name) ≡ true). absurd (holds.unreached.fresh name.thread name (same_reference-true (promises.ref name.thread) name promised) reached))
+      (λ (other : same_reference (promises.ref name.thread) (Some name) ≡ false).
+      (object.0, sym (cond-false (same_reference (promises.ref name.thread) (Some name)) (Some (blank (promises.refs name.thread) (promises.nums name.thread))) (graph.object name) other) ∙ object.1))
+      (cases_Bool (same_reference (promises.ref name.thread) (Some name)))
 
   -- and no thread's next one
-  not_next : (t : ℕ) → 1 ≤ t → IsReachable g (fresh g t) → ⊥
+  not_next : (t : ℕ) → 1 ≤ t → IsReachable graph (fresh graph t) → ⊥
   not_next t some reached =
-      let object = has_object (fresh g t) reached in
-      let given = holds.next.given (fresh g t) object.0 object.1 in
+      let object = has_object (fresh graph t) reached in
+      let given = holds.next.given (fresh graph t) object.0 object.1 in
       omega (arith, given.by_thread some)
 
   -- what is promised is the next object of its thread
-  next_more : (t : ℕ) (name : Name) → t < c.mutators → (served_promises c after p c.mutators).ref (t + 1) ≡ Some name → name ≡ fresh g (t + 1)
-  next_more t name below named = ⊎_elim
-      (λ (old : SamePromise p (served_promises c after p c.mutators) (t + 1)). holds.next.promised (t + 1) name (sym old.ref ∙ named))
-      (λ (new : IsPromisedAsAsked after (served_promises c after p c.mutators) t).
-      let waits : m (Wait t) ≢ 0 = λ none. new.waits (packed_wait c m t ∙ none) in
-      let count : request_count_in (after (Wait t)) ≡ g.count (t + 1) + 1 = ap request_count_in (packed_wait c m t) ∙ holds.next.asked t below waits in
-      same_Some name (asked_name after t) (sym named ∙ new.ref) ∙ ap (λ k. record { thread = t + 1; count = k }) count)
-      (promise_after c after p t c.mutators)
+  next_more : (mutator : ℕ) (name : Name) → mutator < config.mutators → (served_promises config after promises config.mutators).ref (mutator + 1) ≡ Some name → name ≡ fresh graph (mutator + 1)
+  next_more mutator name below named = ⊎_elim
+      (λ (old : SamePromise promises (served_promises config after promises config.mutators) (mutator + 1)). holds.next.promised (mutator + 1) name (sym old.ref ∙ named))
+      (λ (new : IsPromisedAsAsked after (served_promises config after promises config.mutators) mutator).
+      let waits : memory (Wait mutator) ≢ 0 = λ none. new.waits (packed_wait config memory mutator ∙ none) in
+      let count : request_count_in (after (Wait mutator)) ≡ graph.count (mutator + 1) + 1 = ap request_count_in (packed_wait config memory mutator) ∙ holds.next.asked mutator below waits in
+      same_Some name (asked_name after mutator) (sym named ∙ new.ref) ∙ ap (λ k. record { thread = mutator + 1; count = k }) count)
+      (promise_after config after promises mutator config.mutators)
 
-  holds_again : HoldsBy c (full_from c m) (served_block c after (packed_block c (is_row_pinned c m) (kept_in c m) block) c.mutators) (λ r. None) (served_promises c after p c.mutators) g
+  holds_again : HoldsBy config (full_from config memory) (served_block config after (packed_block config (is_row_pinned config memory) (kept_in config memory) block) config.mutators) (λ r. None) (served_promises config after promises config.mutators) graph
   holds_again =
-      let plot : Plot = served_block c after (packed_block c (is_row_pinned c m) (kept_in c m) block) c.mutators in
-      let q : Promises = served_promises c after p c.mutators in
-      let stands : ImageStands c (full_from c m) plot g q = full_stands c m block g p holds.objects holds.rooted walk holds.asking in
-      let next : (t : ℕ) (name : Name) → q.ref t ≡ Some name → name ≡ fresh g t = λ t name named.
+      let plot : Plot = served_block config after (packed_block config (is_row_pinned config memory) (kept_in config memory) block) config.mutators in
+      let q : Promises = served_promises config after promises config.mutators in
+      let stands : ImageStands config (full_from config memory) plot graph q = full_stands config memory block graph promises holds.objects holds.rooted walk holds.asking in
+      let next : (t : ℕ) (name : Name) → q.ref t ≡ Some name → name ≡ fresh graph t = λ t name named.
       let at = stands.rooted.no_more_promised t name named in
-      subst (λ k. name ≡ fresh g k) (sym at.2) (next_more at.0 name at.1 (ap q.ref (sym at.2) ∙ named))
+      subst (λ k. name ≡ fresh graph k) (sym at.2) (next_more at.0 name at.1 (ap q.ref (sym at.2) ∙ named))
       in
       record {
-        objects = standing_holds c (full_from c m) plot g q stands;
+        objects = standing_holds config (full_from config memory) plot graph q stands;
         rooted = stands.rooted;
         moved = λ a refs nums name is forwarded.
             let object = stands.objects.each a refs nums name is in
@@ -110,33 +110,33 @@ module _ (c : Config) (m : Word → ℕ) (block : Plot) (owner : ℕ → Option 
         filled = stands.filled;
         pieces = named_things plot stands.things;
         free_word = stands.free_word;
-        shared_one = λ r is. absurd (omega (arith, is, full_share c m));
+        shared_one = λ r is. absurd (omega (arith, is, full_share config memory));
         buffers = record {
-          each = λ seat some. absurd (some (full_current c m seat));
+          each = λ seat some. absurd (some (full_current config memory seat));
           spares = λ a seat words is. absurd (no_spare plot stands.things a seat words is);
         };
-        asking = λ t from below some. absurd (some (full_wait c m t));
+        asking = λ t from below some. absurd (some (full_wait config memory t));
         next = record {
-          asked = λ t below some. absurd (some (full_wait c m t));
+          asked = λ t below some. absurd (some (full_wait config memory t));
           promised = next;
           given = holds.next.given;
         };
         unreached = record {
-          own = λ t n is. ap (λ (k : Name). k.thread) (next t n is);
+          own = λ t n is. ap (λ (name : Name). name.thread) (next t n is);
           few = λ t n is. (let at = stands.rooted.no_more_promised t n is in omega (arith, at.1, at.2));
           fresh = λ t n is reached.
               let at = stands.rooted.no_more_promised t n is in
-              not_next t (omega (arith, at.2)) (subst (IsReachable g) (next t n is) reached);
+              not_next t (omega (arith, at.2)) (subst (IsReachable graph) (next t n is) reached);
         };
       }
 
-pub holds_full : (c : Config) (m : Word → ℕ) → HoldsWalked c m → HoldsSome c (full_from c m)
-holds_full c m holds = ∥∥₁_map holds (λ h. (
+pub holds_full : (config : Config) (memory : Word → ℕ) → HoldsWalked config memory → HoldsSome config (full_from config memory)
+holds_full config memory holds = ∥∥₁_map holds (λ h. (
   h.0,
   (
-    served_block c (packed_in c m) (packed_block c (is_row_pinned c m) (kept_in c m) h.1) c.mutators,
+    served_block config (packed_in config memory) (packed_block config (is_row_pinned config memory) (kept_in config memory) h.1) config.mutators,
     (λ r. None),
-    served_promises c (packed_in c m) h.3 c.mutators,
-    holds_again c m h.1 h.2 h.3 h.0 h.4 (parsed c m h.1 h.2 h.3 h.0 h.4 h.5 h.6),
+    served_promises config (packed_in config memory) h.3 config.mutators,
+    holds_again config memory h.1 h.2 h.3 h.0 h.4 (parsed config memory h.1 h.2 h.3 h.0 h.4 h.5 h.6),
   ),
 ))

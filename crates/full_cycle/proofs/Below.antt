@@ -12,44 +12,44 @@ use Rattle.image_graph.proofs.Made.{outside_fresh}
 use Rattle.image_graph.proofs.Served.{served_first}
 use Rattle.image_graph.proofs.Serving.{finds_room, turn_is}
 
-module _ (c : Config) (m : Word → ℕ) (r x : ℕ) (low : base_of c r ≤ x) (high : x < base_of c r + m (Top r)) (within : m (Top r) ≤ c.region_words) where
+module _ (config : Config) (memory : Word → ℕ) (region address : ℕ) (low : base_of config region ≤ address) (high : address < base_of config region + memory (Top region)) (within : memory (Top region) ≤ config.region_words) where
   -- the word is as it was, and still below the top
   abbrev Stays : (Word → ℕ) → Type 0
-  Stays k = (k (Heap x) ≡ m (Heap x)) × (m (Top r) ≤ k (Top r))
+  Stays k = (k (Heap address) ≡ memory (Heap address)) × (memory (Top region) ≤ k (Top region))
 
   -- what is made in a region with room has no word below a top
-  apart : (q top words : ℕ) → top + words ≤ c.region_words → (q ≡ r → m (Top r) ≤ top) → (x < base_of c q + top) ⊎ (base_of c q + top + words ≤ x)
+  apart : (q top words : ℕ) → top + words ≤ config.region_words → (q ≡ region → memory (Top region) ≤ top) → (address < base_of config q + top) ⊎ (base_of config q + top + words ≤ address)
   apart q top words room above = ⊎_elim
-      (λ (lower : q < r). let far = behind c q r lower in inr (omega (arith, far, room, low)))
-      (λ (least : r ≤ q). ⊎_elim
-      (λ (same : q ≡ r). let at : base_of c q ≡ base_of c r = ap (base_of c) same in inl (omega (arith, at, above same, high)))
-      (λ (differs : q ≢ r). let far = behind c r q (omega (arith, least, differs)) in inl (omega (arith, far, within, high)))
-      (cases_eq q r))
-      (cases_lt q r)
+      (λ (lower : q < region). let far = behind config q region lower in inr (omega (arith, far, room, low)))
+      (λ (least : region ≤ q). ⊎_elim
+      (λ (same : q ≡ region). let at : base_of config q ≡ base_of config region = ap (base_of config) same in inl (omega (arith, at, above same, high)))
+      (λ (differs : q ≢ region). let far = behind config region q (omega (arith, least, differs)) in inl (omega (arith, far, within, high)))
+      (cases_eq q region))
+      (cases_lt q region)
 
-  one_turn : (k : Word → ℕ) (t : ℕ) (o : Option ℕ) → turn_room c k t ≡ o → Stays k → Stays (served_in c k t o)
+  one_turn : (k : Word → ℕ) (mutator : ℕ) (found : Option ℕ) → turn_room config k mutator ≡ found → Stays k → Stays (served_in config k mutator found)
   unfolding made_in
-  one_turn k t None is so_far = so_far
-  one_turn k t (Some q) is so_far =
-      let room = finds_room c k t q is in (
-        outside_fresh (base_of c q + k (Top q)) (asked_shape k t) (name_code (t + 1) (request_count_in (k (Wait t)))) (k (Heap x)) x
-            (apart q (k (Top q)) (object_words (asked_shape k t)) room.2 (λ same. omega (arith, ap (λ j. k (Top j)) same, so_far.1)))
+  one_turn k mutator None is so_far = so_far
+  one_turn k mutator (Some q) is so_far =
+      let room = finds_room config k mutator q is in (
+        outside_fresh (base_of config q + k (Top q)) (asked_shape k mutator) (name_code (mutator + 1) (request_count_in (k (Wait mutator)))) (k (Heap address)) address
+            (apart q (k (Top q)) (object_words (asked_shape k mutator)) room.2 (λ same. omega (arith, ap (λ j. k (Top j)) same, so_far.1)))
             ∙ so_far.0,
-        cond_both (q == r) (k (Top q) + object_words (asked_shape k t)) (k (Top r)) (λ top. m (Top r) ≤ top)
-            (λ same. omega (arith, ap (λ j. k (Top j)) (eqb-true q r same), so_far.1)) (λ _. so_far.1),
+        cond_both (q == region) (k (Top q) + object_words (asked_shape k mutator)) (k (Top region)) (λ top. memory (Top region) ≤ top)
+            (λ same. omega (arith, ap (λ j. k (Top j)) (eqb-true q region same), so_far.1)) (λ _. so_far.1),
       )
 
-  all_turns : (n : ℕ) → Stays (served c m n)
-  all_turns zero = (served_first c m (Heap x), omega (arith, served_first c m (Top r)))
+  all_turns : (n : ℕ) → Stays (served config memory n)
+  all_turns zero = (served_first config memory (Heap address), omega (arith, served_first config memory (Top region)))
   all_turns (suc n) =
-      let next = one_turn (served c m n) n (turn_room c (served c m n) n) refl (all_turns n) in
-      (ap (λ f. f (Heap x)) (turn_is c m n) ∙ next.0, omega (arith, ap (λ f. f (Top r)) (turn_is c m n), next.1))
+      let next = one_turn (served config memory n) n (turn_room config (served config memory n) n) refl (all_turns n) in
+      (ap (λ f. f (Heap address)) (turn_is config memory n) ∙ next.0, omega (arith, ap (λ f. f (Top region)) (turn_is config memory n), next.1))
 
-  pub below_stays : (n : ℕ) → served c m n (Heap x) ≡ m (Heap x)
+  pub below_stays : (n : ℕ) → served config memory n (Heap address) ≡ memory (Heap address)
   below_stays n = (all_turns n).0
 
 -- so it is after a full collection
-pub full_below : (c : Config) (m : Word → ℕ) (r x : ℕ) → base_of c r ≤ x → x < base_of c r + packed_in c m (Top r) → packed_in c m (Top r) ≤ c.region_words
-    → full_from c m (Heap x) ≡ packed_in c m (Heap x)
+pub full_below : (config : Config) (memory : Word → ℕ) (region address : ℕ) → base_of config region ≤ address → address < base_of config region + packed_in config memory (Top region) → packed_in config memory (Top region) ≤ config.region_words
+    → full_from config memory (Heap address) ≡ packed_in config memory (Heap address)
 unfolding refused
-full_below c m r x low high within = below_stays c (packed_in c m) r x low high within c.mutators
+full_below config memory region address low high within = below_stays config (packed_in config memory) region address low high within config.mutators

@@ -28,8 +28,8 @@ other_stays from at k y z other = grind (arith, nat_tests)
 set_here : (xs : List ℕ) (at v : ℕ) → at < length xs → get_or (set xs at v) at 0 ≡ v
 set_here xs at v inside = grind (arith, common_steps)
 
-set_other : (xs : List ℕ) (at k v : ℕ) → at ≢ k → get_or (set xs at v) k 0 ≡ get_or xs k 0
-set_other xs at k v other = grind (arith, common_steps)
+set_other : (xs : List ℕ) (at index v : ℕ) → at ≢ index → get_or (set xs at v) index 0 ≡ get_or xs index 0
+set_other xs at index v other = grind (arith, common_steps)
 
 -- one number more
 pub changed_more : (from at : ℕ) (f : ℕ → ℕ) (before now : List ℕ) (v : ℕ) → from ≤ at → at < length now → IsChanged from at f before now → v ≡ f (get_or before at 0)

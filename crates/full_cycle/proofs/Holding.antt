@@ -32,115 +32,115 @@ use Rattle.full_cycle.proofs.Parsed.{parsed_fills}
 use Rattle.image_graph.proofs.Rows.{row_is}
 use Rattle.full_cycle.proofs.Stays.{KeptBegin, begins_there}
 
-module _ (c : Config) (memory : Word → ℕ) (block : Plot) (owner : ℕ → Option ℕ) (p : Promises) (g : Graph) (holds : HoldsBy c memory block owner p g)
+module _ (config : Config) (memory : Word → ℕ) (block : Plot) (owner : ℕ → Option ℕ) (promises : Promises) (graph : Graph) (holds : HoldsBy config memory block owner promises graph)
     (sized : AreSized memory block) (none : HasNoRoom block) where
   abbrev top : ℕ → ℕ
-  top r = memory (Top r)
+  top region = memory (Top region)
 
   abbrev heap : ℕ → ℕ
-  heap a = memory (Heap a)
+  heap address = memory (Heap address)
 
   abbrev now : ℕ → ℕ
   now = now_in memory
 
   abbrev more : Graph
-  more = with_promised g p
+  more = with_promised graph promises
 
   abbrev IsRoot : ℕ → Type 0
-  IsRoot = IsAmong (held_words c memory)
+  IsRoot = IsAmong (held_words config memory)
 
   abbrev Held : ℕ → Type 0
   Held = IsLedTo now heap IsRoot
 
   abbrev kept : ℕ → ℕ
-  kept = kept_in c memory
+  kept = kept_in config memory
 
   are : AreHeldKept heap Held kept
-  are = walk_keeps c memory block more holds.objects
+  are = walk_keeps config memory block more holds.objects
 
-  can : CanPack c top heap block more.object now kept
-  can = can_pack c top heap block now IsRoot more holds.objects kept are
+  can : CanPack config top heap block more.object now kept
+  can = can_pack config top heap block now IsRoot more holds.objects kept are
 
   -- what is held is kept
   held_kept : (a : ℕ) → Held a → 0 < kept a
   held_kept a held = let size = are.words a held in omega (arith, size)
 
   -- a kept object has a plain header
-  stays : (a : ℕ) → 0 < kept a → now a ≡ a
-  stays a some =
-      let held = are.only a some in
-      let at = held_is_reached c top heap block now IsRoot more holds.objects a held in
-      let object = holds.objects.each a at.1 at.2 at.0 held at.3 in
-      cond-false (is_forwarded (heap a)) (forwardee_in (heap a)) a (ap is_forwarded object.2.header)
+  stays : (address : ℕ) → 0 < kept address → now address ≡ address
+  stays address some =
+      let held = are.only address some in
+      let at = held_is_reached config top heap block now IsRoot more holds.objects address held in
+      let object = holds.objects.each address at.1 at.2 at.0 held at.3 in
+      cond-false (is_forwarded (heap address)) (forwardee_in (heap address)) address (ap is_forwarded object.2.header)
 
   -- a word that stands for a name is an address of the heap
-  named_inside : (word : ℕ) (name : Name) → name_at (block word) ≡ Some name → (c.region_words ≤ word) × (word < heap_end c)
+  named_inside : (word : ℕ) (name : Name) → name_at (block word) ≡ Some name → (config.region_words ≤ word) × (word < heap_end config)
   named_inside word name is =
       let piece = holds.pieces.named word name is in
-      let inside = piece_inside c top block holds.objects.plotted word (thing name piece.0 piece.1) piece.2 in
+      let inside = piece_inside config top block holds.objects.plotted word (thing name piece.0 piece.1) piece.2 in
       (inside.0, omega (arith, inside.1))
 
-  root_leads : (word : ℕ) → IsRoot word → LeadsToHeld c memory word
+  root_leads : (word : ℕ) → IsRoot word → LeadsToHeld config memory word
   root_leads word root other =
       let named = holds.objects.root_named word root other in
       let inside = named_inside word named.2 named.4 in
       (inside.0, inside.1, held_kept (now word) (from_root word root other))
 
-  field_leads : (a i : ℕ) → 0 < kept a → i < refs_in (heap (a + 1)) → LeadsToHeld c memory (heap (a + 3 + i))
-  field_leads a i some few other =
-      let held = are.only a some in
-      let at = held_is_reached c top heap block now IsRoot more holds.objects a held in
-      let object = holds.objects.each a at.1 at.2 at.0 held at.3 in
+  field_leads : (address i : ℕ) → 0 < kept address → i < refs_in (heap (address + 1)) → LeadsToHeld config memory (heap (address + 3 + i))
+  field_leads address i some few other =
+      let held = are.only address some in
+      let at = held_is_reached config top heap block now IsRoot more holds.objects address held in
+      let object = holds.objects.each address at.1 at.2 at.0 held at.3 in
       let is = object.2 in
-      let shape : refs_in (heap (a + 1)) ≡ at.1 = ap refs_in is.shape ∙ refs_read at.1 at.2 is.few_refs is.few_nums in
+      let shape : refs_in (heap (address + 1)) ≡ at.1 = ap refs_in is.shape ∙ refs_read at.1 at.2 is.few_refs is.few_nums in
       let r : Reference = get_or object.0.refs i None in
       let there : slice_get object.0.refs i ≡ Some r = slice_get-get_or object.0.refs i None (omega (arith, few, shape, is.refs_are)) in
-      let to = named_if_not_0 c top block holds.objects.plotted (heap (a + 3 + i)) r (is.references i r there) other in
-      let inside = named_inside (heap (a + 3 + i)) to.0 to.2 in
-      (inside.0, inside.1, held_kept (now (heap (a + 3 + i))) (from_field a i held few other))
+      let to = named_if_not_0 config top block holds.objects.plotted (heap (address + 3 + i)) r (is.references i r there) other in
+      let inside = named_inside (heap (address + 3 + i)) to.0 to.2 in
+      (inside.0, inside.1, held_kept (now (heap (address + 3 + i))) (from_field address i held few other))
 
-  found_kept : (n a : ℕ) → slice_get (found_in_turns c memory n) n ≡ Some a → 0 < kept a
-  found_kept n a at =
-      held_kept a (found_held (λ b. copies_of memory (field_words memory b)) (copies_of memory (held_words c memory)) Held
-      (root_held c memory block more holds.objects) (field_held c memory block more holds.objects) n a (has_at (found_in_turns c memory n) n a at))
+  found_kept : (index a : ℕ) → slice_get (found_in_turns config memory index) index ≡ Some a → 0 < kept a
+  found_kept index a at =
+      held_kept a (found_held (λ b. copies_of memory (field_words memory b)) (copies_of memory (held_words config memory)) Held
+      (root_held config memory block more holds.objects) (field_held config memory block more holds.objects) index a (has_at (found_in_turns config memory index) index a at))
 
   -- Pinned regions can be walked, and what is kept there begins where the walk comes.
-  pub parsed : AreParsed c (is_row_pinned c memory) top heap block
+  pub parsed : AreParsed config (is_row_pinned config memory) top heap block
   parsed = record { filled = holds.filled; some = holds.pieces.some; sized = λ a b is closed. strides memory block sized none a b is }
 
-  fills : (r : ℕ) → r < c.regions → is_pinned c memory r ≡ true → CanFill c memory r
-  fills r inside pinned = parsed_fills c (is_row_pinned c memory) memory block holds.objects.plotted parsed r inside (row_pinned c memory r inside pinned)
+  fills : (region : ℕ) → region < config.regions → is_pinned config memory region ≡ true → CanFill config memory region
+  fills region inside pinned = parsed_fills config (is_row_pinned config memory) memory block holds.objects.plotted parsed region inside (row_pinned config memory region inside pinned)
 
-  kept_begins : KeptBegin c memory
+  kept_begins : KeptBegin config memory
   kept_begins r a inside pinned low high some =
       let held = are.only a some in
-      let at = held_is_reached c top heap block now IsRoot more holds.objects a held in
+      let at = held_is_reached config top heap block now IsRoot more holds.objects a held in
       let object = holds.objects.each a at.1 at.2 at.0 held at.3 in
-      let row : is_row_pinned c memory (a / c.region_words) ≡ true = ap (is_row_pinned c memory) (row_is c.region_words r a low high) ∙ row_pinned c memory r inside pinned in
-      let begun = piece_begins c (is_row_pinned c memory) memory block holds.objects.plotted parsed a (thing at.0 at.1 at.2) at.3 row in
-      begins_there c memory r a low high begun object.2.header
+      let row : is_row_pinned config memory (a / config.region_words) ≡ true = ap (is_row_pinned config memory) (row_is config.region_words r a low high) ∙ row_pinned config memory r inside pinned in
+      let begun = piece_begins config (is_row_pinned config memory) memory block holds.objects.plotted parsed a (thing at.0 at.1 at.2) at.3 row in
+      begins_there config memory r a low high begun object.2.header
 
-  can_collect : CanCollect c memory
+  can_collect : CanCollect config memory
   can_collect = record {
-    apart = lie_apart c top heap block more.object now kept can;
-    inside = λ a some. (kept_inside c top heap block more.object now kept can a some).1;
+    apart = lie_apart config top heap block more.object now kept can;
+    inside = λ a some. (kept_inside config top heap block more.object now kept can a some).1;
     current = stays;
     found = found_kept;
-    roots = λ t i inside few. root_leads (memory (Root t i)) (root_among c top memory block g p holds.objects.plotted holds.rooted t i inside few);
-    answers = λ t inside some. root_leads (memory (Answer t)) (answer_among c top memory block g p holds.objects.plotted holds.rooted t inside some);
-    pins = λ t i inside few. root_leads (memory (Pin t i)) (pin_among c top memory block g p holds.objects.plotted holds.rooted t i inside few);
+    roots = λ t i inside few. root_leads (memory (Root t i)) (root_among config top memory block graph promises holds.objects.plotted holds.rooted t i inside few);
+    answers = λ t inside some. root_leads (memory (Answer t)) (answer_among config top memory block graph promises holds.objects.plotted holds.rooted t inside some);
+    pins = λ t i inside few. root_leads (memory (Pin t i)) (pin_among config top memory block graph promises holds.objects.plotted holds.rooted t i inside few);
     fills = fills;
     fields = field_leads;
   }
 
-collect_prop : (c : Config) (memory : Word → ℕ) → IsProp (CanCollect c memory)
-collect_prop c memory = hlevel (le_prop, ℕ_set)
+collect_prop : (config : Config) (memory : Word → ℕ) → IsProp (CanCollect config memory)
+collect_prop config memory = hlevel (le_prop, ℕ_set)
 
-pub can_collect_some : (c : Config) (memory : Word → ℕ) → HoldsWalked c memory → CanCollect c memory
-can_collect_some c memory holds = ∥∥₁_elim holds (collect_prop c memory) (λ h. can_collect c memory h.1 h.2 h.3 h.0 h.4 h.5 h.6)
+pub can_collect_some : (config : Config) (memory : Word → ℕ) → HoldsWalked config memory → CanCollect config memory
+can_collect_some config memory holds = ∥∥₁_elim holds (collect_prop config memory) (λ h. can_collect config memory h.1 h.2 h.3 h.0 h.4 h.5 h.6)
 
-begin_prop : (c : Config) (memory : Word → ℕ) → IsProp (KeptBegin c memory)
-begin_prop c memory = hlevel (le_prop, ℕ_set)
+begin_prop : (config : Config) (memory : Word → ℕ) → IsProp (KeptBegin config memory)
+begin_prop config memory = hlevel (le_prop, ℕ_set)
 
-pub kept_begin_some : (c : Config) (memory : Word → ℕ) → HoldsWalked c memory → KeptBegin c memory
-kept_begin_some c memory holds = ∥∥₁_elim holds (begin_prop c memory) (λ h. kept_begins c memory h.1 h.2 h.3 h.0 h.4 h.5 h.6)
+pub kept_begin_some : (config : Config) (memory : Word → ℕ) → HoldsWalked config memory → KeptBegin config memory
+kept_begin_some config memory holds = ∥∥₁_elim holds (begin_prop config memory) (λ h. kept_begins config memory h.1 h.2 h.3 h.0 h.4 h.5 h.6)

@@ -14,28 +14,28 @@ use Rattle.full_cycle.specs.Collect.{current_address, CanCollect, LeadsToHeld}
 use Rattle.image_graph.proofs.Same.{memory_same}
 use Rattle.full_cycle.proofs.Listed.{noted_more}
 
-pub kept_is : (c : Config) (m : Word → ℕ) (a : ℕ) → 0 < kept_in c m a → kept_in c m a ≡ object_words (m (Heap (a + 1)))
-kept_is c m a some = ⊎_elim
-    (λ (yes : has (held_in c m) a ≡ true). cond-true (has (held_in c m) a) (object_words (m (Heap (a + 1)))) 0 yes)
-    (λ (no : has (held_in c m) a ≡ false). absurd (let none : kept_in c m a ≡ 0 = cond-false (has (held_in c m) a) (object_words (m (Heap (a + 1)))) 0 no in omega (arith, none, some)))
-    (cases_Bool (has (held_in c m) a))
+pub kept_is : (config : Config) (memory : Word → ℕ) (address : ℕ) → 0 < kept_in config memory address → kept_in config memory address ≡ object_words (memory (Heap (address + 1)))
+kept_is config memory address some = ⊎_elim
+    (λ (yes : has (held_in config memory) address ≡ true). cond-true (has (held_in config memory) address) (object_words (memory (Heap (address + 1)))) 0 yes)
+    (λ (no : has (held_in config memory) address ≡ false). absurd (let none : kept_in config memory address ≡ 0 = cond-false (has (held_in config memory) address) (object_words (memory (Heap (address + 1)))) 0 no in omega (arith, none, some)))
+    (cases_Bool (has (held_in config memory) address))
 
-module _ (c : Config) (m : Word → ℕ) (can : CanCollect c m) where
+module _ (config : Config) (memory : Word → ℕ) (can : CanCollect config memory) where
   -- a kept object lies in the heap with its fields
-  pub object_inside : (a : ℕ) → 0 < kept_in c m a → (c.region_words ≤ a) × (a + 3 + refs_in (m (Heap (a + 1))) ≤ heap_end c)
-  object_inside a some = (can.apart.above a some, omega (arith, can.inside a some, kept_is c m a some))
+  pub object_inside : (address : ℕ) → 0 < kept_in config memory address → (config.region_words ≤ address) × (address + 3 + refs_in (memory (Heap (address + 1))) ≤ heap_end config)
+  object_inside address some = (can.apart.above address some, omega (arith, can.inside address some, kept_is config memory address some))
 
-  pub field_word : (a i : ℕ) → 0 < kept_in c m a → i < 3 + refs_in (m (Heap (a + 1))) → IsWord c (Heap (a + i))
-  field_word a i some few = let at = object_inside a some in (omega (arith, at.0), omega (arith, at.1, few))
+  pub field_word : (address i : ℕ) → 0 < kept_in config memory address → i < 3 + refs_in (memory (Heap (address + 1))) → IsWord config (Heap (address + i))
+  field_word address i some few = let at = object_inside address some in (omega (arith, at.0), omega (arith, at.1, few))
 
-  pub copy_inside : (word : ℕ) → word ≢ 0 → LeadsToHeld c m word → IsWord c (Heap (now_in m word))
+  pub copy_inside : (word : ℕ) → word ≢ 0 → LeadsToHeld config memory word → IsWord config (Heap (now_in memory word))
   copy_inside word other leads =
       let to = leads other in
-      let at = object_inside (now_in m word) to.2 in
+      let at = object_inside (now_in memory word) to.2 in
       (at.0, omega (arith, at.1))
 
-pub copy_is : (m : Word → ℕ) (word : ℕ) → word ≢ 0 → now_in m word ≡ current_address m word
-copy_is m word other = sym (cond-false (word == 0) 0 (now_in m word) (ne_eqb word 0 other))
+pub copy_is : (memory : Word → ℕ) (word : ℕ) → word ≢ 0 → now_in memory word ≡ current_address memory word
+copy_is memory word other = sym (cond-false (word == 0) 0 (now_in memory word) (ne_eqb word 0 other))
 
 -- one word more was noted
 pub noted_step : (i j k : Image) (f : ℕ → ℕ) (n word : ℕ) → IsUnchanged i j
@@ -45,6 +45,6 @@ pub noted_step : (i j k : Image) (f : ℕ → ℕ) (n word : ℕ) → IsUnchange
 noted_step i j k f n word same before is noted =
     noted
     ∙ ap (λ xs. with_address xs (current_address (memory_of j) word)) before
-    ∙ ap (λ (m : Word → ℕ). with_address (with_addresses (found_of i) (copies_of (memory_of i) (map f (range_with_len 0 n)))) (current_address m word)) (memory_same i j same)
+    ∙ ap (λ (memory : Word → ℕ). with_address (with_addresses (found_of i) (copies_of (memory_of i) (map f (range_with_len 0 n)))) (current_address memory word)) (memory_same i j same)
     ∙ ap (λ w. with_address (with_addresses (found_of i) (copies_of (memory_of i) (map f (range_with_len 0 n)))) (current_address (memory_of i) w)) is
     ∙ noted_more (memory_of i) f n (found_of i)

@@ -12,22 +12,22 @@ use Rattle.image_graph.proofs.WalkedPieces.{begins_piece}
 use Rattle.image_graph.proofs.Rows.{row_is}
 use Rattle.image_graph.proofs.Filling.{begins_yes}
 
-module _ (c : Config) (shut : ℕ → Bool) (m : Word → ℕ) (block : Plot) (plotted : IsPlotted c (λ r. m (Top r)) block)
-    (parsed : AreParsed c shut (λ r. m (Top r)) (λ a. m (Heap a)) block) (r : ℕ) (inside : r < c.regions) (closed : shut (r + 1) ≡ true) where
-  ends_below : (k : ℕ) → k < m (Top r) → BeginsAt c m r k → k + stride_at (λ a. m (Heap a)) (base_of c r + k) ≤ m (Top r)
+module _ (config : Config) (shut : ℕ → Bool) (memory : Word → ℕ) (block : Plot) (plotted : IsPlotted config (λ region. memory (Top region)) block)
+    (parsed : AreParsed config shut (λ region. memory (Top region)) (λ a. memory (Heap a)) block) (region : ℕ) (inside : region < config.regions) (closed : shut (region + 1) ≡ true) where
+  ends_below : (k : ℕ) → k < memory (Top region) → BeginsAt config memory region k → k + stride_at (λ a. memory (Heap a)) (base_of config region + k) ≤ memory (Top region)
   ends_below k below begun =
-      let most = plotted.tops r inside in
-      let row : shut ((base_of c r + k) / c.region_words) ≡ true = ap shut (row_is c.region_words r (base_of c r + k) (omega arith) (omega (arith, below, most))) ∙ closed in
-      let piece = begins_piece c shut m block plotted parsed (base_of c r + k) row (begins_yes c m r inside most k below begun) in
-      let size = parsed.sized (base_of c r + k) piece.0 piece.1 row in
-      let some = parsed.some (base_of c r + k) piece.0 piece.1 in
+      let most = plotted.tops region inside in
+      let row : shut ((base_of config region + k) / config.region_words) ≡ true = ap shut (row_is config.region_words region (base_of config region + k) (omega arith) (omega (arith, below, most))) ∙ closed in
+      let piece = begins_piece config shut memory block plotted parsed (base_of config region + k) row (begins_yes config memory region inside most k below begun) in
+      let size = parsed.sized (base_of config region + k) piece.0 piece.1 row in
+      let some = parsed.some (base_of config region + k) piece.0 piece.1 in
       ⊎_elim
-      (λ (before : base_of c r + k + words_of piece.0 ≤ base_of c r). absurd (omega (arith, before, some)))
+      (λ (before : base_of config region + k + words_of piece.0 ≤ base_of config region). absurd (omega (arith, before, some)))
       (λ rest. ⊎_elim
-      (λ (within : (base_of c r ≤ base_of c r + k) × (base_of c r + k + words_of piece.0 ≤ base_of c r + m (Top r))). omega (arith, within.1, size))
-      (λ (behind : base_of c r + c.region_words ≤ base_of c r + k). absurd (omega (arith, behind, below, most)))
+      (λ (within : (base_of config region ≤ base_of config region + k) × (base_of config region + k + words_of piece.0 ≤ base_of config region + memory (Top region))). omega (arith, within.1, size))
+      (λ (behind : base_of config region + config.region_words ≤ base_of config region + k). absurd (omega (arith, behind, below, most)))
       rest)
-      (beside c (λ q. m (Top q)) block plotted r (base_of c r + k) piece.0 piece.1)
+      (beside config (λ q. memory (Top q)) block plotted region (base_of config region + k) piece.0 piece.1)
 
-  pub parsed_fills : CanFill c m r
-  parsed_fills = record { within = plotted.tops r inside; ends = ends_below }
+  pub parsed_fills : CanFill config memory region
+  parsed_fills = record { within = plotted.tops region inside; ends = ends_below }

@@ -33,126 +33,126 @@ use Rattle.full_cycle.proofs.Result.{reachable_kept}
 use Rattle.full_cycle.proofs.Stays.{BeginsThere, KeptBegin, moved, own_region, owner, kept_size, kept_header, kept_shape, kept_name}
 use Rattle.full_cycle.proofs.Below.{full_below}
 
-module _ (c : Config) (m : Word → ℕ) (can : CanCollect c m) (begin : KeptBegin c m) (r : ℕ) (inside : r < c.regions) (pinned : is_pinned c m r ≡ true) where
+module _ (config : Config) (memory : Word → ℕ) (can : CanCollect config memory) (begin : KeptBegin config memory) (region : ℕ) (inside : region < config.regions) (pinned : is_pinned config memory region ≡ true) where
   abbrev base : ℕ
-  base = base_of c r
+  base = base_of config region
 
   abbrev kept : ℕ → ℕ
-  kept = kept_in c m
+  kept = kept_in config memory
 
   -- the top of a pinned region stays
-  pub top_stays : packed_in c m (Top r) ≡ m (Top r)
+  pub top_stays : packed_in config memory (Top region) ≡ memory (Top region)
   unfolding packed
-  top_stays = cond-true (is_row_pinned c m (r + 1)) (m (Top r)) (packed_top c (is_row_pinned c m) kept r) (row_pinned c m r inside pinned)
+  top_stays = cond-true (is_row_pinned config memory (region + 1)) (memory (Top region)) (packed_top config (is_row_pinned config memory) kept region) (row_pinned config memory region inside pinned)
 
-  module _ (a : ℕ) (low : base ≤ a) (high : a < base + c.region_words) (some : 0 < kept a) where
-    is : BeginsThere c m r a
-    is = begin r a inside pinned low high some
+  module _ (address : ℕ) (low : base ≤ address) (high : address < base + config.region_words) (some : 0 < kept address) where
+    is : BeginsThere config memory region address
+    is = begin region address inside pinned low high some
 
     -- each of its words is one of it
-    object_is : (i : ℕ) → i < kept a → a + i < base + c.region_words → object_of c m (a + i) ≡ a
+    object_is : (i : ℕ) → i < kept address → address + i < base + config.region_words → object_of config memory (address + i) ≡ address
     object_is i few near =
-        let here : region_with c (a + i) ≡ r = regions_tile.of_no_other c r (a + i) (record { from = omega (arith, low); before = near }) in
-        let start = owner c m can begin r inside pinned a (a + i) low high some (omega arith) (omega (arith, few)) in
-        ap (λ q. base_of c q + start_of (λ x. m (Heap x)) (base_of c q) (a + i - base_of c q)) here ∙ ap (λ k. base + k) start ∙ back low
+        let here : region_with config (address + i) ≡ region = regions_tile.of_no_other config region (address + i) (record { from = omega (arith, low); before = near }) in
+        let start = owner config memory can begin region inside pinned address (address + i) low high some (omega arith) (omega (arith, few)) in
+        ap (λ q. base_of config q + start_of (λ x. memory (Heap x)) (base_of config q) (address + i - base_of config q)) here ∙ ap (λ k. base + k) start ∙ back low
       where
-        back : base ≤ a → base + (a - base) ≡ a
+        back : base ≤ address → base + (address - base) ≡ address
         back from_base = omega (arith, from_base)
 
     -- so none of them is made to fill
-    not_left : (i : ℕ) → i < kept a → a + i < base + c.region_words → (begins c m (a + i) && is_unkept kept m (a + i)) ≡ false
+    not_left : (i : ℕ) → i < kept address → address + i < base + config.region_words → (begins config memory (address + i) && is_unkept kept memory (address + i)) ≡ false
     not_left i few near = ⊎_elim
         (λ (first : i ≡ 0).
-        let at : a + i ≡ a = omega (arith, first) in
-        and_right (begins c m (a + i)) (is_unkept kept m (a + i))
-        (and_right (not (is_filler (m (Heap (a + i))))) (kept (a + i) == 0) (ne_eqb (kept (a + i)) 0 (λ none. omega (arith, none, ap kept at, some)))))
+        let at : address + i ≡ address = omega (arith, first) in
+        and_right (begins config memory (address + i)) (is_unkept kept memory (address + i))
+        (and_right (not (is_filler (memory (Heap (address + i))))) (kept (address + i) == 0) (ne_eqb (kept (address + i)) 0 (λ none. omega (arith, none, ap kept at, some)))))
         (λ (later : i ≢ 0).
-        and_left (begins c m (a + i)) (is_unkept kept m (a + i))
-        (and_right (is_in_use c m (a + i)) (object_of c m (a + i) == a + i) (ne_eqb (object_of c m (a + i)) (a + i) (λ same. omega (arith, same, object_is i few near, later)))))
+        and_left (begins config memory (address + i)) (is_unkept kept memory (address + i))
+        (and_right (is_in_use config memory (address + i)) (object_of config memory (address + i) == address + i) (ne_eqb (object_of config memory (address + i)) (address + i) (λ same. omega (arith, same, object_is i few near, later)))))
         (cases_eq i 0)
 
-    packed_word : (i : ℕ) → i < kept a → a + i < base + c.region_words → packed_in c m (Heap (a + i)) ≡ moved c m can begin (Heap (a + i))
+    packed_word : (i : ℕ) → i < kept address → address + i < base + config.region_words → packed_in config memory (Heap (address + i)) ≡ moved config memory can begin (Heap (address + i))
     unfolding packed
     packed_word i few near =
-        cond-false (is_row_pinned c m (region_with c (a + i) + 1) && (begins c m (a + i) && is_unkept kept m (a + i))) (filler_header (object_words (m (Heap (a + i + 1)))))
-        (moved c m can begin (Heap (a + i)))
-        (and_right (is_row_pinned c m (region_with c (a + i) + 1)) (begins c m (a + i) && is_unkept kept m (a + i)) (not_left i few near))
+        cond-false (is_row_pinned config memory (region_with config (address + i) + 1) && (begins config memory (address + i) && is_unkept kept memory (address + i))) (filler_header (object_words (memory (Heap (address + i + 1)))))
+        (moved config memory can begin (Heap (address + i)))
+        (and_right (is_row_pinned config memory (region_with config (address + i) + 1)) (begins config memory (address + i) && is_unkept kept memory (address + i)) (not_left i few near))
 
-    near_end : a + kept a ≤ base + m (Top r)
+    near_end : address + kept address ≤ base + memory (Top region)
     near_end =
         let below = is.below in
-        let ends = (can.fills r inside pinned).ends (a - base) (omega (arith, below, low)) is.begun in
-        let size = kept_size c m can begin r inside pinned a low high some in
+        let ends = (can.fills region inside pinned).ends (address - base) (omega (arith, below, low)) is.begun in
+        let size = kept_size config memory can begin region inside pinned address low high some in
         omega (arith, ends, size, low)
 
-    word_stays : (i : ℕ) → i < kept a → full_from c m (Heap (a + i)) ≡ moved c m can begin (Heap (a + i))
+    word_stays : (i : ℕ) → i < kept address → full_from config memory (Heap (address + i)) ≡ moved config memory can begin (Heap (address + i))
     word_stays i few =
         let end = near_end in
-        let within = (can.fills r inside pinned).within in
+        let within = (can.fills region inside pinned).within in
         let top = top_stays in
-        full_below c m r (a + i) (omega (arith, low)) (omega (arith, end, few, top)) (omega (arith, within, top)) ∙ packed_word i few (omega (arith, end, few, within))
+        full_below config memory region (address + i) (omega (arith, low)) (omega (arith, end, few, top)) (omega (arith, within, top)) ∙ packed_word i few (omega (arith, end, few, within))
 
-    three : 3 ≤ kept a
-    three = let size = kept_is c m a some in omega (arith, size)
+    three : 3 ≤ kept address
+    three = let size = kept_is config memory address some in omega (arith, size)
 
-    pub header_stays : full_from c m (Heap a) ≡ plain_header
+    pub header_stays : full_from config memory (Heap address) ≡ plain_header
     header_stays =
-        let at : a + 0 ≡ a = omega arith in
-        ap (λ x. full_from c m (Heap x)) (sym at) ∙ word_stays 0 some ∙ ap (λ x. moved c m can begin (Heap x)) at
-        ∙ kept_header c m can begin r inside pinned a low high some
+        let at : address + 0 ≡ address = omega arith in
+        ap (λ x. full_from config memory (Heap x)) (sym at) ∙ word_stays 0 some ∙ ap (λ x. moved config memory can begin (Heap x)) at
+        ∙ kept_header config memory can begin region inside pinned address low high some
 
-    pub shape_stays : full_from c m (Heap (a + 1)) ≡ m (Heap (a + 1))
-    shape_stays = let long = three in word_stays 1 (omega (arith, long)) ∙ kept_shape c m can begin r inside pinned a low high some
+    pub shape_stays : full_from config memory (Heap (address + 1)) ≡ memory (Heap (address + 1))
+    shape_stays = let long = three in word_stays 1 (omega (arith, long)) ∙ kept_shape config memory can begin region inside pinned address low high some
 
-    pub name_stays : full_from c m (Heap (a + 2)) ≡ m (Heap (a + 2))
-    name_stays = let long = three in word_stays 2 (omega (arith, long)) ∙ kept_name c m can begin r inside pinned a low high some
+    pub name_stays : full_from config memory (Heap (address + 2)) ≡ memory (Heap (address + 2))
+    name_stays = let long = three in word_stays 2 (omega (arith, long)) ∙ kept_name config memory can begin region inside pinned address low high some
 
-pin_stays : (c : Config) (m : Word → ℕ) (t i : ℕ) → full_from c m (Pin t i) ≡ m (Pin t i)
+pin_stays : (config : Config) (memory : Word → ℕ) (mutator index : ℕ) → full_from config memory (Pin mutator index) ≡ memory (Pin mutator index)
 unfolding packed made_in refused
-pin_stays c m t i = full_still c (Pin t i) (λ w u r. refl) m (λ w. refl)
+pin_stays config memory mutator index = full_still config (Pin mutator index) (λ w u r. refl) memory (λ w. refl)
 
 -- what is kept once buffers were let go was there before, with the same words
-module _ (c : Config) (m after : Word → ℕ) (walked : HoldsWalked c (let_go c m)) (seats : HasNoMoreSeats c m) (is : after ≡ full c m)
-    (block : Plot) (owner : ℕ → Option ℕ) (p : Promises) (g : Graph) (holds : HoldsBy c m block owner p g) where
+module _ (config : Config) (memory after : Word → ℕ) (walked : HoldsWalked config (let_go config memory)) (seats : HasNoMoreSeats config memory) (is : after ≡ full config memory)
+    (block : Plot) (owner : ℕ → Option ℕ) (promises : Promises) (graph : Graph) (holds : HoldsBy config memory block owner promises graph) where
   abbrev gone : Word → ℕ
-  gone = let_go c m
+  gone = let_go config memory
 
-  left : HasLetGo c m gone block owner p g
-  left = has_let_go c m block owner p g holds seats
+  left : HasLetGo config memory gone block owner promises graph
+  left = has_let_go config memory block owner promises graph holds seats
 
-  can : CanCollect c gone
-  can = can_collect_some c gone walked
+  can : CanCollect config gone
+  can = can_collect_some config gone walked
 
-  begin : KeptBegin c gone
-  begin = kept_begin_some c gone walked
+  begin : KeptBegin config gone
+  begin = kept_begin_some config gone walked
 
   abbrev Stays : ℕ → Type 0
-  Stays a = (after (Heap a) ≡ plain_header) × (after (Heap (a + 1)) ≡ m (Heap (a + 1))) × (after (Heap (a + 2)) ≡ m (Heap (a + 2)))
+  Stays address = (after (Heap address) ≡ plain_header) × (after (Heap (address + 1)) ≡ memory (Heap (address + 1))) × (after (Heap (address + 2)) ≡ memory (Heap (address + 2)))
 
-  object_stays : (a : ℕ) → 0 < kept_in c gone a → is_row_pinned c gone (a / c.region_words) ≡ true → Stays a
-  object_stays a some shut_row =
-      let region = region_with c a in
-      let own = own_region c a (can.apart.above a some) in
-      let closed : is_row_pinned c gone (region + 1) ≡ true = ap (is_row_pinned c gone) (sym (row_is c.region_words region a own.0 own.1)) ∙ shut_row in
-      let at = shut_pinned c gone region closed in
-      let object = (reachable_kept c gone left.plot owner p g left.left.holds).only a some in
-      let here : block a ≡ Some (thing object.0 object.1 object.2) = left.left.loosened.same.came a (thing object.0 object.1 object.2) refl object.3 in
-      let word : (k : ℕ) → k < 3 → gone (Heap (a + k)) ≡ m (Heap (a + k)) =
-      λ k few. left.left.loosened.words a k (thing object.0 object.1 object.2) refl here (omega (arith, few)) in (
-        ap (λ k. k (Heap a)) is ∙ header_stays c gone can begin region at.0 at.1 a own.0 own.1 some,
-        ap (λ k. k (Heap (a + 1))) is ∙ shape_stays c gone can begin region at.0 at.1 a own.0 own.1 some ∙ word 1 (omega arith),
-        ap (λ k. k (Heap (a + 2))) is ∙ name_stays c gone can begin region at.0 at.1 a own.0 own.1 some ∙ word 2 (omega arith),
+  object_stays : (address : ℕ) → 0 < kept_in config gone address → is_row_pinned config gone (address / config.region_words) ≡ true → Stays address
+  object_stays address some shut_row =
+      let region = region_with config address in
+      let own = own_region config address (can.apart.above address some) in
+      let closed : is_row_pinned config gone (region + 1) ≡ true = ap (is_row_pinned config gone) (sym (row_is config.region_words region address own.0 own.1)) ∙ shut_row in
+      let at = shut_pinned config gone region closed in
+      let object = (reachable_kept config gone left.plot owner promises graph left.left.holds).only address some in
+      let here : block address ≡ Some (thing object.0 object.1 object.2) = left.left.loosened.same.came address (thing object.0 object.1 object.2) refl object.3 in
+      let word : (k : ℕ) → k < 3 → gone (Heap (address + k)) ≡ memory (Heap (address + k)) =
+      λ k few. left.left.loosened.words address k (thing object.0 object.1 object.2) refl here (omega (arith, few)) in (
+        ap (λ k. k (Heap address)) is ∙ header_stays config gone can begin region at.0 at.1 address own.0 own.1 some,
+        ap (λ k. k (Heap (address + 1))) is ∙ shape_stays config gone can begin region at.0 at.1 address own.0 own.1 some ∙ word 1 (omega arith),
+        ap (λ k. k (Heap (address + 2))) is ∙ name_stays config gone can begin region at.0 at.1 address own.0 own.1 some ∙ word 2 (omega arith),
       )
 
-  pinned_stay : PinnedStay c m after
+  pinned_stay : PinnedStay config memory after
   pinned_stay = record {
-    pins = λ t i. ap (λ k. k (Pin t i)) is ∙ pin_stays c gone t i ∙ let_go_same (Pin t i) (λ of. of) c m (seat_count c.mutators c.helpers);
+    pins = λ t i. ap (λ k. k (Pin t i)) is ∙ pin_stays config gone t i ∙ let_go_same (Pin t i) (λ of. of) config memory (seat_count config.mutators config.helpers);
     shapes = object_stays;
-    tops = λ r inside pinned. top_stays c gone can begin r inside pinned;
+    tops = λ r inside pinned. top_stays config gone can begin r inside pinned;
   }
 
-stay_prop : (c : Config) (m after : Word → ℕ) → IsProp (PinnedStay c m after)
-stay_prop c m after = hlevel (ℕ_set)
+stay_prop : (config : Config) (memory after : Word → ℕ) → IsProp (PinnedStay config memory after)
+stay_prop config memory after = hlevel (ℕ_set)
 
-pub pinned_stay_some : (c : Config) (m after : Word → ℕ) → HoldsWalked c (let_go c m) → HasNoMoreSeats c m → after ≡ full c m → HoldsSized c m → PinnedStay c m after
-pinned_stay_some c m after walked seats is holds = ∥∥₁_elim holds (stay_prop c m after) (λ h. pinned_stay c m after walked seats is h.1 h.2 h.3 h.0 h.4)
+pub pinned_stay_some : (config : Config) (memory after : Word → ℕ) → HoldsWalked config (let_go config memory) → HasNoMoreSeats config memory → after ≡ full config memory → HoldsSized config memory → PinnedStay config memory after
+pinned_stay_some config memory after walked seats is holds = ∥∥₁_elim holds (stay_prop config memory after) (λ h. pinned_stay config memory after walked seats is h.1 h.2 h.3 h.0 h.4)

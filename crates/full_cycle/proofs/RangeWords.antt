@@ -13,35 +13,35 @@ changed_to f g t u change before after from to is =
     subst (λ k. IsChanged k u change before after) from (subst (λ k. IsChanged f k change before after) to is)
 
 -- what holds of all roots holds of the words of their row
-pub roots_row : (c : Config) (words : List ℕ) (P : ℕ → Type 0) → ((t i : ℕ) → t < c.mutators → i < 16 → P (view c words (Root t i)))
-    → (k : ℕ) → word_at c (Root 0 0) ≤ k → k < word_at c (Count 0) → P (get_or words k 0)
-roots_row c words P each k low high =
-    let x : ℕ = k - word_at c (Root 0 0) in
-    let x_is : word_at c (Root 0 0) + x ≡ k = omega (arith, low) in
-    let few : x / 16 < c.mutators = omega (arith, high, x_is) in
+pub roots_row : (config : Config) (words : List ℕ) (P : ℕ → Type 0) → ((mutator i : ℕ) → mutator < config.mutators → i < 16 → P (view config words (Root mutator i)))
+    → (k : ℕ) → word_at config (Root 0 0) ≤ k → k < word_at config (Count 0) → P (get_or words k 0)
+roots_row config words P each k low high =
+    let x : ℕ = k - word_at config (Root 0 0) in
+    let x_is : word_at config (Root 0 0) + x ≡ k = omega (arith, low) in
+    let few : x / 16 < config.mutators = omega (arith, high, x_is) in
     let index : x % 16 < 16 = omega arith in
-    let at : word_at c (Root (x / 16) (x % 16)) ≡ k = omega (arith, x_is) in
-    subst P (view_word c words (Root (x / 16) (x % 16)) (few, index) ∙ ap (λ j. get_or words j 0) at) (each (x / 16) (x % 16) few index)
+    let at : word_at config (Root (x / 16) (x % 16)) ≡ k = omega (arith, x_is) in
+    subst P (view_word config words (Root (x / 16) (x % 16)) (few, index) ∙ ap (λ j. get_or words j 0) at) (each (x / 16) (x % 16) few index)
 
 -- and of all answers
-pub answers_row : (c : Config) (words : List ℕ) (P : ℕ → Type 0) → ((t : ℕ) → t < c.mutators → P (view c words (Answer t)))
-    → (k : ℕ) → word_at c (Answer 0) ≤ k → k < word_at c (Grey 0) → P (get_or words k 0)
-answers_row c words P each k low high =
-    let x : ℕ = k - word_at c (Answer 0) in
-    let x_is : word_at c (Answer 0) + x ≡ k = omega (arith, low) in
-    let few : x < c.mutators = omega (arith, high, x_is) in
-    let at : word_at c (Answer x) ≡ k = omega (arith, x_is) in
-    subst P (view_word c words (Answer x) few ∙ ap (λ j. get_or words j 0) at) (each x few)
+pub answers_row : (config : Config) (words : List ℕ) (P : ℕ → Type 0) → ((mutator : ℕ) → mutator < config.mutators → P (view config words (Answer mutator)))
+    → (index : ℕ) → word_at config (Answer 0) ≤ index → index < word_at config (Grey 0) → P (get_or words index 0)
+answers_row config words P each index low high =
+    let x : ℕ = index - word_at config (Answer 0) in
+    let x_is : word_at config (Answer 0) + x ≡ index = omega (arith, low) in
+    let few : x < config.mutators = omega (arith, high, x_is) in
+    let at : word_at config (Answer x) ≡ index = omega (arith, x_is) in
+    subst P (view_word config words (Answer x) few ∙ ap (λ j. get_or words j 0) at) (each x few)
 
 -- no word behind a range is changed
-pub behind_range : (from to k : ℕ) (change : ℕ → ℕ) (before after : List ℕ) → IsChanged from to change before after → to ≤ k → get_or after k 0 ≡ get_or before k 0
-behind_range from to k change before after is past = is k ∙ outside (change (get_or before k 0)) (get_or before k 0)
+pub behind_range : (from to index : ℕ) (change : ℕ → ℕ) (before after : List ℕ) → IsChanged from to change before after → to ≤ index → get_or after index 0 ≡ get_or before index 0
+behind_range from to index change before after is past = is index ∙ outside (change (get_or before index 0)) (get_or before index 0)
   where
-    outside : (x y : ℕ) → cond (nat_le from k && nat_lt k to) x y ≡ y
+    outside : (x y : ℕ) → cond (nat_le from index && nat_lt index to) x y ≡ y
     outside x y = grind (arith, nat_tests)
 
-pub nobody_waits : (c : Config) (words : List ℕ) (t : ℕ) → c.mutators ≤ t → view c words (Wait t) ≡ 0
-nobody_waits c words t past = view_none c words (Wait t) (grind (arith, nat_tests))
+pub nobody_waits : (config : Config) (words : List ℕ) (mutator : ℕ) → config.mutators ≤ mutator → view config words (Wait mutator) ≡ 0
+nobody_waits config words mutator past = view_none config words (Wait mutator) (grind (arith, nat_tests))
 
 -- Empty regions.
 

@@ -14,10 +14,10 @@ idle_one t u wait answer none = grind (arith, nat_tests, none)
 idle_wait : (t u wait : ℕ) → (t ≡ u → wait ≡ 0) → cond (nat_lt u t) 0 wait ≡ cond (nat_lt u (t + 1)) 0 wait
 idle_wait t u wait none = grind (arith, nat_tests, none)
 
-idle_at : (m : Word → ℕ) (t : ℕ) → m (Wait t) ≡ 0 → (w : Word) → refused_below t m w ≡ refused_below (t + 1) m w
-idle_at m t none (Answer u) = idle_one t u (m (Wait u)) (m (Answer u)) (λ same. ap (λ v. m (Wait v)) (sym same) ∙ none)
-idle_at m t none (Wait u) = idle_wait t u (m (Wait u)) (λ same. ap (λ v. m (Wait v)) (sym same) ∙ none)
-idle_at m t none _ = refl
+idle_at : (memory : Word → ℕ) (mutator : ℕ) → memory (Wait mutator) ≡ 0 → (word : Word) → refused_below mutator memory word ≡ refused_below (mutator + 1) memory word
+idle_at memory mutator none (Answer u) = idle_one mutator u (memory (Wait u)) (memory (Answer u)) (λ same. ap (λ v. memory (Wait v)) (sym same) ∙ none)
+idle_at memory mutator none (Wait u) = idle_wait mutator u (memory (Wait u)) (λ same. ap (λ v. memory (Wait v)) (sym same) ∙ none)
+idle_at memory mutator none _ = refl
 
 -- a thread that does
 left_one : (t u wait answer : ℕ) → (t ≡ u → wait ≢ 0) → cond (t == u) 1 (cond (nat_lt u t) (cond (wait == 0) answer 1) answer) ≡ cond (nat_lt u (t + 1)) (cond (wait == 0) answer 1) answer
@@ -26,23 +26,23 @@ left_one t u wait answer some = grind (arith, nat_tests, some)
 left_wait : (t u wait : ℕ) → cond (t == u) 0 (cond (nat_lt u t) 0 wait) ≡ cond (nat_lt u (t + 1)) 0 wait
 left_wait t u wait = grind (arith, nat_tests)
 
-left_at : (m : Word → ℕ) (t : ℕ) → m (Wait t) ≢ 0 → (w : Word) → write (write (refused_below t m) (Answer t) 1) (Wait t) 0 w ≡ refused_below (t + 1) m w
-left_at m t some (Answer u) = left_one t u (m (Wait u)) (m (Answer u)) (λ same is_zero. some (ap (λ v. m (Wait v)) same ∙ is_zero))
-left_at m t some (Wait u) = left_wait t u (m (Wait u))
-left_at m t some _ = refl
+left_at : (memory : Word → ℕ) (mutator : ℕ) → memory (Wait mutator) ≢ 0 → (word : Word) → write (write (refused_below mutator memory) (Answer mutator) 1) (Wait mutator) 0 word ≡ refused_below (mutator + 1) memory word
+left_at memory mutator some (Answer u) = left_one mutator u (memory (Wait u)) (memory (Answer u)) (λ same is_zero. some (ap (λ v. memory (Wait v)) same ∙ is_zero))
+left_at memory mutator some (Wait u) = left_wait mutator u (memory (Wait u))
+left_at memory mutator some _ = refl
 
-wait_here : (m : Word → ℕ) (t : ℕ) → refused_below t m (Wait t) ≡ m (Wait t)
-wait_here m t = grind (arith, nat_tests)
+wait_here : (memory : Word → ℕ) (mutator : ℕ) → refused_below mutator memory (Wait mutator) ≡ memory (Wait mutator)
+wait_here memory mutator = grind (arith, nat_tests)
 
 -- the turn of a thread
-pub refused_more : (m now after : Word → ℕ) (t : ℕ) → now ≡ refused_below t m → (now (Wait t) ≡ 0 → after ≡ now)
-    → (now (Wait t) ≢ 0 → after ≡ write (write now (Answer t) 1) (Wait t) 0) → after ≡ refused_below (t + 1) m
-refused_more m now after t is idle waits =
-    let wait : now (Wait t) ≡ m (Wait t) = ap (λ k. k (Wait t)) is ∙ wait_here m t in
+pub refused_more : (memory now after : Word → ℕ) (mutator : ℕ) → now ≡ refused_below mutator memory → (now (Wait mutator) ≡ 0 → after ≡ now)
+    → (now (Wait mutator) ≢ 0 → after ≡ write (write now (Answer mutator) 1) (Wait mutator) 0) → after ≡ refused_below (mutator + 1) memory
+refused_more memory now after mutator is idle waits =
+    let wait : now (Wait mutator) ≡ memory (Wait mutator) = ap (λ k. k (Wait mutator)) is ∙ wait_here memory mutator in
     ⊎_elim
-    (λ (none : m (Wait t) ≡ 0). idle (wait ∙ none) ∙ is ∙ fun_ext (idle_at m t none))
-    (λ (some : m (Wait t) ≢ 0). waits (λ e. some (sym wait ∙ e)) ∙ ap (λ k. write (write k (Answer t) 1) (Wait t) 0) is ∙ fun_ext (left_at m t some))
-    (cases_eq (m (Wait t)) 0)
+    (λ (none : memory (Wait mutator) ≡ 0). idle (wait ∙ none) ∙ is ∙ fun_ext (idle_at memory mutator none))
+    (λ (some : memory (Wait mutator) ≢ 0). waits (λ e. some (sym wait ∙ e)) ∙ ap (λ k. write (write k (Answer mutator) 1) (Wait mutator) 0) is ∙ fun_ext (left_at memory mutator some))
+    (cases_eq (memory (Wait mutator)) 0)
 
 -- where nobody behind the last thread waits, all that is left is refused
 all_answer : (n t wait answer : ℕ) → (n ≤ t → wait ≡ 0) → cond (nat_lt t n) (cond (wait == 0) answer 1) answer ≡ cond (wait == 0) answer 1
@@ -51,11 +51,11 @@ all_answer n t wait answer none = grind (arith, nat_tests, none)
 all_wait : (n t wait : ℕ) → (n ≤ t → wait ≡ 0) → cond (nat_lt t n) 0 wait ≡ 0
 all_wait n t wait none = grind (arith, nat_tests, none)
 
-all_at : (m : Word → ℕ) (n : ℕ) → ((t : ℕ) → n ≤ t → m (Wait t) ≡ 0) → (w : Word) → refused_below n m w ≡ refused m w
+all_at : (memory : Word → ℕ) (n : ℕ) → ((mutator : ℕ) → n ≤ mutator → memory (Wait mutator) ≡ 0) → (word : Word) → refused_below n memory word ≡ refused memory word
 unfolding refused
-all_at m n none (Answer t) = all_answer n t (m (Wait t)) (m (Answer t)) (none t)
-all_at m n none (Wait t) = all_wait n t (m (Wait t)) (none t)
-all_at m n none _ = refl
+all_at memory n none (Answer mutator) = all_answer n mutator (memory (Wait mutator)) (memory (Answer mutator)) (none mutator)
+all_at memory n none (Wait mutator) = all_wait n mutator (memory (Wait mutator)) (none mutator)
+all_at memory n none _ = refl
 
-pub refused_all : (m : Word → ℕ) (n : ℕ) → ((t : ℕ) → n ≤ t → m (Wait t) ≡ 0) → refused_below n m ≡ refused m
-refused_all m n none = fun_ext (all_at m n none)
+pub refused_all : (memory : Word → ℕ) (n : ℕ) → ((mutator : ℕ) → n ≤ mutator → memory (Wait mutator) ≡ 0) → refused_below n memory ≡ refused memory
+refused_all memory n none = fun_ext (all_at memory n none)

@@ -30,10 +30,10 @@ use Rattle.full_cycle.specs.Result.{KeptAreReachable, KeepsTheGraph, KeepsTheRea
 use Rattle.full_cycle.proofs.Holding.{parsed}
 
 -- what is kept of words that hold a graph is reached, and what is reached is kept
-pub reachable_kept : (c : Config) (m : Word → ℕ) (block : Plot) (owner : ℕ → Option ℕ) (p : Promises) (g : Graph) → HoldsBy c m block owner p g → KeptAreReachable c m block (with_promised g p)
-reachable_kept c m block owner p g holds =
-    let are = walk_keeps c m block (with_promised g p) holds.objects in
-    let reached = held_are_reachable c (λ r. m (Top r)) (λ a. m (Heap a)) block (now_in m) (IsAmong (held_words c m)) (with_promised g p) holds.objects in
+pub reachable_kept : (config : Config) (memory : Word → ℕ) (block : Plot) (owner : ℕ → Option ℕ) (promises : Promises) (graph : Graph) → HoldsBy config memory block owner promises graph → KeptAreReachable config memory block (with_promised graph promises)
+reachable_kept config memory block owner promises graph holds =
+    let are = walk_keeps config memory block (with_promised graph promises) holds.objects in
+    let reached = held_are_reachable config (λ r. memory (Top r)) (λ a. memory (Heap a)) block (now_in memory) (IsAmong (held_words config memory)) (with_promised graph promises) holds.objects in
     record {
       only = λ a some. reached.only a (are.only a some);
       all = λ name is.
@@ -41,15 +41,15 @@ reachable_kept c m block owner p g holds =
           (at.0, at.1, at.2, (let size = are.words at.0 at.3 in omega (arith, size)), at.4);
     }
 
-module _ (c : Config) (m : Word → ℕ) (lets : LettingGoHolds c m (let_go c m)) where
+module _ (config : Config) (memory : Word → ℕ) (lets : LettingGoHolds config memory (let_go config memory)) where
   -- once buffers were let go
   abbrev gone : Word → ℕ
-  gone = let_go c m
+  gone = let_go config memory
 
-  pub keeps_reachable : KeepsTheReachable c m
+  pub keeps_reachable : KeepsTheReachable config memory
   keeps_reachable block owner p g holds =
       let left = lets block owner p g holds in
-      let are = reachable_kept c gone left.pieces owner p g left.holds in
+      let are = reachable_kept config gone left.pieces owner p g left.holds in
       record {
         only = λ a some.
             let at = are.only a some in
@@ -59,42 +59,42 @@ module _ (c : Config) (m : Word → ℕ) (lets : LettingGoHolds c m (let_go c m)
             (at.0, at.1, at.2, at.3, left.came at.0 (thing name at.1 at.2) refl at.4);
       }
 
-  pub keeps_graph : (after : Word → ℕ) → after ≡ full c m → KeepsTheGraph c m after
+  pub keeps_graph : (after : Word → ℕ) → after ≡ full config memory → KeepsTheGraph config memory after
   keeps_graph after is block owner p g holds sized =
       let left = lets block owner p g holds in
       record {
         pieces = left.pieces;
         came = left.came;
         stands =
-            subst (λ (k : Word → ℕ). ImageStands c k (served_block c (packed_in c gone) (packed_block c (is_row_pinned c gone) (kept_in c gone) left.pieces) c.mutators) g
-            (served_promises c (packed_in c gone) p c.mutators)) (sym is)
-            (full_stands c gone left.pieces g p left.holds.objects left.holds.rooted
-            (parsed c gone left.pieces owner p g left.holds (left.sized sized) left.none) left.holds.asking);
+            subst (λ (memory : Word → ℕ). ImageStands config memory (served_block config (packed_in config gone) (packed_block config (is_row_pinned config gone) (kept_in config gone) left.pieces) config.mutators) g
+            (served_promises config (packed_in config gone) p config.mutators)) (sym is)
+            (full_stands config gone left.pieces g p left.holds.objects left.holds.rooted
+            (parsed config gone left.pieces owner p g left.holds (left.sized sized) left.none) left.holds.asking);
       }
 
   -- and they hold it by pieces that can be walked
-  pub let_go_walked : HoldsSized c m → HoldsWalked c gone
+  pub let_go_walked : HoldsSized config memory → HoldsWalked config gone
   let_go_walked holds = ∥∥₁_map holds (λ h.
       let left = lets h.1 h.2 h.3 h.0 h.4 in
       (h.0, left.pieces, h.2, h.3, left.holds, left.sized h.5, left.none))
 
-refuses : (c : Config) (m : Word → ℕ) (t : ℕ) → t < c.mutators → m (Wait t) ≢ 0 → (full_from c m (Answer t) ≡ 1) ↔ IsLeft c (packed_in c m) t
-refuses c m t inside waits =
-    let after : Word → ℕ = packed_in c m in
-    let waiting : after (Wait t) ≢ 0 = λ none. waits (sym (packed_wait c m t) ∙ none) in
-    let answered = (requests_are_answered c after).answered t inside waiting in (
+refuses : (config : Config) (memory : Word → ℕ) (mutator : ℕ) → mutator < config.mutators → memory (Wait mutator) ≢ 0 → (full_from config memory (Answer mutator) ≡ 1) ↔ IsLeft config (packed_in config memory) mutator
+refuses config memory mutator inside waits =
+    let after : Word → ℕ = packed_in config memory in
+    let waiting : after (Wait mutator) ≢ 0 = λ none. waits (sym (packed_wait config memory mutator) ∙ none) in
+    let answered = (requests_are_answered config after).answered mutator inside waiting in (
       λ one. ⊎_elim
-          (λ (room : (r : ℕ) × IsLowestRoom c.region_words (tops_at_turn c after t) (asked_in after t) c.regions r).
+          (λ (room : (r : ℕ) × IsLowestRoom config.region_words (tops_at_turn config after mutator) (asked_in after mutator) config.regions r).
           let given = answered.given room.0 room.1 in
-          absurd (omega (arith, given, one, c.in_range.least_words)))
-          (λ (none : NoneHasRoom c.region_words (tops_at_turn c after t) (asked_in after t) c.regions). record { below = inside; waits = waiting; no_room = none })
+          absurd (omega (arith, given, one, config.in_range.least_words)))
+          (λ (none : NoneHasRoom config.region_words (tops_at_turn config after mutator) (asked_in after mutator) config.regions). record { below = inside; waits = waiting; no_room = none })
           answered.either,
       λ left. answered.full left.no_room,
     )
 
-pub refuses_left : (c : Config) (m after : Word → ℕ) → after ≡ full c m → RefusesTheLeft c m after
-refuses_left c m after is t inside waits =
-    let wait : let_go c m (Wait t) ≡ m (Wait t) = let_go_same (Wait t) (λ is. is) c m (seat_count c.mutators c.helpers) in
-    let one = refuses c (let_go c m) t inside (λ none. waits (sym wait ∙ none)) in
-    let same : after (Answer t) ≡ full c m (Answer t) = ap (λ k. k (Answer t)) is in
+pub refuses_left : (config : Config) (memory after : Word → ℕ) → after ≡ full config memory → RefusesTheLeft config memory after
+refuses_left config memory after is t inside waits =
+    let wait : let_go config memory (Wait t) ≡ memory (Wait t) = let_go_same (Wait t) (λ is. is) config memory (seat_count config.mutators config.helpers) in
+    let one = refuses config (let_go config memory) t inside (λ none. waits (sym wait ∙ none)) in
+    let same : after (Answer t) ≡ full config memory (Answer t) = ap (λ k. k (Answer t)) is in
     (λ e. one.0 (sym same ∙ e), λ left. same ∙ one.1 left)

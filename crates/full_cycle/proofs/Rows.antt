@@ -6,31 +6,31 @@ use Rattle.heap_words.specs.Words.{Word, IsWord, is_word, word_at, view}
 use Rattle.heap_words.proofs.Stores.{is_word_true, view_word, view_none}
 use Rattle.full_cycle.specs.Steps.{IsChanged}
 
-module _ (c : Config) (from to : ℕ) (change : ℕ → ℕ) (before after : List ℕ) (is : IsChanged from to change before after) where
+module _ (config : Config) (from to : ℕ) (change : ℕ → ℕ) (before after : List ℕ) (is : IsChanged from to change before after) where
   -- words of the range are changed
-  pub hit : (w : Word) → change 0 ≡ 0 → (IsWord c w → (from ≤ word_at c w) × (word_at c w < to)) → view c after w ≡ change (view c before w)
+  pub hit : (w : Word) → change 0 ≡ 0 → (IsWord config w → (from ≤ word_at config w) × (word_at config w < to)) → view config after w ≡ change (view config before w)
   hit w none inside = ⊎_elim
-      (λ (yes : is_word c w ≡ true).
-      let word = is_word_true c w yes in
+      (λ (yes : is_word config w ≡ true).
+      let word = is_word_true config w yes in
       let range = inside word in
-      view_word c after w word ∙ is (word_at c w)
-      ∙ cond-true (nat_le from (word_at c w) && nat_lt (word_at c w) to) _ _ (and_from (nat_le from (word_at c w)) (nat_lt (word_at c w) to) (le-leb _ _ range.0) (lt-ltb _ _ range.1))
-      ∙ ap change (sym (view_word c before w word)))
-      (λ (no : is_word c w ≡ false). view_none c after w no ∙ sym none ∙ ap change (sym (view_none c before w no)))
-      (cases_Bool (is_word c w))
+      view_word config after w word ∙ is (word_at config w)
+      ∙ cond-true (nat_le from (word_at config w) && nat_lt (word_at config w) to) _ _ (and_from (nat_le from (word_at config w)) (nat_lt (word_at config w) to) (le-leb _ _ range.0) (lt-ltb _ _ range.1))
+      ∙ ap change (sym (view_word config before w word)))
+      (λ (no : is_word config w ≡ false). view_none config after w no ∙ sym none ∙ ap change (sym (view_none config before w no)))
+      (cases_Bool (is_word config w))
 
   -- and no others
-  pub miss : (w : Word) → (IsWord c w → from ≤ word_at c w → word_at c w < to → ⊥) → view c after w ≡ view c before w
+  pub miss : (w : Word) → (IsWord config w → from ≤ word_at config w → word_at config w < to → ⊥) → view config after w ≡ view config before w
   miss w outside = ⊎_elim
-      (λ (yes : is_word c w ≡ true).
-      let word = is_word_true c w yes in
-      view_word c after w word ∙ is (word_at c w)
+      (λ (yes : is_word config w ≡ true).
+      let word = is_word_true config w yes in
+      view_word config after w word ∙ is (word_at config w)
       ∙ ⊎_elim
-      (λ (within : (nat_le from (word_at c w) && nat_lt (word_at c w) to) ≡ true).
-      let range = and_parts (nat_le from (word_at c w)) (nat_lt (word_at c w) to) within in
+      (λ (within : (nat_le from (word_at config w) && nat_lt (word_at config w) to) ≡ true).
+      let range = and_parts (nat_le from (word_at config w)) (nat_lt (word_at config w) to) within in
       absurd (outside word (leb-true _ _ range.0) (ltb-true _ _ range.1)))
-      (λ (past : (nat_le from (word_at c w) && nat_lt (word_at c w) to) ≡ false). cond-false (nat_le from (word_at c w) && nat_lt (word_at c w) to) _ _ past)
-      (cases_Bool (nat_le from (word_at c w) && nat_lt (word_at c w) to))
-      ∙ sym (view_word c before w word))
-      (λ (no : is_word c w ≡ false). view_none c after w no ∙ sym (view_none c before w no))
-      (cases_Bool (is_word c w))
+      (λ (past : (nat_le from (word_at config w) && nat_lt (word_at config w) to) ≡ false). cond-false (nat_le from (word_at config w) && nat_lt (word_at config w) to) _ _ past)
+      (cases_Bool (nat_le from (word_at config w) && nat_lt (word_at config w) to))
+      ∙ sym (view_word config before w word))
+      (λ (no : is_word config w ≡ false). view_none config after w no ∙ sym (view_none config before w no))
+      (cases_Bool (is_word config w))

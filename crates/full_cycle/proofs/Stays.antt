@@ -28,83 +28,83 @@ use Rattle.full_cycle.proofs.Shut.{row_is_pinned}
 use Rattle.full_cycle.proofs.Slices.{in_first_rows}
 
 -- What is kept in a pinned region begins where the walk comes, below the top, as an object that has not moved.
-pub record BeginsThere (c : Config) (m : Word → ℕ) (r a : ℕ) : Type 0 where
-  pub begun : start_of (λ x. m (Heap x)) (base_of c r) (a - base_of c r) ≡ a - base_of c r
-  pub below : a < base_of c r + m (Top r)
-  pub header : m (Heap a) ≡ plain_header
+pub record BeginsThere (config : Config) (memory : Word → ℕ) (region address : ℕ) : Type 0 where
+  pub begun : start_of (λ x. memory (Heap x)) (base_of config region) (address - base_of config region) ≡ address - base_of config region
+  pub below : address < base_of config region + memory (Top region)
+  pub header : memory (Heap address) ≡ plain_header
 
 abbrev pub KeptBegin : Config → (Word → ℕ) → Type 0
-KeptBegin c m = (r a : ℕ) → r < c.regions → is_pinned c m r ≡ true → base_of c r ≤ a → a < base_of c r + c.region_words → 0 < kept_in c m a → BeginsThere c m r a
+KeptBegin config memory = (region a : ℕ) → region < config.regions → is_pinned config memory region ≡ true → base_of config region ≤ a → a < base_of config region + config.region_words → 0 < kept_in config memory a → BeginsThere config memory region a
 
 -- the region of an address of the heap
-pub own_region : (c : Config) (a : ℕ) → c.region_words ≤ a → (base_of c (region_with c a) ≤ a) × (a < base_of c (region_with c a) + c.region_words)
-own_region c a above =
-    let row : (region_with c a + 1) * c.region_words ≡ a / c.region_words * c.region_words = ap (λ k. k * c.region_words) (row_above c a above) in
-    (base_below c a above, omega (arith, row, div-add-mod' a c.region_words, mod_below a c.region_words (omega (arith, c.in_range.least_words))))
+pub own_region : (config : Config) (address : ℕ) → config.region_words ≤ address → (base_of config (region_with config address) ≤ address) × (address < base_of config (region_with config address) + config.region_words)
+own_region config address above =
+    let row : (region_with config address + 1) * config.region_words ≡ address / config.region_words * config.region_words = ap (λ k. k * config.region_words) (row_above config address above) in
+    (base_below config address above, omega (arith, row, div-add-mod' address config.region_words, mod_below address config.region_words (omega (arith, config.in_range.least_words))))
 
 -- an address in use lies above the base of its region and below the top
-pub used_parts : (c : Config) (m : Word → ℕ) (a : ℕ) → is_in_use c m a ≡ true
-    → (c.region_words ≤ a) × (region_with c a < c.regions) × (a - base_of c (region_with c a) < m (Top (region_with c a)))
-used_parts c m a is =
-    let region = region_with c a in
-    let low = and_parts (nat_le c.region_words a) (nat_lt region c.regions && nat_lt (a - base_of c region) (m (Top region))) is in
-    let rest = and_parts (nat_lt region c.regions) (nat_lt (a - base_of c region) (m (Top region))) low.1 in
-    (leb-true c.region_words a low.0, ltb-true region c.regions rest.0, ltb-true (a - base_of c region) (m (Top region)) rest.1)
+pub used_parts : (config : Config) (memory : Word → ℕ) (a : ℕ) → is_in_use config memory a ≡ true
+    → (config.region_words ≤ a) × (region_with config a < config.regions) × (a - base_of config (region_with config a) < memory (Top (region_with config a)))
+used_parts config memory a is =
+    let region = region_with config a in
+    let low = and_parts (nat_le config.region_words a) (nat_lt region config.regions && nat_lt (a - base_of config region) (memory (Top region))) is in
+    let rest = and_parts (nat_lt region config.regions) (nat_lt (a - base_of config region) (memory (Top region))) low.1 in
+    (leb-true config.region_words a low.0, ltb-true region config.regions rest.0, ltb-true (a - base_of config region) (memory (Top region)) rest.1)
 
-pub begins_there : (c : Config) (m : Word → ℕ) (r a : ℕ) → base_of c r ≤ a → a < base_of c r + c.region_words → begins c m a ≡ true → m (Heap a) ≡ plain_header → BeginsThere c m r a
-begins_there c m r a low high is header =
-    let parts = and_parts (is_in_use c m a) (object_of c m a == a) is in
-    let of : region_with c a ≡ r = regions_tile.of_no_other c r a (record { from = low; before = high }) in
-    let object : base_of c r + start_of (λ x. m (Heap x)) (base_of c r) (a - base_of c r) ≡ a =
-    subst (λ q. base_of c q + start_of (λ x. m (Heap x)) (base_of c q) (a - base_of c q) ≡ a) of (eqb-true (object_of c m a) a parts.1) in
-    let below : a - base_of c r < m (Top r) = subst (λ q. a - base_of c q < m (Top q)) of (used_parts c m a parts.0).2 in
+pub begins_there : (config : Config) (memory : Word → ℕ) (region address : ℕ) → base_of config region ≤ address → address < base_of config region + config.region_words → begins config memory address ≡ true → memory (Heap address) ≡ plain_header → BeginsThere config memory region address
+begins_there config memory region address low high is header =
+    let parts = and_parts (is_in_use config memory address) (object_of config memory address == address) is in
+    let of : region_with config address ≡ region = regions_tile.of_no_other config region address (record { from = low; before = high }) in
+    let object : base_of config region + start_of (λ x. memory (Heap x)) (base_of config region) (address - base_of config region) ≡ address =
+    subst (λ q. base_of config q + start_of (λ x. memory (Heap x)) (base_of config q) (address - base_of config q) ≡ address) of (eqb-true (object_of config memory address) address parts.1) in
+    let below : address - base_of config region < memory (Top region) = subst (λ q. address - base_of config q < memory (Top q)) of (used_parts config memory address parts.0).2 in
     record { begun = omega (arith, object, low); below = omega (arith, below, low); header = header }
 
-module _ (c : Config) (m : Word → ℕ) (can : CanCollect c m) (begin : KeptBegin c m) where
+module _ (config : Config) (memory : Word → ℕ) (can : CanCollect config memory) (begin : KeptBegin config memory) where
   abbrev pub shut : ℕ → Bool
-  shut = is_row_pinned c m
+  shut = is_row_pinned config memory
 
   abbrev pub kept : ℕ → ℕ
-  kept = kept_in c m
+  kept = kept_in config memory
 
   abbrev pub place : ℕ → ℕ
-  place = place_in c shut kept
+  place = place_in config shut kept
 
   abbrev pub renew : ℕ → ℕ
-  renew = renewed place (now_in m)
+  renew = renewed place (now_in memory)
 
   abbrev pub old : ℕ → ℕ
-  old x = m (Heap x)
+  old address = memory (Heap address)
 
   -- the words once the kept objects were moved
   abbrev pub moved : Word → ℕ
-  moved = moved_in c shut (now_in m) kept m
+  moved = moved_in config shut (now_in memory) kept memory
 
   abbrev w : ℕ
-  w = c.region_words
+  w = config.region_words
 
   in_rows : (a : ℕ) → 0 < kept a → a < 65 * w
-  in_rows a some = in_first_rows c a (kept a) some (can.inside a some)
+  in_rows a some = in_first_rows config a (kept a) some (can.inside a some)
 
-  heap_is : IsSlidTo (heap_end c) w place kept renew old (λ x. moved (Heap x))
+  heap_is : IsSlidTo (heap_end config) w place kept renew old (λ x. moved (Heap x))
   unfolding moved_heap
-  heap_is = slid_is place kept renew old (places_apart w shut kept can.apart in_rows) w (heap_end c)
+  heap_is = slid_is place kept renew old (places_apart w shut kept can.apart in_rows) w (heap_end config)
 
-  module _ (r : ℕ) (inside : r < c.regions) (pinned : is_pinned c m r ≡ true) where
+  module _ (region : ℕ) (inside : region < config.regions) (pinned : is_pinned config memory region ≡ true) where
     abbrev base : ℕ
-    base = base_of c r
+    base = base_of config region
 
     abbrev start : ℕ → ℕ
     start = start_of old base
 
-    pub closed : shut (r + 1) ≡ true
-    closed = row_pinned c m r inside pinned
+    pub closed : shut (region + 1) ≡ true
+    closed = row_pinned config memory region inside pinned
 
     row : (x : ℕ) → base ≤ x → x < base + w → shut (x / w) ≡ true
-    row x low high = ap shut (row_is c.region_words r x low high) ∙ closed
+    row x low high = ap shut (row_is config.region_words region x low high) ∙ closed
 
-    within : m (Top r) ≤ w
-    within = (can.fills r inside pinned).within
+    within : memory (Top region) ≤ w
+    within = (can.fills region inside pinned).within
 
     -- a kept object there stays
     stays : (a : ℕ) → base ≤ a → a < base + w → place a ≡ a
@@ -114,19 +114,19 @@ module _ (c : Config) (m : Word → ℕ) (can : CanCollect c m) (begin : KeptBeg
     kept_word a i low high few =
         let some : 0 < kept a = omega (arith, few) in
         let at : place a + i ≡ a + i = ap (λ p. p + i) (stays a low high) in
-        let below : a < heap_end c = omega (arith, can.inside a some, some) in
+        let below : a < heap_end config = omega (arith, can.inside a some, some) in
         ap (λ x. moved (Heap x)) (sym at) ∙ heap_is.moved a i below few
 
     -- it is the one whose words the walk finds there
     pub kept_size : (a : ℕ) → base ≤ a → a < base + w → 0 < kept a → stride_at old (base + (a - base)) ≡ kept a
     kept_size a low high some =
-        let is = begin r a inside pinned low high some in
+        let is = begin region a inside pinned low high some in
         let at : base + (a - base) ≡ a = omega (arith, low) in
-        ap (stride_at old) at ∙ cond-false (is_filler (old a)) (old a / 4) (object_words (old (a + 1))) (ap is_filler is.header) ∙ sym (kept_is c m a some)
+        ap (stride_at old) at ∙ cond-false (is_filler (old a)) (old a / 4) (object_words (old (a + 1))) (ap is_filler is.header) ∙ sym (kept_is config memory a some)
 
     pub owner : (a x : ℕ) → base ≤ a → a < base + w → 0 < kept a → a ≤ x → x < a + kept a → start (x - base) ≡ a - base
     owner a x low high some first last =
-        let is = begin r a inside pinned low high some in
+        let is = begin region a inside pinned low high some in
         let size = kept_size a low high some in
         let at : a - base + (x - a) ≡ x - base = omega (arith, low, first) in
         ap start (sym at) ∙ starts_within old base (a - base) (x - a) is.begun (omega (arith, size, first, last))
@@ -140,148 +140,148 @@ module _ (c : Config) (m : Word → ℕ) (can : CanCollect c m) (begin : KeptBeg
         let kind : shut (place a / w) ≡ shut (a / w) = same_kind w shut kept can.apart in_rows a some in
         let here : shut (a / w) ≡ true = sym kind ∙ ap shut (sym one) ∙ row x low high in
         let there : place a ≡ a = new_shut w shut kept a here in
-        let number : a / w ≡ r + 1 = ap (λ k. k / w) (sym there) ∙ sym one ∙ row_is c.region_words r x low high in
-        let rows : a / w * w ≡ (r + 1) * w = ap (λ k. k * w) number in
+        let number : a / w ≡ region + 1 = ap (λ k. k / w) (sym there) ∙ sym one ∙ row_is config.region_words region x low high in
+        let rows : a / w * w ≡ (region + 1) * w = ap (λ k. k * w) number in
         (omega (arith, rows, div-add-mod' a w), omega (arith, rows, div-add-mod' a w, mod_below a w can.apart.some), omega (arith, same, there))
 
-    pub other_word : (x : ℕ) → base ≤ x → x < base + w → ((a : ℕ) → base ≤ a → a < base + w → 0 < kept a → a ≤ x → x < a + kept a → ⊥) → moved (Heap x) ≡ m (Heap x)
-    other_word x low high none = heap_is.others x (omega (arith, low)) (λ a i below few same.
-        let from_here = comes_from a i x low high few same in
+    pub other_word : (address : ℕ) → base ≤ address → address < base + w → ((a : ℕ) → base ≤ a → a < base + w → 0 < kept a → a ≤ address → address < a + kept a → ⊥) → moved (Heap address) ≡ memory (Heap address)
+    other_word address low high none = heap_is.others address (omega (arith, low)) (λ a i below few same.
+        let from_here = comes_from a i address low high few same in
         none a from_here.0 from_here.1 (omega (arith, few)) (omega (arith, from_here.2)) (omega (arith, from_here.2, few)))
 
-    pub unkept_word : (x : ℕ) → base ≤ x → x < base + w → kept (base + start (x - base)) ≡ 0 → moved (Heap x) ≡ m (Heap x)
-    unkept_word x low high not_kept = other_word x low high (λ a from_base to_end some first last.
-        let at : base + start (x - base) ≡ a = omega (arith, owner a x from_base to_end some first last, from_base) in
+    pub unkept_word : (address : ℕ) → base ≤ address → address < base + w → kept (base + start (address - base)) ≡ 0 → moved (Heap address) ≡ memory (Heap address)
+    unkept_word address low high not_kept = other_word address low high (λ a from_base to_end some first last.
+        let at : base + start (address - base) ≡ a = omega (arith, owner a address from_base to_end some first last, from_base) in
         omega (arith, ap kept at, not_kept, some))
 
     -- what begins there is as long as before
     begun_at : (s : ℕ) → start s ≡ s → base + start (base + s - base) ≡ base + s
     begun_at s is = let back : base + s - base ≡ s = omega arith in ap (λ k. base + start k) back ∙ ap (λ k. base + k) is
 
-    unkept_header : (s : ℕ) → start s ≡ s → s < m (Top r) → kept (base + s) ≡ 0 → moved (Heap (base + s)) ≡ m (Heap (base + s))
+    unkept_header : (s : ℕ) → start s ≡ s → s < memory (Top region) → kept (base + s) ≡ 0 → moved (Heap (base + s)) ≡ memory (Heap (base + s))
     unkept_header s is below not_kept = unkept_word (base + s) (omega arith) (omega (arith, below, within)) (ap kept (begun_at s is) ∙ not_kept)
 
-    unkept_shape : (s : ℕ) → start s ≡ s → s < m (Top r) → kept (base + s) ≡ 0 → is_filler (m (Heap (base + s))) ≡ false → moved (Heap (base + s + 1)) ≡ m (Heap (base + s + 1))
+    unkept_shape : (s : ℕ) → start s ≡ s → s < memory (Top region) → kept (base + s) ≡ 0 → is_filler (memory (Heap (base + s))) ≡ false → moved (Heap (base + s + 1)) ≡ memory (Heap (base + s + 1))
     unkept_shape s is below not_kept object =
-        let size : stride_at old (base + s) ≡ object_words (m (Heap (base + s + 1))) = cond-false (is_filler (old (base + s))) (old (base + s) / 4) (object_words (old (base + s + 1))) object in
-        let ends = (can.fills r inside pinned).ends s below is in
+        let size : stride_at old (base + s) ≡ object_words (memory (Heap (base + s + 1))) = cond-false (is_filler (old (base + s))) (old (base + s) / 4) (object_words (old (base + s + 1))) object in
+        let ends = (can.fills region inside pinned).ends s below is in
         let next : base + s + 1 - base ≡ s + 1 = omega arith in
         let of_it : start (base + s + 1 - base) ≡ s = ap start next ∙ starts_within old base s 1 is (omega (arith, size)) in
         unkept_word (base + s + 1) (omega arith) (omega (arith, ends, size, within)) (ap (λ k. kept (base + k)) of_it ∙ not_kept)
 
-    unkept_stride : (s : ℕ) → start s ≡ s → s < m (Top r) → kept (base + s) ≡ 0 → stride_at (λ x. moved (Heap x)) (base + s) ≡ stride_at old (base + s)
+    unkept_stride : (s : ℕ) → start s ≡ s → s < memory (Top region) → kept (base + s) ≡ 0 → stride_at (λ x. moved (Heap x)) (base + s) ≡ stride_at old (base + s)
     unkept_stride s is below not_kept =
         let header = unkept_header s is below not_kept in
         ⊎_elim
-        (λ (fills : is_filler (m (Heap (base + s))) ≡ true).
+        (λ (fills : is_filler (memory (Heap (base + s))) ≡ true).
         cond-true (is_filler (moved (Heap (base + s)))) (moved (Heap (base + s)) / 4) (object_words (moved (Heap (base + s + 1)))) (ap is_filler header ∙ fills)
         ∙ ap (λ h. h / 4) header
-        ∙ sym (cond-true (is_filler (m (Heap (base + s)))) (m (Heap (base + s)) / 4) (object_words (m (Heap (base + s + 1)))) fills))
-        (λ (object : is_filler (m (Heap (base + s))) ≡ false).
+        ∙ sym (cond-true (is_filler (memory (Heap (base + s)))) (memory (Heap (base + s)) / 4) (object_words (memory (Heap (base + s + 1)))) fills))
+        (λ (object : is_filler (memory (Heap (base + s))) ≡ false).
         cond-false (is_filler (moved (Heap (base + s)))) (moved (Heap (base + s)) / 4) (object_words (moved (Heap (base + s + 1)))) (ap is_filler header ∙ object)
         ∙ ap object_words (unkept_shape s is below not_kept object)
-        ∙ sym (cond-false (is_filler (m (Heap (base + s)))) (m (Heap (base + s)) / 4) (object_words (m (Heap (base + s + 1)))) object))
-        (cases_Bool (is_filler (m (Heap (base + s)))))
+        ∙ sym (cond-false (is_filler (memory (Heap (base + s)))) (memory (Heap (base + s)) / 4) (object_words (memory (Heap (base + s + 1)))) object))
+        (cases_Bool (is_filler (memory (Heap (base + s)))))
 
     pub kept_header : (a : ℕ) → base ≤ a → a < base + w → 0 < kept a → moved (Heap a) ≡ plain_header
     kept_header a low high some = let first : a + 0 ≡ a = omega arith in ap (λ x. moved (Heap x)) (sym first) ∙ kept_word a 0 low high some
 
-    pub kept_shape : (a : ℕ) → base ≤ a → a < base + w → 0 < kept a → moved (Heap (a + 1)) ≡ m (Heap (a + 1))
-    kept_shape a low high some = kept_word a 1 low high (let size = kept_is c m a some in omega (arith, size))
+    pub kept_shape : (a : ℕ) → base ≤ a → a < base + w → 0 < kept a → moved (Heap (a + 1)) ≡ memory (Heap (a + 1))
+    kept_shape a low high some = kept_word a 1 low high (let size = kept_is config memory a some in omega (arith, size))
 
-    pub kept_name : (a : ℕ) → base ≤ a → a < base + w → 0 < kept a → moved (Heap (a + 2)) ≡ m (Heap (a + 2))
-    kept_name a low high some = kept_word a 2 low high (let size = kept_is c m a some in omega (arith, size))
+    pub kept_name : (a : ℕ) → base ≤ a → a < base + w → 0 < kept a → moved (Heap (a + 2)) ≡ memory (Heap (a + 2))
+    kept_name a low high some = kept_word a 2 low high (let size = kept_is config memory a some in omega (arith, size))
 
-    kept_stride : (s : ℕ) → s < m (Top r) → 0 < kept (base + s) → stride_at (λ x. moved (Heap x)) (base + s) ≡ stride_at old (base + s)
+    kept_stride : (s : ℕ) → s < memory (Top region) → 0 < kept (base + s) → stride_at (λ x. moved (Heap x)) (base + s) ≡ stride_at old (base + s)
     kept_stride s below some =
         let low : base ≤ base + s = omega arith in
         let high : base + s < base + w = omega (arith, below, within) in
-        let is = begin r (base + s) inside pinned low high some in
+        let is = begin region (base + s) inside pinned low high some in
         cond-false (is_filler (moved (Heap (base + s)))) (moved (Heap (base + s)) / 4) (object_words (moved (Heap (base + s + 1)))) (ap is_filler (kept_header (base + s) low high some))
         ∙ ap object_words (kept_shape (base + s) low high some)
-        ∙ sym (cond-false (is_filler (m (Heap (base + s)))) (m (Heap (base + s)) / 4) (object_words (m (Heap (base + s + 1)))) (ap is_filler is.header))
+        ∙ sym (cond-false (is_filler (memory (Heap (base + s)))) (memory (Heap (base + s)) / 4) (object_words (memory (Heap (base + s + 1)))) (ap is_filler is.header))
 
-    same_stride : (s : ℕ) → start s ≡ s → s < m (Top r) → stride_at (λ x. moved (Heap x)) (base + s) ≡ stride_at old (base + s)
+    same_stride : (s : ℕ) → start s ≡ s → s < memory (Top region) → stride_at (λ x. moved (Heap x)) (base + s) ≡ stride_at old (base + s)
     same_stride s is below = ⊎_elim
         (λ (not_kept : kept (base + s) ≡ 0). unkept_stride s is below not_kept)
         (λ (some : kept (base + s) ≢ 0). kept_stride s below (omega (arith, some)))
         (cases_eq (kept (base + s)) 0)
 
-    same_start : (k : ℕ) → k < m (Top r) → start_of (λ x. moved (Heap x)) base k ≡ start k
-    same_start k below = same_starts old (λ x. moved (Heap x)) base (m (Top r)) same_stride k below
+    same_start : (k : ℕ) → k < memory (Top region) → start_of (λ x. moved (Heap x)) base k ≡ start k
+    same_start k below = same_starts old (λ x. moved (Heap x)) base (memory (Top region)) same_stride k below
 
-    pub moved_top : moved (Top r) ≡ m (Top r)
-    moved_top = cond-true (shut (r + 1)) (m (Top r)) (packed_top c shut kept r) closed
+    pub moved_top : moved (Top region) ≡ memory (Top region)
+    moved_top = cond-true (shut (region + 1)) (memory (Top region)) (packed_top config shut kept region) closed
 
     -- so what is left over can be filled still
-    pub can_fill : CanFill c moved r
+    pub can_fill : CanFill config moved region
     can_fill = record {
       within = omega (arith, moved_top, within);
       ends = λ k below begins.
-          let low : k < m (Top r) = omega (arith, moved_top, below) in
+          let low : k < memory (Top region) = omega (arith, moved_top, below) in
           let is : start k ≡ k = sym (same_start k low) ∙ begins in
-          let ends = (can.fills r inside pinned).ends k low is in
+          let ends = (can.fills region inside pinned).ends k low is in
           omega (arith, ends, same_stride k is low, moved_top);
     }
 
   -- what is left over at an address
-  module _ (a : ℕ) (inside : region_with c a < c.regions) (pinned : is_pinned c m (region_with c a) ≡ true) where
+  module _ (a : ℕ) (inside : region_with config a < config.regions) (pinned : is_pinned config memory (region_with config a) ≡ true) where
     abbrev q : ℕ
-    q = region_with c a
+    q = region_with config a
 
-    in_use_same : is_in_use c moved a ≡ is_in_use c m a
-    in_use_same = ap (λ t. nat_le w a && (nat_lt q c.regions && nat_lt (a - base_of c q) t)) (moved_top q inside pinned)
+    in_use_same : is_in_use config moved a ≡ is_in_use config memory a
+    in_use_same = ap (λ t. nat_le w a && (nat_lt q config.regions && nat_lt (a - base_of config q) t)) (moved_top q inside pinned)
 
-    begins_same : begins c moved a ≡ begins c m a
+    begins_same : begins config moved a ≡ begins config memory a
     begins_same = ⊎_elim
-        (λ (used : is_in_use c m a ≡ true).
-        let object : object_of c moved a ≡ object_of c m a = ap (λ k. base_of c q + k) (same_start q inside pinned (a - base_of c q) (used_parts c m a used).2) in
-        ap (λ b. b && (object_of c moved a == a)) in_use_same ∙ ap (λ o. is_in_use c m a && (o == a)) object)
-        (λ (unused : is_in_use c m a ≡ false).
-        and_left (is_in_use c moved a) (object_of c moved a == a) (in_use_same ∙ unused) ∙ sym (and_left (is_in_use c m a) (object_of c m a == a) unused))
-        (cases_Bool (is_in_use c m a))
+        (λ (used : is_in_use config memory a ≡ true).
+        let object : object_of config moved a ≡ object_of config memory a = ap (λ k. base_of config q + k) (same_start q inside pinned (a - base_of config q) (used_parts config memory a used).2) in
+        ap (λ b. b && (object_of config moved a == a)) in_use_same ∙ ap (λ o. is_in_use config memory a && (o == a)) object)
+        (λ (unused : is_in_use config memory a ≡ false).
+        and_left (is_in_use config moved a) (object_of config moved a == a) (in_use_same ∙ unused) ∙ sym (and_left (is_in_use config memory a) (object_of config memory a == a) unused))
+        (cases_Bool (is_in_use config memory a))
 
-    module _ (begun_here : begins c m a ≡ true) where
+    module _ (begun_here : begins config memory a ≡ true) where
       abbrev offset : ℕ
-      offset = a - base_of c q
+      offset = a - base_of config q
 
-      parts : (is_in_use c m a ≡ true) × ((object_of c m a == a) ≡ true)
-      parts = and_parts (is_in_use c m a) (object_of c m a == a) begun_here
+      parts : (is_in_use config memory a ≡ true) × ((object_of config memory a == a) ≡ true)
+      parts = and_parts (is_in_use config memory a) (object_of config memory a == a) begun_here
 
-      used : (w ≤ a) × (q < c.regions) × (offset < m (Top q))
-      used = used_parts c m a parts.0
+      used : (w ≤ a) × (q < config.regions) × (offset < memory (Top q))
+      used = used_parts config memory a parts.0
 
-      low : base_of c q ≤ a
-      low = (own_region c a used.0).0
+      low : base_of config q ≤ a
+      low = (own_region config a used.0).0
 
-      at : base_of c q + offset ≡ a
+      at : base_of config q + offset ≡ a
       at = omega (arith, low)
 
-      is : start_of old (base_of c q) offset ≡ offset
-      is = (let object = eqb-true (object_of c m a) a parts.1 in omega (arith, object, low))
+      is : start_of old (base_of config q) offset ≡ offset
+      is = (let object = eqb-true (object_of config memory a) a parts.1 in omega (arith, object, low))
 
-      unkept_same : kept a ≡ 0 → moved (Heap a) ≡ m (Heap a)
+      unkept_same : kept a ≡ 0 → moved (Heap a) ≡ memory (Heap a)
       unkept_same none =
-          ap (λ x. moved (Heap x)) (sym at) ∙ unkept_header q inside pinned offset is used.2 (ap kept at ∙ none) ∙ ap (λ x. m (Heap x)) at
+          ap (λ x. moved (Heap x)) (sym at) ∙ unkept_header q inside pinned offset is used.2 (ap kept at ∙ none) ∙ ap (λ x. memory (Heap x)) at
 
-      left_same : (found : List ℕ) → found ≡ held_in c m → is_left_over moved found NotFound a ≡ is_unkept kept m a
+      left_same : (found : List ℕ) → found ≡ held_in config memory → is_left_over moved found NotFound a ≡ is_unkept kept memory a
       left_same found held = ⊎_elim
-          (λ (kept_here : has (held_in c m) a ≡ true).
-          let some : kept a ≡ object_words (m (Heap (a + 1))) = cond-true (has (held_in c m) a) (object_words (m (Heap (a + 1)))) 0 kept_here in
+          (λ (kept_here : has (held_in config memory) a ≡ true).
+          let some : kept a ≡ object_words (memory (Heap (a + 1))) = cond-true (has (held_in config memory) a) (object_words (memory (Heap (a + 1)))) 0 kept_here in
           and_right (not (is_filler (moved (Heap a)))) (not (has found a)) (ap (λ xs. not (has xs a)) held ∙ ap not kept_here)
-          ∙ sym (and_right (not (is_filler (m (Heap a)))) (kept a == 0) (ne_eqb (kept a) 0 (λ none. omega (arith, none, some)))))
-          (λ (none : has (held_in c m) a ≡ false).
-          let kept_none : kept a ≡ 0 = cond-false (has (held_in c m) a) (object_words (m (Heap (a + 1)))) 0 none in
+          ∙ sym (and_right (not (is_filler (memory (Heap a)))) (kept a == 0) (ne_eqb (kept a) 0 (λ none. omega (arith, none, some)))))
+          (λ (none : has (held_in config memory) a ≡ false).
+          let kept_none : kept a ≡ 0 = cond-false (has (held_in config memory) a) (object_words (memory (Heap (a + 1)))) 0 none in
           ap (λ h. not (is_filler h) && not (has found a)) (unkept_same kept_none)
-          ∙ ap (λ b. not (is_filler (m (Heap a))) && b) (ap (λ xs. not (has xs a)) held ∙ ap not none ∙ sym (eq-eqb (kept a) 0 kept_none)))
-          (cases_Bool (has (held_in c m) a))
+          ∙ ap (λ b. not (is_filler (memory (Heap a))) && b) (ap (λ xs. not (has xs a)) held ∙ ap not none ∙ sym (eq-eqb (kept a) 0 kept_none)))
+          (cases_Bool (has (held_in config memory) a))
 
-      shape_same : is_unkept kept m a ≡ true → moved (Heap (a + 1)) ≡ m (Heap (a + 1))
+      shape_same : is_unkept kept memory a ≡ true → moved (Heap (a + 1)) ≡ memory (Heap (a + 1))
       shape_same left =
-          let both = and_parts (not (is_filler (m (Heap a)))) (kept a == 0) left in
-          let none : kept (base_of c q + offset) ≡ 0 = ap kept at ∙ eqb-true (kept a) 0 both.1 in
-          let object : is_filler (m (Heap (base_of c q + offset))) ≡ false = ap (λ x. is_filler (m (Heap x))) at ∙ not-true (is_filler (m (Heap a))) both.0 in
-          ap (λ x. moved (Heap (x + 1))) (sym at) ∙ unkept_shape q inside pinned offset is used.2 none object ∙ ap (λ x. m (Heap (x + 1))) at
+          let both = and_parts (not (is_filler (memory (Heap a)))) (kept a == 0) left in
+          let none : kept (base_of config q + offset) ≡ 0 = ap kept at ∙ eqb-true (kept a) 0 both.1 in
+          let object : is_filler (memory (Heap (base_of config q + offset))) ≡ false = ap (λ x. is_filler (memory (Heap x))) at ∙ not-true (is_filler (memory (Heap a))) both.0 in
+          ap (λ x. moved (Heap (x + 1))) (sym at) ∙ unkept_shape q inside pinned offset is used.2 none object ∙ ap (λ x. memory (Heap (x + 1))) at
 
 -- of two choices, whose tests say the same
 chosen : (new_test old_test new_begins old_begins new_left old_left : Bool) (new_value old_value y : ℕ) → new_test ≡ old_test → (old_test ≡ true → new_begins ≡ old_begins) → (old_test ≡ true → old_begins ≡ true → new_left ≡ old_left) → (old_test ≡ true → old_begins ≡ true → old_left ≡ true → new_value ≡ old_value)
@@ -294,20 +294,20 @@ chosen new_test true new_begins true new_left true new_value old_value y same be
     ap (λ b. cond (b && new_begins && new_left) new_value y) same ∙ ap (λ b. cond (true && b && new_left) new_value y) (begun refl) ∙ ap (λ b. cond (true && true && b) new_value y) (left refl refl) ∙ shape refl refl refl
 
 -- So filling what is left over makes of the heap what packing makes of it.
-module _ (c : Config) (m : Word → ℕ) (can : CanCollect c m) (begin : KeptBegin c m) where
+module _ (config : Config) (memory : Word → ℕ) (can : CanCollect config memory) (begin : KeptBegin config memory) where
   abbrev filled : Word → ℕ
-  filled = filled_in c (is_pinned_below c (moved c m can begin) c.regions) (is_left_over (moved c m can begin) (held_in c m) NotFound) (moved c m can begin)
+  filled = filled_in config (is_pinned_below config (moved config memory can begin) config.regions) (is_left_over (moved config memory can begin) (held_in config memory) NotFound) (moved config memory can begin)
 
-  pub filled_is : (a : ℕ) → filled (Heap a) ≡ packed c (is_row_pinned c m) (now_in m) (kept_in c m) m (Heap a)
+  pub filled_is : (address : ℕ) → filled (Heap address) ≡ packed config (is_row_pinned config memory) (now_in memory) (kept_in config memory) memory (Heap address)
   unfolding packed
-  filled_is a =
-      let region = region_with c a in
-      let inside : (nat_lt region c.regions && is_pinned c m region) ≡ true → (region < c.regions) × (is_pinned c m region ≡ true) =
-      λ is. (let both = and_parts (nat_lt region c.regions) (is_pinned c m region) is in (ltb-true region c.regions both.0, both.1)) in
-      chosen (is_pinned_below c (moved c m can begin) c.regions region) (is_row_pinned c m (region + 1)) (begins c (moved c m can begin) a) (begins c m a)
-      (is_left_over (moved c m can begin) (held_in c m) NotFound a) (is_unkept (kept_in c m) m a)
-      (filler_header (object_words (moved c m can begin (Heap (a + 1))))) (filler_header (object_words (m (Heap (a + 1))))) (moved c m can begin (Heap a))
-      (sym (row_is_pinned c m region))
-      (λ shut_row. (let is = inside (sym (row_is_pinned c m region) ∙ shut_row) in begins_same c m can begin a is.0 is.1))
-      (λ shut_row begun. (let is = inside (sym (row_is_pinned c m region) ∙ shut_row) in left_same c m can begin a is.0 is.1 begun (held_in c m) refl))
-      (λ shut_row begun left. (let is = inside (sym (row_is_pinned c m region) ∙ shut_row) in ap (λ s. filler_header (object_words s)) (shape_same c m can begin a is.0 is.1 begun left)))
+  filled_is address =
+      let region = region_with config address in
+      let inside : (nat_lt region config.regions && is_pinned config memory region) ≡ true → (region < config.regions) × (is_pinned config memory region ≡ true) =
+      λ is. (let both = and_parts (nat_lt region config.regions) (is_pinned config memory region) is in (ltb-true region config.regions both.0, both.1)) in
+      chosen (is_pinned_below config (moved config memory can begin) config.regions region) (is_row_pinned config memory (region + 1)) (begins config (moved config memory can begin) address) (begins config memory address)
+      (is_left_over (moved config memory can begin) (held_in config memory) NotFound address) (is_unkept (kept_in config memory) memory address)
+      (filler_header (object_words (moved config memory can begin (Heap (address + 1))))) (filler_header (object_words (memory (Heap (address + 1))))) (moved config memory can begin (Heap address))
+      (sym (row_is_pinned config memory region))
+      (λ shut_row. (let is = inside (sym (row_is_pinned config memory region) ∙ shut_row) in begins_same config memory can begin address is.0 is.1))
+      (λ shut_row begun. (let is = inside (sym (row_is_pinned config memory region) ∙ shut_row) in left_same config memory can begin address is.0 is.1 begun (held_in config memory) refl))
+      (λ shut_row begun left. (let is = inside (sym (row_is_pinned config memory region) ∙ shut_row) in ap (λ s. filler_header (object_words s)) (shape_same config memory can begin address is.0 is.1 begun left)))

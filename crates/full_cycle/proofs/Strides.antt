@@ -12,19 +12,19 @@ use Rattle.image_graph.proofs.Loosening.Loosened.{kind_of}
 pub filler_fills : (words : ℕ) → is_filler (filler_header words) ≡ true
 filler_fills words = eq-eqb _ 2 (omega arith)
 
-module _ (m : Word → ℕ) (block : Plot) (sized : AreSized m block) (none : HasNoRoom block) where
-  fills : (a words : ℕ) → block a ≡ Some (filler words) → stride_at (λ y. m (Heap y)) a ≡ words
-  fills a words here =
-      let header = sized.fillers a words here in
+module _ (memory : Word → ℕ) (block : Plot) (sized : AreSized memory block) (none : HasNoRoom block) where
+  fills : (address words : ℕ) → block address ≡ Some (filler words) → stride_at (λ y. memory (Heap y)) address ≡ words
+  fills address words here =
+      let header = sized.fillers address words here in
       let quarter : filler_header words / 4 ≡ words = omega arith in
-      cond-true (is_filler (m (Heap a))) (m (Heap a) / 4) (object_words (m (Heap (a + 1)))) (ap is_filler header ∙ filler_fills words) ∙ ap (λ k. k / 4) header ∙ quarter
+      cond-true (is_filler (memory (Heap address))) (memory (Heap address) / 4) (object_words (memory (Heap (address + 1)))) (ap is_filler header ∙ filler_fills words) ∙ ap (λ k. k / 4) header ∙ quarter
 
-  pub strides : (a : ℕ) (x : Block) → block a ≡ Some x → stride_at (λ y. m (Heap y)) a ≡ words_of x
-  strides a x here = ⊎_elim
-      (λ (fixed : is_loose x ≡ false).
-      cond-false (is_filler (m (Heap a))) (m (Heap a) / 4) (object_words (m (Heap (a + 1)))) (sized.headers a x here fixed) ∙ sized.objects a x here fixed)
+  pub strides : (address : ℕ) (piece : Block) → block address ≡ Some piece → stride_at (λ y. memory (Heap y)) address ≡ words_of piece
+  strides address piece here = ⊎_elim
+      (λ (fixed : is_loose piece ≡ false).
+      cond-false (is_filler (memory (Heap address))) (memory (Heap address) / 4) (object_words (memory (Heap (address + 1)))) (sized.headers address piece here fixed) ∙ sized.objects address piece here fixed)
       (λ loose. ⊎_elim
-      (λ (room : (seat : ℕ) × (room_of x ≡ Some seat)). absurd (none a room.0 x here room.1))
-      (λ (only : (words : ℕ) × (x ≡ filler words)). fills a only.0 (here ∙ ap Some only.1) ∙ sym (ap words_of only.1))
+      (λ (room : (seat : ℕ) × (room_of piece ≡ Some seat)). absurd (none address room.0 piece here room.1))
+      (λ (only : (words : ℕ) × (piece ≡ filler words)). fills address only.0 (here ∙ ap Some only.1) ∙ sym (ap words_of only.1))
       loose)
-      (kind_of x)
+      (kind_of piece)

@@ -6,43 +6,43 @@ use Rattle.heap_words.specs.Words.{Word, Pause, Left, End, State, Phase, Cset, F
 use Rattle.full_cycle.specs.Steps.{renewed_by, roots_renewed, calm, IsChanged}
 use Rattle.full_cycle.proofs.Rows.{hit, miss}
 
-module _ (c : Config) (old first_done second_done third_done fourth_done all_done : List ℕ)
-    (first_cleared : IsChanged (word_at c Phase) (word_at c Free) (λ word. 0) old first_done)
-    (second_cleared : IsChanged (word_at c Evac) (word_at c (Top 0)) (λ word. 0) first_done second_done)
-    (third_cleared : IsChanged (word_at c (Tams 0)) (word_at c (Root 0 0)) (λ word. 0) second_done third_done)
-    (fourth_cleared : IsChanged (word_at c (Count 0)) (word_at c (Buffer 0 0)) (λ word. 0) third_done fourth_done)
-    (fifth_cleared : IsChanged (word_at c (Grey 0)) (heap_start c) (λ word. 0) fourth_done all_done) where
-  phase_hit : (w : Word) → (IsWord c w → (word_at c Phase ≤ word_at c w) × (word_at c w < word_at c Free)) → view c first_done w ≡ 0
-  phase_hit w inside = hit c (word_at c Phase) (word_at c Free) (λ word. 0) old first_done first_cleared w refl inside
+module _ (config : Config) (old first_done second_done third_done fourth_done all_done : List ℕ)
+    (first_cleared : IsChanged (word_at config Phase) (word_at config Free) (λ word. 0) old first_done)
+    (second_cleared : IsChanged (word_at config Evac) (word_at config (Top 0)) (λ word. 0) first_done second_done)
+    (third_cleared : IsChanged (word_at config (Tams 0)) (word_at config (Root 0 0)) (λ word. 0) second_done third_done)
+    (fourth_cleared : IsChanged (word_at config (Count 0)) (word_at config (Buffer 0 0)) (λ word. 0) third_done fourth_done)
+    (fifth_cleared : IsChanged (word_at config (Grey 0)) (heap_start config) (λ word. 0) fourth_done all_done) where
+  phase_hit : (w : Word) → (IsWord config w → (word_at config Phase ≤ word_at config w) × (word_at config w < word_at config Free)) → view config first_done w ≡ 0
+  phase_hit w inside = hit config (word_at config Phase) (word_at config Free) (λ word. 0) old first_done first_cleared w refl inside
 
-  phase_miss : (w : Word) → (IsWord c w → word_at c Phase ≤ word_at c w → word_at c w < word_at c Free → ⊥) → view c first_done w ≡ view c old w
-  phase_miss w outside = miss c (word_at c Phase) (word_at c Free) (λ word. 0) old first_done first_cleared w outside
+  phase_miss : (w : Word) → (IsWord config w → word_at config Phase ≤ word_at config w → word_at config w < word_at config Free → ⊥) → view config first_done w ≡ view config old w
+  phase_miss w outside = miss config (word_at config Phase) (word_at config Free) (λ word. 0) old first_done first_cleared w outside
 
-  evac_hit : (w : Word) → (IsWord c w → (word_at c Evac ≤ word_at c w) × (word_at c w < word_at c (Top 0))) → view c second_done w ≡ 0
-  evac_hit w inside = hit c (word_at c Evac) (word_at c (Top 0)) (λ word. 0) first_done second_done second_cleared w refl inside
+  evac_hit : (w : Word) → (IsWord config w → (word_at config Evac ≤ word_at config w) × (word_at config w < word_at config (Top 0))) → view config second_done w ≡ 0
+  evac_hit w inside = hit config (word_at config Evac) (word_at config (Top 0)) (λ word. 0) first_done second_done second_cleared w refl inside
 
-  evac_miss : (w : Word) → (IsWord c w → word_at c Evac ≤ word_at c w → word_at c w < word_at c (Top 0) → ⊥) → view c second_done w ≡ view c first_done w
-  evac_miss w outside = miss c (word_at c Evac) (word_at c (Top 0)) (λ word. 0) first_done second_done second_cleared w outside
+  evac_miss : (w : Word) → (IsWord config w → word_at config Evac ≤ word_at config w → word_at config w < word_at config (Top 0) → ⊥) → view config second_done w ≡ view config first_done w
+  evac_miss w outside = miss config (word_at config Evac) (word_at config (Top 0)) (λ word. 0) first_done second_done second_cleared w outside
 
-  tams_hit : (w : Word) → (IsWord c w → (word_at c (Tams 0) ≤ word_at c w) × (word_at c w < word_at c (Root 0 0))) → view c third_done w ≡ 0
-  tams_hit w inside = hit c (word_at c (Tams 0)) (word_at c (Root 0 0)) (λ word. 0) second_done third_done third_cleared w refl inside
+  tams_hit : (w : Word) → (IsWord config w → (word_at config (Tams 0) ≤ word_at config w) × (word_at config w < word_at config (Root 0 0))) → view config third_done w ≡ 0
+  tams_hit w inside = hit config (word_at config (Tams 0)) (word_at config (Root 0 0)) (λ word. 0) second_done third_done third_cleared w refl inside
 
-  tams_miss : (w : Word) → (IsWord c w → word_at c (Tams 0) ≤ word_at c w → word_at c w < word_at c (Root 0 0) → ⊥) → view c third_done w ≡ view c second_done w
-  tams_miss w outside = miss c (word_at c (Tams 0)) (word_at c (Root 0 0)) (λ word. 0) second_done third_done third_cleared w outside
+  tams_miss : (w : Word) → (IsWord config w → word_at config (Tams 0) ≤ word_at config w → word_at config w < word_at config (Root 0 0) → ⊥) → view config third_done w ≡ view config second_done w
+  tams_miss w outside = miss config (word_at config (Tams 0)) (word_at config (Root 0 0)) (λ word. 0) second_done third_done third_cleared w outside
 
-  count_hit : (w : Word) → (IsWord c w → (word_at c (Count 0) ≤ word_at c w) × (word_at c w < word_at c (Buffer 0 0))) → view c fourth_done w ≡ 0
-  count_hit w inside = hit c (word_at c (Count 0)) (word_at c (Buffer 0 0)) (λ word. 0) third_done fourth_done fourth_cleared w refl inside
+  count_hit : (w : Word) → (IsWord config w → (word_at config (Count 0) ≤ word_at config w) × (word_at config w < word_at config (Buffer 0 0))) → view config fourth_done w ≡ 0
+  count_hit w inside = hit config (word_at config (Count 0)) (word_at config (Buffer 0 0)) (λ word. 0) third_done fourth_done fourth_cleared w refl inside
 
-  count_miss : (w : Word) → (IsWord c w → word_at c (Count 0) ≤ word_at c w → word_at c w < word_at c (Buffer 0 0) → ⊥) → view c fourth_done w ≡ view c third_done w
-  count_miss w outside = miss c (word_at c (Count 0)) (word_at c (Buffer 0 0)) (λ word. 0) third_done fourth_done fourth_cleared w outside
+  count_miss : (w : Word) → (IsWord config w → word_at config (Count 0) ≤ word_at config w → word_at config w < word_at config (Buffer 0 0) → ⊥) → view config fourth_done w ≡ view config third_done w
+  count_miss w outside = miss config (word_at config (Count 0)) (word_at config (Buffer 0 0)) (λ word. 0) third_done fourth_done fourth_cleared w outside
 
-  bits_hit : (w : Word) → (IsWord c w → (word_at c (Grey 0) ≤ word_at c w) × (word_at c w < heap_start c)) → view c all_done w ≡ 0
-  bits_hit w inside = hit c (word_at c (Grey 0)) (heap_start c) (λ word. 0) fourth_done all_done fifth_cleared w refl inside
+  bits_hit : (w : Word) → (IsWord config w → (word_at config (Grey 0) ≤ word_at config w) × (word_at config w < heap_start config)) → view config all_done w ≡ 0
+  bits_hit w inside = hit config (word_at config (Grey 0)) (heap_start config) (λ word. 0) fourth_done all_done fifth_cleared w refl inside
 
-  bits_miss : (w : Word) → (IsWord c w → word_at c (Grey 0) ≤ word_at c w → word_at c w < heap_start c → ⊥) → view c all_done w ≡ view c fourth_done w
-  bits_miss w outside = miss c (word_at c (Grey 0)) (heap_start c) (λ word. 0) fourth_done all_done fifth_cleared w outside
+  bits_miss : (w : Word) → (IsWord config w → word_at config (Grey 0) ≤ word_at config w → word_at config w < heap_start config → ⊥) → view config all_done w ≡ view config fourth_done w
+  bits_miss w outside = miss config (word_at config (Grey 0)) (heap_start config) (λ word. 0) fourth_done all_done fifth_cleared w outside
 
-  calm_at : (w : Word) → write (view c all_done) Share 0 w ≡ calm (view c old) w
+  calm_at : (word : Word) → write (view config all_done) Share 0 word ≡ calm (view config old) word
   calm_at Share = refl
   calm_at Pause = bits_miss Pause (λ is low high. omega (arith, is, low, high)) ∙ count_miss Pause (λ is low high. omega (arith, is, low, high)) ∙ tams_miss Pause (λ is low high. omega (arith, is, low, high)) ∙ evac_miss Pause (λ is low high. omega (arith, is, low, high)) ∙ phase_miss Pause (λ is low high. omega (arith, is, low, high))
   calm_at Left = bits_miss Left (λ is low high. omega (arith, is, low, high)) ∙ count_miss Left (λ is low high. omega (arith, is, low, high)) ∙ tams_miss Left (λ is low high. omega (arith, is, low, high)) ∙ evac_miss Left (λ is low high. omega (arith, is, low, high)) ∙ phase_miss Left (λ is low high. omega (arith, is, low, high))
@@ -69,25 +69,25 @@ module _ (c : Config) (old first_done second_done third_done fourth_done all_don
   calm_at (Pin t i) = bits_miss (Pin t i) (λ is low high. omega (arith, is, low, high)) ∙ count_miss (Pin t i) (λ is low high. omega (arith, is, low, high)) ∙ tams_miss (Pin t i) (λ is low high. omega (arith, is, low, high)) ∙ evac_miss (Pin t i) (λ is low high. omega (arith, is, low, high)) ∙ phase_miss (Pin t i) (λ is low high. omega (arith, is, low, high))
 
   -- once five ranges are cleared, and no region is shared, nothing is left of a collection in progress
-  pub calmed : write (view c all_done) Share 0 ≡ calm (view c old)
+  pub calmed : write (view config all_done) Share 0 ≡ calm (view config old)
   calmed = fun_ext calm_at
 
-module _ (c : Config) (places old first_done second_done : List ℕ)
-    (first_cleared : IsChanged (word_at c (Root 0 0)) (word_at c (Count 0)) (renewed_by c.region_words places) old first_done)
-    (second_cleared : IsChanged (word_at c (Answer 0)) (word_at c (Grey 0)) (renewed_by c.region_words places) first_done second_done) where
-  root_hit : (w : Word) → (IsWord c w → (word_at c (Root 0 0) ≤ word_at c w) × (word_at c w < word_at c (Count 0))) → view c first_done w ≡ renewed_by c.region_words places (view c old w)
-  root_hit w inside = hit c (word_at c (Root 0 0)) (word_at c (Count 0)) (renewed_by c.region_words places) old first_done first_cleared w refl inside
+module _ (config : Config) (places old first_done second_done : List ℕ)
+    (first_cleared : IsChanged (word_at config (Root 0 0)) (word_at config (Count 0)) (renewed_by config.region_words places) old first_done)
+    (second_cleared : IsChanged (word_at config (Answer 0)) (word_at config (Grey 0)) (renewed_by config.region_words places) first_done second_done) where
+  root_hit : (word : Word) → (IsWord config word → (word_at config (Root 0 0) ≤ word_at config word) × (word_at config word < word_at config (Count 0))) → view config first_done word ≡ renewed_by config.region_words places (view config old word)
+  root_hit word inside = hit config (word_at config (Root 0 0)) (word_at config (Count 0)) (renewed_by config.region_words places) old first_done first_cleared word refl inside
 
-  root_miss : (w : Word) → (IsWord c w → word_at c (Root 0 0) ≤ word_at c w → word_at c w < word_at c (Count 0) → ⊥) → view c first_done w ≡ view c old w
-  root_miss w outside = miss c (word_at c (Root 0 0)) (word_at c (Count 0)) (renewed_by c.region_words places) old first_done first_cleared w outside
+  root_miss : (word : Word) → (IsWord config word → word_at config (Root 0 0) ≤ word_at config word → word_at config word < word_at config (Count 0) → ⊥) → view config first_done word ≡ view config old word
+  root_miss word outside = miss config (word_at config (Root 0 0)) (word_at config (Count 0)) (renewed_by config.region_words places) old first_done first_cleared word outside
 
-  answer_hit : (w : Word) → (IsWord c w → (word_at c (Answer 0) ≤ word_at c w) × (word_at c w < word_at c (Grey 0))) → view c second_done w ≡ renewed_by c.region_words places (view c first_done w)
-  answer_hit w inside = hit c (word_at c (Answer 0)) (word_at c (Grey 0)) (renewed_by c.region_words places) first_done second_done second_cleared w refl inside
+  answer_hit : (word : Word) → (IsWord config word → (word_at config (Answer 0) ≤ word_at config word) × (word_at config word < word_at config (Grey 0))) → view config second_done word ≡ renewed_by config.region_words places (view config first_done word)
+  answer_hit word inside = hit config (word_at config (Answer 0)) (word_at config (Grey 0)) (renewed_by config.region_words places) first_done second_done second_cleared word refl inside
 
-  answer_miss : (w : Word) → (IsWord c w → word_at c (Answer 0) ≤ word_at c w → word_at c w < word_at c (Grey 0) → ⊥) → view c second_done w ≡ view c first_done w
-  answer_miss w outside = miss c (word_at c (Answer 0)) (word_at c (Grey 0)) (renewed_by c.region_words places) first_done second_done second_cleared w outside
+  answer_miss : (word : Word) → (IsWord config word → word_at config (Answer 0) ≤ word_at config word → word_at config word < word_at config (Grey 0) → ⊥) → view config second_done word ≡ view config first_done word
+  answer_miss word outside = miss config (word_at config (Answer 0)) (word_at config (Grey 0)) (renewed_by config.region_words places) first_done second_done second_cleared word outside
 
-  renewed_at : (w : Word) → view c second_done w ≡ roots_renewed c places (view c old) w
+  renewed_at : (word : Word) → view config second_done word ≡ roots_renewed config places (view config old) word
   renewed_at Share = answer_miss Share (λ is low high. omega (arith, is, low, high)) ∙ root_miss Share (λ is low high. omega (arith, is, low, high))
   renewed_at Pause = answer_miss Pause (λ is low high. omega (arith, is, low, high)) ∙ root_miss Pause (λ is low high. omega (arith, is, low, high))
   renewed_at Left = answer_miss Left (λ is low high. omega (arith, is, low, high)) ∙ root_miss Left (λ is low high. omega (arith, is, low, high))
@@ -107,12 +107,12 @@ module _ (c : Config) (places old first_done second_done : List ℕ)
   renewed_at (Count t) = answer_miss (Count t) (λ is low high. omega (arith, is, low, high)) ∙ root_miss (Count t) (λ is low high. omega (arith, is, low, high))
   renewed_at (Buffer t i) = answer_miss (Buffer t i) (λ is low high. omega (arith, is, low, high)) ∙ root_miss (Buffer t i) (λ is low high. omega (arith, is, low, high))
   renewed_at (Wait t) = answer_miss (Wait t) (λ is low high. omega (arith, is, low, high)) ∙ root_miss (Wait t) (λ is low high. omega (arith, is, low, high))
-  renewed_at (Answer t) = answer_hit (Answer t) (λ is. (omega (arith, is), omega (arith, is))) ∙ ap (renewed_by c.region_words places) (root_miss (Answer t) (λ is low high. omega (arith, is, low, high)))
+  renewed_at (Answer t) = answer_hit (Answer t) (λ is. (omega (arith, is), omega (arith, is))) ∙ ap (renewed_by config.region_words places) (root_miss (Answer t) (λ is low high. omega (arith, is, low, high)))
   renewed_at (Grey n) = answer_miss (Grey n) (λ is low high. omega (arith, is, low, high)) ∙ root_miss (Grey n) (λ is low high. omega (arith, is, low, high))
   renewed_at (Black n) = answer_miss (Black n) (λ is low high. omega (arith, is, low, high)) ∙ root_miss (Black n) (λ is low high. omega (arith, is, low, high))
   renewed_at (Heap a) = answer_miss (Heap a) (λ is low high. omega (arith, is, low, high)) ∙ root_miss (Heap a) (λ is low high. omega (arith, is, low, high))
   renewed_at (Pin t i) = answer_miss (Pin t i) (λ is low high. omega (arith, is, low, high)) ∙ root_miss (Pin t i) (λ is low high. omega (arith, is, low, high))
 
   -- once two ranges are renewed, roots and answers are
-  pub roots_are_renewed : view c second_done ≡ roots_renewed c places (view c old)
+  pub roots_are_renewed : view config second_done ≡ roots_renewed config places (view config old)
   roots_are_renewed = fun_ext renewed_at

@@ -51,22 +51,22 @@ module _ (old one two : Image) (can : CanCollect (config_of old) (memory_of old)
   pub two_words : memory_of two ≡ moved
   two_words =
       words
-      ∙ ap (λ (n : Word → ℕ). moved_in (config_of one) (is_row_pinned (config_of one) n) (now_in n) (kept_in (config_of one) n) n) (memory_same old one same)
-      ∙ ap (λ (k : Config). moved_in k (is_row_pinned k m) now (kept_in k m) m) same.config
+      ∙ ap (λ (memory : Word → ℕ). moved_in (config_of one) (is_row_pinned (config_of one) memory) (now_in memory) (kept_in (config_of one) memory) memory) (memory_same old one same)
+      ∙ ap (λ (config : Config). moved_in config (is_row_pinned config m) now (kept_in config m) m) same.config
 
   renewed_as : (word : ℕ) → LeadsToHeld g m word → IsRenewedAs g.region_words place now (places_of two) word
   renewed_as word leads =
-      subst (λ (k : Config). IsRenewedAs k.region_words (place_in k (is_row_pinned k m) (kept_in k m)) now (places_of two) word) same.config
-      (subst (λ (n : Word → ℕ). IsRenewedAs (config_of one).region_words (place_in (config_of one) (is_row_pinned (config_of one) n) (kept_in (config_of one) n)) (now_in n) (places_of two) word) (memory_same old one same)
+      subst (λ (config : Config). IsRenewedAs config.region_words (place_in config (is_row_pinned config m) (kept_in config m)) now (places_of two) word) same.config
+      (subst (λ (memory : Word → ℕ). IsRenewedAs (config_of one).region_words (place_in (config_of one) (is_row_pinned (config_of one) memory) (kept_in (config_of one) memory)) (now_in memory) (places_of two) word) (memory_same old one same)
       (renews word (carried (λ k n. LeadsToHeld k n word) old one same leads)))
 
   -- pinned regions can be filled then
-  pub can_fill_still : KeptBegin g m → (r : ℕ) → r < (config_of two).regions → is_pinned (config_of two) (memory_of two) r ≡ true → CanFill (config_of two) (memory_of two) r
-  can_fill_still begin r inside pinned =
-      let still : is_pinned g moved r ≡ true =
-      sym (ap (λ (n : Word → ℕ). is_pinned g n r) two_words) ∙ sym (ap (λ (k : Config). is_pinned k (memory_of two) r) two_config) ∙ pinned in
-      subst (λ (k : Config). CanFill k (memory_of two) r) (sym two_config)
-      (subst (λ (n : Word → ℕ). CanFill g n r) (sym two_words) (can_fill g m can begin r (subst (λ (k : Config). r < k.regions) two_config inside) still))
+  pub can_fill_still : KeptBegin g m → (region : ℕ) → region < (config_of two).regions → is_pinned (config_of two) (memory_of two) region ≡ true → CanFill (config_of two) (memory_of two) region
+  can_fill_still begin region inside pinned =
+      let still : is_pinned g moved region ≡ true =
+      sym (ap (λ (memory : Word → ℕ). is_pinned g memory region) two_words) ∙ sym (ap (λ (config : Config). is_pinned config (memory_of two) region) two_config) ∙ pinned in
+      subst (λ (config : Config). CanFill config (memory_of two) region) (sym two_config)
+      (subst (λ (memory : Word → ℕ). CanFill g memory region) (sym two_words) (can_fill g m can begin region (subst (λ (config : Config). region < config.regions) two_config inside) still))
 
   -- what a word that leads to a kept object becomes
   renewed_some : (word : ℕ) → 1 < word → LeadsToHeld g m word → renewed_by g.region_words (places_of two) word ≡ renewed place now word
@@ -106,24 +106,24 @@ module _ (old one two : Image) (can : CanCollect (config_of old) (memory_of old)
     three_words : memory_of three ≡ filled
     three_words =
         three_is
-        ∙ ap (λ (k : Config). filled_in k (is_pinned_below k (memory_of two) k.regions) (is_left_over (memory_of two) (found_of two) NotFound) (memory_of two)) two_config
-        ∙ ap (λ (n : Word → ℕ). filled_in g (is_pinned_below g n g.regions) (is_left_over n (found_of two) NotFound) n) two_words
+        ∙ ap (λ (config : Config). filled_in config (is_pinned_below config (memory_of two) config.regions) (is_left_over (memory_of two) (found_of two) NotFound) (memory_of two)) two_config
+        ∙ ap (λ (memory : Word → ℕ). filled_in g (is_pinned_below g memory g.regions) (is_left_over memory (found_of two) NotFound) memory) two_words
         ∙ ap (λ (xs : List ℕ). filled_in g (is_pinned_below g moved g.regions) (is_left_over moved xs NotFound) moved) found
 
-    in_table : (v : Word) → memory_of three v ≡ m v → LeadsToHeld g m (m v) → IsInTable (config_of three).region_words (places_of three) (memory_of three v)
-    in_table v is leads =
-        subst (λ (k : Config). IsInTable k.region_words (places_of three) (memory_of three v)) (sym three_config)
-        (subst (λ (ps : List ℕ). IsInTable g.region_words ps (memory_of three v)) (sym three_places)
-        (subst (IsInTable g.region_words (places_of two)) (sym is) (renewed_as (m v) leads).in_table))
+    in_table : (word : Word) → memory_of three word ≡ m word → LeadsToHeld g m (m word) → IsInTable (config_of three).region_words (places_of three) (memory_of three word)
+    in_table word is leads =
+        subst (λ (config : Config). IsInTable config.region_words (places_of three) (memory_of three word)) (sym three_config)
+        (subst (λ (ps : List ℕ). IsInTable g.region_words ps (memory_of three word)) (sym three_places)
+        (subst (IsInTable g.region_words (places_of two)) (sym is) (renewed_as (m word) leads).in_table))
 
-    pub roots_in_table : (t i : ℕ) → t < (config_of three).mutators → i < 16 → IsInTable (config_of three).region_words (places_of three) (memory_of three (Root t i))
-    roots_in_table t i inside few =
-        in_table (Root t i) (ap (λ k. k (Root t i)) three_words) (can.roots t i (subst (λ (k : Config). t < k.mutators) three_config inside) few)
+    pub roots_in_table : (mutator index : ℕ) → mutator < (config_of three).mutators → index < 16 → IsInTable (config_of three).region_words (places_of three) (memory_of three (Root mutator index))
+    roots_in_table mutator index inside few =
+        in_table (Root mutator index) (ap (λ k. k (Root mutator index)) three_words) (can.roots mutator index (subst (λ (config : Config). mutator < config.mutators) three_config inside) few)
 
-    pub answers_in_table : (t : ℕ) → t < (config_of three).mutators → 1 < memory_of three (Answer t) → IsInTable (config_of three).region_words (places_of three) (memory_of three (Answer t))
-    answers_in_table t inside some =
-        let is : memory_of three (Answer t) ≡ m (Answer t) = ap (λ k. k (Answer t)) three_words in
-        in_table (Answer t) is (can.answers t (subst (λ (k : Config). t < k.mutators) three_config inside) (subst (λ n. 1 < n) is some))
+    pub answers_in_table : (mutator : ℕ) → mutator < (config_of three).mutators → 1 < memory_of three (Answer mutator) → IsInTable (config_of three).region_words (places_of three) (memory_of three (Answer mutator))
+    answers_in_table mutator inside some =
+        let is : memory_of three (Answer mutator) ≡ m (Answer mutator) = ap (λ k. k (Answer mutator)) three_words in
+        in_table (Answer mutator) is (can.answers mutator (subst (λ (config : Config). mutator < config.mutators) three_config inside) (subst (λ n. 1 < n) is some))
 
     -- the words after roots were renewed, collections ended, and empty regions freed
     module _ (begin : KeptBegin g m) where
@@ -133,7 +133,7 @@ module _ (old one two : Image) (can : CanCollect (config_of old) (memory_of old)
       abbrev freed : Word → ℕ
       freed = write ended Free (empty_regions (λ r. ended (Top r)) g.regions)
 
-      freed_at : (v : Word) → freed v ≡ packed g (is_row_pinned g m) now kept m v
+      freed_at : (word : Word) → freed word ≡ packed g (is_row_pinned g m) now kept m word
       unfolding packed
       freed_at (Root t i) = ⊎_elim
           (λ (yes : is_word g (Root t i) ≡ true). let at = is_word_true g (Root t i) yes in root_word (m (Root t i)) (can.roots t i at.0 at.1))
@@ -179,13 +179,13 @@ module _ (old one two : Image) (can : CanCollect (config_of old) (memory_of old)
         pub six_words : memory_of six ≡ packed g (is_row_pinned g m) now kept m
         six_words =
             let four_is : memory_of four ≡ roots_renewed g (places_of two) filled =
-            four_renewed ∙ ap (λ (k : Config). roots_renewed k (places_of three) (memory_of three)) three_config
+            four_renewed ∙ ap (λ (config : Config). roots_renewed config (places_of three) (memory_of three)) three_config
             ∙ ap (λ (ps : List ℕ). roots_renewed g ps (memory_of three)) three_places ∙ ap (roots_renewed g (places_of two)) three_words in
             let five_is : memory_of five ≡ ended = five_calm ∙ ap calm four_is in
             let five_config : config_of five ≡ g = five_same ∙ four_same ∙ three_config in
             six_freed
-            ∙ ap (λ (k : Config). write (memory_of five) Free (empty_regions (λ r. memory_of five (Top r)) k.regions)) five_config
-            ∙ ap (λ (k : Word → ℕ). write k Free (empty_regions (λ r. k (Top r)) g.regions)) five_is
+            ∙ ap (λ (config : Config). write (memory_of five) Free (empty_regions (λ r. memory_of five (Top r)) config.regions)) five_config
+            ∙ ap (λ (memory : Word → ℕ). write memory Free (empty_regions (λ r. memory (Top r)) g.regions)) five_is
             ∙ fun_ext freed_at
 
         packed_within : AreWithin g (packed g (is_row_pinned g m) now kept m)
@@ -196,4 +196,4 @@ module _ (old one two : Image) (can : CanCollect (config_of old) (memory_of old)
             (λ _. top_within g.region_words (is_row_pinned g m) kept can.apart r (heap_end g))
 
         pub six_within : AreWithin (config_of six) (memory_of six)
-        six_within = subst (λ (k : Config). AreWithin k (memory_of six)) (sym six_config) (subst (AreWithin g) (sym six_words) packed_within)
+        six_within = subst (λ (config : Config). AreWithin config (memory_of six)) (sym six_config) (subst (AreWithin g) (sym six_words) packed_within)

@@ -15,7 +15,7 @@ use Rattle.image_graph.specs.Holds.{HoldsBy, AreSized}
 
 -- They hold some graph by pieces that can be walked: each says how many words it has, and none is room.
 abbrev pub HoldsWalked : Config → (Word → ℕ) → Type 0
-HoldsWalked c memory = ∥ ((g : Graph) × (block : Plot) × (owner : ℕ → Option ℕ) × (p : Promises) × HoldsBy c memory block owner p g × AreSized memory block × HasNoRoom block) ∥₁
+HoldsWalked config memory = ∥ ((graph : Graph) × (block : Plot) × (owner : ℕ → Option ℕ) × (promises : Promises) × HoldsBy config memory block owner promises graph × AreSized memory block × HasNoRoom block) ∥₁
 
 -- the address of the current copy of what a word names; null stays null
 abbrev pub current_address : (Word → ℕ) → ℕ → ℕ
@@ -23,21 +23,21 @@ current_address memory word = if word == 0 then 0 else now_in memory word
 
 -- the addresses that are found in so many turns
 abbrev pub found_in_turns : Config → (Word → ℕ) → ℕ → List ℕ
-found_in_turns c memory = found_in (λ a. copies_of memory (field_words memory a)) (copies_of memory (held_words c memory))
+found_in_turns config memory = found_in (λ a. copies_of memory (field_words memory a)) (copies_of memory (held_words config memory))
 
 -- a word is null, or the address of an object in the heap whose current copy is kept
 abbrev pub LeadsToHeld : Config → (Word → ℕ) → ℕ → Type 0
-LeadsToHeld c memory word = word ≢ 0 → (c.region_words ≤ word) × (word < heap_end c) × (0 < kept_in c memory (now_in memory word))
+LeadsToHeld config memory word = word ≢ 0 → (config.region_words ≤ word) × (word < heap_end config) × (0 < kept_in config memory (now_in memory word))
 
 -- What is kept lies apart and in the heap and has not moved, whose turn comes is kept, and roots, answers, pin slots and the
 -- references of what is kept lead to what is kept. What stands in pinned regions ends there, before their tops.
-pub record CanCollect (c : Config) (memory : Word → ℕ) : Type 0 where
-  pub apart : LieApart c.region_words (kept_in c memory)
-  pub inside : (a : ℕ) → 0 < kept_in c memory a → a + kept_in c memory a ≤ heap_end c
-  pub current : (a : ℕ) → 0 < kept_in c memory a → now_in memory a ≡ a
-  pub found : (n a : ℕ) → slice_get (found_in_turns c memory n) n ≡ Some a → 0 < kept_in c memory a
-  pub roots : (t i : ℕ) → t < c.mutators → i < 16 → LeadsToHeld c memory (memory (Root t i))
-  pub answers : (t : ℕ) → t < c.mutators → 1 < memory (Answer t) → LeadsToHeld c memory (memory (Answer t))
-  pub pins : (t i : ℕ) → t < c.mutators → i < 4 → LeadsToHeld c memory (memory (Pin t i))
-  pub fills : (r : ℕ) → r < c.regions → is_pinned c memory r ≡ true → CanFill c memory r
-  pub fields : (a i : ℕ) → 0 < kept_in c memory a → i < refs_in (memory (Heap (a + 1))) → LeadsToHeld c memory (memory (Heap (a + 3 + i)))
+pub record CanCollect (config : Config) (memory : Word → ℕ) : Type 0 where
+  pub apart : LieApart config.region_words (kept_in config memory)
+  pub inside : (address : ℕ) → 0 < kept_in config memory address → address + kept_in config memory address ≤ heap_end config
+  pub current : (address : ℕ) → 0 < kept_in config memory address → now_in memory address ≡ address
+  pub found : (other_index address : ℕ) → slice_get (found_in_turns config memory other_index) other_index ≡ Some address → 0 < kept_in config memory address
+  pub roots : (mutator index : ℕ) → mutator < config.mutators → index < 16 → LeadsToHeld config memory (memory (Root mutator index))
+  pub answers : (mutator : ℕ) → mutator < config.mutators → 1 < memory (Answer mutator) → LeadsToHeld config memory (memory (Answer mutator))
+  pub pins : (mutator index : ℕ) → mutator < config.mutators → index < 4 → LeadsToHeld config memory (memory (Pin mutator index))
+  pub fills : (region : ℕ) → region < config.regions → is_pinned config memory region ≡ true → CanFill config memory region
+  pub fields : (address index : ℕ) → 0 < kept_in config memory address → index < refs_in (memory (Heap (address + 1))) → LeadsToHeld config memory (memory (Heap (address + 3 + index)))

@@ -18,35 +18,35 @@ use Rattle.image_graph.specs.Holds.{HoldsBy, AreSized}
 use Rattle.image_graph.specs.Left.{IsLeft}
 
 -- The words stand for the graph by pieces that were there once buffers were let go: objects stayed where they were until packing.
-pub record StandsAgain (c : Config) (before after : Word → ℕ) (block : Plot) (p : Promises) (g : Graph) : Type 0 where
+pub record StandsAgain (config : Config) (before after : Word → ℕ) (block : Plot) (promises : Promises) (graph : Graph) : Type 0 where
   pub pieces : Plot
-  pub came : (a : ℕ) (b : Block) → is_loose b ≡ false → pieces a ≡ Some b → block a ≡ Some b
-  pub stands : ImageStands c after (served_block c (packed_in c (let_go c before)) (packed_block c (is_row_pinned c (let_go c before)) (kept_in c (let_go c before)) pieces) c.mutators) g
-      (served_promises c (packed_in c (let_go c before)) p c.mutators)
+  pub came : (address : ℕ) (piece : Block) → is_loose piece ≡ false → pieces address ≡ Some piece → block address ≡ Some piece
+  pub stands : ImageStands config after (served_block config (packed_in config (let_go config before)) (packed_block config (is_row_pinned config (let_go config before)) (kept_in config (let_go config before)) pieces) config.mutators) graph
+      (served_promises config (packed_in config (let_go config before)) promises config.mutators)
 
 -- Whatever graph the words held, by whatever pieces that say how many words they have, they stand for it afterwards. The objects
 -- that were made for waiting threads are further promises.
 abbrev pub KeepsTheGraph : Config → (before after : Word → ℕ) → Type 0
-KeepsTheGraph c before after = (block : Plot) (owner : ℕ → Option ℕ) (p : Promises) (g : Graph) → HoldsBy c before block owner p g → AreSized before block
-    → StandsAgain c before after block p g
+KeepsTheGraph config before after = (block : Plot) (owner : ℕ → Option ℕ) (promises : Promises) (graph : Graph) → HoldsBy config before block owner promises graph → AreSized before block
+    → StandsAgain config before after block promises graph
 
 -- what is kept is the current copy of an object that the graph reaches, and each object that it reaches has a copy that is kept
-pub record KeptAreReachable (c : Config) (memory : Word → ℕ) (block : Plot) (g : Graph) : Type 0 where
-  pub only : (a : ℕ) → 0 < kept_in c memory a → (name : Name) × (refs : ℕ) × (nums : ℕ) × (block a ≡ Some (thing name refs nums)) × IsReachable g name
-  pub all : (name : Name) → IsReachable g name → (a : ℕ) × (refs : ℕ) × (nums : ℕ) × (0 < kept_in c memory a) × (block a ≡ Some (thing name refs nums))
+pub record KeptAreReachable (config : Config) (memory : Word → ℕ) (block : Plot) (graph : Graph) : Type 0 where
+  pub only : (address : ℕ) → 0 < kept_in config memory address → (name : Name) × (refs : ℕ) × (nums : ℕ) × (block address ≡ Some (thing name refs nums)) × IsReachable graph name
+  pub all : (name : Name) → IsReachable graph name → (address : ℕ) × (refs : ℕ) × (nums : ℕ) × (0 < kept_in config memory address) × (block address ≡ Some (thing name refs nums))
 
 -- so it is of each graph that the words hold; what answers promise and what pin slots hold counts as reached
 abbrev pub KeepsTheReachable : Config → (Word → ℕ) → Type 0
-KeepsTheReachable c memory = (block : Plot) (owner : ℕ → Option ℕ) (p : Promises) (g : Graph) → HoldsBy c memory block owner p g → KeptAreReachable c (let_go c memory) block (with_promised g p)
+KeepsTheReachable config memory = (block : Plot) (owner : ℕ → Option ℕ) (promises : Promises) (graph : Graph) → HoldsBy config memory block owner promises graph → KeptAreReachable config (let_go config memory) block (with_promised graph promises)
 
 -- a thread that waits is answered that the heap is full exactly where at its turn each region has less room than it asks for
 abbrev pub RefusesTheLeft : Config → (before after : Word → ℕ) → Type 0
-RefusesTheLeft c before after = (t : ℕ) → t < c.mutators → before (Wait t) ≢ 0 → (after (Answer t) ≡ 1) ↔ IsLeft c (packed_in c (let_go c before)) t
+RefusesTheLeft config before after = (mutator : ℕ) → mutator < config.mutators → before (Wait mutator) ≢ 0 → (after (Answer mutator) ≡ 1) ↔ IsLeft config (packed_in config (let_go config before)) mutator
 
 -- Objects of pinned regions stay where they are: the same words are there afterwards, but for references, which are renewed. What else stands
 -- in the region only fills then, by the pieces of `StandsAgain`.
-pub record PinnedStay (c : Config) (before after : Word → ℕ) : Type 0 where
-  pub pins : (t i : ℕ) → after (Pin t i) ≡ before (Pin t i)
-  pub shapes : (a : ℕ) → 0 < kept_in c (let_go c before) a → is_row_pinned c (let_go c before) (a / c.region_words) ≡ true
-      → (after (Heap a) ≡ plain_header) × (after (Heap (a + 1)) ≡ before (Heap (a + 1))) × (after (Heap (a + 2)) ≡ before (Heap (a + 2)))
-  pub tops : (r : ℕ) → r < c.regions → is_pinned c (let_go c before) r ≡ true → packed_in c (let_go c before) (Top r) ≡ let_go c before (Top r)
+pub record PinnedStay (config : Config) (before after : Word → ℕ) : Type 0 where
+  pub pins : (mutator index : ℕ) → after (Pin mutator index) ≡ before (Pin mutator index)
+  pub shapes : (address : ℕ) → 0 < kept_in config (let_go config before) address → is_row_pinned config (let_go config before) (address / config.region_words) ≡ true
+      → (after (Heap address) ≡ plain_header) × (after (Heap (address + 1)) ≡ before (Heap (address + 1))) × (after (Heap (address + 2)) ≡ before (Heap (address + 2)))
+  pub tops : (region : ℕ) → region < config.regions → is_pinned config (let_go config before) region ≡ true → packed_in config (let_go config before) (Top region) ≡ let_go config before (Top region)

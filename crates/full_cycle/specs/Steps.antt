@@ -9,9 +9,9 @@ use Rattle.image_graph.specs.Full.{moved_heap, top_then}
 
 -- the words after the kept objects were packed: the heap and the tops
 abbrev pub moved_in : Config → (shut : ℕ → Bool) (now kept : ℕ → ℕ) → (Word → ℕ) → Word → ℕ
-moved_in c shut now kept memory (Heap a) = moved_heap c shut now kept memory a
-moved_in c shut now kept memory (Top r) = top_then c shut kept memory r
-moved_in c shut now kept memory word = memory word
+moved_in config shut now kept memory (Heap a) = moved_heap config shut now kept memory a
+moved_in config shut now kept memory (Top r) = top_then config shut kept memory r
+moved_in config shut now kept memory word = memory word
 
 -- a word is renewed by the table of new places as it should be
 pub record IsRenewedAs (first : ℕ) (place now : ℕ → ℕ) (places : List ℕ) (word : ℕ) : Type 0 where
@@ -24,9 +24,9 @@ renewed_by first places word = if nat_le word 1 then word else from_table first 
 
 -- the words after roots and answers were renewed
 abbrev pub roots_renewed : Config → List ℕ → (Word → ℕ) → Word → ℕ
-roots_renewed c places memory (Root t i) = renewed_by c.region_words places (memory (Root t i))
-roots_renewed c places memory (Answer t) = renewed_by c.region_words places (memory (Answer t))
-roots_renewed c places memory word = memory word
+roots_renewed config places memory (Root t i) = renewed_by config.region_words places (memory (Root t i))
+roots_renewed config places memory (Answer t) = renewed_by config.region_words places (memory (Answer t))
+roots_renewed config places memory word = memory word
 
 -- the words when nothing is left of a collection in progress
 abbrev pub calm : (Word → ℕ) → Word → ℕ
@@ -53,4 +53,4 @@ refused_below n memory word = memory word
 -- a list after each number of a range of places was changed
 abbrev pub IsChanged : (from to : ℕ) → (ℕ → ℕ) → (before after : List ℕ) → Type 0
 IsChanged from to change before after =
-    (k : ℕ) → slice_index after k ≡ (if nat_le from k && nat_lt k to then change (slice_index before k) else slice_index before k)
+    (index : ℕ) → slice_index after index ≡ (if nat_le from index && nat_lt index to then change (slice_index before index) else slice_index before index)

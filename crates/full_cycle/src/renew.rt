@@ -20,7 +20,7 @@ fn renewed(image: &Image, word: u64) -> u64
 fn renew_words(image: &mut Image, from: usize, to: usize)
     requires order { from ≤ to }
     requires inside { to ≤ table_words (config_of image.old) }
-    requires table { (k : ℕ) → from ≤ k → k < to → 1 < slice_index (words_of image.old) k → IsInTable (config_of image.old).region_words (places_of image.old) (slice_index (words_of image.old) k) }
+    requires table { (index : ℕ) → from ≤ index → index < to → 1 < slice_index (words_of image.old) index → IsInTable (config_of image.old).region_words (places_of image.old) (slice_index (words_of image.old) index) }
     ensures config { config_of image.new ≡ config_of image.old }
     ensures places { places_of image.new ≡ places_of image.old }
     ensures words { IsChanged from to (renewed_by (config_of image.old).region_words (places_of image.old)) (words_of image.old) (words_of image.new) }
@@ -33,8 +33,8 @@ fn renew_words(image: &mut Image, from: usize, to: usize)
 
 /// Renews the roots and the answers that are addresses. 0 and 1 are no address, and stay.
 pub(crate) fn renew_roots(image: &mut Image)
-    requires roots { (t i : ℕ) → t < (config_of image.old).mutators → i < 16 → IsInTable (config_of image.old).region_words (places_of image.old) (memory_of image.old (Root t i)) }
-    requires answers { (t : ℕ) → t < (config_of image.old).mutators → 1 < memory_of image.old (Answer t) → IsInTable (config_of image.old).region_words (places_of image.old) (memory_of image.old (Answer t)) }
+    requires roots { (mutator index : ℕ) → mutator < (config_of image.old).mutators → index < 16 → IsInTable (config_of image.old).region_words (places_of image.old) (memory_of image.old (Root mutator index)) }
+    requires answers { (mutator : ℕ) → mutator < (config_of image.old).mutators → 1 < memory_of image.old (Answer mutator) → IsInTable (config_of image.old).region_words (places_of image.old) (memory_of image.old (Answer mutator)) }
     ensures config { config_of image.new ≡ config_of image.old }
     ensures words { memory_of image.new ≡ roots_renewed (config_of image.old) (places_of image.old) (memory_of image.old) }
 {

@@ -12,49 +12,49 @@ use Rattle.graph_placing.proofs.NamesCounted.{none_earlier, earlier_is, names_by
 
 -- a count is one more, or as it was
 abbrev pub one_where : Bool → ℕ
-one_where b = cond b 1 0
+one_where holds = cond holds 1 0
 
 module _ (threads : ℕ) (ns : List Name) (are : AreOfThreads threads ns) where
   -- nothing is before the hub
-  pub hub_first : (m : Name) → m.thread ≡ 0 → Contains ns m → earlier_names ns m ≡ 0
-  hub_first m hub_thread there =
-      none_earlier ns m (λ a in_names same less.
-      let one : a.count ≡ 1 = ap (λ (x : Name). x.count) (are.hub_alone a in_names (same ∙ hub_thread)) in
-      let two : m.count ≡ 1 = ap (λ (x : Name). x.count) (are.hub_alone m there hub_thread) in
+  pub hub_first : (name : Name) → name.thread ≡ 0 → Contains ns name → earlier_names ns name ≡ 0
+  hub_first name hub_thread there =
+      none_earlier ns name (λ a in_names same less.
+      let one : a.count ≡ 1 = ap (λ (name : Name). name.count) (are.hub_alone a in_names (same ∙ hub_thread)) in
+      let two : name.count ≡ 1 = ap (λ (name : Name). name.count) (are.hub_alone name there hub_thread) in
       omega (arith, less, one, two))
 
-  module _ (k : ℕ) (below : k < length ns) (old : List ℕ) (counted : AreCountsOf (take k ns) threads old) (name : Name) (is : get_or ns k hub ≡ name) where
+  module _ (index : ℕ) (below : index < length ns) (old : List ℕ) (counted : AreCountsOf (take index ns) threads old) (name : Name) (is : get_or ns index hub ≡ name) where
     pub name_there : Contains ns name
-    name_there = subst (Contains ns) is (Contains-get_or ns k hub below)
+    name_there = subst (Contains ns) is (Contains-get_or ns index hub below)
 
     pub thread_within : name.thread ≤ length old
     thread_within = omega (arith, are.within name name_there, counted.long)
 
     -- the count of a thread
-    kept : 1 ≤ name.thread → get_or old (name.thread - 1) 0 ≡ names_by (take k ns) name.thread
+    kept : 1 ≤ name.thread → get_or old (name.thread - 1) 0 ≡ names_by (take index ns) name.thread
     kept some =
         let back : name.thread - 1 + 1 ≡ name.thread = omega (arith, some) in
-        counted.each (name.thread - 1) (omega (arith, some, are.within name name_there)) ∙ ap (names_by (take k ns)) back
+        counted.each (name.thread - 1) (omega (arith, some, are.within name name_there)) ∙ ap (names_by (take index ns)) back
 
-    pub count_is_few : 1 ≤ name.thread → get_or old (name.thread - 1) 0 ≤ k
-    count_is_few some = omega (arith, kept some, thread_at_most (take k ns) name.thread, length-take-le k ns (omega (arith, below)))
+    pub count_is_few : 1 ≤ name.thread → get_or old (name.thread - 1) 0 ≤ index
+    count_is_few some = omega (arith, kept some, thread_at_most (take index ns) name.thread, length-take-le index ns (omega (arith, below)))
 
     -- one object more is the next of its thread
     pub next_is : InOrder ns → (count : ℕ) → (name.thread ≡ 0 → count ≡ 1) → (1 ≤ name.thread → count ≡ get_or old (name.thread - 1) 0 + 1) → count ≡ earlier_names ns name + 1
     next_is order count of_hub of_thread = ⊎_elim
         (λ (none : name.thread < 1). let is_zero : name.thread ≡ 0 = omega (arith, none) in omega (arith, of_hub is_zero, hub_first name is_zero name_there))
         (λ (some : 1 ≤ name.thread).
-        let before : earlier_names ns name ≡ names_by (take k ns) name.thread = subst (λ (m : Name). earlier_names ns m ≡ names_by (take k ns) m.thread) is (earlier_is ns order k hub below) in
+        let before : earlier_names ns name ≡ names_by (take index ns) name.thread = subst (λ (name : Name). earlier_names ns name ≡ names_by (take index ns) name.thread) is (earlier_is ns order index hub below) in
         omega (arith, of_thread some, kept some, before))
         (cases_lt name.thread 1)
 
-    one_more : (m : ℕ) → names_by (take (k + 1) ns) (m + 1) ≡ names_by (take k ns) (m + 1) + one_where (name.thread == m + 1)
+    one_more : (m : ℕ) → names_by (take (index + 1) ns) (m + 1) ≡ names_by (take index ns) (m + 1) + one_where (name.thread == m + 1)
     one_more m =
-        let next : k + 1 ≡ suc k = omega arith in
-        ap (λ i. names_by (take i ns) (m + 1)) next ∙ names_by_next ns k (m + 1) hub below
-        ∙ ap (λ (x : Name). names_by (take k ns) (m + 1) + one_where (x.thread == m + 1)) is
+        let next : index + 1 ≡ suc index = omega arith in
+        ap (λ i. names_by (take i ns) (m + 1)) next ∙ names_by_next ns index (m + 1) hub below
+        ∙ ap (λ (name : Name). names_by (take index ns) (m + 1) + one_where (name.thread == m + 1)) is
 
-    pub counted_next : (new : List ℕ) → (name.thread ≡ 0 → new ≡ old) → (1 ≤ name.thread → new ≡ set old (name.thread - 1) (get_or old (name.thread - 1) 0 + 1)) → AreCountsOf (take (k + 1) ns) threads new
+    pub counted_next : (new : List ℕ) → (name.thread ≡ 0 → new ≡ old) → (1 ≤ name.thread → new ≡ set old (name.thread - 1) (get_or old (name.thread - 1) 0 + 1)) → AreCountsOf (take (index + 1) ns) threads new
     counted_next new of_hub of_thread = record {
       long = ⊎_elim
           (λ (none : name.thread < 1). ap length (of_hub (omega (arith, none))) ∙ counted.long)

@@ -8,16 +8,16 @@ use Rattle.graph_placing.specs.ByName.{address_of, Fits}
 use Rattle.graph_placing.specs.PlaceableText.{IsPlaceable}
 use Rattle.graph_placing.proofs.Located as located
 
-module _ (c : Config) (t : Text) (whole : IsPlaceable c t) where
-  rows_below : (k : ℕ) → k ≤ address_of c t k
+module _ (config : Config) (text : Text) (whole : IsPlaceable config text) where
+  rows_below : (k : ℕ) → k ≤ address_of config text k
   rows_below zero = omega arith
-  rows_below (suc k) = omega (arith, rows_below k, located.stand_apart c t whole k (suc k) (omega arith), located.some_words c t whole k)
+  rows_below (suc k) = omega (arith, rows_below k, located.stand_apart config text whole k (suc k) (omega arith), located.some_words config text whole k)
 
-  pub row_is_small : Fits c t → (k : ℕ) → k < length t.rows → k + 1 < 2 ^ 32
-  row_is_small fits k below = omega (arith, rows_below k, located.in_heap c t whole fits k below, located.some_words c t whole k, end_small c)
+  pub row_is_small : Fits config text → (index : ℕ) → index < length text.rows → index + 1 < 2 ^ 32
+  row_is_small fits index below = omega (arith, rows_below index, located.in_heap config text whole fits index below, located.some_words config text whole index, end_small config)
 
-  pub rows_are_few : Fits c t → length t.rows < 2 ^ 32
+  pub rows_are_few : Fits config text → length text.rows < 2 ^ 32
   rows_are_few fits = ⊎_elim
-      (λ (none : length t.rows < 1). omega (arith, none))
-      (λ (some : 1 ≤ length t.rows). omega (arith, row_is_small fits (length t.rows - 1) (omega (arith, some)), some))
-      (cases_lt (length t.rows) 1)
+      (λ (none : length text.rows < 1). omega (arith, none))
+      (λ (some : 1 ≤ length text.rows). omega (arith, row_is_small fits (length text.rows - 1) (omega (arith, some)), some))
+      (cases_lt (length text.rows) 1)

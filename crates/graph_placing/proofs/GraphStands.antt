@@ -23,32 +23,32 @@ use Rattle.graph_placing.proofs.Searching.{stands_there, one_place, names_count,
 use Rattle.graph_placing.proofs.ObjectWords.{reference_word, number_word}
 use Rattle.graph_placing.proofs.Plotted.{piece, plot, plot_from, plot_at, plotted, filled}
 
-module _ (c : Config) (t : Text) (whole : IsPlaceable c t) (fits : Fits c t) (memory : Word → ℕ) (placed : IsPlaced c t memory) where
+module _ (config : Config) (text : Text) (whole : IsPlaceable config text) (fits : Fits config text) (memory : Word → ℕ) (placed : IsPlaced config text memory) where
   abbrev n : ℕ
-  n = length t.rows
+  n = length text.rows
 
   abbrev block : Plot
-  block = plot c t n
+  block = plot config text n
 
   abbrev heap : ℕ → ℕ
-  heap a = memory (Heap a)
+  heap address = memory (Heap address)
 
   -- A reference whose name has a row leads to the row's object.
-  pub leads : (reference : Reference) → ((name : Name) → reference ≡ Some name → Contains (names_of t) name) → Points block (word_for c t reference) reference
+  pub leads : (reference : Reference) → ((name : Name) → reference ≡ Some name → Contains (names_of text) name) → Points block (word_for config text reference) reference
   leads None there = refl
   leads (Some name) there =
-      let found = stands_there (names_of t) name name (there name refl) in
-      let k = place_among (names_of t) name in
-      let below : k < n = omega (arith, found.0, names_count t) in
-      ap name_at (plot_at c t whole n k below) ∙ ap (λ (m : Name). Some m) (sym (name_of_row t k name below) ∙ found.1)
+      let found = stands_there (names_of text) name name (there name refl) in
+      let k = place_among (names_of text) name in
+      let below : k < n = omega (arith, found.0, names_count text) in
+      ap name_at (plot_at config text whole n k below) ∙ ap (λ (name : Name). Some name) (sym (name_of_row text k name below) ∙ found.1)
 
   -- The words of each object.
 
-  word_at_start : (k : ℕ) → k < n → heap (address_of c t k) ≡ 1
+  word_at_start : (k : ℕ) → k < n → heap (address_of config text k) ≡ 1
   word_at_start k below =
-      ap heap (sym (add-zero (address_of c t k))) ∙ placed.objects k 0 below (omega arith)
+      ap heap (sym (add-zero (address_of config text k))) ∙ placed.objects k 0 below (omega arith)
 
-  is_thing : (k : ℕ) → k < n → IsThing heap block (address_of c t k) (length (row_of t k).refs) (length (row_of t k).nums) (row_of t k).name (row_object (row_of t k))
+  is_thing : (k : ℕ) → k < n → IsThing heap block (address_of config text k) (length (row_of text k).refs) (length (row_of text k).nums) (row_of text k).name (row_object (row_of text k))
   is_thing k below = record {
     header = word_at_start k below;
     shape = placed.objects k 1 below (omega arith);
@@ -58,73 +58,73 @@ module _ (c : Config) (t : Text) (whole : IsPlaceable c t) (fits : Fits c t) (me
     refs_are = refl;
     nums_are = refl;
     references = λ i reference is.
-        let inside = slice_get_within (row_of t k).refs i reference is in
-        let place : address_of c t k + 3 + i ≡ address_of c t k + (3 + i) = omega arith in
-        let word : heap (address_of c t k + 3 + i) ≡ word_for c t reference =
-        ap heap place ∙ placed.objects k (3 + i) below (omega (arith, inside)) ∙ reference_word (word_for c t) (row_of t k) i (3 + i) refl inside
-        ∙ ap (word_for c t) (get_or_from_slice_get (row_of t k).refs i reference None is) in
+        let inside = slice_get_within (row_of text k).refs i reference is in
+        let place : address_of config text k + 3 + i ≡ address_of config text k + (3 + i) = omega arith in
+        let word : heap (address_of config text k + 3 + i) ≡ word_for config text reference =
+        ap heap place ∙ placed.objects k (3 + i) below (omega (arith, inside)) ∙ reference_word (word_for config text) (row_of text k) i (3 + i) refl inside
+        ∙ ap (word_for config text) (get_or_from_slice_get (row_of text k).refs i reference None is) in
         subst (λ (x : ℕ). Points block x reference) (sym word)
-        (leads reference (λ name names. whole.references k i name below (is ∙ ap (λ (r : Reference). Some r) names)));
+        (leads reference (λ name names. whole.references k i name below (is ∙ ap (λ (reference : Reference). Some reference) names)));
     numbers = λ i number is.
-        let inside = slice_get_within (row_of t k).nums i number is in
-        let place : address_of c t k + 3 + length (row_of t k).refs + i ≡ address_of c t k + (3 + length (row_of t k).refs + i) = omega arith in
-        ap heap place ∙ placed.objects k (3 + length (row_of t k).refs + i) below (omega (arith, inside))
-        ∙ number_word (word_for c t) (row_of t k) i (3 + length (row_of t k).refs + i) refl ∙ get_or_from_slice_get (row_of t k).nums i number 0 is;
+        let inside = slice_get_within (row_of text k).nums i number is in
+        let place : address_of config text k + 3 + length (row_of text k).refs + i ≡ address_of config text k + (3 + length (row_of text k).refs + i) = omega arith in
+        ap heap place ∙ placed.objects k (3 + length (row_of text k).refs + i) below (omega (arith, inside))
+        ∙ number_word (word_for config text) (row_of text k) i (3 + length (row_of text k).refs + i) refl ∙ get_or_from_slice_get (row_of text k).nums i number 0 is;
   }
 
   -- Only objects are pieces.
 
-  no_moved : (a refs nums to : ℕ) (name : Name) → block a ≡ Some (moved name refs nums to) → ⊥
-  no_moved a refs nums to name is = let no = (plot_from c t n a (moved name refs nums to) is).3 in cc
+  no_moved : (address refs nums to : ℕ) (name : Name) → block address ≡ Some (moved name refs nums to) → ⊥
+  no_moved address refs nums to name is = let no = (plot_from config text n address (moved name refs nums to) is).3 in cc
 
-  no_spent : (a words to : ℕ) → block a ≡ Some (spent words to) → ⊥
-  no_spent a words to is = let no = (plot_from c t n a (spent words to) is).3 in cc
+  no_spent : (address words to : ℕ) → block address ≡ Some (spent words to) → ⊥
+  no_spent address words to is = let no = (plot_from config text n address (spent words to) is).3 in cc
 
   no_room : HasNoRoom block
-  no_room a seat x is room = none-some seat (ap room_of (plot_from c t n a x is).3 ∙ room)
+  no_room a seat x is room = none-some seat (ap room_of (plot_from config text n a x is).3 ∙ room)
 
-  no_promised : (a seat words : ℕ) → block a ≡ Some (promised seat words) → ⊥
-  no_promised a seat words is = let no = (plot_from c t n a (promised seat words) is).3 in cc
+  no_promised : (address seat words : ℕ) → block address ≡ Some (promised seat words) → ⊥
+  no_promised address seat words is = let no = (plot_from config text n address (promised seat words) is).3 in cc
 
-  no_dead : (a words : ℕ) → block a ≡ Some (dead words) → ⊥
-  no_dead a words is = let no = (plot_from c t n a (dead words) is).3 in cc
+  no_dead : (address words : ℕ) → block address ≡ Some (dead words) → ⊥
+  no_dead address words is = let no = (plot_from config text n address (dead words) is).3 in cc
 
-  no_filler : (a words : ℕ) → block a ≡ Some (filler words) → ⊥
-  no_filler a words is = let no = (plot_from c t n a (filler words) is).3 in cc
+  no_filler : (address words : ℕ) → block address ≡ Some (filler words) → ⊥
+  no_filler address words is = let no = (plot_from config text n address (filler words) is).3 in cc
 
-  module _ (counts : List ℕ) (g : Graph) (is : IsGraphOf c t counts g) where
+  module _ (counts : List ℕ) (graph : Graph) (is : IsGraphOf config text counts graph) where
     -- a piece is an object of the graph
     abbrev IsHeld : ℕ → Block → Type 0
-    IsHeld a (thing name refs nums) = (o : Object) × (g.object name ≡ Some o) × IsThing heap block a refs nums name o
-    IsHeld a _ = Unit {0}
+    IsHeld address (thing name refs nums) = (object : Object) × (graph.object name ≡ Some object) × IsThing heap block address refs nums name object
+    IsHeld address _ = Unit {0}
 
-    held : (a : ℕ) (b : Block) → block a ≡ Some b → IsHeld a b
-    held a b there =
-        let from = plot_from c t n a b there in
-        subst (IsHeld a) from.3 (subst (λ (x : ℕ). IsHeld x (piece t from.0)) from.2 (row_object (row_of t from.0), is.objects from.0 from.1, is_thing from.0 from.1))
+    held : (address : ℕ) (b : Block) → block address ≡ Some b → IsHeld address b
+    held address b there =
+        let from = plot_from config text n address b there in
+        subst (IsHeld address) from.3 (subst (λ (x : ℕ). IsHeld x (piece text from.0)) from.2 (row_object (row_of text from.0), is.objects from.0 from.1, is_thing from.0 from.1))
 
-    one_name : (j k : ℕ) → j < n → k < n → (row_of t j).name ≡ (row_of t k).name → j ≡ k
+    one_name : (j k : ℕ) → j < n → k < n → (row_of text j).name ≡ (row_of text k).name → j ≡ k
     one_name j k below_j below_k same =
-        let long = names_count t in
-        one_place (names_of t) whole.in_order j k hub (omega (arith, long, below_j)) (omega (arith, long, below_k))
-        (name_of_row t j hub below_j ∙ same ∙ sym (name_of_row t k hub below_k))
+        let long = names_count text in
+        one_place (names_of text) whole.in_order j k hub (omega (arith, long, below_j)) (omega (arith, long, below_k))
+        (name_of_row text j hub below_j ∙ same ∙ sym (name_of_row text k hub below_k))
 
-    objects : AreObjects heap block g.object
+    objects : AreObjects heap block graph.object
     objects = record {
       each = λ a refs nums name there. held a (thing name refs nums) there;
       once = λ a b refs nums more_refs more_nums name is_a is_b.
-          let one = plot_from c t n a (thing name refs nums) is_a in
-          let two = plot_from c t n b (thing name more_refs more_nums) is_b in
+          let one = plot_from config text n a (thing name refs nums) is_a in
+          let two = plot_from config text n b (thing name more_refs more_nums) is_b in
           let first = one.3 in
           let second = two.3 in
-          let named : (row_of t one.0).name ≡ name = cc in
-          let named_too : (row_of t two.0).name ≡ name = cc in
+          let named : (row_of text one.0).name ≡ name = cc in
+          let named_too : (row_of text two.0).name ≡ name = cc in
           let same = one_name one.0 two.0 one.1 two.1 (named ∙ sym named_too) in
-          sym one.2 ∙ ap (address_of c t) same ∙ two.2;
+          sym one.2 ∙ ap (address_of config text) same ∙ two.2;
     }
 
     abbrev world : World
-    world = record { memory = memory; block = block; ghost = no_ghost; graph = g }
+    world = record { memory = memory; block = block; ghost = no_ghost; graph = graph }
 
     phase : memory Phase ≡ 0
     phase = placed.others Phase refl
@@ -135,18 +135,18 @@ module _ (c : Config) (t : Text) (whole : IsPlaceable c t) (fits : Fits c t) (me
     copiers : memory Evac ≡ 0
     copiers = placed.others Evac refl
 
-    evacuated : IsEvacuating c (memory Phase) (memory Cset) (memory Evac) (memory Claim) (memory Free) (λ r. memory (Top r)) (λ r. memory (Tams r)) heap (λ m. memory (Black m)) block (λ r. None) (λ seat. false) (λ seat. None)
+    evacuated : IsEvacuating config (memory Phase) (memory Cset) (memory Evac) (memory Claim) (memory Free) (λ r. memory (Top r)) (λ r. memory (Tams r)) heap (λ m. memory (Black m)) block (λ r. None) (λ seat. false) (λ seat. None)
     evacuated =
-        subst (λ (s : ℕ). IsEvacuating c (memory Phase) s (memory Evac) (memory Claim) (memory Free) (λ r. memory (Top r)) (λ r. memory (Tams r)) heap (λ m. memory (Black m)) block (λ r. None) (λ seat. false) (λ seat. None)) (sym set)
-        (subst (λ (e : ℕ). IsEvacuating c (memory Phase) 0 e (memory Claim) (memory Free) (λ r. memory (Top r)) (λ r. memory (Tams r)) heap (λ m. memory (Black m)) block (λ r. None) (λ seat. false) (λ seat. None)) (sym copiers)
-        (none_evacuated c (memory Phase) (memory Claim) (memory Free) (λ r. memory (Top r)) (λ r. memory (Tams r)) heap (λ m. memory (Black m)) block (λ r. None) (λ seat. false) (λ seat. None)
+        subst (λ (s : ℕ). IsEvacuating config (memory Phase) s (memory Evac) (memory Claim) (memory Free) (λ r. memory (Top r)) (λ r. memory (Tams r)) heap (λ m. memory (Black m)) block (λ r. None) (λ seat. false) (λ seat. None)) (sym set)
+        (subst (λ (e : ℕ). IsEvacuating config (memory Phase) 0 e (memory Claim) (memory Free) (λ r. memory (Top r)) (λ r. memory (Tams r)) heap (λ m. memory (Black m)) block (λ r. None) (λ seat. false) (λ seat. None)) (sym copiers)
+        (none_evacuated config (memory Phase) (memory Claim) (memory Free) (λ r. memory (Top r)) (λ r. memory (Tams r)) heap (λ m. memory (Black m)) block (λ r. None) (λ seat. false) (λ seat. None)
         (λ late. omega (arith, phase, late)) no_moved no_spent (λ seat below. refl)))
 
-    shared : Shared c world
+    shared : Shared config world
     shared = record {
       parsable = record {
-        plotted = plotted c t whole fits (λ r. memory (Top r)) placed.tops;
-        filled = filled c t whole fits (λ r. memory (Top r)) placed.tops;
+        plotted = plotted config text whole fits (λ r. memory (Top r)) placed.tops;
+        filled = filled config text whole fits (λ r. memory (Top r)) placed.tops;
         promises = λ a seat words there. absurd (no_promised a seat words there);
         deads = λ a words there. absurd (no_dead a words there);
         spents = λ a words to there. absurd (no_spent a words to there);
@@ -154,9 +154,9 @@ module _ (c : Config) (t : Text) (whole : IsPlaceable c t) (fits : Fits c t) (me
       };
       contents = record { objects = objects; given = is.given };
       owned = record {
-        free_word = subst (λ (free : ℕ). IsFreeWord c free (λ r. memory (Top r)) (λ r. None)) (sym placed.free) (free_again c (λ r. memory (Top r)));
+        free_word = subst (λ (free : ℕ). IsFreeWord config free (λ r. memory (Top r)) (λ r. None)) (sym placed.free) (free_again config (λ r. memory (Top r)));
         shared_one = λ r at. absurd (omega (arith, placed.others Share refl, at));
-        rooms = rooms_none c block no_room;
+        rooms = rooms_none config block no_room;
         buffers = record {
           each = λ seat some. absurd (some (placed.others (Current seat) refl));
           spares = λ a seat words there. absurd (no_room a seat (spare seat words) there refl);
@@ -170,26 +170,26 @@ module _ (c : Config) (t : Text) (whole : IsPlaceable c t) (fits : Fits c t) (me
         lengths = λ a words there. absurd (no_dead a words there);
         fillers = λ a words there. absurd (no_filler a words there);
       };
-      marked = none_marked c (memory Phase) (λ m. memory (Grey m)) (λ m. memory (Black m)) (λ m. memory (Count m)) (λ m k. memory (Buffer m k)) (λ r. memory (Top r)) (λ r. memory (Tams r)) heap block (λ seat. None) (λ seat. None) phase;
+      marked = none_marked config (memory Phase) (λ m. memory (Grey m)) (λ m. memory (Black m)) (λ m. memory (Count m)) (λ m k. memory (Buffer m k)) (λ r. memory (Top r)) (λ r. memory (Tams r)) heap block (λ seat. None) (λ seat. None) phase;
       evacuated = evacuated;
       updated = λ on. absurd (omega (arith, phase, on));
-      pinned = λ m i below small. subst (PinStands c (memory Cset) (memory Evac) block (memory (Pin m i))) (sym (is.no_pins (m + 1) i)) (placed.others (Pin m i) refl);
+      pinned = λ m i below small. subst (PinStands config (memory Cset) (memory Evac) block (memory (Pin m i))) (sym (is.no_pins (m + 1) i)) (placed.others (Pin m i) refl);
     }
 
-    roots : (m i : ℕ) → m < c.mutators → i < 16 → Points block (memory (Root m i)) (g.root (m + 1) i)
-    roots m i below small =
-        let root = root_of t (m + 1) i in
-        let points : Points block (word_for c t root) root = leads root (λ name names. whole.roots (m + 1) i name (omega arith) (omega (arith, below)) small names) in
-        subst (λ (x : ℕ). Points block x (g.root (m + 1) i)) (sym (placed.roots m i below small)) (subst (Points block (word_for c t root)) (sym (is.roots m i below small)) points)
+    roots : (mutator index : ℕ) → mutator < config.mutators → index < 16 → Points block (memory (Root mutator index)) (graph.root (mutator + 1) index)
+    roots mutator index below small =
+        let root = root_of text (mutator + 1) index in
+        let points : Points block (word_for config text root) root = leads root (λ name names. whole.roots (mutator + 1) index name (omega arith) (omega (arith, below)) small names) in
+        subst (λ (x : ℕ). Points block x (graph.root (mutator + 1) index)) (sym (placed.roots mutator index below small)) (subst (Points block (word_for config text root)) (sym (is.roots mutator index below small)) points)
 
-    pub stands : Represents c memory g (λ m. nothing)
+    pub stands : Represents config memory graph (λ m. nothing)
     stands = record {
       block = block;
       ghost = no_ghost;
       shared = shared;
       roots = roots;
       usable = λ m i below small.
-          subst (λ (s : ℕ). IsUsable c s (memory Evac) block (memory (Root m i))) (sym set) (usable_now c (memory Evac) block no_moved (memory (Root m i)) (g.root (m + 1) i) (roots m i below small));
+          subst (λ (s : ℕ). IsUsable config s (memory Evac) block (memory (Root m i))) (sym set) (usable_now config (memory Evac) block no_moved (memory (Root m i)) (graph.root (m + 1) i) (roots m i below small));
       none = λ a seat words there. no_room a seat (hand seat words) there refl;
       uncarved = λ a seat words there. no_room a seat (carved seat words) there refl;
       asked = λ m below. (placed.others (Wait m) refl, placed.others (Answer m) refl, λ a words there. no_promised a m words there);

@@ -21,40 +21,40 @@ pub contains_mapped : {A B : Type 0} (f : A → B) (xs : List A) (x : A) → Con
 contains_mapped f xs x there = (there.0, omega (arith, there.1, length-map xs f), get_or-map f xs there.0 x (f x) there.1 ∙ ap f there.2)
 
 -- an element past the end is the default's
-pub mapped_at : {A B : Type 0} (f : A → B) (xs : List A) (k : ℕ) (d : A) → get_or (map f xs) k (f d) ≡ f (get_or xs k d)
-mapped_at f xs k d = ⊎_elim
-    (λ (below : k < length xs). get_or-map f xs k d (f d) below)
-    (λ (past : length xs ≤ k). get_or_past (map f xs) k (f d) (omega (arith, past, length-map xs f)) ∙ ap f (sym (get_or_past xs k d past)))
-    (cases_lt k (length xs))
+pub mapped_at : {A B : Type 0} (f : A → B) (xs : List A) (index : ℕ) (d : A) → get_or (map f xs) index (f d) ≡ f (get_or xs index d)
+mapped_at f xs index d = ⊎_elim
+    (λ (below : index < length xs). get_or-map f xs index d (f d) below)
+    (λ (past : length xs ≤ index). get_or_past (map f xs) index (f d) (omega (arith, past, length-map xs f)) ∙ ap f (sym (get_or_past xs index d past)))
+    (cases_lt index (length xs))
 
-pub mapped_from : {A B : Type 0} (f : A → B) (xs : List A) (i : ℕ) (y : B) → slice_get (map f xs) i ≡ Some y → (x : A) × (slice_get xs i ≡ Some x) × (f x ≡ y)
-mapped_from f [] i y is = absurd (none-some y is)
+pub mapped_from : {A B : Type 0} (f : A → B) (xs : List A) (index : ℕ) (y : B) → slice_get (map f xs) index ≡ Some y → (x : A) × (slice_get xs index ≡ Some x) × (f x ≡ y)
+mapped_from f [] index y is = absurd (none-some y is)
 mapped_from f (x ∷ xs) zero y is = let same : f x ≡ y = cc in (x, refl, same)
-mapped_from f (x ∷ xs) (suc i) y is = mapped_from f xs i y is
+mapped_from f (x ∷ xs) (suc index) y is = mapped_from f xs index y is
 
 -- names stay in order under a map that keeps it
-pub in_order_mapped : (f : Name → Name) (ns : List Name) → ((m n : Name) → Contains ns m → Contains ns n → IsBefore m n → IsBefore (f m) (f n)) → InOrder ns → InOrder (map f ns)
+pub in_order_mapped : (f : Name → Name) (ns : List Name) → ((name other_name : Name) → Contains ns name → Contains ns other_name → IsBefore name other_name → IsBefore (f name) (f other_name)) → InOrder ns → InOrder (map f ns)
 in_order_mapped f [] rises order = tt
-in_order_mapped f (n ∷ []) rises order = tt
-in_order_mapped f (n ∷ m ∷ ns) rises order = (
-  rises n m (there_first n (m ∷ ns)) (there_later n (m ∷ ns) m (there_first m ns)) order.0,
-  in_order_mapped f (m ∷ ns) (λ a b in_a in_b. rises a b (there_later n (m ∷ ns) a in_a) (there_later n (m ∷ ns) b in_b)) order.1,
+in_order_mapped f (other_name ∷ []) rises order = tt
+in_order_mapped f (other_name ∷ name ∷ ns) rises order = (
+  rises other_name name (there_first other_name (name ∷ ns)) (there_later other_name (name ∷ ns) name (there_first name ns)) order.0,
+  in_order_mapped f (name ∷ ns) (λ a b in_a in_b. rises a b (there_later other_name (name ∷ ns) a in_a) (there_later other_name (name ∷ ns) b in_b)) order.1,
 )
 
 -- and at their places under one that is one to one
-pub place_mapped : (f : Name → Name) (ns : List Name) (n : Name) → ((m : Name) → Contains ns m → f m ≡ f n → m ≡ n) → place_among (map f ns) (f n) ≡ place_among ns n
-place_mapped f [] n one = refl
-place_mapped f (a ∷ ns) n one = ⊎_elim
-    (λ (same : same_name a n ≡ true).
-    let mapped : f a ≡ f n = ap f (same_name-true a n same) in
-    let same_too : same_name (f a) (f n) ≡ true = subst (λ (x : Name). same_name (f a) x ≡ true) mapped (same_name-itself (f a)) in
-    cond-true (same_name (f a) (f n)) 0 (suc (place_among (map f ns) (f n))) same_too ∙ sym (cond-true (same_name a n) 0 (suc (place_among ns n)) same))
-    (λ (other : same_name a n ≡ false).
-    let other_too : same_name (f a) (f n) ≡ false =
-    false_from_ne_true (same_name (f a) (f n)) (λ yes.
-    let is : a ≡ n = one a (there_first a ns) (same_name-true (f a) (f n) yes) in
-    false≢true (sym other ∙ subst (λ (x : Name). same_name a x ≡ true) is (same_name-itself a))) in
-    cond-false (same_name (f a) (f n)) 0 (suc (place_among (map f ns) (f n))) other_too
-    ∙ ap (λ k. suc k) (place_mapped f ns n (λ m there same. one m (there_later a ns m there) same))
-    ∙ sym (cond-false (same_name a n) 0 (suc (place_among ns n)) other))
-    (cases_Bool (same_name a n))
+pub place_mapped : (f : Name → Name) (ns : List Name) (name : Name) → ((other_name : Name) → Contains ns other_name → f other_name ≡ f name → other_name ≡ name) → place_among (map f ns) (f name) ≡ place_among ns name
+place_mapped f [] name one = refl
+place_mapped f (a ∷ ns) name one = ⊎_elim
+    (λ (same : same_name a name ≡ true).
+    let mapped : f a ≡ f name = ap f (same_name-true a name same) in
+    let same_too : same_name (f a) (f name) ≡ true = subst (λ (name : Name). same_name (f a) name ≡ true) mapped (same_name-itself (f a)) in
+    cond-true (same_name (f a) (f name)) 0 (suc (place_among (map f ns) (f name))) same_too ∙ sym (cond-true (same_name a name) 0 (suc (place_among ns name)) same))
+    (λ (other : same_name a name ≡ false).
+    let other_too : same_name (f a) (f name) ≡ false =
+    false_from_ne_true (same_name (f a) (f name)) (λ yes.
+    let is : a ≡ name = one a (there_first a ns) (same_name-true (f a) (f name) yes) in
+    false≢true (sym other ∙ subst (λ (name : Name). same_name a name ≡ true) is (same_name-itself a))) in
+    cond-false (same_name (f a) (f name)) 0 (suc (place_among (map f ns) (f name))) other_too
+    ∙ ap (λ k. suc k) (place_mapped f ns name (λ other_name there same. one other_name (there_later a ns other_name there) same))
+    ∙ sym (cond-false (same_name a name) 0 (suc (place_among ns name)) other))
+    (cases_Bool (same_name a name))

@@ -7,19 +7,19 @@ use Rattle.shen_graph.specs.GraphText.{Row}
 use Rattle.graph_placing.specs.PlacedHeap.{words_of_object}
 
 -- the words behind header, shape and name
-behind : (a b d : ℕ) (xs : List ℕ) (i j : ℕ) → j ≡ 3 + i → get_or (a ∷ b ∷ d ∷ xs) j 0 ≡ get_or xs i 0
-behind a b d xs i j is = let later : j ≡ suc (suc (suc i)) = omega (arith, is) in ap (λ k. get_or (a ∷ b ∷ d ∷ xs) k 0) later
+behind : (a b d : ℕ) (xs : List ℕ) (index other_index : ℕ) → other_index ≡ 3 + index → get_or (a ∷ b ∷ d ∷ xs) other_index 0 ≡ get_or xs index 0
+behind a b d xs index other_index is = let later : other_index ≡ suc (suc (suc index)) = omega (arith, is) in ap (λ k. get_or (a ∷ b ∷ d ∷ xs) k 0) later
 
 -- a reference
-pub reference_word : (word : Reference → ℕ) (r : Row) (i j : ℕ) → j ≡ 3 + i → i < length r.refs → get_or (words_of_object word r) j 0 ≡ word (get_or r.refs i None)
-reference_word word r i j is below =
-    let inside : i < length (map word r.refs) = omega (arith, length-map r.refs word, below) in
-    behind plain_header (shape_word (length r.refs) (length r.nums)) (name_code r.name.thread r.name.count) (map word r.refs ++ r.nums) i j is
-    ∙ get_or_append_left (map word r.refs) r.nums 0 i inside ∙ get_or-map word r.refs i None 0 below
+pub reference_word : (word : Reference → ℕ) (row : Row) (index other_index : ℕ) → other_index ≡ 3 + index → index < length row.refs → get_or (words_of_object word row) other_index 0 ≡ word (get_or row.refs index None)
+reference_word word row index other_index is below =
+    let inside : index < length (map word row.refs) = omega (arith, length-map row.refs word, below) in
+    behind plain_header (shape_word (length row.refs) (length row.nums)) (name_code row.name.thread row.name.count) (map word row.refs ++ row.nums) index other_index is
+    ∙ get_or_append_left (map word row.refs) row.nums 0 index inside ∙ get_or-map word row.refs index None 0 below
 
 -- a number
-pub number_word : (word : Reference → ℕ) (r : Row) (i j : ℕ) → j ≡ 3 + length r.refs + i → get_or (words_of_object word r) j 0 ≡ get_or r.nums i 0
-number_word word r i j is =
-    let place : j ≡ 3 + (length (map word r.refs) + i) = omega (arith, is, length-map r.refs word) in
-    behind plain_header (shape_word (length r.refs) (length r.nums)) (name_code r.name.thread r.name.count) (map word r.refs ++ r.nums) (length (map word r.refs) + i) j place
-    ∙ get_or-append-add (map word r.refs) r.nums i 0
+pub number_word : (word : Reference → ℕ) (row : Row) (i index : ℕ) → index ≡ 3 + length row.refs + i → get_or (words_of_object word row) index 0 ≡ get_or row.nums i 0
+number_word word row i index is =
+    let place : index ≡ 3 + (length (map word row.refs) + i) = omega (arith, is, length-map row.refs word) in
+    behind plain_header (shape_word (length row.refs) (length row.nums)) (name_code row.name.thread row.name.count) (map word row.refs ++ row.nums) (length (map word row.refs) + i) index place
+    ∙ get_or-append-add (map word row.refs) row.nums i 0

@@ -13,21 +13,21 @@ none_named : (held : Option Pinned) → name_in held ≡ None → held ≡ None
 none_named None is = refl
 none_named (Some held) is = absurd (cc)
 
-module _ (t : Text) (threads : ℕ) (g : Graph) (shows : ShowsGraph t threads g) where
-  pub nothing_pinned : length t.roots ≡ threads → PinsNothing t → HoldsNothing threads g
+module _ (text : Text) (threads : ℕ) (graph : Graph) (shows : ShowsGraph text threads graph) where
+  pub nothing_pinned : length text.roots ≡ threads → PinsNothing text → HoldsNothing threads graph
   nothing_pinned long none zero slot low high small = absurd (omega (arith, low))
   nothing_pinned long none (suc m) slot low high small =
-      none_named (g.pin (suc m) slot) (sym (shown_pin t threads g shows m slot (omega (arith, high)) small) ∙ none (suc m) slot low (omega (arith, high, long)) small)
+      none_named (graph.pin (suc m) slot) (sym (shown_pin text threads graph shows m slot (omega (arith, high)) small) ∙ none (suc m) slot low (omega (arith, high, long)) small)
 
-  pub nothing_held : length t.roots ≡ threads → HoldsNothing threads g → PinsNothing t
+  pub nothing_held : length text.roots ≡ threads → HoldsNothing threads graph → PinsNothing text
   nothing_held long none zero slot low high small = absurd (omega (arith, low))
   nothing_held long none (suc m) slot low high small =
-      shown_pin t threads g shows m slot (omega (arith, high, long)) small ∙ ap name_in (none (suc m) slot low (omega (arith, high, long)) small)
+      shown_pin text threads graph shows m slot (omega (arith, high, long)) small ∙ ap name_in (none (suc m) slot low (omega (arith, high, long)) small)
 
 -- a test of pin slots that does not fail
-pub not_pinned : (t : Text) → ((PinsNothing t → ⊥) → ⊥) → PinsNothing t
-not_pinned t never thread slot low high small = by_slot (pin_of t thread slot) refl
+pub not_pinned : (text : Text) → ((PinsNothing text → ⊥) → ⊥) → PinsNothing text
+not_pinned text never thread slot low high small = by_slot (pin_of text thread slot) refl
   where
-    by_slot : (held : Reference) → pin_of t thread slot ≡ held → pin_of t thread slot ≡ None
+    by_slot : (held : Reference) → pin_of text thread slot ≡ held → pin_of text thread slot ≡ None
     by_slot None is = is
     by_slot (Some name) is = absurd (never (λ none. let empty = none thread slot low high small in cc))

@@ -10,16 +10,16 @@ use Rattle.graph_placing.specs.Renaming.{IsRenaming}
 use Rattle.graph_placing.proofs.NamesCounted.{earlier_rises_more, earlier_fewer, earlier_is, counted_at}
 
 -- names with the same thread and the same count
-pub one_name : (m n : Name) → m.thread ≡ n.thread → m.count ≡ n.count → m ≡ n
-one_name m n thread count = λ i. record { thread = thread i; count = count i }
+pub one_name : (name other_name : Name) → name.thread ≡ other_name.thread → name.count ≡ other_name.count → name ≡ other_name
+one_name name other_name thread count = λ i. record { thread = thread i; count = count i }
 
 pub is_renaming : (ns : List Name) → InOrder ns → IsRenaming ns (name_anew ns)
 is_renaming ns order = record {
   thread = λ n. refl;
   one_to_one = λ m n in_m in_n same.
-      let thread : m.thread ≡ n.thread = ap (λ (x : Name). x.thread) same in
-      let count : earlier_names ns m + 1 ≡ earlier_names ns n + 1 = ap (λ (x : Name). x.count) same in
-      let back : n.thread ≡ m.thread = ap (λ (x : Name). x.thread) (sym same) in
+      let thread : m.thread ≡ n.thread = ap (λ (name : Name). name.thread) same in
+      let count : earlier_names ns m + 1 ≡ earlier_names ns n + 1 = ap (λ (name : Name). name.count) same in
+      let back : n.thread ≡ m.thread = ap (λ (name : Name). name.thread) (sym same) in
       ⊎_elim
       (λ (less : m.count < n.count). absurd (omega (arith, earlier_rises_more ns m n in_m thread less, count)))
       (λ (least : n.count ≤ m.count). ⊎_elim

@@ -18,93 +18,93 @@ use Rattle.graph_placing.specs.Renewable.{IsOfThreads, IsShortObject, IsRenewabl
 -- ---- what a reference names
 
 -- the object of a name, also where there is none
-named_short : (threads : ℕ) (g : Graph) (n : Name) → IsRenewable threads g → IsShortObject threads (named g (Some n))
-named_short threads g n can = by_object (g.object n) refl
+named_short : (threads : ℕ) (graph : Graph) (name : Name) → IsRenewable threads graph → IsShortObject threads (named graph (Some name))
+named_short threads graph name can = by_object (graph.object name) refl
   where
-    by_object : (o : Option Object) → g.object n ≡ o → IsShortObject threads (unwrap_or o (record { refs = []; nums = [] }))
-    by_object (Some o) is = can.object n o is
+    by_object : (found : Option Object) → graph.object name ≡ found → IsShortObject threads (unwrap_or found (record { refs = []; nums = [] }))
+    by_object (Some found) is = can.object name found is
     by_object None is = record { refs = All-nil (IsOfThreads threads); few_refs = omega arith; few_nums = omega arith }
 
 -- its references
-refs_named : (threads : ℕ) (g : Graph) (r : Reference) → IsRenewable threads g → All (IsOfThreads threads) (named g r).refs
-refs_named threads g None can = All-nil (IsOfThreads threads)
-refs_named threads g (Some n) can = (named_short threads g n can).refs
+refs_named : (threads : ℕ) (graph : Graph) (reference : Reference) → IsRenewable threads graph → All (IsOfThreads threads) (named graph reference).refs
+refs_named threads graph None can = All-nil (IsOfThreads threads)
+refs_named threads graph (Some n) can = (named_short threads graph n can).refs
 
-element : {X : Type 0} (P : X → Type 0) (xs : List X) (i : ℕ) (x : X) → All P xs → slice_get xs i ≡ Some x → P x
-element P xs i x all there = subst P (get_or_from_slice_get xs i x x there) (all i x (slice_get_within xs i x there))
+element : {X : Type 0} (P : X → Type 0) (xs : List X) (index : ℕ) (x : X) → All P xs → slice_get xs index ≡ Some x → P x
+element P xs index x all there = subst P (get_or_from_slice_get xs index x x there) (all index x (slice_get_within xs index x there))
 
 -- what can be reached is so
-pub reachable_named : (threads : ℕ) (g : Graph) → IsRenewable threads g → (n : Name) → IsReachable g n → IsOfThreads threads (Some n)
-reachable_named threads g can _ (from_root t r n is) = subst (IsOfThreads threads) is (can.root t r)
-reachable_named threads g can _ (from_pin t s held is) = subst (λ (p : Option Pinned). IsOfThreads threads (name_in p)) is (can.pin t s)
-reachable_named threads g can _ (from_field m n field there is) = element (IsOfThreads threads) (named g (Some m)).refs field (Some n) (refs_named threads g (Some m) can) is
+pub reachable_named : (threads : ℕ) (graph : Graph) → IsRenewable threads graph → (name : Name) → IsReachable graph name → IsOfThreads threads (Some name)
+reachable_named threads graph can _ (from_root t r name is) = subst (IsOfThreads threads) is (can.root t r)
+reachable_named threads graph can _ (from_pin t s held is) = subst (λ (found : Option Pinned). IsOfThreads threads (name_in found)) is (can.pin t s)
+reachable_named threads graph can _ (from_field m name field there is) = element (IsOfThreads threads) (named graph (Some m)).refs field (Some name) (refs_named threads graph (Some m) can) is
 
-pub reachable_short : (threads : ℕ) (g : Graph) → IsRenewable threads g → (n : Name) → IsShortObject threads (named g (Some n))
-reachable_short threads g can n = named_short threads g n can
+pub reachable_short : (threads : ℕ) (graph : Graph) → IsRenewable threads graph → (name : Name) → IsShortObject threads (named graph (Some name))
+reachable_short threads graph can name = named_short threads graph name can
 
 -- ---- graphs of which one thing is another
 
-either_named : (threads : ℕ) (b : Bool) (x y : Reference) → IsOfThreads threads x → IsOfThreads threads y → IsOfThreads threads (cond b x y)
-either_named threads true x y p q = p
-either_named threads false x y p q = q
+either_named : (threads : ℕ) (holds : Bool) (reference other_reference : Reference) → IsOfThreads threads reference → IsOfThreads threads other_reference → IsOfThreads threads (cond holds reference other_reference)
+either_named threads true reference other_reference p q = p
+either_named threads false reference other_reference p q = q
 
-root_renewable : (threads : ℕ) (g : Graph) (t r : ℕ) (value : Reference) → IsOfThreads threads value → IsRenewable threads g → IsRenewable threads (with_root g t r value)
-root_renewable threads g t r value named can = record {
-  root = λ u s. either_named threads _ value (g.root u s) named (can.root u s);
+root_renewable : (threads : ℕ) (graph : Graph) (t r : ℕ) (value : Reference) → IsOfThreads threads value → IsRenewable threads graph → IsRenewable threads (with_root graph t r value)
+root_renewable threads graph t r value named can = record {
+  root = λ u s. either_named threads _ value (graph.root u s) named (can.root u s);
   object = can.object;
   pin = can.pin;
 }
 
-object_either : (threads : ℕ) (b : Bool) (x : Object) (other : Option Object) (o : Object) → IsShortObject threads x → (other ≡ Some o → IsShortObject threads o) → cond b (Some x) other ≡ Some o → IsShortObject threads o
-object_either threads true x other o p q e = subst (IsShortObject threads) (same_Some x o e) p
-object_either threads false x other o p q e = q e
+object_either : (threads : ℕ) (holds : Bool) (object : Object) (other : Option Object) (other_object : Object) → IsShortObject threads object → (other ≡ Some other_object → IsShortObject threads other_object) → cond holds (Some object) other ≡ Some other_object → IsShortObject threads other_object
+object_either threads true object other other_object p q e = subst (IsShortObject threads) (same_Some object other_object e) p
+object_either threads false object other other_object p q e = q e
 
-object_renewable : (threads : ℕ) (g : Graph) (n : Name) (o : Object) → IsShortObject threads o → IsRenewable threads g → IsRenewable threads (with_object g n o)
-object_renewable threads g n o short can = record {
+object_renewable : (threads : ℕ) (graph : Graph) (name : Name) (object : Object) → IsShortObject threads object → IsRenewable threads graph → IsRenewable threads (with_object graph name object)
+object_renewable threads graph name object short can = record {
   root = can.root;
-  object = λ m p e. object_either threads (same_name m n) o (g.object m) p short (can.object m p) e;
+  object = λ m p e. object_either threads (same_name m name) object (graph.object m) p short (can.object m p) e;
   pin = can.pin;
 }
 
-held_either : (threads : ℕ) (b : Bool) (x y : Option Pinned) → IsOfThreads threads (name_in x) → IsOfThreads threads (name_in y) → IsOfThreads threads (name_in (cond b x y))
-held_either threads true x y p q = p
-held_either threads false x y p q = q
+held_either : (threads : ℕ) (holds : Bool) (found other_found : Option Pinned) → IsOfThreads threads (name_in found) → IsOfThreads threads (name_in other_found) → IsOfThreads threads (name_in (cond holds found other_found))
+held_either threads true found other_found p q = p
+held_either threads false found other_found p q = q
 
-pin_renewable : (threads : ℕ) (g : Graph) (t slot : ℕ) (held : Option Pinned) → IsOfThreads threads (name_in held) → IsRenewable threads g → IsRenewable threads (with_pin g t slot held)
-pin_renewable threads g t slot held named can = record {
+pin_renewable : (threads : ℕ) (graph : Graph) (t slot : ℕ) (held : Option Pinned) → IsOfThreads threads (name_in held) → IsRenewable threads graph → IsRenewable threads (with_pin graph t slot held)
+pin_renewable threads graph t slot held named can = record {
   root = can.root;
   object = can.object;
-  pin = λ u s. held_either threads (eqb u t && eqb s slot) held (g.pin u s) named (can.pin u s);
+  pin = λ u s. held_either threads (eqb u t && eqb s slot) held (graph.pin u s) named (can.pin u s);
 }
 
 -- the object that a reference names has other references, or other numbers, as many
-refs_renewable : (threads : ℕ) (g : Graph) (r : Reference) (field : ℕ) (value : Reference) → IsOfThreads threads value → IsRenewable threads g
-    → IsRenewable threads (with_named g r (record { refs = slice_set (named g r).refs field value; nums = (named g r).nums }))
-refs_renewable threads g None field value named_too can = can
-refs_renewable threads g (Some n) field value named_too can =
-    let was = named_short threads g n can in
-    object_renewable threads g n _ (record {
-      refs = All-set (IsOfThreads threads) (named g (Some n)).refs field value named_too was.refs;
-      few_refs = omega (arith, length-set (named g (Some n)).refs field value, was.few_refs);
+refs_renewable : (threads : ℕ) (graph : Graph) (reference : Reference) (field : ℕ) (value : Reference) → IsOfThreads threads value → IsRenewable threads graph
+    → IsRenewable threads (with_named graph reference (record { refs = slice_set (named graph reference).refs field value; nums = (named graph reference).nums }))
+refs_renewable threads graph None field value named_too can = can
+refs_renewable threads graph (Some n) field value named_too can =
+    let was = named_short threads graph n can in
+    object_renewable threads graph n _ (record {
+      refs = All-set (IsOfThreads threads) (named graph (Some n)).refs field value named_too was.refs;
+      few_refs = omega (arith, length-set (named graph (Some n)).refs field value, was.few_refs);
       few_nums = was.few_nums;
     }) can
 
-nums_renewable : (threads : ℕ) (g : Graph) (r : Reference) (index value : ℕ) → IsRenewable threads g
-    → IsRenewable threads (with_named g r (record { refs = (named g r).refs; nums = slice_set (named g r).nums index value }))
-nums_renewable threads g None index value can = can
-nums_renewable threads g (Some n) index value can =
-    let was = named_short threads g n can in
-    object_renewable threads g n _ (record {
+nums_renewable : (threads : ℕ) (graph : Graph) (reference : Reference) (index value : ℕ) → IsRenewable threads graph
+    → IsRenewable threads (with_named graph reference (record { refs = (named graph reference).refs; nums = slice_set (named graph reference).nums index value }))
+nums_renewable threads graph None index value can = can
+nums_renewable threads graph (Some n) index value can =
+    let was = named_short threads graph n can in
+    object_renewable threads graph n _ (record {
       refs = was.refs;
       few_refs = was.few_refs;
-      few_nums = omega (arith, length-set (named g (Some n)).nums index value, was.few_nums);
+      few_nums = omega (arith, length-set (named graph (Some n)).nums index value, was.few_nums);
     }) can
 
 -- a new object of a thread
-fresh_renewable : (threads : ℕ) (g : Graph) (t refs nums : ℕ) → refs ≤ 16 → nums ≤ 16 → IsRenewable threads g → IsRenewable threads (with_fresh g t (blank refs nums))
-fresh_renewable threads g t refs nums few_refs few_nums can = record {
+fresh_renewable : (threads : ℕ) (graph : Graph) (t refs nums : ℕ) → refs ≤ 16 → nums ≤ 16 → IsRenewable threads graph → IsRenewable threads (with_fresh graph t (blank refs nums))
+fresh_renewable threads graph t refs nums few_refs few_nums can = record {
   root = can.root;
-  object = λ m p e. object_either threads (same_name m (fresh g t)) (blank refs nums) (g.object m) p blank_short (can.object m p) e;
+  object = λ m p e. object_either threads (same_name m (fresh graph t)) (blank refs nums) (graph.object m) p blank_short (can.object m p) e;
   pin = can.pin;
 }
   where
@@ -117,54 +117,54 @@ fresh_renewable threads g t refs nums few_refs few_nums can = record {
 
 -- ---- outcomes
 
-on_renewable : {A : Type 0} (threads : ℕ) (o : Option A) (g : Graph) (f : A → Outcome) → IsRenewable threads g → ((v : A) → o ≡ Some v → IsRenewable threads (f v).graph) → IsRenewable threads (on o g f).graph
-on_renewable threads None g f can each = can
-on_renewable threads (Some v) g f can each = each v refl
+on_renewable : {A : Type 0} (threads : ℕ) (found : Option A) (graph : Graph) (f : A → Outcome) → IsRenewable threads graph → ((v : A) → found ≡ Some v → IsRenewable threads (f v).graph) → IsRenewable threads (on found graph f).graph
+on_renewable threads None graph f can each = can
+on_renewable threads (Some v) graph f can each = each v refl
 
-either_renewable : (threads : ℕ) (b : Bool) (x y : Outcome) → IsRenewable threads x.graph → IsRenewable threads y.graph → IsRenewable threads (cond b x y).graph
+either_renewable : (threads : ℕ) (holds : Bool) (x y : Outcome) → IsRenewable threads x.graph → IsRenewable threads y.graph → IsRenewable threads (cond holds x y).graph
 either_renewable threads true x y p q = p
 either_renewable threads false x y p q = q
 
-outcome_renewable : (threads : ℕ) (g : Graph) (t : ℕ) (c : Command) → 1 ≤ t → t ≤ threads → IsValid c → IsRenewable threads g → IsRenewable threads (outcome g t c).graph
-outcome_renewable threads g t (New dst refs nums) first last valid can =
-    root_renewable threads (with_fresh g t (blank refs nums)) t dst (Some (fresh g t)) (inr (first, last)) (fresh_renewable threads g t refs nums valid.1 valid.2 can)
-outcome_renewable threads g t (Get dst src field) first last valid can =
-    on_renewable threads (field_at g t src field) g _ can (λ v there.
-    root_renewable threads g t dst v (element (IsOfThreads threads) (named g (g.root t src)).refs field v (refs_named threads g (g.root t src) can) there) can)
-outcome_renewable threads g t (Set obj field val) first last valid can =
-    on_renewable threads (field_at g t obj field) g _ can (λ v there. refs_renewable threads g (g.root t obj) field (g.root t val) (can.root t val) can)
-outcome_renewable threads g t (Cas obj field expect val) first last valid can =
-    on_renewable threads (field_at g t obj field) g _ can (λ v there.
-    either_renewable threads (same_reference v (g.root t expect)) _ _ (refs_renewable threads g (g.root t obj) field (g.root t val) (can.root t val) can) can)
-outcome_renewable threads g t (Xchg dst obj field val) first last valid can =
-    on_renewable threads (field_at g t obj field) g _ can (λ v there.
-    let was = element (IsOfThreads threads) (named g (g.root t obj)).refs field v (refs_named threads g (g.root t obj) can) there in
-    root_renewable threads (with_field g t obj field (g.root t val)) t dst v was (refs_renewable threads g (g.root t obj) field (g.root t val) (can.root t val) can))
-outcome_renewable threads g t (Rd obj index) first last valid can = on_renewable threads (number_at g t obj index) g _ can (λ v there. can)
-outcome_renewable threads g t (Wr obj index value) first last valid can =
-    on_renewable threads (number_at g t obj index) g _ can (λ v there. nums_renewable threads g (g.root t obj) index value can)
-outcome_renewable threads g t (Copy dst src) first last valid can = root_renewable threads g t dst (g.root t src) (can.root t src) can
-outcome_renewable threads g t (Drop dst) first last valid can = root_renewable threads g t dst None tt can
-outcome_renewable threads g t (Same a b) first last valid can = can
-outcome_renewable threads g t Gc first last valid can = can
-outcome_renewable threads g t (Pin slot obj) first last valid can = can
-outcome_renewable threads g t (Unpin slot) first last valid can = on_renewable threads (g.pin t slot) g _ can (λ v there. pin_renewable threads g t slot None tt can)
+outcome_renewable : (threads : ℕ) (graph : Graph) (thread : ℕ) (command : Command) → 1 ≤ thread → thread ≤ threads → IsValid command → IsRenewable threads graph → IsRenewable threads (outcome graph thread command).graph
+outcome_renewable threads graph thread (New dst refs nums) first last valid can =
+    root_renewable threads (with_fresh graph thread (blank refs nums)) thread dst (Some (fresh graph thread)) (inr (first, last)) (fresh_renewable threads graph thread refs nums valid.1 valid.2 can)
+outcome_renewable threads graph thread (Get dst src field) first last valid can =
+    on_renewable threads (field_at graph thread src field) graph _ can (λ v there.
+    root_renewable threads graph thread dst v (element (IsOfThreads threads) (named graph (graph.root thread src)).refs field v (refs_named threads graph (graph.root thread src) can) there) can)
+outcome_renewable threads graph thread (Set obj field val) first last valid can =
+    on_renewable threads (field_at graph thread obj field) graph _ can (λ v there. refs_renewable threads graph (graph.root thread obj) field (graph.root thread val) (can.root thread val) can)
+outcome_renewable threads graph thread (Cas obj field expect val) first last valid can =
+    on_renewable threads (field_at graph thread obj field) graph _ can (λ v there.
+    either_renewable threads (same_reference v (graph.root thread expect)) _ _ (refs_renewable threads graph (graph.root thread obj) field (graph.root thread val) (can.root thread val) can) can)
+outcome_renewable threads graph thread (Xchg dst obj field val) first last valid can =
+    on_renewable threads (field_at graph thread obj field) graph _ can (λ v there.
+    let was = element (IsOfThreads threads) (named graph (graph.root thread obj)).refs field v (refs_named threads graph (graph.root thread obj) can) there in
+    root_renewable threads (with_field graph thread obj field (graph.root thread val)) thread dst v was (refs_renewable threads graph (graph.root thread obj) field (graph.root thread val) (can.root thread val) can))
+outcome_renewable threads graph thread (Rd obj index) first last valid can = on_renewable threads (number_at graph thread obj index) graph _ can (λ v there. can)
+outcome_renewable threads graph thread (Wr obj index value) first last valid can =
+    on_renewable threads (number_at graph thread obj index) graph _ can (λ v there. nums_renewable threads graph (graph.root thread obj) index value can)
+outcome_renewable threads graph thread (Copy dst src) first last valid can = root_renewable threads graph thread dst (graph.root thread src) (can.root thread src) can
+outcome_renewable threads graph thread (Drop dst) first last valid can = root_renewable threads graph thread dst None tt can
+outcome_renewable threads graph thread (Same a b) first last valid can = can
+outcome_renewable threads graph thread Gc first last valid can = can
+outcome_renewable threads graph thread (Pin slot obj) first last valid can = can
+outcome_renewable threads graph thread (Unpin slot) first last valid can = on_renewable threads (graph.pin thread slot) graph _ can (λ v there. pin_renewable threads graph thread slot None tt can)
 
 -- what a command pins
-pinned_named : (threads : ℕ) (g : Graph) (t : ℕ) (c : Command) → IsRenewable threads g → IsOfThreads threads (pinned_by g t c)
-pinned_named threads g t (New dst refs nums) can = tt
-pinned_named threads g t (Get dst src field) can = tt
-pinned_named threads g t (Set obj field val) can = tt
-pinned_named threads g t (Cas obj field expect val) can = tt
-pinned_named threads g t (Xchg dst obj field val) can = tt
-pinned_named threads g t (Rd obj index) can = tt
-pinned_named threads g t (Wr obj index value) can = tt
-pinned_named threads g t (Copy dst src) can = tt
-pinned_named threads g t (Drop dst) can = tt
-pinned_named threads g t (Same a b) can = tt
-pinned_named threads g t Gc can = tt
-pinned_named threads g t (Pin slot obj) can = either_named threads (is_some (g.pin t slot)) None (g.root t obj) tt (can.root t obj)
-pinned_named threads g t (Unpin slot) can = tt
+pinned_named : (threads : ℕ) (graph : Graph) (thread : ℕ) (command : Command) → IsRenewable threads graph → IsOfThreads threads (pinned_by graph thread command)
+pinned_named threads graph thread (New dst refs nums) can = tt
+pinned_named threads graph thread (Get dst src field) can = tt
+pinned_named threads graph thread (Set obj field val) can = tt
+pinned_named threads graph thread (Cas obj field expect val) can = tt
+pinned_named threads graph thread (Xchg dst obj field val) can = tt
+pinned_named threads graph thread (Rd obj index) can = tt
+pinned_named threads graph thread (Wr obj index value) can = tt
+pinned_named threads graph thread (Copy dst src) can = tt
+pinned_named threads graph thread (Drop dst) can = tt
+pinned_named threads graph thread (Same a b) can = tt
+pinned_named threads graph thread Gc can = tt
+pinned_named threads graph thread (Pin slot obj) can = either_named threads (is_some (graph.pin thread slot)) None (graph.root thread obj) tt (can.root thread obj)
+pinned_named threads graph thread (Unpin slot) can = tt
 
 -- ---- histories
 
@@ -178,16 +178,16 @@ opening_renewable threads = record {
     hub_short : IsShortObject threads (blank 16 0)
     hub_short = record { refs = All-replicate (IsOfThreads threads) 16 None tt; few_refs = omega arith; few_nums = omega arith }
 
-entry_renewable : (threads regions region_words : ℕ) (g : Graph) (e : Entry) (h : Graph) → IsEntryOf threads e → IsLegal regions region_words g e.thread e.command e.reply h → IsRenewable threads g → IsRenewable threads h
-entry_renewable threads regions region_words g e h range (inl told) can =
-    subst (IsRenewable threads) (sym (ap (λ (o : Outcome). o.graph) told.1)) (outcome_renewable threads g e.thread e.command range.from_first range.to_last range.valid can)
-entry_renewable threads regions region_words g e h range (inr (inl full)) can = subst (IsRenewable threads) (sym full.2) can
-entry_renewable threads regions region_words g e h range (inr (inr pinning)) can =
-    let named_too = subst (IsOfThreads threads) pinning.pins (pinned_named threads g e.thread e.command can) in
-    subst (IsRenewable threads) (sym pinning.graph) (pin_renewable threads g e.thread (slot_of e.command) (Some (record { name = pinning.name; place = pinning.place })) named_too can)
+entry_renewable : (threads regions region_words : ℕ) (graph : Graph) (entry : Entry) (other_graph : Graph) → IsEntryOf threads entry → IsLegal regions region_words graph entry.thread entry.command entry.reply other_graph → IsRenewable threads graph → IsRenewable threads other_graph
+entry_renewable threads regions region_words graph entry other_graph range (inl told) can =
+    subst (IsRenewable threads) (sym (ap (λ (o : Outcome). o.graph) told.1)) (outcome_renewable threads graph entry.thread entry.command range.from_first range.to_last range.valid can)
+entry_renewable threads regions region_words graph entry other_graph range (inr (inl full)) can = subst (IsRenewable threads) (sym full.2) can
+entry_renewable threads regions region_words graph entry other_graph range (inr (inr pinning)) can =
+    let named_too = subst (IsOfThreads threads) pinning.pins (pinned_named threads graph entry.thread entry.command can) in
+    subst (IsRenewable threads) (sym pinning.graph) (pin_renewable threads graph entry.thread (slot_of entry.command) (Some (record { name = pinning.name; place = pinning.place })) named_too can)
 
-pub history_renewable : (threads regions region_words : ℕ) (g : Graph) (es : List Entry) → EachIsLegal regions region_words g es → All (IsEntryOf threads) es → IsRenewable threads g → IsRenewable threads (after g es)
-history_renewable threads regions region_words g [] legal range can = can
-history_renewable threads regions region_words g (e ∷ es) legal range can =
-    history_renewable threads regions region_words (after_entry g e) es legal.1 (All-tail (IsEntryOf threads) e es range)
-    (entry_renewable threads regions region_words g e (after_entry g e) (All-head (IsEntryOf threads) e es range) legal.0 can)
+pub history_renewable : (threads regions region_words : ℕ) (graph : Graph) (es : List Entry) → EachIsLegal regions region_words graph es → All (IsEntryOf threads) es → IsRenewable threads graph → IsRenewable threads (after graph es)
+history_renewable threads regions region_words graph [] legal range can = can
+history_renewable threads regions region_words graph (e ∷ es) legal range can =
+    history_renewable threads regions region_words (after_entry graph e) es legal.1 (All-tail (IsEntryOf threads) e es range)
+    (entry_renewable threads regions region_words graph e (after_entry graph e) (All-head (IsEntryOf threads) e es range) legal.0 can)

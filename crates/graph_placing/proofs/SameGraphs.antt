@@ -29,109 +29,109 @@ use Rattle.graph_placing.proofs.TextsAnew as anew
 
 -- The graph of a text, by its parts.
 
-pub text_objects : (t : Text) (counts : List ℕ) → (text_graph t counts).object ≡ object_in t.rows
+pub text_objects : (text : Text) (counts : List ℕ) → (text_graph text counts).object ≡ object_in text.rows
 unfolding graph_of
-text_objects t counts = refl
+text_objects text counts = refl
 
-pub text_root : (t : Text) (counts : List ℕ) (m i : ℕ) → (text_graph t counts).root (suc m) i ≡ root_of t (suc m) i
+pub text_root : (text : Text) (counts : List ℕ) (m index : ℕ) → (text_graph text counts).root (suc m) index ≡ root_of text (suc m) index
 unfolding graph_of
-text_root t counts m i = let back : m ≡ suc m - 1 = omega arith in ap (λ (k : ℕ). get_or (get_or t.roots k []) i None) back
+text_root text counts m index = let back : m ≡ suc m - 1 = omega arith in ap (λ (k : ℕ). get_or (get_or text.roots k []) index None) back
 
-pub text_count : (t : Text) (counts : List ℕ) (m : ℕ) → (text_graph t counts).count (suc m) ≡ slice_index counts m
+pub text_count : (text : Text) (counts : List ℕ) (index : ℕ) → (text_graph text counts).count (suc index) ≡ slice_index counts index
 unfolding graph_of
-text_count t counts m = refl
+text_count text counts index = refl
 
 -- an object is that of a row of its name
-pub row_found : (rows : List Row) (name : Name) (o : Object) (d : Row) → object_in rows name ≡ Some o → (k : ℕ) × (k < length rows) × ((get_or rows k d).name ≡ name)
-row_found [] name o d is = absurd (none-some o is)
-row_found (r ∷ rows) name o d is = ⊎_elim
+pub row_found : (rows : List Row) (name : Name) (object : Object) (row : Row) → object_in rows name ≡ Some object → (index : ℕ) × (index < length rows) × ((get_or rows index row).name ≡ name)
+row_found [] name object row is = absurd (none-some object is)
+row_found (r ∷ rows) name object row is = ⊎_elim
     (λ (same : same_name name r.name ≡ true). (0, omega arith, sym (same_name-true name r.name same)))
     (λ (other : same_name name r.name ≡ false).
-    let rest = row_found rows name o d (sym (cond-false (same_name name r.name) (Some (row_object r)) (object_in rows name) other) ∙ is) in
+    let rest = row_found rows name object row (sym (cond-false (same_name name r.name) (Some (row_object r)) (object_in rows name) other) ∙ is) in
     (suc rest.0, omega (arith, rest.1), rest.2))
     (cases_Bool (same_name name r.name))
 
-module _ (c : Config) (t : Text) (whole : IsPlaceable c t) (threads : AreOfThreads c.mutators (names_of t)) (counts : List ℕ) (are : AreCountsOf (names_of t) c.mutators counts) where
+module _ (config : Config) (text : Text) (whole : IsPlaceable config text) (threads : AreOfThreads config.mutators (names_of text)) (counts : List ℕ) (are : AreCountsOf (names_of text) config.mutators counts) where
   abbrev names : List Name
-  names = names_of t
+  names = names_of text
 
   abbrev f : Name → Name
   f = name_anew names
 
   abbrev n : ℕ
-  n = length t.rows
+  n = length text.rows
 
   abbrev new : Graph
-  new = text_graph (text_anew t) counts
+  new = text_graph (text_anew text) counts
 
   -- a thread has made as many objects as have names of it
-  count_is : (thread : ℕ) → 1 ≤ thread → thread ≤ c.mutators → new.count thread ≡ names_by names thread
+  count_is : (thread : ℕ) → 1 ≤ thread → thread ≤ config.mutators → new.count thread ≡ names_by names thread
   count_is zero low high = absurd (omega (arith, low))
   count_is (suc m) low high =
       let next : m + 1 ≡ suc m = omega arith in
-      text_count (text_anew t) counts m ∙ are.each m (omega (arith, high)) ∙ ap (names_by names) next
+      text_count (text_anew text) counts m ∙ are.each m (omega (arith, high)) ∙ ap (names_by names) next
 
   -- The new names are given, where all objects fit.
 
-  name_is_given : Fits c t → (name : Name) → Contains names name → IsGiven c new.count (f name)
+  name_is_given : Fits config text → (name : Name) → Contains names name → IsGiven config new.count (f name)
   name_is_given fits name there =
       let within = threads.within name there in
       let fewer = earlier_fewer names name there in
       record {
         thread = within;
         made = ⊎_elim
-            (λ (none : name.thread < 1). omega (arith, hub_first c.mutators names threads name (omega (arith, none)) there))
+            (λ (none : name.thread < 1). omega (arith, hub_first config.mutators names threads name (omega (arith, none)) there))
             (λ (some : 1 ≤ name.thread). omega (arith, fewer, count_is name.thread some within))
             (cases_lt name.thread 1);
         by_thread = λ some. omega (arith, fewer, count_is name.thread some within);
-        small = omega (arith, fewer, thread_at_most names name.thread, names_count t, rows_are_few c t whole fits);
+        small = omega (arith, fewer, thread_at_most names name.thread, names_count text, rows_are_few config text whole fits);
       }
 
-  are_given : Fits c t → AreGiven c (text_anew t) counts
+  are_given : Fits config text → AreGiven config (text_anew text) counts
   are_given fits k below =
-      let row : k < n = omega (arith, below, anew.rows_count f t) in
-      let name : f (row_of t k).name ≡ (row_of (text_anew t) k).name = ap (λ (r : Row). r.name) (sym (anew.row_is f t k row)) in
-      subst (IsGiven c new.count) name (name_is_given fits (row_of t k).name (row_there t k row))
+      let row : k < n = omega (arith, below, anew.rows_count f text) in
+      let name : f (row_of text k).name ≡ (row_of (text_anew text) k).name = ap (λ (row : Row). row.name) (sym (anew.row_is f text k row)) in
+      subst (IsGiven config new.count) name (name_is_given fits (row_of text k).name (row_there text k row))
 
-  pub graph_anew : Fits c t → IsGraphOf c (text_anew t) counts new
-  graph_anew fits = is_graph c (text_anew t) counts (anew.placeable_anew c t whole) (are_given fits)
+  pub graph_anew : Fits config text → IsGraphOf config (text_anew text) counts new
+  graph_anew fits = is_graph config (text_anew text) counts (anew.placeable_anew config text whole) (are_given fits)
 
   -- It is the graph that the text shows, up to the names.
-  module _ (g : Graph) (shows : ShowsGraph t c.mutators g) where
+  module _ (graph : Graph) (shows : ShowsGraph text config.mutators graph) where
     renaming : IsRenaming names f
     renaming = is_renaming names whole.in_order
 
-    row_anew : (k : ℕ) → k < n → row_of (text_anew t) k ≡ row_renamed f (row_in g (row_of t k).name)
+    row_anew : (k : ℕ) → k < n → row_of (text_anew text) k ≡ row_renamed f (row_in graph (row_of text k).name)
     row_anew k below =
-        anew.row_is f t k below ∙ ap (row_renamed f) (shown_row t c.mutators g shows k below)
+        anew.row_is f text k below ∙ ap (row_renamed f) (shown_row text config.mutators graph shows k below)
 
-    has_object_anew : (name : Name) → IsReachable g name → new.object (f name) ≡ Some (object_renamed f (named g (Some name)))
+    has_object_anew : (name : Name) → IsReachable graph name → new.object (f name) ≡ Some (object_renamed f (named graph (Some name)))
     has_object_anew name reached =
         let there = shows.reach.all name reached in
         let k = there.0 in
-        let below : k < n = omega (arith, there.1, names_count t) in
-        let is : (row_of t k).name ≡ name = sym (name_of_row t k name below) ∙ there.2 in
-        let row : row_of (text_anew t) k ≡ row_renamed f (row_in g name) = row_anew k below ∙ ap (λ (m : Name). row_renamed f (row_in g m)) is in
-        let found = has_object (text_anew t).rows (anew.placeable_anew c t whole).in_order k (bare hub) (omega (arith, below, anew.rows_count f t)) in
-        ap (λ (object : Name → Option Object). object (f name)) (text_objects (text_anew t) counts)
-        ∙ subst (λ (r : Row). object_in (text_anew t).rows r.name ≡ Some (row_object r)) row found
+        let below : k < n = omega (arith, there.1, names_count text) in
+        let is : (row_of text k).name ≡ name = sym (name_of_row text k name below) ∙ there.2 in
+        let row : row_of (text_anew text) k ≡ row_renamed f (row_in graph name) = row_anew k below ∙ ap (λ (name : Name). row_renamed f (row_in graph name)) is in
+        let found = has_object (text_anew text).rows (anew.placeable_anew config text whole).in_order k (bare hub) (omega (arith, below, anew.rows_count f text)) in
+        ap (λ (object : Name → Option Object). object (f name)) (text_objects (text_anew text) counts)
+        ∙ subst (λ (row : Row). object_in (text_anew text).rows row.name ≡ Some (row_object row)) row found
 
-    from_old : (name : Name) (o : Object) → new.object name ≡ Some o → (m : Name) × IsReachable g m × (f m ≡ name)
+    from_old : (name : Name) (o : Object) → new.object name ≡ Some o → (other_name : Name) × IsReachable graph other_name × (f other_name ≡ name)
     from_old name o is =
-        let found = row_found (text_anew t).rows name o (bare hub) (sym (ap (λ (object : Name → Option Object). object name) (text_objects (text_anew t) counts)) ∙ is) in
+        let found = row_found (text_anew text).rows name o (bare hub) (sym (ap (λ (object : Name → Option Object). object name) (text_objects (text_anew text) counts)) ∙ is) in
         let k = found.0 in
-        let below : k < n = omega (arith, found.1, anew.rows_count f t) in
-        ((row_of t k).name, shows.reach.only (row_of t k).name (row_there t k below), ap (λ (r : Row). r.name) (sym (anew.row_is f t k below)) ∙ found.2)
+        let below : k < n = omega (arith, found.1, anew.rows_count f text) in
+        ((row_of text k).name, shows.reach.only (row_of text k).name (row_there text k below), ap (λ (row : Row). row.name) (sym (anew.row_is f text k below)) ∙ found.2)
 
-    roots_are : (thread root : ℕ) → 1 ≤ thread → thread ≤ c.mutators → root < 16 → new.root thread root ≡ renamed f (g.root thread root)
+    roots_are : (thread root : ℕ) → 1 ≤ thread → thread ≤ config.mutators → root < 16 → new.root thread root ≡ renamed f (graph.root thread root)
     roots_are zero root low high small = absurd (omega (arith, low))
     roots_are (suc m) root low high small =
-        text_root (text_anew t) counts m root ∙ anew.root_is f t (suc m) root ∙ ap (renamed f) (shown_root t c.mutators g shows m root (omega (arith, high)) small)
+        text_root (text_anew text) counts m root ∙ anew.root_is f text (suc m) root ∙ ap (renamed f) (shown_root text config.mutators graph shows m root (omega (arith, high)) small)
 
-    reached_there : (name : Name) → IsReachable g name → Contains names name
+    reached_there : (name : Name) → IsReachable graph name → Contains names name
     reached_there name reached = shows.reach.all name reached
 
-    pub same_anew : IsSameAnew f c.mutators g new
+    pub same_anew : IsSameAnew f config.mutators graph new
     same_anew = record {
       roots = roots_are;
       objects = has_object_anew;
@@ -147,6 +147,6 @@ module _ (c : Config) (t : Text) (whole : IsPlaceable c t) (threads : AreOfThrea
           let found = renaming.no_gap thread count low (omega (arith, high, count_is thread some within)) in
           (found.0, shows.reach.only found.0 found.1, found.2);
       hub_stays = λ reached.
-          let none = hub_first c.mutators names threads hub refl (reached_there hub reached) in
+          let none = hub_first config.mutators names threads hub refl (reached_there hub reached) in
           one_name (f hub) hub refl (omega (arith, none));
     }

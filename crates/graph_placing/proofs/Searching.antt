@@ -12,32 +12,32 @@ use Rattle.shen_graph.proofs.ReachLemmas.{Contains-cons_cases, Contains-nil}
 use Rattle.graph_placing.specs.PlacedHeap.{place_among}
 
 -- a name is not before itself
-pub not_itself : (a : Name) → IsBefore a a → ⊥
-not_itself a before = elim before [ inl less ↦ omega (arith, less) | inr w ↦ omega (arith, w.1) ]
+pub not_itself : (name : Name) → IsBefore name name → ⊥
+not_itself name before = elim before [ inl less ↦ omega (arith, less) | inr w ↦ omega (arith, w.1) ]
 
 -- the first of names in order is before each later one, ..
-pub before_first : (a : Name) (ns : List Name) → InOrder (a ∷ ns) → (k : ℕ) (d : Name) → k < length ns → IsBefore a (get_or ns k d)
-before_first a [] order k d below = absurd (omega (arith, below))
-before_first a (m ∷ ns) order zero d below = order.0
-before_first a (m ∷ ns) order (suc k) d below = before_join a m (get_or ns k d) order.0 (before_first m ns order.1 k d (omega (arith, below)))
+pub before_first : (name : Name) (ns : List Name) → InOrder (name ∷ ns) → (index : ℕ) (other_name : Name) → index < length ns → IsBefore name (get_or ns index other_name)
+before_first name [] order index other_name below = absurd (omega (arith, below))
+before_first name (m ∷ ns) order zero other_name below = order.0
+before_first name (m ∷ ns) order (suc index) other_name below = before_join name m (get_or ns index other_name) order.0 (before_first m ns order.1 index other_name (omega (arith, below)))
 
 -- .. and so is each
-pub before_later : (ns : List Name) → InOrder ns → (j k : ℕ) (d : Name) → j < k → k < length ns → IsBefore (get_or ns j d) (get_or ns k d)
-before_later [] order j k d less below = absurd (omega (arith, below))
-before_later (a ∷ ns) order zero zero d less below = absurd (omega (arith, less))
-before_later (a ∷ ns) order zero (suc k) d less below = before_first a ns order k d (omega (arith, below))
-before_later (a ∷ ns) order (suc j) zero d less below = absurd (omega (arith, less))
-before_later (a ∷ ns) order (suc j) (suc k) d less below = before_later ns (order_rest a ns order) j k d (omega (arith, less)) (omega (arith, below))
+pub before_later : (ns : List Name) → InOrder ns → (index other_index : ℕ) (name : Name) → index < other_index → other_index < length ns → IsBefore (get_or ns index name) (get_or ns other_index name)
+before_later [] order index other_index name less below = absurd (omega (arith, below))
+before_later (a ∷ ns) order zero zero name less below = absurd (omega (arith, less))
+before_later (a ∷ ns) order zero (suc other_index) name less below = before_first a ns order other_index name (omega (arith, below))
+before_later (a ∷ ns) order (suc index) zero name less below = absurd (omega (arith, less))
+before_later (a ∷ ns) order (suc index) (suc other_index) name less below = before_later ns (order_rest a ns order) index other_index name (omega (arith, less)) (omega (arith, below))
 
 -- no name is there twice
-pub one_place : (ns : List Name) → InOrder ns → (j k : ℕ) (d : Name) → j < length ns → k < length ns → get_or ns j d ≡ get_or ns k d → j ≡ k
-one_place ns order j k d below_j below_k same = ⊎_elim
-    (λ (less : j < k). absurd (not_itself (get_or ns k d) (subst (λ (a : Name). IsBefore a (get_or ns k d)) same (before_later ns order j k d less below_k))))
-    (λ (least : k ≤ j). ⊎_elim
-    (λ (is : k ≡ j). sym is)
-    (λ (differs : k ≡ j → ⊥). absurd (not_itself (get_or ns k d) (subst (λ (a : Name). IsBefore (get_or ns k d) a) same (before_later ns order k j d (omega (arith, least, differs)) below_j))))
-    (cases_eq k j))
-    (cases_lt j k)
+pub one_place : (ns : List Name) → InOrder ns → (index other_index : ℕ) (name : Name) → index < length ns → other_index < length ns → get_or ns index name ≡ get_or ns other_index name → index ≡ other_index
+one_place ns order index other_index name below_j below_k same = ⊎_elim
+    (λ (less : index < other_index). absurd (not_itself (get_or ns other_index name) (subst (λ (a : Name). IsBefore a (get_or ns other_index name)) same (before_later ns order index other_index name less below_k))))
+    (λ (least : other_index ≤ index). ⊎_elim
+    (λ (is : other_index ≡ index). sym is)
+    (λ (differs : other_index ≡ index → ⊥). absurd (not_itself (get_or ns other_index name) (subst (λ (a : Name). IsBefore (get_or ns other_index name) a) same (before_later ns order other_index index name (omega (arith, least, differs)) below_j))))
+    (cases_eq other_index index))
+    (cases_lt index other_index)
 
 -- a name that is there stands at its place
 pub stands_there : (ns : List Name) (name d : Name) → Contains ns name → (place_among ns name < length ns) × (get_or ns (place_among ns name) d ≡ name)
@@ -57,37 +57,37 @@ stands_there (a ∷ ns) name d there = ⊎_elim
     (cases_Bool (same_name a name))
   where
     same_itself : (a b : Name) → a ≡ b → same_name a b ≡ true
-    same_itself a b is = subst (λ (n : Name). same_name a n ≡ true) is (same_name-itself a)
+    same_itself a b is = subst (λ (name : Name). same_name a name ≡ true) is (same_name-itself a)
 
 -- A name that is looked for comes before a place whose name is behind it, ..
-pub is_before_place : (ns : List Name) → InOrder ns → (name : Name) → Contains ns name → (k : ℕ) (m d : Name) → k < length ns → get_or ns k d ≡ m → IsBefore name m → place_among ns name < k
-is_before_place ns order name there k m d below is before =
+pub is_before_place : (ns : List Name) → InOrder ns → (name : Name) → Contains ns name → (index : ℕ) (other_name d : Name) → index < length ns → get_or ns index d ≡ other_name → IsBefore name other_name → place_among ns name < index
+is_before_place ns order name there index other_name d below is before =
     let p = place_among ns name in
     let found = stands_there ns name d there in
     ⊎_elim
-    (λ (less : p < k). less)
-    (λ (least : k ≤ p). ⊎_elim
-    (λ (same : k ≡ p). absurd (not_itself name (subst (λ (a : Name). IsBefore name a) (sym is ∙ ap (λ i. get_or ns i d) same ∙ found.1) before)))
-    (λ (differs : k ≡ p → ⊥).
-    let later : IsBefore m name = subst (λ (a : Name). IsBefore m a) found.1 (subst (λ (a : Name). IsBefore a (get_or ns p d)) is (before_later ns order k p d (omega (arith, least, differs)) found.0)) in
-    absurd (not_itself name (before_join name m name before later)))
-    (cases_eq k p))
-    (cases_lt p k)
+    (λ (less : p < index). less)
+    (λ (least : index ≤ p). ⊎_elim
+    (λ (same : index ≡ p). absurd (not_itself name (subst (λ (a : Name). IsBefore name a) (sym is ∙ ap (λ i. get_or ns i d) same ∙ found.1) before)))
+    (λ (differs : index ≡ p → ⊥).
+    let later : IsBefore other_name name = subst (λ (name : Name). IsBefore other_name name) found.1 (subst (λ (name : Name). IsBefore name (get_or ns p d)) is (before_later ns order index p d (omega (arith, least, differs)) found.0)) in
+    absurd (not_itself name (before_join name other_name name before later)))
+    (cases_eq index p))
+    (cases_lt p index)
 
 -- .. and at or behind any other
-pub is_not_before_place : (ns : List Name) → InOrder ns → (name : Name) → Contains ns name → (k : ℕ) (m d : Name) → k < length ns → get_or ns k d ≡ m → (IsBefore name m → ⊥) → k ≤ place_among ns name
-is_not_before_place ns order name there k m d below is not_before =
+pub is_not_before_place : (ns : List Name) → InOrder ns → (name : Name) → Contains ns name → (index : ℕ) (other_name d : Name) → index < length ns → get_or ns index d ≡ other_name → (IsBefore name other_name → ⊥) → index ≤ place_among ns name
+is_not_before_place ns order name there index other_name d below is not_before =
     let p = place_among ns name in
     let found = stands_there ns name d there in
     ⊎_elim
-    (λ (less : p < k).
-    absurd (not_before (subst (λ (a : Name). IsBefore name a) is (subst (λ (a : Name). IsBefore a (get_or ns k d)) found.1 (before_later ns order p k d less below)))))
-    (λ (least : k ≤ p). least)
-    (cases_lt p k)
+    (λ (less : p < index).
+    absurd (not_before (subst (λ (a : Name). IsBefore name a) is (subst (λ (name : Name). IsBefore name (get_or ns index d)) found.1 (before_later ns order p index d less below)))))
+    (λ (least : index ≤ p). least)
+    (cases_lt p index)
 
 -- The names of a text are those of its rows.
-pub names_count : (t : Text) → length (names_of t) ≡ length t.rows
-names_count t = length-map t.rows (λ (r : Row). r.name)
+pub names_count : (text : Text) → length (names_of text) ≡ length text.rows
+names_count text = length-map text.rows (λ (row : Row). row.name)
 
-pub name_of_row : (t : Text) (k : ℕ) (d : Name) → k < length t.rows → get_or (names_of t) k d ≡ (row_of t k).name
-name_of_row t k d below = get_or-map (λ (r : Row). r.name) t.rows k (bare hub) d below
+pub name_of_row : (text : Text) (index : ℕ) (name : Name) → index < length text.rows → get_or (names_of text) index name ≡ (row_of text index).name
+name_of_row text index name below = get_or-map (λ (row : Row). row.name) text.rows index (bare hub) name below

@@ -27,108 +27,108 @@ use Rattle.graph_placing.proofs.SameGraphs.{row_found, text_objects, text_root}
 use Rattle.graph_placing.proofs.TextShown.{row_there, shown_row, shown_root}
 use Rattle.graph_placing.proofs.TextsAnew as anew
 
-module _ (c : Config) (t : Text) (g : Graph) (can : IsRenewable c.mutators g) (shows : ShowsGraph t c.mutators g) where
-  threads : length t.roots ≡ c.mutators
-  threads = ap length shows.roots ∙ length-map-range_with_len (λ thread. map (g.root thread) (range_with_len 0 16)) 1 c.mutators
+module _ (config : Config) (text : Text) (graph : Graph) (can : IsRenewable config.mutators graph) (shows : ShowsGraph text config.mutators graph) where
+  threads : length text.roots ≡ config.mutators
+  threads = ap length shows.roots ∙ length-map-range_with_len (λ thread. map (graph.root thread) (range_with_len 0 16)) 1 config.mutators
 
-  row_reached : (k : ℕ) → k < length t.rows → IsReachable g (row_of t k).name
-  row_reached k below = shows.reach.only (row_of t k).name (row_there t k below)
+  row_reached : (index : ℕ) → index < length text.rows → IsReachable graph (row_of text index).name
+  row_reached index below = shows.reach.only (row_of text index).name (row_there text index below)
 
-  root_there : (thread index : ℕ) (name : Name) → 1 ≤ thread → thread ≤ c.mutators → index < 16 → root_of t thread index ≡ Some name → Contains (names_of t) name
+  root_there : (thread index : ℕ) (name : Name) → 1 ≤ thread → thread ≤ config.mutators → index < 16 → root_of text thread index ≡ Some name → Contains (names_of text) name
   root_there zero index name low high small is = absurd (omega (arith, low))
   root_there (suc m) index name low high small is =
-      shows.reach.all name (from_root (suc m) index name (sym (shown_root t c.mutators g shows m index (omega (arith, high)) small) ∙ is))
+      shows.reach.all name (from_root (suc m) index name (sym (shown_root text config.mutators graph shows m index (omega (arith, high)) small) ∙ is))
 
-  pub placeable : IsPlaceable c t
+  pub placeable : IsPlaceable config text
   placeable = record {
     threads = threads;
     sixteen = subst (All (λ (roots : List Reference). length roots ≡ 16)) (sym shows.roots)
-        (All-map (λ (roots : List Reference). length roots ≡ 16) (λ thread. map (g.root thread) (range_with_len 0 16)) (range_with_len 1 c.mutators) (λ k d below. length-map-range_with_len (g.root (get_or (range_with_len 1 c.mutators) k d)) 0 16));
+        (All-map (λ (roots : List Reference). length roots ≡ 16) (λ thread. map (graph.root thread) (range_with_len 0 16)) (range_with_len 1 config.mutators) (λ k d below. length-map-range_with_len (graph.root (get_or (range_with_len 1 config.mutators) k d)) 0 16));
     in_order = shows.reach.in_order;
     short = λ k below.
-        let short = reachable_short c.mutators g can (row_of t k).name in
-        subst IsShort (sym (shown_row t c.mutators g shows k below)) (record { refs = short.few_refs; nums = short.few_nums });
+        let short = reachable_short config.mutators graph can (row_of text k).name in
+        subst IsShort (sym (shown_row text config.mutators graph shows k below)) (record { refs = short.few_refs; nums = short.few_nums });
     references = λ k i name below is.
-        let field = ap (λ (r : Row). slice_get r.refs i) (sym (shown_row t c.mutators g shows k below)) ∙ is in
-        shows.reach.all name (from_field (row_of t k).name name i (row_reached k below) field);
+        let field = ap (λ (row : Row). slice_get row.refs i) (sym (shown_row text config.mutators graph shows k below)) ∙ is in
+        shows.reach.all name (from_field (row_of text k).name name i (row_reached k below) field);
     roots = root_there;
   }
 
-  name_of_threads : (n : Name) → Contains (names_of t) n → IsOfThreads c.mutators (Some n)
-  name_of_threads n there = reachable_named c.mutators g can n (shows.reach.only n there)
+  name_of_threads : (name : Name) → Contains (names_of text) name → IsOfThreads config.mutators (Some name)
+  name_of_threads name there = reachable_named config.mutators graph can name (shows.reach.only name there)
 
-  within_threads : (n : Name) → IsOfThreads c.mutators (Some n) → n.thread ≤ c.mutators
-  within_threads n (inl is) = let none : n.thread ≡ 0 = ap (λ (x : Name). x.thread) is in omega (arith, none)
-  within_threads n (inr made) = made.1
+  within_threads : (name : Name) → IsOfThreads config.mutators (Some name) → name.thread ≤ config.mutators
+  within_threads name (inl is) = let none : name.thread ≡ 0 = ap (λ (name : Name). name.thread) is in omega (arith, none)
+  within_threads name (inr made) = made.1
 
-  hub_or_made : (n : Name) → IsOfThreads c.mutators (Some n) → n.thread ≡ 0 → n ≡ hub
-  hub_or_made n (inl is) none = is
-  hub_or_made n (inr made) none = absurd (omega (arith, made.0, none))
+  hub_or_made : (name : Name) → IsOfThreads config.mutators (Some name) → name.thread ≡ 0 → name ≡ hub
+  hub_or_made name (inl is) none = is
+  hub_or_made name (inr made) none = absurd (omega (arith, made.0, none))
 
-  pub of_threads : AreOfThreads c.mutators (names_of t)
+  pub of_threads : AreOfThreads config.mutators (names_of text)
   of_threads = record {
     within = λ n there. within_threads n (name_of_threads n there);
     hub_alone = λ n there none. hub_or_made n (name_of_threads n there) none;
   }
 
-module _ (c : Config) (t : Text) (whole : IsPlaceable c t) (are : AreOfThreads c.mutators (names_of t)) (counts : List ℕ) where
+module _ (config : Config) (text : Text) (whole : IsPlaceable config text) (are : AreOfThreads config.mutators (names_of text)) (counts : List ℕ) where
   abbrev names : List Name
-  names = names_of t
+  names = names_of text
 
   abbrev f : Name → Name
   f = name_anew names
 
-  new_name : (n : Name) → Contains names n → IsOfThreads c.mutators (Some (f n))
-  new_name n there = ⊎_elim
-      (λ (none : n.thread < 1).
-      let is_zero : n.thread ≡ 0 = omega (arith, none) in
-      let first = hub_first c.mutators names are n is_zero there in
-      let count : earlier_names names n + 1 ≡ 1 = omega (arith, first) in
-      inl (one_name (f n) hub is_zero count))
-      (λ (some : 1 ≤ n.thread). inr (some, are.within n there))
-      (cases_lt n.thread 1)
+  new_name : (name : Name) → Contains names name → IsOfThreads config.mutators (Some (f name))
+  new_name name there = ⊎_elim
+      (λ (none : name.thread < 1).
+      let is_zero : name.thread ≡ 0 = omega (arith, none) in
+      let first = hub_first config.mutators names are name is_zero there in
+      let count : earlier_names names name + 1 ≡ 1 = omega (arith, first) in
+      inl (one_name (f name) hub is_zero count))
+      (λ (some : 1 ≤ name.thread). inr (some, are.within name there))
+      (cases_lt name.thread 1)
 
-  new_reference : (r : Reference) → ((n : Name) → r ≡ Some n → Contains names n) → IsOfThreads c.mutators (renamed f r)
+  new_reference : (reference : Reference) → ((name : Name) → reference ≡ Some name → Contains names name) → IsOfThreads config.mutators (renamed f reference)
   new_reference None there = tt
-  new_reference (Some n) there = new_name n (there n refl)
+  new_reference (Some name) there = new_name name (there name refl)
 
-  old_root : (m i : ℕ) (n : Name) → root_of t (suc m) i ≡ Some n → Contains names n
-  old_root m i n is =
-      let back : suc m - 1 ≡ m = omega arith in
-      let found : get_or (get_or t.roots m []) i None ≡ Some n = ap (λ (k : ℕ). get_or (get_or t.roots k []) i None) (sym back) ∙ is in
+  old_root : (other_index index : ℕ) (name : Name) → root_of text (suc other_index) index ≡ Some name → Contains names name
+  old_root other_index index name is =
+      let back : suc other_index - 1 ≡ other_index = omega arith in
+      let found : get_or (get_or text.roots other_index []) index None ≡ Some name = ap (λ (k : ℕ). get_or (get_or text.roots k []) index None) (sym back) ∙ is in
       ⊎_elim
-      (λ (below : m < length t.roots). ⊎_elim
-      (λ (small : i < 16). whole.roots (suc m) i n (omega arith) (omega (arith, below, whole.threads)) small is)
-      (λ (large : 16 ≤ i).
-      let long = All-get_or (λ (row : List Reference). length row ≡ 16) t.roots m [] below whole.sixteen in
-      absurd (none-some n (sym (get_or_past (get_or t.roots m []) i None (omega (arith, long, large))) ∙ found)))
-      (cases_lt i 16))
-      (λ (past : length t.roots ≤ m). absurd (none-some n (sym (ap (λ (row : List Reference). get_or row i None) (get_or_past t.roots m [] past)) ∙ found)))
-      (cases_lt m (length t.roots))
+      (λ (below : other_index < length text.roots). ⊎_elim
+      (λ (small : index < 16). whole.roots (suc other_index) index name (omega arith) (omega (arith, below, whole.threads)) small is)
+      (λ (large : 16 ≤ index).
+      let long = All-get_or (λ (row : List Reference). length row ≡ 16) text.roots other_index [] below whole.sixteen in
+      absurd (none-some name (sym (get_or_past (get_or text.roots other_index []) index None (omega (arith, long, large))) ∙ found)))
+      (cases_lt index 16))
+      (λ (past : length text.roots ≤ other_index). absurd (none-some name (sym (ap (λ (row : List Reference). get_or row index None) (get_or_past text.roots other_index [] past)) ∙ found)))
+      (cases_lt other_index (length text.roots))
 
-  new_root : (thread root : ℕ) → IsOfThreads c.mutators ((text_graph (text_anew t) counts).root thread root)
+  new_root : (thread root : ℕ) → IsOfThreads config.mutators ((text_graph (text_anew text) counts).root thread root)
   unfolding graph_of
   new_root zero root = tt
   new_root (suc m) root =
-      subst (IsOfThreads c.mutators) (sym (text_root (text_anew t) counts m root ∙ anew.root_is f t (suc m) root)) (new_reference (root_of t (suc m) root) (old_root m root))
+      subst (IsOfThreads config.mutators) (sym (text_root (text_anew text) counts m root ∙ anew.root_is f text (suc m) root)) (new_reference (root_of text (suc m) root) (old_root m root))
 
-  row_short : (k : ℕ) → k < length t.rows → IsShortObject c.mutators (row_object (row_of (text_anew t) k))
-  row_short k below = subst (λ (r : Row). IsShortObject c.mutators (row_object r)) (sym (anew.row_is f t k below)) (record {
-    refs = All-map (IsOfThreads c.mutators) (renamed f) (row_of t k).refs (λ i d inside.
-        new_reference (get_or (row_of t k).refs i d) (λ n is. whole.references k i n below (slice_get-get_or (row_of t k).refs i d inside ∙ ap (λ (r : Reference). Some r) is)));
-    few_refs = omega (arith, length-map (row_of t k).refs (renamed f), (whole.short k below).refs);
-    few_nums = (whole.short k below).nums;
+  row_short : (index : ℕ) → index < length text.rows → IsShortObject config.mutators (row_object (row_of (text_anew text) index))
+  row_short index below = subst (λ (row : Row). IsShortObject config.mutators (row_object row)) (sym (anew.row_is f text index below)) (record {
+    refs = All-map (IsOfThreads config.mutators) (renamed f) (row_of text index).refs (λ i d inside.
+        new_reference (get_or (row_of text index).refs i d) (λ n is. whole.references index i n below (slice_get-get_or (row_of text index).refs i d inside ∙ ap (λ (reference : Reference). Some reference) is)));
+    few_refs = omega (arith, length-map (row_of text index).refs (renamed f), (whole.short index below).refs);
+    few_nums = (whole.short index below).nums;
   })
 
-  new_object : (n : Name) (o : Object) → (text_graph (text_anew t) counts).object n ≡ Some o → IsShortObject c.mutators o
-  new_object n o is =
-      let there : object_in (text_anew t).rows n ≡ Some o = sym (ap (λ (object : Name → Option Object). object n) (text_objects (text_anew t) counts)) ∙ is in
-      let found = row_found (text_anew t).rows n o (bare hub) there in
+  new_object : (name : Name) (o : Object) → (text_graph (text_anew text) counts).object name ≡ Some o → IsShortObject config.mutators o
+  new_object name o is =
+      let there : object_in (text_anew text).rows name ≡ Some o = sym (ap (λ (object : Name → Option Object). object name) (text_objects (text_anew text) counts)) ∙ is in
+      let found = row_found (text_anew text).rows name o (bare hub) there in
       let k = found.0 in
-      let has = has_object (text_anew t).rows (anew.placeable_anew c t whole).in_order k (bare hub) found.1 in
-      let same : Some (row_object (row_of (text_anew t) k)) ≡ Some o = sym has ∙ ap (object_in (text_anew t).rows) found.2 ∙ there in
-      subst (IsShortObject c.mutators) (same_Some (row_object (row_of (text_anew t) k)) o same) (row_short k (omega (arith, found.1, anew.rows_count f t)))
+      let has = has_object (text_anew text).rows (anew.placeable_anew config text whole).in_order k (bare hub) found.1 in
+      let same : Some (row_object (row_of (text_anew text) k)) ≡ Some o = sym has ∙ ap (object_in (text_anew text).rows) found.2 ∙ there in
+      subst (IsShortObject config.mutators) (same_Some (row_object (row_of (text_anew text) k)) o same) (row_short k (omega (arith, found.1, anew.rows_count f text)))
 
-  pub renewable_anew : IsRenewable c.mutators (text_graph (text_anew t) counts)
+  pub renewable_anew : IsRenewable config.mutators (text_graph (text_anew text) counts)
   unfolding graph_of
   renewable_anew = record { root = new_root; object = new_object; pin = λ thread slot. tt }

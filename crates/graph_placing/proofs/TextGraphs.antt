@@ -20,28 +20,28 @@ use Rattle.graph_placing.specs.TextGraph.{row_object, text_graph, AreGiven, IsGr
 use Rattle.graph_placing.proofs.Searching.{before_first}
 
 -- of rows in order each name has its row's object
-pub has_object : (rows : List Row) → InOrder (map (λ r. r.name) rows) → (k : ℕ) (d : Row) → k < length rows → object_in rows (get_or rows k d).name ≡ Some (row_object (get_or rows k d))
-has_object [] order k d below = absurd (omega (arith, below))
-has_object (r ∷ rs) order zero d below = cond-true (same_name r.name r.name) (Some (row_object r)) (object_in rs r.name) (same_name-itself r.name)
-has_object (r ∷ rs) order (suc k) d below =
-    let inside : k < length rs = omega (arith, below) in
-    let there = get_or-map (λ (s : Row). s.name) rs k d r.name inside in
-    let before = before_first r.name (map (λ (s : Row). s.name) rs) order k r.name (omega (arith, inside, length_is rs)) in
-    let apart : same_name (get_or rs k d).name r.name ≡ false = same_name-flip (get_or rs k d).name r.name ∙ ap (same_name r.name) (sym there) ∙ before_apart r.name (get_or (map (λ (s : Row). s.name) rs) k r.name) before in
-    cond-false (same_name (get_or rs k d).name r.name) (Some (row_object r)) (object_in rs (get_or rs k d).name) apart
-    ∙ has_object rs (order_rest r.name (map (λ (s : Row). s.name) rs) order) k d inside
+pub has_object : (rows : List Row) → InOrder (map (λ r. r.name) rows) → (index : ℕ) (row : Row) → index < length rows → object_in rows (get_or rows index row).name ≡ Some (row_object (get_or rows index row))
+has_object [] order index row below = absurd (omega (arith, below))
+has_object (r ∷ rs) order zero row below = cond-true (same_name r.name r.name) (Some (row_object r)) (object_in rs r.name) (same_name-itself r.name)
+has_object (r ∷ rs) order (suc index) row below =
+    let inside : index < length rs = omega (arith, below) in
+    let there = get_or-map (λ (row : Row). row.name) rs index row r.name inside in
+    let before = before_first r.name (map (λ (row : Row). row.name) rs) order index r.name (omega (arith, inside, length_is rs)) in
+    let apart : same_name (get_or rs index row).name r.name ≡ false = same_name-flip (get_or rs index row).name r.name ∙ ap (same_name r.name) (sym there) ∙ before_apart r.name (get_or (map (λ (row : Row). row.name) rs) index r.name) before in
+    cond-false (same_name (get_or rs index row).name r.name) (Some (row_object r)) (object_in rs (get_or rs index row).name) apart
+    ∙ has_object rs (order_rest r.name (map (λ (row : Row). row.name) rs) order) index row inside
   where
-    length_is : (xs : List Row) → length (map (λ (s : Row). s.name) xs) ≡ length xs
+    length_is : (xs : List Row) → length (map (λ (row : Row). row.name) xs) ≡ length xs
     length_is [] = refl
     length_is (x ∷ xs) = ap (λ i. suc i) (length_is xs)
 
 -- an object is that of a row of its name
-has_row : (rows : List Row) (name : Name) (o : Object) (d : Row) → object_in rows name ≡ Some o → (k : ℕ) × (k < length rows) × ((get_or rows k d).name ≡ name)
-has_row [] name o d is = absurd (none-some o is)
-has_row (r ∷ rs) name o d is = ⊎_elim
+has_row : (rows : List Row) (name : Name) (object : Object) (row : Row) → object_in rows name ≡ Some object → (index : ℕ) × (index < length rows) × ((get_or rows index row).name ≡ name)
+has_row [] name object row is = absurd (none-some object is)
+has_row (r ∷ rs) name object row is = ⊎_elim
     (λ (same : same_name name r.name ≡ true). (0, omega arith, sym (same_name-true name r.name same)))
     (λ (other : same_name name r.name ≡ false).
-    let rest = has_row rs name o d (sym (cond-false (same_name name r.name) (Some (row_object r)) (object_in rs name) other) ∙ is) in
+    let rest = has_row rs name object row (sym (cond-false (same_name name r.name) (Some (row_object r)) (object_in rs name) other) ∙ is) in
     (suc rest.0, omega (arith, rest.1), rest.2))
     (cases_Bool (same_name name r.name))
 
@@ -62,25 +62,25 @@ no_thread roots (suc thread) index beyond =
     let past = beyond (omega arith) in
     ap (λ (row : List Reference). get_or row index None) (get_or_past roots thread [] (omega (arith, past)))
 
-pub is_graph : (c : Config) (t : Text) (counts : List ℕ) → IsPlaceable c t → AreGiven c t counts → IsGraphOf c t counts (text_graph t counts)
+pub is_graph : (config : Config) (text : Text) (counts : List ℕ) → IsPlaceable config text → AreGiven config text counts → IsGraphOf config text counts (text_graph text counts)
 unfolding graph_of
-is_graph c t counts whole given = record {
-  objects = λ k below. has_object t.rows whole.in_order k (bare hub) below;
+is_graph config text counts whole given = record {
+  objects = λ k below. has_object text.rows whole.in_order k (bare hub) below;
   roots = λ m i below small.
       let next : m + 1 ≡ suc m = omega arith in
       let back : m + 1 - 1 ≡ m = omega arith in
-      ap (λ (k : ℕ). root_in ([] ∷ t.roots) k i) next ∙ ap (λ (k : ℕ). get_or (get_or t.roots k []) i None) (sym back);
+      ap (λ (k : ℕ). root_in ([] ∷ text.roots) k i) next ∙ ap (λ (k : ℕ). get_or (get_or text.roots k []) i None) (sym back);
   no_more = λ thread index other. ⊎_elim
-      (λ (small : index < 16). no_thread t.roots thread index (λ some. ⊎_elim
-      (λ (past : length t.roots < thread). past)
-      (λ (within : thread ≤ length t.roots).
-      absurd (false≢true (sym other ∙ and_from _ _ (le-leb 1 thread some) (and_from _ _ (le-leb thread c.mutators (omega (arith, whole.threads, within))) (lt-ltb index 16 small)))))
-      (cases_lt (length t.roots) thread)))
-      (λ (large : 16 ≤ index). no_root t.roots thread index whole.sixteen large)
+      (λ (small : index < 16). no_thread text.roots thread index (λ some. ⊎_elim
+      (λ (past : length text.roots < thread). past)
+      (λ (within : thread ≤ length text.roots).
+      absurd (false≢true (sym other ∙ and_from _ _ (le-leb 1 thread some) (and_from _ _ (le-leb thread config.mutators (omega (arith, whole.threads, within))) (lt-ltb index 16 small)))))
+      (cases_lt (length text.roots) thread)))
+      (λ (large : 16 ≤ index). no_root text.roots thread index whole.sixteen large)
       (cases_lt index 16);
   no_pins = λ thread slot. refl;
   counts_are = λ m below. let next : m + 1 ≡ suc m = omega arith in ap (λ (k : ℕ). slice_index (0 ∷ counts) k) next;
   given = λ name o is.
-      let row = has_row t.rows name o (bare hub) is in
-      subst (IsGiven c (text_graph t counts).count) row.2 (given row.0 row.1);
+      let row = has_row text.rows name o (bare hub) is in
+      subst (IsGiven config (text_graph text counts).count) row.2 (given row.0 row.1);
 }

@@ -11,27 +11,27 @@ use Rattle.heap_world.specs.Shows.{ShowsGraph}
 use Rattle.graph_placing.proofs.Searching.{names_count, name_of_row}
 
 -- each row has a name of the text
-pub row_there : (t : Text) (k : ℕ) → k < length t.rows → Contains (names_of t) (row_of t k).name
-row_there t k below = subst (Contains (names_of t)) (name_of_row t k hub below) (Contains-get_or (names_of t) k hub (omega (arith, below, names_count t)))
+pub row_there : (text : Text) (index : ℕ) → index < length text.rows → Contains (names_of text) (row_of text index).name
+row_there text index below = subst (Contains (names_of text)) (name_of_row text index hub below) (Contains-get_or (names_of text) index hub (omega (arith, below, names_count text)))
 
-module _ (t : Text) (threads : ℕ) (g : Graph) (shows : ShowsGraph t threads g) where
-  pub shown_row : (k : ℕ) → k < length t.rows → row_of t k ≡ row_in g (row_of t k).name
-  shown_row k below =
-      ap (λ (rows : List Row). get_or rows k (bare hub)) shows.rows ∙ get_or-map (row_in g) (names_of t) k hub (bare hub) (omega (arith, below, names_count t))
-      ∙ ap (row_in g) (name_of_row t k hub below)
+module _ (text : Text) (threads : ℕ) (graph : Graph) (shows : ShowsGraph text threads graph) where
+  pub shown_row : (index : ℕ) → index < length text.rows → row_of text index ≡ row_in graph (row_of text index).name
+  shown_row index below =
+      ap (λ (rows : List Row). get_or rows index (bare hub)) shows.rows ∙ get_or-map (row_in graph) (names_of text) index hub (bare hub) (omega (arith, below, names_count text))
+      ∙ ap (row_in graph) (name_of_row text index hub below)
 
-  pub shown_root : (m i : ℕ) → m < threads → i < 16 → root_of t (suc m) i ≡ g.root (suc m) i
-  shown_root m i below small =
-      let back : suc m - 1 ≡ m = omega arith in
-      ap (λ (k : ℕ). get_or (get_or t.roots k []) i None) back
-      ∙ ap (λ (rows : List (List Reference)). get_or (get_or rows m []) i None) shows.roots
-      ∙ ap (λ (row : List Reference). get_or row i None) (get_or-map-range_with_len (λ thread. map (g.root thread) (range_with_len 0 16)) 1 threads m (suc m) [] below (omega arith))
-      ∙ get_or-map-range_with_len (g.root (suc m)) 0 16 i i None small (omega arith)
+  pub shown_root : (other_index index : ℕ) → other_index < threads → index < 16 → root_of text (suc other_index) index ≡ graph.root (suc other_index) index
+  shown_root other_index index below small =
+      let back : suc other_index - 1 ≡ other_index = omega arith in
+      ap (λ (k : ℕ). get_or (get_or text.roots k []) index None) back
+      ∙ ap (λ (rows : List (List Reference)). get_or (get_or rows other_index []) index None) shows.roots
+      ∙ ap (λ (row : List Reference). get_or row index None) (get_or-map-range_with_len (λ thread. map (graph.root thread) (range_with_len 0 16)) 1 threads other_index (suc other_index) [] below (omega arith))
+      ∙ get_or-map-range_with_len (graph.root (suc other_index)) 0 16 index index None small (omega arith)
 
-  pub shown_pin : (m i : ℕ) → m < threads → i < 4 → pin_of t (suc m) i ≡ name_in (g.pin (suc m) i)
-  shown_pin m i below small =
-      let back : suc m - 1 ≡ m = omega arith in
-      ap (λ (k : ℕ). get_or (get_or t.pins k []) i None) back
-      ∙ ap (λ (rows : List (List Reference)). get_or (get_or rows m []) i None) shows.pins
-      ∙ ap (λ (row : List Reference). get_or row i None) (get_or-map-range_with_len (λ thread. map (λ slot. name_in (g.pin thread slot)) (range_with_len 0 4)) 1 threads m (suc m) [] below (omega arith))
-      ∙ get_or-map-range_with_len (λ slot. name_in (g.pin (suc m) slot)) 0 4 i i None small (omega arith)
+  pub shown_pin : (other_index index : ℕ) → other_index < threads → index < 4 → pin_of text (suc other_index) index ≡ name_in (graph.pin (suc other_index) index)
+  shown_pin other_index index below small =
+      let back : suc other_index - 1 ≡ other_index = omega arith in
+      ap (λ (k : ℕ). get_or (get_or text.pins k []) index None) back
+      ∙ ap (λ (rows : List (List Reference)). get_or (get_or rows other_index []) index None) shows.pins
+      ∙ ap (λ (row : List Reference). get_or row index None) (get_or-map-range_with_len (λ thread. map (λ slot. name_in (graph.pin thread slot)) (range_with_len 0 4)) 1 threads other_index (suc other_index) [] below (omega arith))
+      ∙ get_or-map-range_with_len (λ slot. name_in (graph.pin (suc other_index) slot)) 0 4 index index None small (omega arith)

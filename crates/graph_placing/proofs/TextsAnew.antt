@@ -22,121 +22,121 @@ use Rattle.graph_placing.proofs.Mapped.{contains_mapped, mapped_at, mapped_from,
 
 -- Texts with other names.
 
-names_of_rows : (f : Name → Name) (rows : List Row) → map (λ (r : Row). r.name) (map (row_renamed f) rows) ≡ map f (map (λ (r : Row). r.name) rows)
+names_of_rows : (f : Name → Name) (rows : List Row) → map (λ (row : Row). row.name) (map (row_renamed f) rows) ≡ map f (map (λ (row : Row). row.name) rows)
 names_of_rows f [] = refl
 names_of_rows f (r ∷ rows) = ap (λ (ns : List Name). f r.name ∷ ns) (names_of_rows f rows)
 
-pub names_renamed : (f : Name → Name) (t : Text) → names_of (text_renamed f t) ≡ map f (names_of t)
-names_renamed f t = names_of_rows f t.rows
+pub names_renamed : (f : Name → Name) (text : Text) → names_of (text_renamed f text) ≡ map f (names_of text)
+names_renamed f text = names_of_rows f text.rows
 
-pub rows_count : (f : Name → Name) (t : Text) → length (text_renamed f t).rows ≡ length t.rows
-rows_count f t = length-map t.rows (row_renamed f)
+pub rows_count : (f : Name → Name) (text : Text) → length (text_renamed f text).rows ≡ length text.rows
+rows_count f text = length-map text.rows (row_renamed f)
 
-pub row_is : (f : Name → Name) (t : Text) (k : ℕ) → k < length t.rows → row_of (text_renamed f t) k ≡ row_renamed f (row_of t k)
-row_is f t k below = get_or-map (row_renamed f) t.rows k (bare hub) (bare hub) below
+pub row_is : (f : Name → Name) (text : Text) (index : ℕ) → index < length text.rows → row_of (text_renamed f text) index ≡ row_renamed f (row_of text index)
+row_is f text index below = get_or-map (row_renamed f) text.rows index (bare hub) (bare hub) below
 
-pub root_is : (f : Name → Name) (t : Text) (thread index : ℕ) → root_of (text_renamed f t) thread index ≡ renamed f (root_of t thread index)
-root_is f t thread index =
-    ap (λ (row : List Reference). get_or row index None) (mapped_at (map (renamed f)) t.roots (thread - 1) []) ∙ mapped_at (renamed f) (roots_of t thread) index None
+pub root_is : (f : Name → Name) (text : Text) (thread index : ℕ) → root_of (text_renamed f text) thread index ≡ renamed f (root_of text thread index)
+root_is f text thread index =
+    ap (λ (row : List Reference). get_or row index None) (mapped_at (map (renamed f)) text.roots (thread - 1) []) ∙ mapped_at (renamed f) (roots_of text thread) index None
 
-pub words_at : (f : Name → Name) (t : Text) (k : ℕ) → words_of_row (text_renamed f t) k ≡ words_of_row t k
-words_at f t k = ⊎_elim
-    (λ (below : k < length t.rows).
-    ap (λ (r : Row). 3 + length r.refs + length r.nums) (row_is f t k below) ∙ ap (λ i. 3 + i + length (row_of t k).nums) (length-map (row_of t k).refs (renamed f)))
-    (λ (past : length t.rows ≤ k).
-    ap (λ (r : Row). 3 + length r.refs + length r.nums) (get_or_past (text_renamed f t).rows k (bare hub) (omega (arith, past, rows_count f t)) ∙ sym (get_or_past t.rows k (bare hub) past)))
-    (cases_lt k (length t.rows))
+pub words_at : (f : Name → Name) (text : Text) (index : ℕ) → words_of_row (text_renamed f text) index ≡ words_of_row text index
+words_at f text index = ⊎_elim
+    (λ (below : index < length text.rows).
+    ap (λ (row : Row). 3 + length row.refs + length row.nums) (row_is f text index below) ∙ ap (λ i. 3 + i + length (row_of text index).nums) (length-map (row_of text index).refs (renamed f)))
+    (λ (past : length text.rows ≤ index).
+    ap (λ (row : Row). 3 + length row.refs + length row.nums) (get_or_past (text_renamed f text).rows index (bare hub) (omega (arith, past, rows_count f text)) ∙ sym (get_or_past text.rows index (bare hub) past)))
+    (cases_lt index (length text.rows))
 
-pub words_are : (f : Name → Name) (t : Text) → words_of_row (text_renamed f t) ≡ words_of_row t
-words_are f t = fun_ext (λ k. words_at f t k)
+pub words_are : (f : Name → Name) (text : Text) → words_of_row (text_renamed f text) ≡ words_of_row text
+words_are f text = fun_ext (λ k. words_at f text k)
 
-pub address_is : (c : Config) (f : Name → Name) (t : Text) (k : ℕ) → address_of c (text_renamed f t) k ≡ address_of c t k
-address_is c f t k = ap (λ (words : ℕ → ℕ). new_place c.region_words none_shut words k) (words_are f t)
+pub address_is : (config : Config) (f : Name → Name) (text : Text) (k : ℕ) → address_of config (text_renamed f text) k ≡ address_of config text k
+address_is config f text k = ap (λ (words : ℕ → ℕ). new_place config.region_words none_shut words k) (words_are f text)
 
 -- the words of a region that are used, by one object more
-abbrev used_step : Config → (address words before r : ℕ) → ℕ
-used_step c address words before r = if region_with c address == r then address + words - base_of c r else before
+abbrev used_step : Config → (address words before region : ℕ) → ℕ
+used_step config address words before region = if region_with config address == region then address + words - base_of config region else before
 
-same_step : (c : Config) (a b m n x y r : ℕ) → a ≡ b → m ≡ n → x ≡ y → used_step c a m x r ≡ used_step c b n y r
-same_step c a b m n x y r is long rest = ap (λ i. used_step c i m x r) is ∙ ap (λ i. used_step c b i x r) long ∙ ap (λ i. used_step c b n i r) rest
+same_step : (config : Config) (a b m n x y r : ℕ) → a ≡ b → m ≡ n → x ≡ y → used_step config a m x r ≡ used_step config b n y r
+same_step config a b m n x y r is long rest = ap (λ i. used_step config i m x r) is ∙ ap (λ i. used_step config b i x r) long ∙ ap (λ i. used_step config b n i r) rest
 
-pub used_is : (c : Config) (f : Name → Name) (t : Text) (k r : ℕ) → used_words c (text_renamed f t) k r ≡ used_words c t k r
+pub used_is : (config : Config) (f : Name → Name) (text : Text) (k r : ℕ) → used_words config (text_renamed f text) k r ≡ used_words config text k r
 unfolding used_words
-used_is c f t zero r = refl
-used_is c f t (suc k) r =
-    same_step c (address_of c (text_renamed f t) k) (address_of c t k) (words_of_row (text_renamed f t) k) (words_of_row t k) (used_words c (text_renamed f t) k r) (used_words c t k r) r
-    (address_is c f t k) (words_at f t k) (used_is c f t k r)
+used_is config f text zero r = refl
+used_is config f text (suc k) r =
+    same_step config (address_of config (text_renamed f text) k) (address_of config text k) (words_of_row (text_renamed f text) k) (words_of_row text k) (used_words config (text_renamed f text) k r) (used_words config text k r) r
+    (address_is config f text k) (words_at f text k) (used_is config f text k r)
 
-pub fits_anew : (c : Config) (f : Name → Name) (t : Text) → Fits c t → Fits c (text_renamed f t)
-fits_anew c f t fits =
-    let end : end_behind c (text_renamed f t) (length (text_renamed f t).rows) ≡ end_behind c t (length t.rows) =
-    ap (λ (words : ℕ → ℕ). end_before c.region_words none_shut words (length (text_renamed f t).rows)) (words_are f t) ∙ ap (end_behind c t) (rows_count f t) in
+pub fits_anew : (config : Config) (f : Name → Name) (text : Text) → Fits config text → Fits config (text_renamed f text)
+fits_anew config f text fits =
+    let end : end_behind config (text_renamed f text) (length (text_renamed f text).rows) ≡ end_behind config text (length text.rows) =
+    ap (λ (words : ℕ → ℕ). end_before config.region_words none_shut words (length (text_renamed f text).rows)) (words_are f text) ∙ ap (end_behind config text) (rows_count f text) in
     omega (arith, end, fits)
 
 -- The words of an object whose references are renamed.
 
 words_mapped : (f : Name → Name) (word other : Reference → ℕ) (refs : List Reference)
-    → ((i : ℕ) (r : Reference) → slice_get refs i ≡ Some r → other (renamed f r) ≡ word r) → map other (map (renamed f) refs) ≡ map word refs
+    → ((index : ℕ) (reference : Reference) → slice_get refs index ≡ Some reference → other (renamed f reference) ≡ word reference) → map other (map (renamed f) refs) ≡ map word refs
 words_mapped f word other [] same = refl
-words_mapped f word other (r ∷ refs) same =
-    ap (λ (x : ℕ). x ∷ map other (map (renamed f) refs)) (same 0 r refl) ∙ ap (λ (xs : List ℕ). word r ∷ xs) (words_mapped f word other refs (λ i s is. same (suc i) s is))
+words_mapped f word other (reference ∷ refs) same =
+    ap (λ (x : ℕ). x ∷ map other (map (renamed f) refs)) (same 0 reference refl) ∙ ap (λ (xs : List ℕ). word reference ∷ xs) (words_mapped f word other refs (λ index s is. same (suc index) s is))
 
-pub not_the_name : (a b d e : ℕ) (xs : List ℕ) (i : ℕ) → (i ≡ 2 → ⊥) → get_or (a ∷ b ∷ d ∷ xs) i 0 ≡ get_or (a ∷ b ∷ e ∷ xs) i 0
+pub not_the_name : (a b d e : ℕ) (xs : List ℕ) (index : ℕ) → (index ≡ 2 → ⊥) → get_or (a ∷ b ∷ d ∷ xs) index 0 ≡ get_or (a ∷ b ∷ e ∷ xs) index 0
 not_the_name a b d e xs zero other = refl
 not_the_name a b d e xs (suc zero) other = refl
 not_the_name a b d e xs (suc (suc zero)) other = absurd (other (omega arith))
-not_the_name a b d e xs (suc (suc (suc i))) other = refl
+not_the_name a b d e xs (suc (suc (suc index))) other = refl
 
-module _ (c : Config) (t : Text) (whole : IsPlaceable c t) where
+module _ (config : Config) (text : Text) (whole : IsPlaceable config text) where
   abbrev names : List Name
-  names = names_of t
+  names = names_of text
 
   abbrev f : Name → Name
   f = name_anew names
 
   -- A text whose objects are named anew can be placed.
 
-  in_order : InOrder (names_of (text_anew t))
-  in_order = subst InOrder (sym (names_renamed f t)) (in_order_mapped f names (is_renaming names whole.in_order).order whole.in_order)
+  in_order : InOrder (names_of (text_anew text))
+  in_order = subst InOrder (sym (names_renamed f text)) (in_order_mapped f names (is_renaming names whole.in_order).order whole.in_order)
 
-  has_row : (r : Reference) (name : Name) → ((old : Name) → r ≡ Some old → Contains names old) → renamed f r ≡ Some name → Contains (names_of (text_anew t)) name
+  has_row : (reference : Reference) (name : Name) → ((old : Name) → reference ≡ Some old → Contains names old) → renamed f reference ≡ Some name → Contains (names_of (text_anew text)) name
   has_row None name there is = absurd (cc)
   has_row (Some old) name there is =
       let new : f old ≡ name = cc in
-      subst (λ (ns : List Name). Contains ns name) (sym (names_renamed f t)) (subst (Contains (map f names)) new (contains_mapped f names old (there old refl)))
+      subst (λ (ns : List Name). Contains ns name) (sym (names_renamed f text)) (subst (Contains (map f names)) new (contains_mapped f names old (there old refl)))
 
-  pub placeable_anew : IsPlaceable c (text_anew t)
+  pub placeable_anew : IsPlaceable config (text_anew text)
   placeable_anew = record {
-    threads = length-map t.roots (map (renamed f)) ∙ whole.threads;
-    sixteen = All-map (λ (row : List Reference). length row ≡ 16) (map (renamed f)) t.roots
-        (All-weaker (λ (row : List Reference). length row ≡ 16) (λ (row : List Reference). length (map (renamed f) row) ≡ 16) (λ row long. length-map row (renamed f) ∙ long) t.roots whole.sixteen);
+    threads = length-map text.roots (map (renamed f)) ∙ whole.threads;
+    sixteen = All-map (λ (row : List Reference). length row ≡ 16) (map (renamed f)) text.roots
+        (All-weaker (λ (row : List Reference). length row ≡ 16) (λ (row : List Reference). length (map (renamed f) row) ≡ 16) (λ row long. length-map row (renamed f) ∙ long) text.roots whole.sixteen);
     in_order = in_order;
     short = λ k below.
-        let inside : k < length t.rows = omega (arith, below, rows_count f t) in
+        let inside : k < length text.rows = omega (arith, below, rows_count f text) in
         let short = whole.short k inside in
-        subst IsShort (sym (row_is f t k inside)) (record { refs = omega (arith, length-map (row_of t k).refs (renamed f), short.refs); nums = short.nums });
+        subst IsShort (sym (row_is f text k inside)) (record { refs = omega (arith, length-map (row_of text k).refs (renamed f), short.refs); nums = short.nums });
     references = λ k i name below is.
-        let inside : k < length t.rows = omega (arith, below, rows_count f t) in
-        let old = mapped_from (renamed f) (row_of t k).refs i (Some name) (ap (λ (r : Row). slice_get r.refs i) (sym (row_is f t k inside)) ∙ is) in
-        has_row old.0 name (λ n names_it. whole.references k i n inside (old.1 ∙ ap (λ (r : Reference). Some r) names_it)) old.2;
+        let inside : k < length text.rows = omega (arith, below, rows_count f text) in
+        let old = mapped_from (renamed f) (row_of text k).refs i (Some name) (ap (λ (row : Row). slice_get row.refs i) (sym (row_is f text k inside)) ∙ is) in
+        has_row old.0 name (λ n names_it. whole.references k i n inside (old.1 ∙ ap (λ (reference : Reference). Some reference) names_it)) old.2;
     roots = λ thread index name low high small is.
-        has_row (root_of t thread index) name (λ n names_it. whole.roots thread index n low high small names_it) (sym (root_is f t thread index) ∙ is);
+        has_row (root_of text thread index) name (λ n names_it. whole.roots thread index n low high small names_it) (sym (root_is f text thread index) ∙ is);
   }
 
   -- References lead to the same addresses.
-  pub word_is : (r : Reference) → ((name : Name) → r ≡ Some name → Contains names name) → word_for c (text_anew t) (renamed f r) ≡ word_for c t r
+  pub word_is : (reference : Reference) → ((name : Name) → reference ≡ Some name → Contains names name) → word_for config (text_anew text) (renamed f reference) ≡ word_for config text reference
   word_is None there = refl
   word_is (Some name) there =
-      let at : place_among (names_of (text_anew t)) (f name) ≡ place_among names name =
-      ap (λ (ns : List Name). place_among ns (f name)) (names_renamed f t) ∙ place_mapped f names name (λ m in_m same. (is_renaming names whole.in_order).one_to_one m name in_m (there name refl) same) in
-      ap (address_of c (text_anew t)) at ∙ address_is c f t (place_among names name)
+      let at : place_among (names_of (text_anew text)) (f name) ≡ place_among names name =
+      ap (λ (ns : List Name). place_among ns (f name)) (names_renamed f text) ∙ place_mapped f names name (λ m in_m same. (is_renaming names whole.in_order).one_to_one m name in_m (there name refl) same) in
+      ap (address_of config (text_anew text)) at ∙ address_is config f text (place_among names name)
 
   -- An object's words, with its new name
-  pub object_is : (k : ℕ) → k < length t.rows → words_of_object (word_for c (text_anew t)) (row_of (text_anew t) k)
-      ≡ plain_header ∷ shape_word (length (row_of t k).refs) (length (row_of t k).nums) ∷ name_code (row_of t k).name.thread (earlier_names names (row_of t k).name + 1) ∷ map (word_for c t) (row_of t k).refs ++ (row_of t k).nums
-  object_is k below =
-      let r = row_of t k in
-      ap (words_of_object (word_for c (text_anew t))) (row_is f t k below)
-      ∙ ap (λ (n : ℕ). plain_header ∷ shape_word n (length r.nums) ∷ name_code r.name.thread (earlier_names names r.name + 1) ∷ map (word_for c (text_anew t)) (map (renamed f) r.refs) ++ r.nums) (length-map r.refs (renamed f))
+  pub object_is : (index : ℕ) → index < length text.rows → words_of_object (word_for config (text_anew text)) (row_of (text_anew text) index)
+      ≡ plain_header ∷ shape_word (length (row_of text index).refs) (length (row_of text index).nums) ∷ name_code (row_of text index).name.thread (earlier_names names (row_of text index).name + 1) ∷ map (word_for config text) (row_of text index).refs ++ (row_of text index).nums
+  object_is index below =
+      let r = row_of text index in
+      ap (words_of_object (word_for config (text_anew text))) (row_is f text index below)
+      ∙ ap (λ (n : ℕ). plain_header ∷ shape_word n (length r.nums) ∷ name_code r.name.thread (earlier_names names r.name + 1) ∷ map (word_for config (text_anew text)) (map (renamed f) r.refs) ++ r.nums) (length-map r.refs (renamed f))
       ∙ ap (λ (xs : List ℕ). plain_header ∷ shape_word (length r.refs) (length r.nums) ∷ name_code r.name.thread (earlier_names names r.name + 1) ∷ xs ++ r.nums)
-      (words_mapped f (word_for c t) (word_for c (text_anew t)) r.refs (λ i reference is. word_is reference (λ name names_it. whole.references k i name below (is ∙ ap (λ (s : Reference). Some s) names_it))))
+      (words_mapped f (word_for config text) (word_for config (text_anew text)) r.refs (λ i reference is. word_is reference (λ name names_it. whole.references index i name below (is ∙ ap (λ (reference : Reference). Some reference) names_it))))

@@ -9,21 +9,21 @@ use Rattle.image_graph.specs.Plot.{heap_end}
 
 -- the words of the object in a row: header, shape, name, and one for each reference and each number
 abbrev pub words_of_row : Text → ℕ → ℕ
-words_of_row t k = 3 + length (row_of t k).refs + length (row_of t k).nums
+words_of_row text k = 3 + length (row_of text k).refs + length (row_of text k).nums
 
 -- the address of its object
 abbrev pub address_of : Config → Text → ℕ → ℕ
-address_of c t k = new_place c.region_words none_shut (words_of_row t) k
+address_of config text k = new_place config.region_words none_shut (words_of_row text) k
 
 -- where the last object ends of the first so many rows
 abbrev pub end_behind : Config → Text → ℕ → ℕ
-end_behind c t k = end_before c.region_words none_shut (words_of_row t) k
+end_behind config text k = end_before config.region_words none_shut (words_of_row text) k
 
 -- all objects end within the heap: they need no more regions than it has
 abbrev pub Fits : Config → Text → Type 0
-Fits c t = end_behind c t (length t.rows) ≤ heap_end c
+Fits config text = end_behind config text (length text.rows) ≤ heap_end config
 
 -- the words of a region that the objects of the first so many rows use: up to where the last one ends that is placed there
 unfoldable pub used_words : Config → Text → ℕ → ℕ → ℕ
-used_words c t zero r = 0
-used_words c t (suc k) r = if region_with c (address_of c t k) == r then address_of c t k + words_of_row t k - base_of c r else used_words c t k r
+used_words config text zero region = 0
+used_words config text (suc k) region = if region_with config (address_of config text k) == region then address_of config text k + words_of_row text k - base_of config region else used_words config text k region

@@ -7,12 +7,12 @@ use Rattle.shen_graph.specs.GraphText.{Text, Row, names_of}
 
 -- whether a name is of the same thread as another and comes before it
 abbrev pub is_earlier : Name → Name → Bool
-is_earlier n m = (m.thread == n.thread) && nat_lt m.count n.count
+is_earlier name other_name = (other_name.thread == name.thread) && nat_lt other_name.count name.count
 
 -- how many of some names are of the same thread and come before
 abbrev pub earlier_names : List Name → Name → ℕ
-earlier_names [] n = 0
-earlier_names (m ∷ ms) n = (if is_earlier n m then 1 else 0) + earlier_names ms n
+earlier_names [] name = 0
+earlier_names (m ∷ ms) name = (if is_earlier name m then 1 else 0) + earlier_names ms name
 
 -- how many of some names are of a thread
 abbrev pub names_by : List Name → ℕ → ℕ
@@ -21,7 +21,7 @@ names_by (m ∷ ms) thread = (if m.thread == thread then 1 else 0) + names_by ms
 
 -- the new name of one of some names
 abbrev pub name_anew : List Name → Name → Name
-name_anew names n = record { thread = n.thread; count = earlier_names names n + 1 }
+name_anew names name = record { thread = name.thread; count = earlier_names names name + 1 }
 
 -- a reference, a row and a text with other names
 
@@ -30,11 +30,11 @@ renamed f None = None
 renamed f (Some n) = Some (f n)
 
 abbrev pub row_renamed : (Name → Name) → Row → Row
-row_renamed f r = record { name = f r.name; refs = map (renamed f) r.refs; nums = r.nums }
+row_renamed f row = record { name = f row.name; refs = map (renamed f) row.refs; nums = row.nums }
 
 abbrev pub text_renamed : (Name → Name) → Text → Text
-text_renamed f t = record t { rows = map (row_renamed f) t.rows; roots = map (map (renamed f)) t.roots; pins = map (map (renamed f)) t.pins }
+text_renamed f text = record text { rows = map (row_renamed f) text.rows; roots = map (map (renamed f)) text.roots; pins = map (map (renamed f)) text.pins }
 
 -- the text whose objects are named anew
 abbrev pub text_anew : Text → Text
-text_anew t = text_renamed (name_anew (names_of t)) t
+text_anew text = text_renamed (name_anew (names_of text)) text

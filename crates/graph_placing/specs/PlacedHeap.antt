@@ -16,12 +16,12 @@ place_among (n ∷ ns) name = if same_name n name then 0 else suc (place_among n
 
 -- the word of a reference: 0 for null, and else the address of the object of that name
 abbrev pub word_for : Config → Text → Reference → ℕ
-word_for c t None = 0
-word_for c t (Some name) = address_of c t (place_among (names_of t) name)
+word_for config text None = 0
+word_for config text (Some name) = address_of config text (place_among (names_of text) name)
 
 -- the words of a row's object, by what the word of each reference is
 abbrev pub words_of_object : (Reference → ℕ) → Row → List ℕ
-words_of_object word r = plain_header ∷ shape_word (length r.refs) (length r.nums) ∷ name_code r.name.thread r.name.count ∷ map word r.refs ++ r.nums
+words_of_object word row = plain_header ∷ shape_word (length row.refs) (length row.nums) ∷ name_code row.name.thread row.name.count ∷ map word row.refs ++ row.nums
 
 -- words that say what the heap has in it; all others are 0 while nothing has happened
 abbrev pub is_content : Word → Bool
@@ -34,11 +34,11 @@ is_content _ = false
 
 -- Each object stands at its address, and other words of the heap are 0. A region's top is how much of it is used, and a region is free
 -- where nothing is. Roots are those of the text. No mutator has ended, and no other word says anything.
-pub record IsPlaced (c : Config) (t : Text) (memory : Word → ℕ) : Type 0 where
-  pub objects : (k i : ℕ) → k < length t.rows → i < words_of_row t k → memory (Heap (address_of c t k + i)) ≡ slice_index (words_of_object (word_for c t) (row_of t k)) i
-  pub unused : (x : ℕ) → ((k i : ℕ) → k < length t.rows → i < words_of_row t k → x ≢ address_of c t k + i) → memory (Heap x) ≡ 0
-  pub tops : (r : ℕ) → memory (Top r) ≡ used_words c t (length t.rows) r
-  pub free : memory Free ≡ empty_regions (λ r. memory (Top r)) c.regions
-  pub roots : (m i : ℕ) → m < c.mutators → i < 16 → memory (Root m i) ≡ word_for c t (root_of t (m + 1) i)
-  pub left : memory Left ≡ c.mutators
+pub record IsPlaced (config : Config) (text : Text) (memory : Word → ℕ) : Type 0 where
+  pub objects : (other_index index : ℕ) → other_index < length text.rows → index < words_of_row text other_index → memory (Heap (address_of config text other_index + index)) ≡ slice_index (words_of_object (word_for config text) (row_of text other_index)) index
+  pub unused : (address : ℕ) → ((other_index index : ℕ) → other_index < length text.rows → index < words_of_row text other_index → address ≢ address_of config text other_index + index) → memory (Heap address) ≡ 0
+  pub tops : (region : ℕ) → memory (Top region) ≡ used_words config text (length text.rows) region
+  pub free : memory Free ≡ empty_regions (λ region. memory (Top region)) config.regions
+  pub roots : (mutator index : ℕ) → mutator < config.mutators → index < 16 → memory (Root mutator index) ≡ word_for config text (root_of text (mutator + 1) index)
+  pub left : memory Left ≡ config.mutators
   pub others : (word : Word) → is_content word ≡ false → memory word ≡ 0

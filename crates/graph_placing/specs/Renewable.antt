@@ -12,19 +12,19 @@ IsOfThreads threads None = Unit {0}
 IsOfThreads threads (Some n) = (n ≡ hub) ⊎ ((1 ≤ n.thread) × (n.thread ≤ threads))
 
 -- an object of few fields, whose references are so
-pub record IsShortObject (threads : ℕ) (o : Object) : Type 0 where
-  pub refs : All (IsOfThreads threads) o.refs
-  pub few_refs : length o.refs ≤ 16
-  pub few_nums : length o.nums ≤ 16
+pub record IsShortObject (threads : ℕ) (object : Object) : Type 0 where
+  pub refs : All (IsOfThreads threads) object.refs
+  pub few_refs : length object.refs ≤ 16
+  pub few_nums : length object.nums ≤ 16
 
 -- Each object has few fields, and what roots, references and pin slots name is the hub or was made by one of so many threads.
-pub record IsRenewable (threads : ℕ) (g : Graph) : Type 0 where
-  pub root : (thread root : ℕ) → IsOfThreads threads (g.root thread root)
-  pub object : (n : Name) (o : Object) → g.object n ≡ Some o → IsShortObject threads o
-  pub pin : (thread slot : ℕ) → IsOfThreads threads (name_in (g.pin thread slot))
+pub record IsRenewable (threads : ℕ) (graph : Graph) : Type 0 where
+  pub root : (thread root : ℕ) → IsOfThreads threads (graph.root thread root)
+  pub object : (name : Name) (o : Object) → graph.object name ≡ Some o → IsShortObject threads o
+  pub pin : (thread slot : ℕ) → IsOfThreads threads (name_in (graph.pin thread slot))
 
 -- an entry of one of so many threads, whose command is in range
-pub record IsEntryOf (threads : ℕ) (e : Entry) : Type 0 where
-  pub from_first : 1 ≤ e.thread
-  pub to_last : e.thread ≤ threads
-  pub valid : IsValid e.command
+pub record IsEntryOf (threads : ℕ) (entry : Entry) : Type 0 where
+  pub from_first : 1 ≤ entry.thread
+  pub to_last : entry.thread ≤ threads
+  pub valid : IsValid entry.command

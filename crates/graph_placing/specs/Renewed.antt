@@ -17,12 +17,12 @@ IfRenewed TooSmall P = Unit {0}
 
 -- no pin slot holds an object
 abbrev pub PinsNothing : Text → Type 0
-PinsNothing t = (thread slot : ℕ) → 1 ≤ thread → thread ≤ length t.roots → slot < 4 → pin_of t thread slot ≡ None
+PinsNothing text = (thread slot : ℕ) → 1 ≤ thread → thread ≤ length text.roots → slot < 4 → pin_of text thread slot ≡ None
 
 -- no pin slot of these threads holds an object
 abbrev pub HoldsNothing : (threads : ℕ) → Graph → Type 0
-HoldsNothing threads g = (thread slot : ℕ) → 1 ≤ thread → thread ≤ threads → slot < 4 → g.pin thread slot ≡ None
+HoldsNothing threads graph = (thread slot : ℕ) → 1 ≤ thread → thread ≤ threads → slot < 4 → graph.pin thread slot ≡ None
 
 -- the objects of a graph need more regions than the heap has, one behind the other in the order of their names
 abbrev pub DoesNotFit : Config → Graph → Type 0
-DoesNotFit c g = (t : Text) × ShowsGraph t c.mutators g × (Fits c t → ⊥)
+DoesNotFit config graph = (text : Text) × ShowsGraph text config.mutators graph × (Fits config text → ⊥)

@@ -10,21 +10,21 @@ use Rattle.heap_world.specs.World.{IsGiven}
 
 -- the object of a row
 abbrev pub row_object : Row → Object
-row_object r = record { refs = r.refs; nums = r.nums }
+row_object row = record { refs = row.refs; nums = row.nums }
 
 -- A graph has the objects of the text, and maybe others; the text's roots, and no others; these counts; and nothing pinned. Its names are given.
-pub record IsGraphOf (c : Config) (t : Text) (counts : List ℕ) (g : Graph) : Type 0 where
-  pub objects : (k : ℕ) → k < length t.rows → g.object (row_of t k).name ≡ Some (row_object (row_of t k))
-  pub roots : (m i : ℕ) → m < c.mutators → i < 16 → g.root (m + 1) i ≡ root_of t (m + 1) i
-  pub no_more : HasNoMore c.mutators g
-  pub no_pins : (thread slot : ℕ) → g.pin thread slot ≡ None
-  pub counts_are : (m : ℕ) → m < c.mutators → g.count (m + 1) ≡ slice_index counts m
-  pub given : (name : Name) (o : Object) → g.object name ≡ Some o → IsGiven c g.count name
+pub record IsGraphOf (config : Config) (text : Text) (counts : List ℕ) (graph : Graph) : Type 0 where
+  pub objects : (other_index : ℕ) → other_index < length text.rows → graph.object (row_of text other_index).name ≡ Some (row_object (row_of text other_index))
+  pub roots : (mutator index : ℕ) → mutator < config.mutators → index < 16 → graph.root (mutator + 1) index ≡ root_of text (mutator + 1) index
+  pub no_more : HasNoMore config.mutators graph
+  pub no_pins : (thread slot : ℕ) → graph.pin thread slot ≡ None
+  pub counts_are : (mutator : ℕ) → mutator < config.mutators → graph.count (mutator + 1) ≡ slice_index counts mutator
+  pub given : (name : Name) (object : Object) → graph.object name ≡ Some object → IsGiven config graph.count name
 
 -- the graph of the text's objects and roots, and of these counts; thread 0 has no root and made nothing, and nothing is pinned
 abbrev pub text_graph : Text → List ℕ → Graph
-text_graph t counts = graph_of (record { rows = t.rows; roots = [] ∷ t.roots; counts = 0 ∷ counts; pins = [] })
+text_graph text counts = graph_of (record { rows = text.rows; roots = [] ∷ text.roots; counts = 0 ∷ counts; pins = [] })
 
 -- the name of each row is given, by these counts
 abbrev pub AreGiven : Config → Text → List ℕ → Type 0
-AreGiven c t counts = (k : ℕ) → k < length t.rows → IsGiven c (text_graph t counts).count (row_of t k).name
+AreGiven config text counts = (index : ℕ) → index < length text.rows → IsGiven config (text_graph text counts).count (row_of text index).name

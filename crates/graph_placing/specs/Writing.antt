@@ -9,9 +9,9 @@ use Rattle.graph_placing.specs.ByName.{words_of_row, address_of, used_words}
 use Rattle.graph_placing.specs.PlacedHeap.{word_for, words_of_object}
 
 -- the addresses of the objects, by row
-pub record AreAddresses (c : Config) (t : Text) (addresses : List ℕ) : Type 0 where
-  pub count : length addresses ≡ length t.rows
-  pub each : (k : ℕ) → k < length t.rows → slice_index addresses k ≡ address_of c t k
+pub record AreAddresses (config : Config) (text : Text) (addresses : List ℕ) : Type 0 where
+  pub count : length addresses ≡ length text.rows
+  pub each : (index : ℕ) → index < length text.rows → slice_index addresses index ≡ address_of config text index
 
 -- the words after the first so many of a list were written from an address on
 abbrev pub copied : (address words : ℕ) → List ℕ → (Word → ℕ) → Word → ℕ
@@ -20,28 +20,28 @@ copied address words list memory word = memory word
 
 -- the words after the top of a row's region was raised to where the row's object ends
 abbrev pub with_top : Config → Text → ℕ → (Word → ℕ) → Word → ℕ
-with_top c t k memory = write memory (Top (region_with c (address_of c t k))) (address_of c t k + words_of_row t k - base_of c (region_with c (address_of c t k)))
+with_top config text k memory = write memory (Top (region_with config (address_of config text k))) (address_of config text k + words_of_row text k - base_of config (region_with config (address_of config text k)))
 
 -- the words after the objects of the first so many rows were placed
 unfoldable pub rows_placed : Config → Text → ℕ → Word → ℕ
-rows_placed c t zero word = 0
-rows_placed c t (suc k) (Heap x) = copied (address_of c t k) (words_of_row t k) (words_of_object (word_for c t) (row_of t k)) (rows_placed c t k) (Heap x)
-rows_placed c t (suc k) (Top r) = used_words c t (suc k) r
-rows_placed c t (suc k) word = rows_placed c t k word
+rows_placed config text zero word = 0
+rows_placed config text (suc k) (Heap x) = copied (address_of config text k) (words_of_row text k) (words_of_object (word_for config text) (row_of text k)) (rows_placed config text k) (Heap x)
+rows_placed config text (suc k) (Top r) = used_words config text (suc k) r
+rows_placed config text (suc k) word = rows_placed config text k word
 
 -- the words after the first so many roots of a mutator were stored
 abbrev pub roots_stored : Config → Text → (mutator roots : ℕ) → (Word → ℕ) → Word → ℕ
-roots_stored c t mutator roots memory (Root m i) = if (m == mutator) && nat_lt i roots then word_for c t (root_of t (m + 1) i) else memory (Root m i)
-roots_stored c t mutator roots memory word = memory word
+roots_stored config text mutator roots memory (Root m i) = if (m == mutator) && nat_lt i roots then word_for config text (root_of text (m + 1) i) else memory (Root m i)
+roots_stored config text mutator roots memory word = memory word
 
 -- the words after the roots of so many mutators were stored
 abbrev pub all_roots_stored : Config → Text → (mutators : ℕ) → (Word → ℕ) → Word → ℕ
-all_roots_stored c t mutators memory (Root m i) = if nat_lt m mutators && nat_lt i 16 then word_for c t (root_of t (m + 1) i) else memory (Root m i)
-all_roots_stored c t mutators memory word = memory word
+all_roots_stored config text mutators memory (Root m i) = if nat_lt m mutators && nat_lt i 16 then word_for config text (root_of text (m + 1) i) else memory (Root m i)
+all_roots_stored config text mutators memory word = memory word
 
 -- the words when all is placed
 abbrev pub all_placed : Config → Text → Word → ℕ
-all_placed c t Left = c.mutators
-all_placed c t Free = empty_regions (λ r. rows_placed c t (length t.rows) (Top r)) c.regions
-all_placed c t (Root m i) = if nat_lt m c.mutators && nat_lt i 16 then word_for c t (root_of t (m + 1) i) else 0
-all_placed c t word = rows_placed c t (length t.rows) word
+all_placed config text Left = config.mutators
+all_placed config text Free = empty_regions (λ r. rows_placed config text (length text.rows) (Top r)) config.regions
+all_placed config text (Root m i) = if nat_lt m config.mutators && nat_lt i 16 then word_for config text (root_of text (m + 1) i) else 0
+all_placed config text word = rows_placed config text (length text.rows) word

@@ -8,5 +8,5 @@ ghost use Rattle.graph_placing.specs.TextGraph.{IsGraphOf, AreGiven, text_graph}
 
 /// A law: the graph of a text alone is one of the text, where its names are given by these counts.
 pub fn texts_have_a_graph()
-    ensures { (c : Config) (t : Text) (counts : List ℕ) → IsPlaceable c t → AreGiven c t counts → IsGraphOf c t counts (text_graph t counts) }
+    ensures { (config : Config) (text : Text) (counts : List ℕ) → IsPlaceable config text → AreGiven config text counts → IsGraphOf config text counts (text_graph text counts) }
 {}

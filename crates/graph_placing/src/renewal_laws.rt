@@ -24,15 +24,15 @@ pub fn names_are_counted_anew()
 
 /// A law: where a text shows a graph, that of the text whose objects are named anew is the same graph up to the names.
 pub fn renewals_keep_the_graph()
-    ensures { (c : Config) (t : Text) (g : Graph) (counts : List ℕ) → IsPlaceable c t → AreOfThreads c.mutators (names_of t) → AreCountsOf (names_of t) c.mutators counts → ShowsGraph t c.mutators g → IsSameAnew (name_anew (names_of t)) c.mutators g (text_graph (text_anew t) counts) }
+    ensures { (config : Config) (text : Text) (graph : Graph) (counts : List ℕ) → IsPlaceable config text → AreOfThreads config.mutators (names_of text) → AreCountsOf (names_of text) config.mutators counts → ShowsGraph text config.mutators graph → IsSameAnew (name_anew (names_of text)) config.mutators graph (text_graph (text_anew text) counts) }
 {}
 
 /// A law: the graph of each legal history can be named anew; and then, its text meets what `renew` asks for, and the graph that comes of
 /// it can be named anew once more.
 pub fn graphs_of_histories_can_be_renewed()
     ensures opening { (threads : ℕ) → IsRenewable threads (opening threads) }
-    ensures history { (threads regions region_words : ℕ) (g : Graph) (history : List Entry) → EachIsLegal regions region_words g history → All (IsEntryOf threads) history → IsRenewable threads g → IsRenewable threads (after g history) }
-    ensures whole { (c : Config) (t : Text) (g : Graph) → IsRenewable c.mutators g → ShowsGraph t c.mutators g → IsPlaceable c t }
-    ensures names { (c : Config) (t : Text) (g : Graph) → IsRenewable c.mutators g → ShowsGraph t c.mutators g → AreOfThreads c.mutators (names_of t) }
-    ensures once_more { (c : Config) (t : Text) (counts : List ℕ) → IsPlaceable c t → AreOfThreads c.mutators (names_of t) → IsRenewable c.mutators (text_graph (text_anew t) counts) }
+    ensures history { (threads regions region_words : ℕ) (graph : Graph) (history : List Entry) → EachIsLegal regions region_words graph history → All (IsEntryOf threads) history → IsRenewable threads graph → IsRenewable threads (after graph history) }
+    ensures whole { (config : Config) (text : Text) (graph : Graph) → IsRenewable config.mutators graph → ShowsGraph text config.mutators graph → IsPlaceable config text }
+    ensures names { (config : Config) (text : Text) (graph : Graph) → IsRenewable config.mutators graph → ShowsGraph text config.mutators graph → AreOfThreads config.mutators (names_of text) }
+    ensures once_more { (config : Config) (text : Text) (counts : List ℕ) → IsPlaceable config text → AreOfThreads config.mutators (names_of text) → IsRenewable config.mutators (text_graph (text_anew text) counts) }
 {}

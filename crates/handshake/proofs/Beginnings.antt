@@ -12,16 +12,16 @@ use Rattle.handshake.specs.Left.{AreLeftCounted}
 use Rattle.handshake.proofs.Counting.{weight, count_by-cons}
 
 -- an element stands below the length
-get_below : {A : Type 0} (xs : List A) (k : ℕ) (x : A) → slice_get xs k ≡ Some x → k < length xs
-get_below [] k x here = absurd (cc (here))
+get_below : {A : Type 0} (xs : List A) (index : ℕ) (x : A) → slice_get xs index ≡ Some x → index < length xs
+get_below [] index x here = absurd (cc (here))
 get_below (y ∷ xs) zero x here = omega arith
-get_below (y ∷ xs) (suc k) x here = omega (arith, get_below xs k x here)
+get_below (y ∷ xs) (suc index) x here = omega (arith, get_below xs index x here)
 
 -- and there is one below it
-pub there_is : {A : Type 0} (xs : List A) (k : ℕ) → k < length xs → (x : A) × (slice_get xs k ≡ Some x)
-there_is [] k below = absurd (omega (arith, below))
+pub there_is : {A : Type 0} (xs : List A) (index : ℕ) → index < length xs → (x : A) × (slice_get xs index ≡ Some x)
+there_is [] index below = absurd (omega (arith, below))
 there_is (y ∷ xs) zero below = (y, refl)
-there_is (y ∷ xs) (suc k) below = there_is xs k (omega (arith, below))
+there_is (y ∷ xs) (suc index) below = there_is xs index (omega (arith, below))
 
 -- all are outside, the control is idle, and the words say so
 pub shaken_begins : {R : Type 0} (c : Config) (standing : R → Standing) (s : Stage R) (control : R) → length s.words ≡ table_words c → length s.machines ≡ seat_count c.mutators c.helpers
@@ -39,7 +39,7 @@ shaken_begins {R} c standing s control words machines there is_idle out pause st
   checked = λ seat r below here checked. ap is_within (out seat r below here);
 }
   where
-    by_seat : (seat : ℕ) (r : R) → slice_get s.machines seat ≡ Some r → (b : Bool) → nat_eq seat (control_seat c) ≡ b → HasSeat c seat (standing r)
+    by_seat : (seat : ℕ) (r : R) → slice_get s.machines seat ≡ Some r → (holds : Bool) → nat_eq seat (control_seat c) ≡ holds → HasSeat c seat (standing r)
     by_seat seat r here true is =
         let e : seat ≡ control_seat c = grind (arith, nat_tests) in
         let at : slice_get s.machines (control_seat c) ≡ Some r = subst (λ k. slice_get s.machines k ≡ Some r) e here in
@@ -51,20 +51,20 @@ shaken_begins {R} c standing s control words machines there is_idle out pause st
 
 -- as many are counted as stand first
 count_first : {R : Type 0} (p : R → Bool) (xs : List R) (n : ℕ) → n ≤ length xs
-    → ((k : ℕ) (x : R) → k < n → slice_get xs k ≡ Some x → p x ≡ true) → ((k : ℕ) (x : R) → n ≤ k → slice_get xs k ≡ Some x → p x ≡ false)
+    → ((index : ℕ) (x : R) → index < n → slice_get xs index ≡ Some x → p x ≡ true) → ((index : ℕ) (x : R) → n ≤ index → slice_get xs index ≡ Some x → p x ≡ false)
     → count_by p xs ≡ n
 count_first p [] n long first others = omega (arith, long)
 count_first p (x ∷ xs) zero long first others =
-    omega (arith, count_by-cons p x xs, ap weight (others 0 x (omega arith) refl), count_first p xs 0 (omega arith) (λ k y below here. absurd (omega (arith, below))) (λ k y above here. others (suc k) y (omega arith) here))
+    omega (arith, count_by-cons p x xs, ap weight (others 0 x (omega arith) refl), count_first p xs 0 (omega arith) (λ index y below here. absurd (omega (arith, below))) (λ index y above here. others (suc index) y (omega arith) here))
 count_first p (x ∷ xs) (suc n) long first others =
-    omega (arith, count_by-cons p x xs, ap weight (first 0 x (omega arith) refl), count_first p xs n (omega (arith, long)) (λ k y below here. first (suc k) y (omega (arith, below)) here) (λ k y above here. others (suc k) y (omega (arith, above)) here))
+    omega (arith, count_by-cons p x xs, ap weight (first 0 x (omega arith) refl), count_first p xs n (omega (arith, long)) (λ index y below here. first (suc index) y (omega (arith, below)) here) (λ index y above here. others (suc index) y (omega (arith, above)) here))
 
 -- no mutator has ended, and the word says how many there are
-pub counted_begins : {R : Type 0} (c : Config) (left : R → Bool) (s : Stage R) → length s.words ≡ table_words c → length s.machines ≡ seat_count c.mutators c.helpers
-    → ((k : ℕ) (r : R) → k < c.mutators → slice_get s.machines k ≡ Some r → left r ≡ true) → ((k : ℕ) (r : R) → c.mutators ≤ k → slice_get s.machines k ≡ Some r → left r ≡ false)
-    → view c s.words Left ≡ c.mutators → AreLeftCounted c left s
-counted_begins c left s words machines first others count = record {
+pub counted_begins : {R : Type 0} (config : Config) (left : R → Bool) (stage : Stage R) → length stage.words ≡ table_words config → length stage.machines ≡ seat_count config.mutators config.helpers
+    → ((mutator : ℕ) (r : R) → mutator < config.mutators → slice_get stage.machines mutator ≡ Some r → left r ≡ true) → ((mutator : ℕ) (r : R) → config.mutators ≤ mutator → slice_get stage.machines mutator ≡ Some r → left r ≡ false)
+    → view config stage.words Left ≡ config.mutators → AreLeftCounted config left stage
+counted_begins config left stage words machines first others count = record {
   words = words;
-  few = omega (arith, machines, c.in_range.most_mutators, c.in_range.most_helpers);
-  counts = count ∙ sym (count_first left s.machines c.mutators (omega (arith, machines)) first others);
+  few = omega (arith, machines, config.in_range.most_mutators, config.in_range.most_helpers);
+  counts = count ∙ sym (count_first left stage.machines config.mutators (omega (arith, machines)) first others);
 }

@@ -19,20 +19,20 @@ use Rattle.handshake.specs.Standing.{Standing, outside, looks, backs, inside, le
 use Rattle.handshake.specs.Obeys.{IsElsewhere, Obeys, RowsObey}
 
 -- an access of a word of the image is elsewhere
-pub image_elsewhere : (c : Config) (access : Access) → image_start c ≤ table_index access → IsElsewhere c access
-image_elsewhere c access above = record {
+pub image_elsewhere : (config : Config) (access : Access) → image_start config ≤ table_index access → IsElsewhere config access
+image_elsewhere config access above = record {
   not_pause = λ e. omega (arith, above, e);
   not_state = λ seat below e. omega (arith, above, below, e);
 }
 
 -- an access by the name of a word of the image is of the image
-pub placed_above : (c : Config) (t : Touch) → IsWord c t.word → is_image t.word ≡ true → image_start c ≤ table_index (placed c t)
-placed_above c t is_word image =
-    subst (λ n. image_start c ≤ n) (sym (table_index-access_at (word_at c t.word) t.form)) (leb-true _ _ (sym (is_image-word_at c t.word is_word) ∙ image))
+pub placed_above : (config : Config) (touch : Touch) → IsWord config touch.word → is_image touch.word ≡ true → image_start config ≤ table_index (placed config touch)
+placed_above config touch is_word image =
+    subst (λ n. image_start config ≤ n) (sym (table_index-access_at (word_at config touch.word) touch.form)) (leb-true _ _ (sym (is_image-word_at config touch.word is_word) ∙ image))
 
 -- and is not of the count of mutators
-pub image_not_left : (c : Config) (access : Access) → image_start c ≤ table_index access → table_index access ≢ word_at c Left
-image_not_left c access above e = omega (arith, above, e)
+pub image_not_left : (config : Config) (access : Access) → image_start config ≤ table_index access → table_index access ≢ word_at config Left
+image_not_left config access above e = omega (arith, above, e)
 
 -- whether a word is not one of the handshake
 abbrev pub is_other : Word → Bool
@@ -41,58 +41,58 @@ is_other (State seat) = false
 is_other _ = true
 
 -- an access by the name of another word is elsewhere
-pub placed_elsewhere : (c : Config) (t : Touch) → IsWord c t.word → is_other t.word ≡ true → IsElsewhere c (placed c t)
-placed_elsewhere c t is_word other = record {
-  not_pause = λ e. absurd (cc (other, ap is_other (words_differ c t.word Pause is_word tt (sym at ∙ e))));
-  not_state = λ seat below e. absurd (cc (other, ap is_other (words_differ c t.word (State seat) is_word below (sym at ∙ e))));
+pub placed_elsewhere : (config : Config) (touch : Touch) → IsWord config touch.word → is_other touch.word ≡ true → IsElsewhere config (placed config touch)
+placed_elsewhere config touch is_word other = record {
+  not_pause = λ e. absurd (cc (other, ap is_other (words_differ config touch.word Pause is_word tt (sym at ∙ e))));
+  not_state = λ seat below e. absurd (cc (other, ap is_other (words_differ config touch.word (State seat) is_word below (sym at ∙ e))));
 }
   where
-    at : table_index (placed c t) ≡ word_at c t.word
-    at = table_index-access_at (word_at c t.word) t.form
+    at : table_index (placed config touch) ≡ word_at config touch.word
+    at = table_index-access_at (word_at config touch.word) touch.form
 
 -- What a step obeys, it obeys by any names of its next spots.
-pub obeys_same : (c : Config) (seat : ℕ) (w : Standing) (access : Access) (next other : ℕ → Standing) → ((got : ℕ) → other got ≡ next got) → Obeys c seat w access next → Obeys c seat w access other
-obeys_same c seat outside access next other same (inl obeys) = inl (record { access_is = obeys.access_is; next_is = λ got. same got ∙ obeys.next_is got })
-obeys_same c seat outside access next other same (inr obeys) = inr (record { harmless = obeys.harmless; next_is = λ got. same got ∙ obeys.next_is got })
-obeys_same c seat looks access next other same obeys = record { access_is = obeys.access_is; enters = same 0 ∙ obeys.enters; backs_off = λ got some. same got ∙ obeys.backs_off got some }
-obeys_same c seat backs access next other same obeys = record { access_is = obeys.access_is; next_is = λ got. same got ∙ obeys.next_is got }
-obeys_same c seat inside access next other same obeys = record { elsewhere = obeys.elsewhere; goes_on = λ got. ap is_within (same got) ∙ obeys.goes_on got }
-obeys_same c seat leaves access next other same obeys = record { access_is = obeys.access_is; next_is = λ got. same got ∙ obeys.next_is got }
-obeys_same c seat idle access next other same obeys = record { elsewhere = obeys.elsewhere; goes_on = λ got. ap is_free (same got) ∙ obeys.goes_on got }
-obeys_same c seat stops access next other same obeys = record { access_is = obeys.access_is; next_is = λ got. same got ∙ obeys.next_is got }
-obeys_same c seat (checks k) access next other same obeys = record { access_is = obeys.access_is; goes_on = same 0 ∙ obeys.goes_on; waits = λ got some. same got ∙ obeys.waits got some }
-obeys_same c seat works access next other same obeys = record { elsewhere = obeys.elsewhere; goes_on = λ got. ap is_pausing (same got) ∙ obeys.goes_on got }
-obeys_same c seat goes access next other same obeys = record { access_is = obeys.access_is; next_is = λ got. same got ∙ obeys.next_is got }
+pub obeys_same : (config : Config) (seat : ℕ) (w : Standing) (access : Access) (next other : ℕ → Standing) → ((got : ℕ) → other got ≡ next got) → Obeys config seat w access next → Obeys config seat w access other
+obeys_same config seat outside access next other same (inl obeys) = inl (record { access_is = obeys.access_is; next_is = λ got. same got ∙ obeys.next_is got })
+obeys_same config seat outside access next other same (inr obeys) = inr (record { harmless = obeys.harmless; next_is = λ got. same got ∙ obeys.next_is got })
+obeys_same config seat looks access next other same obeys = record { access_is = obeys.access_is; enters = same 0 ∙ obeys.enters; backs_off = λ got some. same got ∙ obeys.backs_off got some }
+obeys_same config seat backs access next other same obeys = record { access_is = obeys.access_is; next_is = λ got. same got ∙ obeys.next_is got }
+obeys_same config seat inside access next other same obeys = record { elsewhere = obeys.elsewhere; goes_on = λ got. ap is_within (same got) ∙ obeys.goes_on got }
+obeys_same config seat leaves access next other same obeys = record { access_is = obeys.access_is; next_is = λ got. same got ∙ obeys.next_is got }
+obeys_same config seat idle access next other same obeys = record { elsewhere = obeys.elsewhere; goes_on = λ got. ap is_free (same got) ∙ obeys.goes_on got }
+obeys_same config seat stops access next other same obeys = record { access_is = obeys.access_is; next_is = λ got. same got ∙ obeys.next_is got }
+obeys_same config seat (checks k) access next other same obeys = record { access_is = obeys.access_is; goes_on = same 0 ∙ obeys.goes_on; waits = λ got some. same got ∙ obeys.waits got some }
+obeys_same config seat works access next other same obeys = record { elsewhere = obeys.elsewhere; goes_on = λ got. ap is_pausing (same got) ∙ obeys.goes_on got }
+obeys_same config seat goes access next other same obeys = record { access_is = obeys.access_is; next_is = λ got. same got ∙ obeys.next_is got }
 
 -- a word that is not 0
 pub some_test : {A : Type 0} (f : A → Standing) (got : ℕ) (x y : A) → got ≢ 0 → f (if nat_eq got 0 then x else y) ≡ f y
 some_test f got x y some = ap f (cond-false (nat_eq got 0) x y (ne_eqb got 0 some))
 
 -- the rows of entering
-pub enter_obeys : (c : Config) (seat : ℕ) (spot : EnterSpot) → is_entered spot ≡ false → Obeys c seat (enter_standing spot) (placed c (enter_touch seat spot)) (λ got. enter_standing (enter_next spot got))
-enter_obeys c seat enter.Raise going = inl (record { access_is = refl; next_is = λ got. refl })
-enter_obeys c seat enter.Look going = record { access_is = refl; enters = refl; backs_off = λ got some. some_test enter_standing got enter.Inside enter.Lower some }
-enter_obeys c seat enter.Lower going = record { access_is = refl; next_is = λ got. refl }
-enter_obeys c seat enter.Await going = inr (record { harmless = inl refl; next_is = λ got. out (nat_eq got 0) })
+pub enter_obeys : (config : Config) (seat : ℕ) (spot : EnterSpot) → is_entered spot ≡ false → Obeys config seat (enter_standing spot) (placed config (enter_touch seat spot)) (λ got. enter_standing (enter_next spot got))
+enter_obeys config seat enter.Raise going = inl (record { access_is = refl; next_is = λ got. refl })
+enter_obeys config seat enter.Look going = record { access_is = refl; enters = refl; backs_off = λ got some. some_test enter_standing got enter.Inside enter.Lower some }
+enter_obeys config seat enter.Lower going = record { access_is = refl; next_is = λ got. refl }
+enter_obeys config seat enter.Await going = inr (record { harmless = inl refl; next_is = λ got. out (nat_eq got 0) })
   where
-    out : (b : Bool) → enter_standing (if b then enter.Raise else enter.Await) ≡ outside
+    out : (holds : Bool) → enter_standing (if holds then enter.Raise else enter.Await) ≡ outside
     out true = refl
     out false = refl
-enter_obeys c seat enter.Inside going = absurd (cc (going))
+enter_obeys config seat enter.Inside going = absurd (cc (going))
 
 -- the access of leaving
-pub leave_obeys : (c : Config) (seat : ℕ) → Obeys c seat leaves (placed c (leave_touch seat)) (λ got. outside)
-leave_obeys c seat = record { access_is = refl; next_is = λ got. refl }
+pub leave_obeys : (config : Config) (seat : ℕ) → Obeys config seat leaves (placed config (leave_touch seat)) (λ got. outside)
+leave_obeys config seat = record { access_is = refl; next_is = λ got. refl }
 
 -- the rows of stopping
-pub stop_obeys : (c : Config) (seat : ℕ) (spot : StopSpot) → is_stopped spot ≡ false → Obeys c seat (stop_standing spot) (placed c (stop_touch spot)) (λ got. stop_standing (stop_next c spot got))
-stop_obeys c seat stop.Raise going = record { access_is = refl; next_is = λ got. refl }
-stop_obeys c seat (stop.Check other) going = record { access_is = refl; goes_on = refl; waits = λ got some. some_test stop_standing got (after_seat c other) (stop.Check other) some }
-stop_obeys c seat stop.Stopped going = absurd (cc (going))
+pub stop_obeys : (config : Config) (seat : ℕ) (spot : StopSpot) → is_stopped spot ≡ false → Obeys config seat (stop_standing spot) (placed config (stop_touch spot)) (λ got. stop_standing (stop_next config spot got))
+stop_obeys config seat stop.Raise going = record { access_is = refl; next_is = λ got. refl }
+stop_obeys config seat (stop.Check other) going = record { access_is = refl; goes_on = refl; waits = λ got some. some_test stop_standing got (after_seat config other) (stop.Check other) some }
+stop_obeys config seat stop.Stopped going = absurd (cc (going))
 
 -- the access that ends a pause
-pub go_obeys : (c : Config) (seat : ℕ) → Obeys c seat goes (placed c go_touch) (λ got. idle)
-go_obeys c seat = record { access_is = refl; next_is = λ got. refl }
+pub go_obeys : (config : Config) (seat : ℕ) → Obeys config seat goes (placed config go_touch) (λ got. idle)
+go_obeys config seat = record { access_is = refl; next_is = λ got. refl }
 
-pub rows_obey : (c : Config) → RowsObey c
-rows_obey c = record { enter = enter_obeys c; leave = leave_obeys c; stop = stop_obeys c; go = go_obeys c }
+pub rows_obey : (config : Config) → RowsObey config
+rows_obey config = record { enter = enter_obeys config; leave = leave_obeys config; stop = stop_obeys config; go = go_obeys config }

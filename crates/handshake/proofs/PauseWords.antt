@@ -14,20 +14,20 @@ use Rattle.handshake.specs.Standing.{control_seat}
 use Rattle.handshake.specs.Obeys.{IsElsewhere, is_load}
 
 -- the words of the handshake are as they were
-pub record KeepsWords (c : Config) (old new : List ℕ) : Type 0 where
+pub record KeepsWords (config : Config) (old new : List ℕ) : Type 0 where
   pub long : length new ≡ length old
-  pub pause : view c new Pause ≡ view c old Pause
-  pub states : (seat : ℕ) → seat < control_seat c → view c new (State seat) ≡ view c old (State seat)
+  pub pause : view config new Pause ≡ view config old Pause
+  pub states : (seat : ℕ) → seat < control_seat config → view config new (State seat) ≡ view config old (State seat)
 
 -- an access of another word keeps them
-pub elsewhere_keeps : (c : Config) (words : List ℕ) (access : Access) → IsElsewhere c access → KeepsWords c words (accessed access words)
-elsewhere_keeps c words access is = record {
+pub elsewhere_keeps : (config : Config) (words : List ℕ) (access : Access) → IsElsewhere config access → KeepsWords config words (accessed access words)
+elsewhere_keeps config words access is = record {
   long = length-set _ _ _;
-  pause = get_or-set_other words (table_index access) (word_at c Pause) _ 0 (λ e. is.not_pause (sym e));
+  pause = get_or-set_other words (table_index access) (word_at config Pause) _ 0 (λ e. is.not_pause (sym e));
   states = λ seat below.
-      view_word c _ (State seat) below
-      ∙ get_or-set_other words (table_index access) (word_at c (State seat)) _ 0 (λ e. is.not_state seat below (sym e))
-      ∙ sym (view_word c words (State seat) below);
+      view_word config _ (State seat) below
+      ∙ get_or-set_other words (table_index access) (word_at config (State seat)) _ 0 (λ e. is.not_state seat below (sym e))
+      ∙ sym (view_word config words (State seat) below);
 }
 
 -- an access that only reads changes nothing
@@ -35,32 +35,32 @@ pub accessed-load : (words : List ℕ) (access : Access) → is_load access ≡ 
 accessed-load words (Load at) is = set-get_or words at 0
 accessed-load words _ is = absurd (cc (is))
 
-pub load_keeps : (c : Config) (words : List ℕ) (access : Access) → is_load access ≡ true → KeepsWords c words (accessed access words)
-load_keeps c words access is = let same = accessed-load words access is in record {
+pub load_keeps : (config : Config) (words : List ℕ) (access : Access) → is_load access ≡ true → KeepsWords config words (accessed access words)
+load_keeps config words access is = let same = accessed-load words access is in record {
   long = ap length same;
-  pause = ap (λ ws. view c ws Pause) same;
-  states = λ seat below. ap (λ ws. view c ws (State seat)) same;
+  pause = ap (λ ws. view config ws Pause) same;
+  states = λ seat below. ap (λ ws. view config ws (State seat)) same;
 }
 
 -- a store into the pause word
-pub pause_stored : (c : Config) (words : List ℕ) (value : ℕ) → length words ≡ table_words c
-    → view c (accessed (placed c (touch Pause (stores value))) words) Pause ≡ value
-pause_stored c words value long = view_set c words Pause value Pause long tt
+pub pause_stored : (config : Config) (words : List ℕ) (value : ℕ) → length words ≡ table_words config
+    → view config (accessed (placed config (touch Pause (stores value))) words) Pause ≡ value
+pause_stored config words value long = view_set config words Pause value Pause long tt
 
-pub pause_stored_states : (c : Config) (words : List ℕ) (value seat : ℕ) → length words ≡ table_words c
-    → view c (accessed (placed c (touch Pause (stores value))) words) (State seat) ≡ view c words (State seat)
-pause_stored_states c words value seat long = view_set c words Pause value (State seat) long tt
+pub pause_stored_states : (config : Config) (words : List ℕ) (value seat : ℕ) → length words ≡ table_words config
+    → view config (accessed (placed config (touch Pause (stores value))) words) (State seat) ≡ view config words (State seat)
+pause_stored_states config words value seat long = view_set config words Pause value (State seat) long tt
 
 -- a store into a state word
-pub state_stored : (c : Config) (words : List ℕ) (value seat : ℕ) → length words ≡ table_words c → seat < control_seat c
-    → view c (accessed (placed c (touch (State seat) (stores value))) words) (State seat) ≡ value
-state_stored c words value seat long below = view_set c words (State seat) value (State seat) long below ∙ cond-true _ _ _ (eq-eqb seat seat refl)
+pub state_stored : (config : Config) (words : List ℕ) (value seat : ℕ) → length words ≡ table_words config → seat < control_seat config
+    → view config (accessed (placed config (touch (State seat) (stores value))) words) (State seat) ≡ value
+state_stored config words value seat long below = view_set config words (State seat) value (State seat) long below ∙ cond-true _ _ _ (eq-eqb seat seat refl)
 
-pub state_stored_pause : (c : Config) (words : List ℕ) (value seat : ℕ) → length words ≡ table_words c → seat < control_seat c
-    → view c (accessed (placed c (touch (State seat) (stores value))) words) Pause ≡ view c words Pause
-state_stored_pause c words value seat long below = view_set c words (State seat) value Pause long below
+pub state_stored_pause : (config : Config) (words : List ℕ) (value seat : ℕ) → length words ≡ table_words config → seat < control_seat config
+    → view config (accessed (placed config (touch (State seat) (stores value))) words) Pause ≡ view config words Pause
+state_stored_pause config words value seat long below = view_set config words (State seat) value Pause long below
 
-pub state_stored_other : (c : Config) (words : List ℕ) (value seat other : ℕ) → length words ≡ table_words c → seat < control_seat c → other ≢ seat
-    → view c (accessed (placed c (touch (State seat) (stores value))) words) (State other) ≡ view c words (State other)
-state_stored_other c words value seat other long below apart =
-    view_set c words (State seat) value (State other) long below ∙ cond-false _ _ _ (ne_eqb seat other (λ e. apart (sym e)))
+pub state_stored_other : (config : Config) (words : List ℕ) (value seat other : ℕ) → length words ≡ table_words config → seat < control_seat config → other ≢ seat
+    → view config (accessed (placed config (touch (State seat) (stores value))) words) (State other) ≡ view config words (State other)
+state_stored_other config words value seat other long below apart =
+    view_set config words (State seat) value (State other) long below ∙ cond-false _ _ _ (ne_eqb seat other (λ e. apart (sym e)))

@@ -28,10 +28,10 @@ within_state leaves is = refl
 within_state _ is = absurd (cc (is))
 
 -- and is one of a mutator or helper
-within_seated : (c : Config) (seat : ℕ) (w : Standing) → seat < control_seat c → is_within w ≡ true → HasSeat c seat w
-within_seated c seat inside below is = below
-within_seated c seat leaves below is = below
-within_seated c seat _ below is = absurd (cc (is))
+within_seated : (config : Config) (seat : ℕ) (w : Standing) → seat < control_seat config → is_within w ≡ true → HasSeat config seat w
+within_seated config seat inside below is = below
+within_seated config seat leaves below is = below
+within_seated config seat _ below is = absurd (cc (is))
 
 -- where no pause is wanted, no seat is checked, and the pause word is 0
 free_pause : (w : Standing) → is_free w ≡ true → pause_word w ≡ 0
@@ -44,20 +44,20 @@ free_unchecked idle seat is = refl
 free_unchecked stops seat is = refl
 free_unchecked _ seat is = absurd (cc (is))
 
-free_seated : (c : Config) (seat : ℕ) (w : Standing) → seat ≡ control_seat c → is_free w ≡ true → HasSeat c seat w
-free_seated c seat idle e is = e
-free_seated c seat stops e is = e
-free_seated c seat _ e is = absurd (cc (is))
+free_seated : (config : Config) (seat : ℕ) (w : Standing) → seat ≡ control_seat config → is_free w ≡ true → HasSeat config seat w
+free_seated config seat idle e is = e
+free_seated config seat stops e is = e
+free_seated config seat _ e is = absurd (cc (is))
 
 pausing_pause : (w : Standing) → is_pausing w ≡ true → pause_word w ≡ 1
 pausing_pause works is = refl
 pausing_pause goes is = refl
 pausing_pause _ is = absurd (cc (is))
 
-pausing_seated : (c : Config) (seat : ℕ) (w : Standing) → seat ≡ control_seat c → is_pausing w ≡ true → HasSeat c seat w
-pausing_seated c seat works e is = e
-pausing_seated c seat goes e is = e
-pausing_seated c seat _ e is = absurd (cc (is))
+pausing_seated : (config : Config) (seat : ℕ) (w : Standing) → seat ≡ control_seat config → is_pausing w ≡ true → HasSeat config seat w
+pausing_seated config seat works e is = e
+pausing_seated config seat goes e is = e
+pausing_seated config seat _ e is = absurd (cc (is))
 
 -- in a pause all seats are checked
 pub pausing_checked : (w : Standing) (seat : ℕ) → is_pausing w ≡ true → is_checked w seat ≡ true
@@ -79,223 +79,223 @@ zero_without leaves is = absurd (cc (is))
 zero_without _ is = refl
 
 -- there is a seat that is not the control's
-some_seat : (c : Config) → 0 < control_seat c
-some_seat c = omega (arith, c.in_range.least_mutators)
+some_seat : (config : Config) → 0 < control_seat config
+some_seat config = omega (arith, config.in_range.least_mutators)
 
 -- no seat is below the first
 nothing_below : (seat : ℕ) → nat_lt seat 0 ≡ true → ⊥
 nothing_below seat is = grind (arith, nat_tests)
 
 -- where the control stands after a seat
-after_seated : (c : Config) (number seat : ℕ) → number ≡ control_seat c → HasSeat c number (stop_standing (after_seat c seat))
-after_seated c number seat is_control = by_test (nat_lt (seat + 1) (control_seat c)) refl
+after_seated : (config : Config) (number seat : ℕ) → number ≡ control_seat config → HasSeat config number (stop_standing (after_seat config seat))
+after_seated config number seat is_control = by_test (nat_lt (seat + 1) (control_seat config)) refl
   where
-    by_test : (b : Bool) → nat_lt (seat + 1) (control_seat c) ≡ b → HasSeat c number (stop_standing (if b then Check (seat + 1) else Stopped))
+    by_test : (holds : Bool) → nat_lt (seat + 1) (control_seat config) ≡ holds → HasSeat config number (stop_standing (if holds then Check (seat + 1) else Stopped))
     by_test true is = (is_control, ltb-true _ _ is)
     by_test false is = is_control
 
-after_pause : (c : Config) (seat : ℕ) → pause_word (stop_standing (after_seat c seat)) ≡ 1
-after_pause c seat = by_test (nat_lt (seat + 1) (control_seat c))
+after_pause : (config : Config) (seat : ℕ) → pause_word (stop_standing (after_seat config seat)) ≡ 1
+after_pause config seat = by_test (nat_lt (seat + 1) (control_seat config))
   where
-    by_test : (b : Bool) → pause_word (stop_standing (if b then Check (seat + 1) else Stopped)) ≡ 1
+    by_test : (holds : Bool) → pause_word (stop_standing (if holds then Check (seat + 1) else Stopped)) ≡ 1
     by_test true = refl
     by_test false = refl
 
 -- it has checked no seat above
-after_checked : (c : Config) (seat other : ℕ) → other < control_seat c → is_checked (stop_standing (after_seat c seat)) other ≡ true → other < seat + 1
-after_checked c seat other below = by_test (nat_lt (seat + 1) (control_seat c)) refl
+after_checked : (config : Config) (seat other : ℕ) → other < control_seat config → is_checked (stop_standing (after_seat config seat)) other ≡ true → other < seat + 1
+after_checked config seat other below = by_test (nat_lt (seat + 1) (control_seat config)) refl
   where
-    by_test : (b : Bool) → nat_lt (seat + 1) (control_seat c) ≡ b → is_checked (stop_standing (if b then Check (seat + 1) else Stopped)) other ≡ true → other < seat + 1
+    by_test : (holds : Bool) → nat_lt (seat + 1) (control_seat config) ≡ holds → is_checked (stop_standing (if holds then Check (seat + 1) else Stopped)) other ≡ true → other < seat + 1
     by_test true is checked = ltb-true _ _ checked
-    by_test false is checked = let past : control_seat c ≤ seat + 1 = grind (arith, nat_tests) in omega (arith, below, past)
+    by_test false is checked = let past : control_seat config ≤ seat + 1 = grind (arith, nat_tests) in omega (arith, below, past)
 
-module _ {R : Type 0} (c : Config) (standing : R → Standing) (s : Stage R) (shaken : IsShaken c standing s) (number : ℕ) (old new : R) (here : slice_get s.machines number ≡ Some old) where
+module _ {R : Type 0} (config : Config) (standing : R → Standing) (stage : Stage R) (shaken : IsShaken config standing stage) (number : ℕ) (old new : R) (here : slice_get stage.machines number ≡ Some old) where
   -- the stage after an access
   abbrev after : Access → Stage R
-  after access = record { words = accessed access s.words; machines = slice_set s.machines number new }
+  after access = record { words = accessed access stage.words; machines = slice_set stage.machines number new }
 
   -- the word that the access finds
   abbrev found : Access → ℕ
-  found access = slice_index s.words (table_index access)
+  found access = slice_index stage.words (table_index access)
 
   -- a mutator or helper that makes no store into its state word
-  quiet_keeps : (access : Access) → number < control_seat c → KeepsWords c s.words (accessed access s.words) → HasSeat c number (standing new)
+  quiet_keeps : (access : Access) → number < control_seat config → KeepsWords config stage.words (accessed access stage.words) → HasSeat config number (standing new)
       → state_word (standing old) ≡ state_word (standing new)
       → (is_checked (standing shaken.control) number ≡ true → is_within (standing new) ≡ false)
-      → IsShaken c standing (after access)
+      → IsShaken config standing (after access)
   quiet_keeps access below keeps seated same out =
-      seat_keeps c standing s shaken number old new here (accessed access s.words) keeps.long below seated keeps.pause
+      seat_keeps config standing stage shaken number old new here (accessed access stage.words) keeps.long below seated keeps.pause
       (keeps.states number below ∙ shaken.states number old below here ∙ same)
       (λ seat low apart. keeps.states seat low) out
 
   -- a mutator or helper that stores into its state word, and is not in the heap then
-  stores_keeps : (access : Access) (value : ℕ) → access ≡ placed c (touch (State number) (stores value)) → number < control_seat c → HasSeat c number (standing new)
-      → value ≡ state_word (standing new) → is_within (standing new) ≡ false → IsShaken c standing (after access)
-  stores_keeps access value is below seated same out = subst (λ a. IsShaken c standing (after a)) (sym is)
-      (seat_keeps c standing s shaken number old new here (accessed (placed c (touch (State number) (stores value))) s.words) (length-set s.words _ _) below seated
-      (state_stored_pause c s.words value number shaken.words below)
-      (state_stored c s.words value number shaken.words below ∙ same)
-      (λ seat low apart. state_stored_other c s.words value number seat shaken.words below apart)
+  stores_keeps : (access : Access) (value : ℕ) → access ≡ placed config (touch (State number) (stores value)) → number < control_seat config → HasSeat config number (standing new)
+      → value ≡ state_word (standing new) → is_within (standing new) ≡ false → IsShaken config standing (after access)
+  stores_keeps access value is below seated same out = subst (λ a. IsShaken config standing (after a)) (sym is)
+      (seat_keeps config standing stage shaken number old new here (accessed (placed config (touch (State number) (stores value))) stage.words) (length-set stage.words _ _) below seated
+      (state_stored_pause config stage.words value number shaken.words below)
+      (state_stored config stage.words value number shaken.words below ∙ same)
+      (λ seat low apart. state_stored_other config stage.words value number seat shaken.words below apart)
       (λ is. out))
 
   -- the machine with the control's number is the control
-  old_control : number ≡ control_seat c → shaken.control ≡ old
-  old_control is_control = let there = subst (λ n. slice_get s.machines n ≡ Some old) is_control here in cc (there, shaken.there)
+  old_control : number ≡ control_seat config → shaken.control ≡ old
+  old_control is_control = let there = subst (λ n. slice_get stage.machines n ≡ Some old) is_control here in cc (there, shaken.there)
 
   -- the control uses other words
-  control_quiet : (access : Access) → number ≡ control_seat c → KeepsWords c s.words (accessed access s.words) → HasSeat c number (standing new)
+  control_quiet : (access : Access) → number ≡ control_seat config → KeepsWords config stage.words (accessed access stage.words) → HasSeat config number (standing new)
       → pause_word (standing old) ≡ pause_word (standing new)
-      → ((seat : ℕ) (r : R) → seat < control_seat c → slice_get s.machines seat ≡ Some r → is_checked (standing new) seat ≡ true → is_within (standing r) ≡ false)
-      → IsShaken c standing (after access)
+      → ((seat : ℕ) (r : R) → seat < control_seat config → slice_get stage.machines seat ≡ Some r → is_checked (standing new) seat ≡ true → is_within (standing r) ≡ false)
+      → IsShaken config standing (after access)
   control_quiet access is_control keeps seated same checked =
-      control_keeps c standing s shaken number old new here (accessed access s.words) keeps.long is_control seated
+      control_keeps config standing stage shaken number old new here (accessed access stage.words) keeps.long is_control seated
       (keeps.pause ∙ shaken.pause ∙ ap (λ r. pause_word (standing r)) (old_control is_control) ∙ same)
       keeps.states checked
 
   -- the control stores into the pause word
-  control_stores : (access : Access) (value : ℕ) → access ≡ placed c (touch Pause (stores value)) → number ≡ control_seat c → HasSeat c number (standing new)
+  control_stores : (access : Access) (value : ℕ) → access ≡ placed config (touch Pause (stores value)) → number ≡ control_seat config → HasSeat config number (standing new)
       → value ≡ pause_word (standing new)
-      → ((seat : ℕ) (r : R) → seat < control_seat c → slice_get s.machines seat ≡ Some r → is_checked (standing new) seat ≡ true → is_within (standing r) ≡ false)
-      → IsShaken c standing (after access)
-  control_stores access value is is_control seated same checked = subst (λ a. IsShaken c standing (after a)) (sym is)
-      (control_keeps c standing s shaken number old new here (accessed (placed c (touch Pause (stores value))) s.words) (length-set s.words _ _) is_control seated
-      (pause_stored c s.words value shaken.words ∙ same)
-      (λ seat low. pause_stored_states c s.words value seat shaken.words)
+      → ((seat : ℕ) (r : R) → seat < control_seat config → slice_get stage.machines seat ≡ Some r → is_checked (standing new) seat ≡ true → is_within (standing r) ≡ false)
+      → IsShaken config standing (after access)
+  control_stores access value is is_control seated same checked = subst (λ a. IsShaken config standing (after a)) (sym is)
+      (control_keeps config standing stage shaken number old new here (accessed (placed config (touch Pause (stores value))) stage.words) (length-set stage.words _ _) is_control seated
+      (pause_stored config stage.words value shaken.words ∙ same)
+      (λ seat low. pause_stored_states config stage.words value seat shaken.words)
       checked)
 
   -- whoever is in the heap is so in a seat that is not checked
-  within_unchecked : number < control_seat c → is_within (standing old) ≡ true → is_checked (standing shaken.control) number ≡ true → ⊥
+  within_unchecked : number < control_seat config → is_within (standing old) ≡ true → is_checked (standing shaken.control) number ≡ true → ⊥
   within_unchecked below within is = absurd (cc (within, shaken.checked number old below here is))
 
   -- from outside
-  outside_keeps : (access : Access) (next : ℕ → Standing) → number < control_seat c → state_word (standing old) ≡ 0
-      → Enters c number access next ⊎ StaysOut c access next → standing new ≡ next (found access) → IsShaken c standing (after access)
+  outside_keeps : (access : Access) (next : ℕ → Standing) → number < control_seat config → state_word (standing old) ≡ 0
+      → Enters config number access next ⊎ StaysOut config access next → standing new ≡ next (found access) → IsShaken config standing (after access)
   outside_keeps access next below out (inl enters) is =
       let looking : standing new ≡ looks = is ∙ enters.next_is _ in
-      stores_keeps access 1 enters.access_is below (subst (HasSeat c number) (sym looking) below) (sym (ap state_word looking)) (ap is_within looking)
+      stores_keeps access 1 enters.access_is below (subst (HasSeat config number) (sym looking) below) (sym (ap state_word looking)) (ap is_within looking)
   outside_keeps access next below out (inr stays) is =
       let staying : standing new ≡ outside = is ∙ stays.next_is _ in
-      quiet_keeps access below (keeps stays.harmless) (subst (HasSeat c number) (sym staying) below) (out ∙ sym (ap state_word staying)) (λ checked. ap is_within staying)
+      quiet_keeps access below (keeps stays.harmless) (subst (HasSeat config number) (sym staying) below) (out ∙ sym (ap state_word staying)) (λ checked. ap is_within staying)
     where
-      keeps : IsHarmless c access → KeepsWords c s.words (accessed access s.words)
-      keeps (inl reads) = load_keeps c s.words access reads
-      keeps (inr other) = elsewhere_keeps c s.words access other.0
+      keeps : IsHarmless config access → KeepsWords config stage.words (accessed access stage.words)
+      keeps (inl reads) = load_keeps config stage.words access reads
+      keeps (inr other) = elsewhere_keeps config stage.words access other.0
 
   -- a look at the pause word
-  looks_keeps : (access : Access) (next : ℕ → Standing) → number < control_seat c → state_word (standing old) ≡ 1
-      → Looks c access next → standing new ≡ next (found access) → IsShaken c standing (after access)
+  looks_keeps : (access : Access) (next : ℕ → Standing) → number < control_seat config → state_word (standing old) ≡ 1
+      → Looks config access next → standing new ≡ next (found access) → IsShaken config standing (after access)
   looks_keeps access next below in_heap look is = by_word (nat_eq (found access) 0) refl
     where
-      keeps : KeepsWords c s.words (accessed access s.words)
-      keeps = load_keeps c s.words access (ap is_load look.access_is)
+      keeps : KeepsWords config stage.words (accessed access stage.words)
+      keeps = load_keeps config stage.words access (ap is_load look.access_is)
 
       found_is : found access ≡ pause_word (standing shaken.control)
       found_is = ap found look.access_is ∙ shaken.pause
 
-      by_word : (b : Bool) → nat_eq (found access) 0 ≡ b → IsShaken c standing (after access)
+      by_word : (holds : Bool) → nat_eq (found access) 0 ≡ holds → IsShaken config standing (after access)
       by_word true zero_is =
           let none : found access ≡ 0 = grind (arith, nat_tests) in
           let entered : standing new ≡ inside = is ∙ ap next none ∙ look.enters in
-          quiet_keeps access below keeps (subst (HasSeat c number) (sym entered) below) (in_heap ∙ sym (ap state_word entered))
+          quiet_keeps access below keeps (subst (HasSeat config number) (sym entered) below) (in_heap ∙ sym (ap state_word entered))
           (λ checked. absurd (omega (arith, none, found_is, checked_pause (standing shaken.control) number checked)))
       by_word false zero_not =
           let some : found access ≢ 0 = grind (arith, nat_tests) in
           let off : standing new ≡ backs = is ∙ look.backs_off _ some in
-          quiet_keeps access below keeps (subst (HasSeat c number) (sym off) below) (in_heap ∙ sym (ap state_word off)) (λ checked. ap is_within off)
+          quiet_keeps access below keeps (subst (HasSeat config number) (sym off) below) (in_heap ∙ sym (ap state_word off)) (λ checked. ap is_within off)
 
   -- a step out
-  goes_out_keeps : (access : Access) (next : ℕ → Standing) → number < control_seat c
-      → GoesOut c number access next → standing new ≡ next (found access) → IsShaken c standing (after access)
+  goes_out_keeps : (access : Access) (next : ℕ → Standing) → number < control_seat config
+      → GoesOut config number access next → standing new ≡ next (found access) → IsShaken config standing (after access)
   goes_out_keeps access next below out is =
       let left : standing new ≡ outside = is ∙ out.next_is _ in
-      stores_keeps access 0 out.access_is below (subst (HasSeat c number) (sym left) below) (sym (ap state_word left)) (ap is_within left)
+      stores_keeps access 0 out.access_is below (subst (HasSeat config number) (sym left) below) (sym (ap state_word left)) (ap is_within left)
 
   -- a step in the heap
-  within_keeps : (access : Access) (next : ℕ → Standing) → number < control_seat c → is_within (standing old) ≡ true
-      → GoesOn c access next is_within → standing new ≡ next (found access) → IsShaken c standing (after access)
+  within_keeps : (access : Access) (next : ℕ → Standing) → number < control_seat config → is_within (standing old) ≡ true
+      → GoesOn config access next is_within → standing new ≡ next (found access) → IsShaken config standing (after access)
   within_keeps access next below within on is =
       let still : is_within (standing new) ≡ true = ap is_within is ∙ on.goes_on _ in
-      quiet_keeps access below (elsewhere_keeps c s.words access on.elsewhere) (within_seated c number (standing new) below still)
+      quiet_keeps access below (elsewhere_keeps config stage.words access on.elsewhere) (within_seated config number (standing new) below still)
       (within_state (standing old) within ∙ sym (within_state (standing new) still))
       (λ checked. absurd (within_unchecked below within checked))
 
   -- the control where no pause is wanted
-  idle_keeps : (access : Access) (next : ℕ → Standing) → number ≡ control_seat c → is_free (standing old) ≡ true
-      → GoesOn c access next is_free → standing new ≡ next (found access) → IsShaken c standing (after access)
+  idle_keeps : (access : Access) (next : ℕ → Standing) → number ≡ control_seat config → is_free (standing old) ≡ true
+      → GoesOn config access next is_free → standing new ≡ next (found access) → IsShaken config standing (after access)
   idle_keeps access next is_control free on is =
       let still : is_free (standing new) ≡ true = ap is_free is ∙ on.goes_on _ in
-      control_quiet access is_control (elsewhere_keeps c s.words access on.elsewhere) (free_seated c number (standing new) is_control still)
+      control_quiet access is_control (elsewhere_keeps config stage.words access on.elsewhere) (free_seated config number (standing new) is_control still)
       (free_pause (standing old) free ∙ sym (free_pause (standing new) still))
       (λ seat r low there checked. absurd (cc (checked, free_unchecked (standing new) seat still)))
 
   -- the control says that it wants a pause
-  stops_keeps : (access : Access) (next : ℕ → Standing) → number ≡ control_seat c
-      → Stops c access next → standing new ≡ next (found access) → IsShaken c standing (after access)
+  stops_keeps : (access : Access) (next : ℕ → Standing) → number ≡ control_seat config
+      → Stops config access next → standing new ≡ next (found access) → IsShaken config standing (after access)
   stops_keeps access next is_control stop is =
       let checking : standing new ≡ checks 0 = is ∙ stop.next_is _ in
-      control_stores access 1 stop.access_is is_control (subst (HasSeat c number) (sym checking) (is_control, some_seat c)) (sym (ap pause_word checking))
+      control_stores access 1 stop.access_is is_control (subst (HasSeat config number) (sym checking) (is_control, some_seat config)) (sym (ap pause_word checking))
       (λ seat r low there checked. absurd (nothing_below seat (sym (ap (λ w. is_checked w seat) checking) ∙ checked)))
 
   -- the control checks a seat
-  checks_keeps : (access : Access) (next : ℕ → Standing) (seat : ℕ) → number ≡ control_seat c → seat < control_seat c → standing old ≡ checks seat
-      → Checks c seat access next → standing new ≡ next (found access) → IsShaken c standing (after access)
+  checks_keeps : (access : Access) (next : ℕ → Standing) (seat : ℕ) → number ≡ control_seat config → seat < control_seat config → standing old ≡ checks seat
+      → Checks config seat access next → standing new ≡ next (found access) → IsShaken config standing (after access)
   checks_keeps access next seat is_control low old_is check is = by_word (nat_eq (found access) 0) refl
     where
-      keeps : KeepsWords c s.words (accessed access s.words)
-      keeps = load_keeps c s.words access (ap is_load check.access_is)
+      keeps : KeepsWords config stage.words (accessed access stage.words)
+      keeps = load_keeps config stage.words access (ap is_load check.access_is)
 
-      found_is : found access ≡ view c s.words (State seat)
-      found_is = ap found check.access_is ∙ sym (view_word c s.words (State seat) low)
+      found_is : found access ≡ view config stage.words (State seat)
+      found_is = ap found check.access_is ∙ sym (view_word config stage.words (State seat) low)
 
       -- a seat below the one that is checked
-      before : (other : ℕ) (r : R) → other < control_seat c → slice_get s.machines other ≡ Some r → other < seat → is_within (standing r) ≡ false
+      before : (other : ℕ) (r : R) → other < control_seat config → slice_get stage.machines other ≡ Some r → other < seat → is_within (standing r) ≡ false
       before other r below there less = shaken.checked other r below there (ap (λ x. is_checked (standing x) other) (old_control is_control) ∙ ap (λ w. is_checked w other) old_is ∙ lt-ltb other seat less)
 
       -- the seat that is checked, where its word is 0
-      this : found access ≡ 0 → (r : R) → slice_get s.machines seat ≡ Some r → is_within (standing r) ≡ false
+      this : found access ≡ 0 → (r : R) → slice_get stage.machines seat ≡ Some r → is_within (standing r) ≡ false
       this none r there = zero_without (standing r) (sym (shaken.states seat r low there) ∙ sym found_is ∙ none)
 
-      by_word : (b : Bool) → nat_eq (found access) 0 ≡ b → IsShaken c standing (after access)
+      by_word : (holds : Bool) → nat_eq (found access) 0 ≡ holds → IsShaken config standing (after access)
       by_word true zero_is =
           let none : found access ≡ 0 = grind (arith, nat_tests) in
-          let on : standing new ≡ stop_standing (after_seat c seat) = is ∙ ap next none ∙ check.goes_on in
-          control_quiet access is_control keeps (subst (HasSeat c number) (sym on) (after_seated c number seat is_control))
-          (ap pause_word old_is ∙ sym (after_pause c seat) ∙ sym (ap pause_word on))
-          (λ other r below there checked. by_seat other r below there (after_checked c seat other below (sym (ap (λ w. is_checked w other) on) ∙ checked)) (nat_eq other seat) refl)
+          let on : standing new ≡ stop_standing (after_seat config seat) = is ∙ ap next none ∙ check.goes_on in
+          control_quiet access is_control keeps (subst (HasSeat config number) (sym on) (after_seated config number seat is_control))
+          (ap pause_word old_is ∙ sym (after_pause config seat) ∙ sym (ap pause_word on))
+          (λ other r below there checked. by_seat other r below there (after_checked config seat other below (sym (ap (λ w. is_checked w other) on) ∙ checked)) (nat_eq other seat) refl)
         where
-          by_seat : (other : ℕ) (r : R) → other < control_seat c → slice_get s.machines other ≡ Some r → other < seat + 1 → (b : Bool) → nat_eq other seat ≡ b → is_within (standing r) ≡ false
+          by_seat : (other : ℕ) (r : R) → other < control_seat config → slice_get stage.machines other ≡ Some r → other < seat + 1 → (holds : Bool) → nat_eq other seat ≡ holds → is_within (standing r) ≡ false
           by_seat other r below there less true same =
               let e : other ≡ seat = grind (arith, nat_tests) in
-              this (let none : found access ≡ 0 = grind (arith, nat_tests) in none) r (subst (λ n. slice_get s.machines n ≡ Some r) e there)
+              this (let none : found access ≡ 0 = grind (arith, nat_tests) in none) r (subst (λ n. slice_get stage.machines n ≡ Some r) e there)
           by_seat other r below there less false apart =
               let lower : other < seat = grind (arith, nat_tests) in before other r below there lower
       by_word false zero_not =
           let some : found access ≢ 0 = grind (arith, nat_tests) in
           let waiting : standing new ≡ checks seat = is ∙ check.waits _ some in
-          control_quiet access is_control keeps (subst (HasSeat c number) (sym waiting) (is_control, low))
+          control_quiet access is_control keeps (subst (HasSeat config number) (sym waiting) (is_control, low))
           (ap pause_word old_is ∙ sym (ap pause_word waiting))
           (λ other r below there checked. before other r below there (ltb-true other seat (sym (ap (λ w. is_checked w other) waiting) ∙ checked)))
 
   -- the control works in a pause
-  works_keeps : (access : Access) (next : ℕ → Standing) → number ≡ control_seat c → is_pausing (standing old) ≡ true
-      → GoesOn c access next is_pausing → standing new ≡ next (found access) → IsShaken c standing (after access)
+  works_keeps : (access : Access) (next : ℕ → Standing) → number ≡ control_seat config → is_pausing (standing old) ≡ true
+      → GoesOn config access next is_pausing → standing new ≡ next (found access) → IsShaken config standing (after access)
   works_keeps access next is_control pausing on is =
       let still : is_pausing (standing new) ≡ true = ap is_pausing is ∙ on.goes_on _ in
-      control_quiet access is_control (elsewhere_keeps c s.words access on.elsewhere) (pausing_seated c number (standing new) is_control still)
+      control_quiet access is_control (elsewhere_keeps config stage.words access on.elsewhere) (pausing_seated config number (standing new) is_control still)
       (pausing_pause (standing old) pausing ∙ sym (pausing_pause (standing new) still))
       (λ seat r low there checked. shaken.checked seat r low there (ap (λ x. is_checked (standing x) seat) (old_control is_control) ∙ pausing_checked (standing old) seat pausing))
 
   -- the control ends the pause
-  goes_keeps : (access : Access) (next : ℕ → Standing) → number ≡ control_seat c
-      → EndsPause c access next → standing new ≡ next (found access) → IsShaken c standing (after access)
+  goes_keeps : (access : Access) (next : ℕ → Standing) → number ≡ control_seat config
+      → EndsPause config access next → standing new ≡ next (found access) → IsShaken config standing (after access)
   goes_keeps access next is_control ends is =
       let free : standing new ≡ idle = is ∙ ends.next_is _ in
-      control_stores access 0 ends.access_is is_control (subst (HasSeat c number) (sym free) is_control) (sym (ap pause_word free))
+      control_stores access 0 ends.access_is is_control (subst (HasSeat config number) (sym free) is_control) (sym (ap pause_word free))
       (λ seat r low there checked. absurd (cc (checked, ap (λ w. is_checked w seat) free)))
 
   -- the step of a machine that stands so, if it obeys
-  obeys_keeps : (access : Access) (next : ℕ → Standing) (w : Standing) → standing old ≡ w → HasSeat c number w → Obeys c number w access next
-      → standing new ≡ next (found access) → IsShaken c standing (after access)
+  obeys_keeps : (access : Access) (next : ℕ → Standing) (w : Standing) → standing old ≡ w → HasSeat config number w → Obeys config number w access next
+      → standing new ≡ next (found access) → IsShaken config standing (after access)
   obeys_keeps access next outside old_is seated obeys is = outside_keeps access next seated (ap state_word old_is) obeys is
   obeys_keeps access next looks old_is seated obeys is = looks_keeps access next seated (ap state_word old_is) obeys is
   obeys_keeps access next backs old_is seated obeys is = goes_out_keeps access next seated obeys is
@@ -308,19 +308,19 @@ module _ {R : Type 0} (c : Config) (standing : R → Standing) (s : Stage R) (sh
   obeys_keeps access next goes old_is seated obeys is = goes_keeps access next seated obeys is
 
   -- a step that obeys keeps the handshake
-  pub step_keeps : (access : Access) (next : ℕ → Standing) → Obeys c number (standing old) access next → standing new ≡ next (found access) → IsShaken c standing (after access)
+  pub step_keeps : (access : Access) (next : ℕ → Standing) → Obeys config number (standing old) access next → standing new ≡ next (found access) → IsShaken config standing (after access)
   step_keeps access next obeys is = obeys_keeps access next (standing old) refl (shaken.seated number old here) obeys is
 
-module _ {R O : Type 0} (c : Config) (kind : MachineKind R O) (standing : R → Standing) where
+module _ {R O : Type 0} (config : Config) (kind : MachineKind R O) (standing : R → Standing) where
   -- an event that obeys keeps the handshake
-  pub shaken_step : (s : Stage R) (e : Event O) → IsShaken c standing s → EventObeys c kind standing s e → IsShaken c standing (act kind s e)
-  shaken_step s e shaken obeys = act_cases kind (λ x. IsShaken c standing x) s e shaken
-      (λ r here takes. step_keeps c standing s shaken e.number r (kind.took r e.order (slice_index s.words (table_index (kind.plan r e.order)))) here (kind.plan r e.order)
-      (λ got. standing (kind.took r e.order got))
+  pub shaken_step : (stage : Stage R) (event : Event O) → IsShaken config standing stage → EventObeys config kind standing stage event → IsShaken config standing (act kind stage event)
+  shaken_step stage event shaken obeys = act_cases kind (λ x. IsShaken config standing x) stage event shaken
+      (λ r here takes. step_keeps config standing stage shaken event.number r (kind.took r event.order (slice_index stage.words (table_index (kind.plan r event.order)))) here (kind.plan r event.order)
+      (λ got. standing (kind.took r event.order got))
       (obeys r (record { here = here; takes = takes })) refl)
 
   -- so does a run of events that obey
-  pub shaken_run : (s : Stage R) (es : List (Event O)) → IsShaken c standing s → EachObeys c kind standing s es → IsShaken c standing (go kind s es)
-  shaken_run s [] shaken obeys = subst (λ x. IsShaken c standing x) (sym (go-none kind s)) shaken
-  shaken_run s (e ∷ es) shaken obeys = subst (λ x. IsShaken c standing x) (sym (go-first kind s e es))
-      (shaken_run (act kind s e) es (shaken_step s e shaken obeys.0) obeys.1)
+  pub shaken_run : (stage : Stage R) (es : List (Event O)) → IsShaken config standing stage → EachObeys config kind standing stage es → IsShaken config standing (go kind stage es)
+  shaken_run stage [] shaken obeys = subst (λ x. IsShaken config standing x) (sym (go-none kind stage)) shaken
+  shaken_run stage (e ∷ es) shaken obeys = subst (λ x. IsShaken config standing x) (sym (go-first kind stage e es))
+      (shaken_run (act kind stage e) es (shaken_step stage e shaken obeys.0) obeys.1)

@@ -15,7 +15,7 @@ pub machine_cases : {R : Type 0} (machines : List R) (number : ℕ) (old new : R
     → (k ≡ number → P new) → (k ≢ number → slice_get machines k ≡ Some r → P r) → P r
 machine_cases {R} machines number old new here k r at_k P same other = by_number (nat_eq k number) refl
   where
-    by_number : (b : Bool) → nat_eq k number ≡ b → P r
+    by_number : (holds : Bool) → nat_eq k number ≡ holds → P r
     by_number true is =
         let e : k ≡ number = grind (arith, nat_tests) in
         let is_new : new ≡ r = cc (at_k, e, slice_get-set_same machines number old new here) in
@@ -24,54 +24,54 @@ machine_cases {R} machines number old new here k r at_k P same other = by_number
         let apart : k ≢ number = grind (arith, nat_tests) in
         other apart (sym (slice_get-set_other machines number k new apart) ∙ at_k)
 
-module _ {R : Type 0} (c : Config) (standing : R → Standing) (s : Stage R) (shaken : IsShaken c standing s) (number : ℕ) (old new : R) (here : slice_get s.machines number ≡ Some old) (words : List ℕ) (long : length words ≡ length s.words) where
+module _ {R : Type 0} (config : Config) (standing : R → Standing) (stage : Stage R) (shaken : IsShaken config standing stage) (number : ℕ) (old new : R) (here : slice_get stage.machines number ≡ Some old) (words : List ℕ) (long : length words ≡ length stage.words) where
   -- the stage after the step
   abbrev stepped : Stage R
-  stepped = record { words = words; machines = slice_set s.machines number new }
+  stepped = record { words = words; machines = slice_set stage.machines number new }
 
   -- where each machine is seated after the step
-  seated_then : HasSeat c number (standing new) → (k : ℕ) (r : R) → slice_get (slice_set s.machines number new) k ≡ Some r → HasSeat c k (standing r)
-  seated_then is k r at_k = machine_cases s.machines number old new here k r at_k (λ x. HasSeat c k (standing x))
-      (λ e. subst (λ n. HasSeat c n (standing new)) (sym e) is)
-      (λ apart at_old. shaken.seated k r at_old)
+  seated_then : HasSeat config number (standing new) → (index : ℕ) (r : R) → slice_get (slice_set stage.machines number new) index ≡ Some r → HasSeat config index (standing r)
+  seated_then is index r at_k = machine_cases stage.machines number old new here index r at_k (λ x. HasSeat config index (standing x))
+      (λ e. subst (λ n. HasSeat config n (standing new)) (sym e) is)
+      (λ apart at_old. shaken.seated index r at_old)
 
   -- the step of a mutator or helper
-  pub seat_keeps : number < control_seat c → HasSeat c number (standing new)
-      → view c words Pause ≡ view c s.words Pause
-      → view c words (State number) ≡ state_word (standing new)
-      → ((seat : ℕ) → seat < control_seat c → seat ≢ number → view c words (State seat) ≡ view c s.words (State seat))
+  pub seat_keeps : number < control_seat config → HasSeat config number (standing new)
+      → view config words Pause ≡ view config stage.words Pause
+      → view config words (State number) ≡ state_word (standing new)
+      → ((seat : ℕ) → seat < control_seat config → seat ≢ number → view config words (State seat) ≡ view config stage.words (State seat))
       → (is_checked (standing shaken.control) number ≡ true → is_within (standing new) ≡ false)
-      → IsShaken c standing stepped
+      → IsShaken config standing stepped
   seat_keeps below seated pause own others out = record {
     words = long ∙ shaken.words;
     control = shaken.control;
-    there = slice_get-set_other s.machines number (control_seat c) new (omega (arith, below)) ∙ shaken.there;
+    there = slice_get-set_other stage.machines number (control_seat config) new (omega (arith, below)) ∙ shaken.there;
     seated = seated_then seated;
     pause = pause ∙ shaken.pause;
-    states = λ seat r low at_seat. machine_cases s.machines number old new here seat r at_seat (λ x. view c words (State seat) ≡ state_word (standing x))
-        (λ e. subst (λ n. view c words (State n) ≡ state_word (standing new)) (sym e) own)
+    states = λ seat r low at_seat. machine_cases stage.machines number old new here seat r at_seat (λ x. view config words (State seat) ≡ state_word (standing x))
+        (λ e. subst (λ n. view config words (State n) ≡ state_word (standing new)) (sym e) own)
         (λ apart at_old. others seat low apart ∙ shaken.states seat r low at_old);
-    checked = λ seat r low at_seat is. machine_cases s.machines number old new here seat r at_seat (λ x. is_within (standing x) ≡ false)
+    checked = λ seat r low at_seat is. machine_cases stage.machines number old new here seat r at_seat (λ x. is_within (standing x) ≡ false)
         (λ e. out (subst (λ n. is_checked (standing shaken.control) n ≡ true) e is))
         (λ apart at_old. shaken.checked seat r low at_old is);
   }
 
   -- the step of the control
-  pub control_keeps : number ≡ control_seat c → HasSeat c number (standing new)
-      → view c words Pause ≡ pause_word (standing new)
-      → ((seat : ℕ) → seat < control_seat c → view c words (State seat) ≡ view c s.words (State seat))
-      → ((seat : ℕ) (r : R) → seat < control_seat c → slice_get s.machines seat ≡ Some r → is_checked (standing new) seat ≡ true → is_within (standing r) ≡ false)
-      → IsShaken c standing stepped
+  pub control_keeps : number ≡ control_seat config → HasSeat config number (standing new)
+      → view config words Pause ≡ pause_word (standing new)
+      → ((seat : ℕ) → seat < control_seat config → view config words (State seat) ≡ view config stage.words (State seat))
+      → ((seat : ℕ) (r : R) → seat < control_seat config → slice_get stage.machines seat ≡ Some r → is_checked (standing new) seat ≡ true → is_within (standing r) ≡ false)
+      → IsShaken config standing stepped
   control_keeps is_control seated pause states checked = record {
     words = long ∙ shaken.words;
     control = new;
-    there = subst (λ n. slice_get (slice_set s.machines number new) n ≡ Some new) is_control (slice_get-set_same s.machines number old new here);
+    there = subst (λ n. slice_get (slice_set stage.machines number new) n ≡ Some new) is_control (slice_get-set_same stage.machines number old new here);
     seated = seated_then seated;
     pause = pause;
-    states = λ seat r low at_seat. machine_cases s.machines number old new here seat r at_seat (λ x. view c words (State seat) ≡ state_word (standing x))
+    states = λ seat r low at_seat. machine_cases stage.machines number old new here seat r at_seat (λ x. view config words (State seat) ≡ state_word (standing x))
         (λ e. absurd (omega (arith, low, e, is_control)))
         (λ apart at_old. states seat low ∙ shaken.states seat r low at_old);
-    checked = λ seat r low at_seat is. machine_cases s.machines number old new here seat r at_seat (λ x. is_within (standing x) ≡ false)
+    checked = λ seat r low at_seat is. machine_cases stage.machines number old new here seat r at_seat (λ x. is_within (standing x) ≡ false)
         (λ e. absurd (omega (arith, low, e, is_control)))
         (λ apart at_old. checked seat r low at_old is);
   }

@@ -14,52 +14,52 @@ use Rattle.handshake.proofs.Shaking.{pausing_checked}
 
 -- an access to a word of the image, if it is one, only reads
 abbrev pub OnlyReads : Config → Access → Type 0
-OnlyReads c access = (is_load access ≡ true) ⊎ (table_index access < image_start c)
+OnlyReads config access = (is_load access ≡ true) ⊎ (table_index access < image_start config)
 
 -- a store into the state word of a mutator or helper is of no word of the image
-state_below : (c : Config) (access : Access) (seat value : ℕ) → seat < control_seat c → access ≡ placed c (touch (State seat) (stores value)) → OnlyReads c access
-state_below c access seat value below is = inr (subst (λ a. table_index a < image_start c) (sym is) (omega (arith, below)))
+state_below : (config : Config) (access : Access) (seat value : ℕ) → seat < control_seat config → access ≡ placed config (touch (State seat) (stores value)) → OnlyReads config access
+state_below config access seat value below is = inr (subst (λ a. table_index a < image_start config) (sym is) (omega (arith, below)))
 
 -- a machine that is not in the heap, of a mutator or helper, only reads the image
-pub without_reads : (c : Config) (seat : ℕ) (w : Standing) (access : Access) (next : ℕ → Standing) → seat < control_seat c → HasSeat c seat w → is_within w ≡ false → Obeys c seat w access next
-    → OnlyReads c access
-without_reads c seat outside access next below seated out (inl enters) = state_below c access seat 1 below enters.access_is
-without_reads c seat outside access next below seated out (inr stays) = by_harm stays.harmless
+pub without_reads : (config : Config) (seat : ℕ) (w : Standing) (access : Access) (next : ℕ → Standing) → seat < control_seat config → HasSeat config seat w → is_within w ≡ false → Obeys config seat w access next
+    → OnlyReads config access
+without_reads config seat outside access next below seated out (inl enters) = state_below config access seat 1 below enters.access_is
+without_reads config seat outside access next below seated out (inr stays) = by_harm stays.harmless
   where
-    by_harm : IsHarmless c access → OnlyReads c access
+    by_harm : IsHarmless config access → OnlyReads config access
     by_harm (inl reads) = inl reads
     by_harm (inr other) = inr other.1
-without_reads c seat looks access next below seated out obeys = inl (ap is_load obeys.access_is)
-without_reads c seat backs access next below seated out obeys = state_below c access seat 0 below obeys.access_is
-without_reads c seat inside access next below seated out obeys = absurd (cc (out))
-without_reads c seat leaves access next below seated out obeys = absurd (cc (out))
-without_reads c seat idle access next below seated out obeys = absurd (omega (arith, below, seated))
-without_reads c seat stops access next below seated out obeys = absurd (omega (arith, below, seated))
-without_reads c seat (checks other) access next below seated out obeys = absurd (omega (arith, below, seated.0))
-without_reads c seat works access next below seated out obeys = absurd (omega (arith, below, seated))
-without_reads c seat goes access next below seated out obeys = absurd (omega (arith, below, seated))
+without_reads config seat looks access next below seated out obeys = inl (ap is_load obeys.access_is)
+without_reads config seat backs access next below seated out obeys = state_below config access seat 0 below obeys.access_is
+without_reads config seat inside access next below seated out obeys = absurd (cc (out))
+without_reads config seat leaves access next below seated out obeys = absurd (cc (out))
+without_reads config seat idle access next below seated out obeys = absurd (omega (arith, below, seated))
+without_reads config seat stops access next below seated out obeys = absurd (omega (arith, below, seated))
+without_reads config seat (checks other) access next below seated out obeys = absurd (omega (arith, below, seated.0))
+without_reads config seat works access next below seated out obeys = absurd (omega (arith, below, seated))
+without_reads config seat goes access next below seated out obeys = absurd (omega (arith, below, seated))
 
-module _ {R : Type 0} (c : Config) (standing : R → Standing) (s : Stage R) (shaken : IsShaken c standing s) where
+module _ {R : Type 0} (config : Config) (standing : R → Standing) (stage : Stage R) (shaken : IsShaken config standing stage) where
   -- in a pause no mutator or helper is in the heap
-  pub pause_empty : is_pausing (standing shaken.control) ≡ true → (seat : ℕ) (r : R) → seat < control_seat c → slice_get s.machines seat ≡ Some r → is_within (standing r) ≡ false
+  pub pause_empty : is_pausing (standing shaken.control) ≡ true → (seat : ℕ) (r : R) → seat < control_seat config → slice_get stage.machines seat ≡ Some r → is_within (standing r) ≡ false
   pause_empty pausing seat r below there = shaken.checked seat r below there (pausing_checked (standing shaken.control) seat pausing)
 
   -- so while one is in the heap there is none
-  pub within_free : (seat : ℕ) (r : R) → seat < control_seat c → slice_get s.machines seat ≡ Some r → is_within (standing r) ≡ true → is_pausing (standing shaken.control) ≡ false
+  pub within_free : (seat : ℕ) (r : R) → seat < control_seat config → slice_get stage.machines seat ≡ Some r → is_within (standing r) ≡ true → is_pausing (standing shaken.control) ≡ false
   within_free seat r below there within = by_test (is_pausing (standing shaken.control)) refl
     where
-      by_test : (b : Bool) → is_pausing (standing shaken.control) ≡ b → b ≡ false
+      by_test : (holds : Bool) → is_pausing (standing shaken.control) ≡ holds → holds ≡ false
       by_test true pausing = absurd (cc (within, pause_empty pausing seat r below there))
       by_test false free = refl
 
-module _ {R O : Type 0} (c : Config) (kind : MachineKind R O) (standing : R → Standing) where
-  pub pause_still : (s : Stage R) → IsShaken c standing s → IsPausing c standing s → IsStill c kind standing s
-  pause_still s shaken pausing = record {
+module _ {R O : Type 0} (config : Config) (kind : MachineKind R O) (standing : R → Standing) where
+  pub pause_still : (stage : Stage R) → IsShaken config standing stage → IsPausing config standing stage → IsStill config kind standing stage
+  pause_still stage shaken pausing = record {
     nobody = empty;
     only_reads = λ e r below is obeys.
-        without_reads c e.number (standing r) (kind.plan r e.order) (λ got. standing (kind.took r e.order got)) below
+        without_reads config e.number (standing r) (kind.plan r e.order) (λ got. standing (kind.took r e.order got)) below
         (shaken.seated e.number r is.here) (empty e.number r below is.here) (obeys r is);
   }
     where
-      empty : (seat : ℕ) (r : R) → seat < control_seat c → slice_get s.machines seat ≡ Some r → is_within (standing r) ≡ false
-      empty = pause_empty c standing s shaken (pausing shaken.control shaken.there)
+      empty : (seat : ℕ) (r : R) → seat < control_seat config → slice_get stage.machines seat ≡ Some r → is_within (standing r) ≡ false
+      empty = pause_empty config standing stage shaken (pausing shaken.control shaken.there)

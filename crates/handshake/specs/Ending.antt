@@ -9,34 +9,34 @@ use Rattle.heap_words.specs.Steps.{MachineKind, Stage, Event, IsEvent, act}
 use Rattle.handshake.specs.Obeys.{is_load}
 
 -- a machine that ends, and says so
-pub record SaysEnd (c : Config) (access : Access) (after : ℕ → Bool) : Type 0 where
-  pub access_is : access ≡ placed c (touch End (stores 1))
+pub record SaysEnd (config : Config) (access : Access) (after : ℕ → Bool) : Type 0 where
+  pub access_is : access ≡ placed config (touch End (stores 1))
   pub has_ended : (got : ℕ) → after got ≡ true
 
 -- a machine that leaves the word as it is, and does not end
-pub record LeavesEnd (c : Config) (before : Bool) (access : Access) (after : ℕ → Bool) : Type 0 where
-  pub not_written : (is_load access ≡ true) ⊎ (table_index access ≢ word_at c End)
+pub record LeavesEnd (config : Config) (before : Bool) (access : Access) (after : ℕ → Bool) : Type 0 where
+  pub not_written : (is_load access ≡ true) ⊎ (table_index access ≢ word_at config End)
   pub same : (got : ℕ) → after got ≡ before
 
 -- what a step has to obey: by its access, and by whether its machine has ended before and after it
 abbrev pub KeepsEnd : Config → Bool → Access → (ℕ → Bool) → Type 0
-KeepsEnd c before access after = SaysEnd c access after ⊎ LeavesEnd c before access after
+KeepsEnd config before access after = SaysEnd config access after ⊎ LeavesEnd config before access after
 
 -- an event does so, if it is one
 abbrev pub EventKeepsEnd : {R O : Type 0} → Config → MachineKind R O → (R → Bool) → Stage R → Event O → Type 0
-EventKeepsEnd {R} c kind ended s e = (r : R) → IsEvent kind s e r → KeepsEnd c (ended r) (kind.plan r e.order) (λ got. ended (kind.took r e.order got))
+EventKeepsEnd {R} c kind ended event e = (r : R) → IsEvent kind event e r → KeepsEnd c (ended r) (kind.plan r e.order) (λ got. ended (kind.took r e.order got))
 
 -- each event of a run does so, where it is made
 abbrev pub EachKeepsEnd : {R O : Type 0} → Config → MachineKind R O → (R → Bool) → Stage R → List (Event O) → Type 0
-EachKeepsEnd c kind ended s [] = Unit {0}
-EachKeepsEnd c kind ended s (e ∷ es) = EventKeepsEnd c kind ended s e × EachKeepsEnd c kind ended (act kind s e) es
+EachKeepsEnd config kind ended stage [] = Unit {0}
+EachKeepsEnd config kind ended stage (e ∷ es) = EventKeepsEnd config kind ended stage e × EachKeepsEnd config kind ended (act kind stage e) es
 
 -- no machine has ended
 abbrev pub NoneHasEnded : {R : Type 0} → (R → Bool) → Stage R → Type 0
 NoneHasEnded {R} ended s = (number : ℕ) (r : R) → slice_get s.machines number ≡ Some r → ended r ≡ false
 
 -- the word is 1 where a machine has ended, and 0 where none has
-pub record IsEndWord {R : Type 0} (c : Config) (ended : R → Bool) (s : Stage R) : Type 0 where
-  pub words : length s.words ≡ table_words c
-  pub one : (number : ℕ) (r : R) → slice_get s.machines number ≡ Some r → ended r ≡ true → view c s.words End ≡ 1
-  pub none : NoneHasEnded ended s → view c s.words End ≡ 0
+pub record IsEndWord {R : Type 0} (config : Config) (ended : R → Bool) (stage : Stage R) : Type 0 where
+  pub words : length stage.words ≡ table_words config
+  pub one : (number : ℕ) (r : R) → slice_get stage.machines number ≡ Some r → ended r ≡ true → view config stage.words End ≡ 1
+  pub none : NoneHasEnded ended stage → view config stage.words End ≡ 0

@@ -9,31 +9,31 @@ use Rattle.heap_words.specs.Steps.{MachineKind, Stage, Event, IsEvent, act}
 use Rattle.handshake.specs.Obeys.{is_load}
 
 -- a mutator that ends: it takes itself off the count
-pub record Ends (c : Config) (before : Bool) (access : Access) (after : ℕ → Bool) : Type 0 where
-  pub access_is : access ≡ placed c (touch Left (subtracts 1))
+pub record Ends (config : Config) (before : Bool) (access : Access) (after : ℕ → Bool) : Type 0 where
+  pub access_is : access ≡ placed config (touch Left (subtracts 1))
   pub was_left : before ≡ true
   pub has_ended : (got : ℕ) → after got ≡ false
 
 -- a machine that leaves the count as it is
-pub record LeavesCount (c : Config) (before : Bool) (access : Access) (after : ℕ → Bool) : Type 0 where
-  pub not_written : (is_load access ≡ true) ⊎ (table_index access ≢ word_at c Left)
+pub record LeavesCount (config : Config) (before : Bool) (access : Access) (after : ℕ → Bool) : Type 0 where
+  pub not_written : (is_load access ≡ true) ⊎ (table_index access ≢ word_at config Left)
   pub same : (got : ℕ) → after got ≡ before
 
 -- what a step has to obey: by its access, and by whether its machine is a mutator that has not ended before and after it
 abbrev pub Counts : Config → Bool → Access → (ℕ → Bool) → Type 0
-Counts c before access after = Ends c before access after ⊎ LeavesCount c before access after
+Counts config before access after = Ends config before access after ⊎ LeavesCount config before access after
 
 -- an event does so, if it is one
 abbrev pub EventCounts : {R O : Type 0} → Config → MachineKind R O → (R → Bool) → Stage R → Event O → Type 0
-EventCounts {R} c kind left s e = (r : R) → IsEvent kind s e r → Counts c (left r) (kind.plan r e.order) (λ got. left (kind.took r e.order got))
+EventCounts {R} c kind left event e = (r : R) → IsEvent kind event e r → Counts c (left r) (kind.plan r e.order) (λ got. left (kind.took r e.order got))
 
 -- each event of a run does so, where it is made
 abbrev pub EachCounts : {R O : Type 0} → Config → MachineKind R O → (R → Bool) → Stage R → List (Event O) → Type 0
-EachCounts c kind left s [] = Unit {0}
-EachCounts c kind left s (e ∷ es) = EventCounts c kind left s e × EachCounts c kind left (act kind s e) es
+EachCounts config kind left stage [] = Unit {0}
+EachCounts config kind left stage (e ∷ es) = EventCounts config kind left stage e × EachCounts config kind left (act kind stage e) es
 
 -- the word counts the mutators that have not ended
-pub record AreLeftCounted {R : Type 0} (c : Config) (left : R → Bool) (s : Stage R) : Type 0 where
-  pub words : length s.words ≡ table_words c
-  pub few : length s.machines ≤ 12
-  pub counts : view c s.words Left ≡ count_by left s.machines
+pub record AreLeftCounted {R : Type 0} (config : Config) (left : R → Bool) (stage : Stage R) : Type 0 where
+  pub words : length stage.words ≡ table_words config
+  pub few : length stage.machines ≤ 12
+  pub counts : view config stage.words Left ≡ count_by left stage.machines

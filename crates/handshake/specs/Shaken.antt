@@ -9,30 +9,30 @@ use Rattle.handshake.specs.Obeys.{Obeys, is_load}
 
 -- The state words and the pause word say where the machines stand, and no machine is in the heap whose seat the control has
 -- found to be out.
-pub record IsShaken {R : Type 0} (c : Config) (standing : R → Standing) (s : Stage R) : Type 0 where
-  pub words : length s.words ≡ table_words c
+pub record IsShaken {R : Type 0} (config : Config) (standing : R → Standing) (stage : Stage R) : Type 0 where
+  pub words : length stage.words ≡ table_words config
   pub control : R
-  pub there : slice_get s.machines (control_seat c) ≡ Some control
-  pub seated : (seat : ℕ) (r : R) → slice_get s.machines seat ≡ Some r → HasSeat c seat (standing r)
-  pub pause : view c s.words Pause ≡ pause_word (standing control)
-  pub states : (seat : ℕ) (r : R) → seat < control_seat c → slice_get s.machines seat ≡ Some r → view c s.words (State seat) ≡ state_word (standing r)
-  pub checked : (seat : ℕ) (r : R) → seat < control_seat c → slice_get s.machines seat ≡ Some r → is_checked (standing control) seat ≡ true → is_within (standing r) ≡ false
+  pub there : slice_get stage.machines (control_seat config) ≡ Some control
+  pub seated : (seat : ℕ) (r : R) → slice_get stage.machines seat ≡ Some r → HasSeat config seat (standing r)
+  pub pause : view config stage.words Pause ≡ pause_word (standing control)
+  pub states : (seat : ℕ) (r : R) → seat < control_seat config → slice_get stage.machines seat ≡ Some r → view config stage.words (State seat) ≡ state_word (standing r)
+  pub checked : (seat : ℕ) (r : R) → seat < control_seat config → slice_get stage.machines seat ≡ Some r → is_checked (standing control) seat ≡ true → is_within (standing r) ≡ false
 
 -- an event obeys, if it is one
 abbrev pub EventObeys : {R O : Type 0} → Config → MachineKind R O → (R → Standing) → Stage R → Event O → Type 0
-EventObeys {R} c kind standing s e = (r : R) → IsEvent kind s e r → Obeys c e.number (standing r) (kind.plan r e.order) (λ got. standing (kind.took r e.order got))
+EventObeys {R} c kind standing event e = (r : R) → IsEvent kind event e r → Obeys c e.number (standing r) (kind.plan r e.order) (λ got. standing (kind.took r e.order got))
 
 -- each event of a run obeys, where it is made
 abbrev pub EachObeys : {R O : Type 0} → Config → MachineKind R O → (R → Standing) → Stage R → List (Event O) → Type 0
-EachObeys c kind standing s [] = Unit {0}
-EachObeys c kind standing s (e ∷ es) = EventObeys c kind standing s e × EachObeys c kind standing (act kind s e) es
+EachObeys config kind standing stage [] = Unit {0}
+EachObeys config kind standing stage (e ∷ es) = EventObeys config kind standing stage e × EachObeys config kind standing (act kind stage e) es
 
 -- the control of a stage works in a pause, or has done so and not ended it yet
 abbrev pub IsPausing : {R : Type 0} → Config → (R → Standing) → Stage R → Type 0
 IsPausing {R} c standing s = (r : R) → slice_get s.machines (control_seat c) ≡ Some r → is_pausing (standing r) ≡ true
 
 -- No mutator or helper is in the heap, and none makes an access to a word of the image but to read it.
-pub record IsStill {R O : Type 0} (c : Config) (kind : MachineKind R O) (standing : R → Standing) (s : Stage R) : Type 0 where
-  pub nobody : (seat : ℕ) (r : R) → seat < control_seat c → slice_get s.machines seat ≡ Some r → is_within (standing r) ≡ false
-  pub only_reads : (e : Event O) (r : R) → e.number < control_seat c → IsEvent kind s e r → EventObeys c kind standing s e
-      → (is_load (kind.plan r e.order) ≡ true) ⊎ (table_index (kind.plan r e.order) < image_start c)
+pub record IsStill {R O : Type 0} (config : Config) (kind : MachineKind R O) (standing : R → Standing) (stage : Stage R) : Type 0 where
+  pub nobody : (seat : ℕ) (r : R) → seat < control_seat config → slice_get stage.machines seat ≡ Some r → is_within (standing r) ≡ false
+  pub only_reads : (event : Event O) (r : R) → event.number < control_seat config → IsEvent kind stage event r → EventObeys config kind standing stage event
+      → (is_load (kind.plan r event.order) ≡ true) ⊎ (table_index (kind.plan r event.order) < image_start config)

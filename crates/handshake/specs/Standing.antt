@@ -61,16 +61,16 @@ is_checked _ other = false
 
 -- the seat of the control: the mutators come first, then the helpers
 abbrev pub control_seat : Config → ℕ
-control_seat c = c.mutators + c.helpers
+control_seat config = config.mutators + config.helpers
 
 -- whose standing it is: that of a machine with this seat
 abbrev pub HasSeat : Config → ℕ → Standing → Type 0
-HasSeat c seat idle = seat ≡ control_seat c
-HasSeat c seat stops = seat ≡ control_seat c
-HasSeat c seat (checks other) = (seat ≡ control_seat c) × (other < control_seat c)
-HasSeat c seat works = seat ≡ control_seat c
-HasSeat c seat goes = seat ≡ control_seat c
-HasSeat c seat _ = seat < control_seat c
+HasSeat config seat idle = seat ≡ control_seat config
+HasSeat config seat stops = seat ≡ control_seat config
+HasSeat config seat (checks other) = (seat ≡ control_seat config) × (other < control_seat config)
+HasSeat config seat works = seat ≡ control_seat config
+HasSeat config seat goes = seat ≡ control_seat config
+HasSeat config seat _ = seat < control_seat config
 
 -- where a machine stands that enters
 abbrev pub enter_standing : EnterSpot → Standing

@@ -25,13 +25,13 @@ touch_at stop.Stopped = touch Pause loads
 
 -- what follows once a seat is out: the next seat is checked, if there is one
 abbrev pub after_seat : Config → ℕ → StopSpot
-after_seat c seat = if nat_lt (seat + 1) (c.mutators + c.helpers) then stop.Check (seat + 1) else stop.Stopped
+after_seat config seat = if nat_lt (seat + 1) (config.mutators + config.helpers) then stop.Check (seat + 1) else stop.Stopped
 
 -- what follows, by the word that was found
 abbrev pub next_at : Config → StopSpot → ℕ → StopSpot
-next_at c stop.Raise got = stop.Check 0
-next_at c (stop.Check seat) got = if got == 0 then after_seat c seat else stop.Check seat
-next_at c stop.Stopped got = stop.Stopped
+next_at config stop.Raise got = stop.Check 0
+next_at config (stop.Check seat) got = if got == 0 then after_seat config seat else stop.Check seat
+next_at config stop.Stopped got = stop.Stopped
 
 -- whether all seats are out
 abbrev pub is_ended : StopSpot → Bool
@@ -40,9 +40,9 @@ is_ended _ = false
 
 -- what a step says that finds this word
 abbrev pub says_at : Config → StopSpot → ℕ → Took
-says_at c stop.Raise got = More
-says_at c (stop.Check seat) got = if got == 0 then (if is_ended (after_seat c seat) then Done else More) else Again
-says_at c stop.Stopped got = Done
+says_at config stop.Raise got = More
+says_at config (stop.Check seat) got = if got == 0 then (if is_ended (after_seat config seat) then Done else More) else Again
+says_at config stop.Stopped got = Done
 
 -- the access by which the control ends a pause
 abbrev pub go_touch : Touch

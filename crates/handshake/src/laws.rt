@@ -15,31 +15,31 @@ ghost use Rattle.handshake.specs.Ending.{IsEndWord, EachKeepsEnd};
 /// where the machines stand; and from the last check of a pause to its end no mutator or helper is in the heap, and none makes
 /// an access to a word of the image but to read it.
 pub fn every_list_of_events<R, O>()
-    ensures shaken { (c : Config) (kind : MachineKind R O) (standing : R → Standing) (s : Stage R) (events : List (Event O))
-        → IsShaken c standing s → EachObeys c kind standing s events → IsShaken c standing (go kind s events) }
-    ensures still { (c : Config) (kind : MachineKind R O) (standing : R → Standing) (s : Stage R)
-        → IsShaken c standing s → IsPausing c standing s → IsStill c kind standing s }
+    ensures shaken { (config : Config) (kind : MachineKind R O) (standing : R → Standing) (stage : Stage R) (events : List (Event O))
+        → IsShaken config standing stage → EachObeys config kind standing stage events → IsShaken config standing (go kind stage events) }
+    ensures still { (config : Config) (kind : MachineKind R O) (standing : R → Standing) (stage : Stage R)
+        → IsShaken config standing stage → IsPausing config standing stage → IsStill config kind standing stage }
 {}
 
 /// A law: the rows of entering, leaving, stopping and ending a pause are steps that obey.
 pub fn rows_obey()
-    ensures { (c : Config) → RowsObey c }
+    ensures { (config : Config) → RowsObey config }
 {}
 
 /// The law of the count of mutators that have not ended: whatever list of events is made of which each one counts, the word
 /// goes on to be their number. So a mutator that ends finds no 0; and a word that is 0 stays 0.
 pub fn mutators_are_counted<R, O>()
-    ensures counted { (c : Config) (kind : MachineKind R O) (left : R → Bool) (s : Stage R) (events : List (Event O))
-        → AreLeftCounted c left s → EachCounts c kind left s events → AreLeftCounted c left (go kind s events) }
-    ensures found { (c : Config) (left : R → Bool) (s : Stage R) (number : ℕ) (r : R)
-        → AreLeftCounted c left s → slice_get s.machines number ≡ Some r → left r ≡ true → view c s.words Left ≢ 0 }
-    ensures none_stays { (c : Config) (kind : MachineKind R O) (left : R → Bool) (s : Stage R) (events : List (Event O))
-        → AreLeftCounted c left s → EachCounts c kind left s events → view c s.words Left ≡ 0 → view c (go kind s events).words Left ≡ 0 }
+    ensures counted { (config : Config) (kind : MachineKind R O) (left : R → Bool) (stage : Stage R) (events : List (Event O))
+        → AreLeftCounted config left stage → EachCounts config kind left stage events → AreLeftCounted config left (go kind stage events) }
+    ensures found { (config : Config) (left : R → Bool) (stage : Stage R) (number : ℕ) (r : R)
+        → AreLeftCounted config left stage → slice_get stage.machines number ≡ Some r → left r ≡ true → view config stage.words Left ≢ 0 }
+    ensures none_stays { (config : Config) (kind : MachineKind R O) (left : R → Bool) (stage : Stage R) (events : List (Event O))
+        → AreLeftCounted config left stage → EachCounts config kind left stage events → view config stage.words Left ≡ 0 → view config (go kind stage events).words Left ≡ 0 }
 {}
 
 /// The law of the word that says that the control has ended: whatever list of events is made of which each one keeps it, the word
 /// goes on to be 1 where a machine has ended so, and 0 where none has.
 pub fn end_is_known<R, O>()
-    ensures { (c : Config) (kind : MachineKind R O) (ended : R → Bool) (s : Stage R) (events : List (Event O))
-        → IsEndWord c ended s → EachKeepsEnd c kind ended s events → IsEndWord c ended (go kind s events) }
+    ensures { (config : Config) (kind : MachineKind R O) (ended : R → Bool) (stage : Stage R) (events : List (Event O))
+        → IsEndWord config ended stage → EachKeepsEnd config kind ended stage events → IsEndWord config ended (go kind stage events) }
 {}

@@ -35,9 +35,9 @@ use Rattle.heap_dump.proofs.HeldDump.{held_is_dump, dump_small}
 
 -- ---- faults
 
-pub text_fault : (stage : DumpStage) (first : ℕ) (bytes : List ℕ) (p e : TraceFault) → p ≡ e → (e ≡ NoMemory) ⊎ IsStop stage first bytes e → IsTextFault p
-text_fault stage first bytes p e same (inl none) = subst IsTextFault (sym (same ∙ none)) tt
-text_fault stage first bytes p e same (inr stop) = subst IsTextFault (sym (same ∙ stop.2)) tt
+pub text_fault : (stage : DumpStage) (first : ℕ) (bytes : List ℕ) (fault other_fault : TraceFault) → fault ≡ other_fault → (other_fault ≡ NoMemory) ⊎ IsStop stage first bytes other_fault → IsTextFault fault
+text_fault stage first bytes fault other_fault same (inl none) = subst IsTextFault (sym (same ∙ none)) tt
+text_fault stage first bytes fault other_fault same (inr stop) = subst IsTextFault (sym (same ∙ stop.2)) tt
 
 pub stop_line : {T : Type 0} (r : Result T TraceFault) (stage : DumpStage) (first : ℕ) (bytes : List ℕ) (p e : TraceFault) → r ≡ Err p → p ≡ e → (e ≡ NoMemory) ⊎ IsStop stage first bytes e
     → (n : ℕ) (why : Why) → r ≡ Err (BadLine n why) → StopsAt stage first bytes n why
@@ -49,20 +49,20 @@ stop_line r stage first bytes p e fault same (inr stop) n why is =
 
 -- ---- what was taken
 
-pub counts_size : (bytes rest : List ℕ) (c : Config) (d : Dumped) → Leads (Counts c) bytes rest 1 (Listed d) → (length d.counts ≡ c.mutators) × All (λ n. n ≤ most_made) d.counts
-counts_size bytes rest c d led = by_lines led.texts led.count led.lead
+pub counts_size : (bytes rest : List ℕ) (config : Config) (dump : Dumped) → Leads (Counts config) bytes rest 1 (Listed dump) → (length dump.counts ≡ config.mutators) × All (λ n. n ≤ most_made) dump.counts
+counts_size bytes rest config dump led = by_lines led.texts led.count led.lead
   where
-    by_lines : (texts : List (List ℕ)) → length texts ≡ 1 → DumpLead (Counts c) texts (Listed d) → (length d.counts ≡ c.mutators) × All (λ n. n ≤ most_made) d.counts
+    by_lines : (texts : List (List ℕ)) → length texts ≡ 1 → DumpLead (Counts config) texts (Listed dump) → (length dump.counts ≡ config.mutators) × All (λ n. n ≤ most_made) dump.counts
     by_lines [] size lead = absurd (omega (arith, size))
     by_lines (t ∷ u ∷ ts) size lead = absurd (omega (arith, size))
     by_lines (t ∷ []) size lead =
         let f = lead.1 in
-        let same : record { config = c; counts = f.0; rows = []; roots = [] } ≡ d = let x = f.4 in let y = lead.2 in cc in
-        let counts : f.0 ≡ d.counts = ap (λ (e : Dumped). e.counts) same in
-        (subst (λ (ns : List ℕ). length ns ≡ c.mutators) counts f.1, subst (All (λ n. n ≤ most_made)) counts f.2)
+        let same : record { config = config; counts = f.0; rows = []; roots = [] } ≡ dump = let x = f.4 in let y = lead.2 in cc in
+        let counts : f.0 ≡ dump.counts = ap (λ (dump : Dumped). dump.counts) same in
+        (subst (λ (ns : List ℕ). length ns ≡ config.mutators) counts f.1, subst (All (λ n. n ≤ most_made)) counts f.2)
 
-pub shorter : (a b : DumpStage) (bytes rest : List ℕ) (n : ℕ) → Leads a bytes rest n b → length rest ≤ length bytes
-shorter a b bytes rest n led = omega (arith, ap length (leads_bytes a b bytes rest n led), length-append (flat_map ended led.texts) rest)
+pub shorter : (stage other_stage : DumpStage) (bytes rest : List ℕ) (n : ℕ) → Leads stage bytes rest n other_stage → length rest ≤ length bytes
+shorter stage other_stage bytes rest n led = omega (arith, ap length (leads_bytes stage other_stage bytes rest n led), length-append (flat_map ended led.texts) rest)
 
 pub line_shorter : (bytes text rest : List ℕ) → parts 10 bytes ≡ text ∷ parts 10 rest → length rest + 1 ≤ length bytes
 line_shorter bytes text rest cut = omega (arith, ap length (bytes_of_line bytes text rest cut), length-append text (10 ∷ rest))
@@ -77,16 +77,16 @@ to_rows config counts dump_bytes behind_head behind_counts behind_objects lines 
 
 pub threads_now : (config : Config) (counts behind_counts behind_objects : List ℕ) (lines : ℕ) (opened_text objects_text : Text) (words m : ℕ) → HasTakenRows counts behind_counts behind_objects lines opened_text objects_text → opened_text ≡ empty words m → m ≡ config.mutators → config.mutators ≡ length objects_text.roots
 threads_now config counts behind_counts behind_objects lines opened_text objects_text words m rowed opened is =
-    sym (ap length rowed.roots ∙ ap (λ (t : Text). length t.roots) opened ∙ length-replicate m (replicate 16 None) ∙ is)
+    sym (ap length rowed.roots ∙ ap (λ (text : Text). length text.roots) opened ∙ length-replicate m (replicate 16 None) ∙ is)
 
-pub counts_fault : (e : TraceFault) (threads : ℕ) (bytes : List ℕ) (c : Config) → (e ≡ NoMemory) ⊎ ((d : Config) → d.mutators ≡ threads → IsStop (Counts d) 4 bytes e) → c.mutators ≡ threads → (e ≡ NoMemory) ⊎ IsStop (Counts c) 4 bytes e
-counts_fault e threads bytes c (inl none) same = inl none
-counts_fault e threads bytes c (inr stop) same = inr (stop c same)
+pub counts_fault : (fault : TraceFault) (threads : ℕ) (bytes : List ℕ) (config : Config) → (fault ≡ NoMemory) ⊎ ((other_config : Config) → other_config.mutators ≡ threads → IsStop (Counts other_config) 4 bytes fault) → config.mutators ≡ threads → (fault ≡ NoMemory) ⊎ IsStop (Counts config) 4 bytes fault
+counts_fault fault threads bytes config (inl none) same = inl none
+counts_fault fault threads bytes config (inr stop) same = inr (stop config same)
 
-pub mark_fault : (e : TraceFault) (first : ℕ) (bytes : List ℕ) (t : Text) (d : Dumped) → (e ≡ NoMemory) ⊎ ((x : Dumped) → IsHeldDump x t → x.roots ≢ [] → IsStop (Listed x) first bytes e) → IsHeldDump d t → d.roots ≢ []
-    → (e ≡ NoMemory) ⊎ IsStop (Listed d) first bytes e
-mark_fault e first bytes t d (inl none) held some = inl none
-mark_fault e first bytes t d (inr stop) held some = inr (stop d held some)
+pub mark_fault : (fault : TraceFault) (first : ℕ) (bytes : List ℕ) (text : Text) (dump : Dumped) → (fault ≡ NoMemory) ⊎ ((other_dump : Dumped) → IsHeldDump other_dump text → other_dump.roots ≢ [] → IsStop (Listed other_dump) first bytes fault) → IsHeldDump dump text → dump.roots ≢ []
+    → (fault ≡ NoMemory) ⊎ IsStop (Listed dump) first bytes fault
+mark_fault fault first bytes text dump (inl none) held some = inl none
+mark_fault fault first bytes text dump (inr stop) held some = inr (stop dump held some)
 
 module _ (config : Config) (counts dump_bytes behind_head behind_counts behind_objects behind_roots : List ℕ) (lines : ℕ) (opened_text objects_text rooted_text : Text) (all : List (List Reference))
     (head : Leads Version dump_bytes behind_head 3 (Counts config)) (counted : Leads (Counts config) behind_head behind_counts 1 (Listed (listed config counts [] [])))
@@ -95,10 +95,10 @@ module _ (config : Config) (counts dump_bytes behind_head behind_counts behind_o
   whole = listed config counts rowed.rows all
 
   rows_now : rooted_text.rows ≡ map held_row rowed.rows
-  rows_now = ap (λ (t : Text). t.rows) rooted.text ∙ rowed.held
+  rows_now = ap (λ (text : Text). text.rows) rooted.text ∙ rowed.held
 
   roots_now : rooted_text.roots ≡ map (map held) all
-  roots_now = ap (λ (t : Text). t.roots) rooted.text ∙ ap (λ (rs : List (List Reference)). map (map held) all ++ rs) (drop_all (length objects_text.roots) objects_text.roots (omega arith)) ∙ append-nil (map (map held) all)
+  roots_now = ap (λ (text : Text). text.roots) rooted.text ∙ ap (λ (rs : List (List Reference)). map (map held) all ++ rs) (drop_all (length objects_text.roots) objects_text.roots (omega arith)) ∙ append-nil (map (map held) all)
 
   sizes : (length counts ≡ config.mutators) × All (λ n. n ≤ most_made) counts
   sizes = counts_size behind_head behind_counts config (listed config counts [] []) counted
@@ -111,7 +111,7 @@ module _ (config : Config) (counts dump_bytes behind_head behind_counts behind_o
   }
 
   pub order_now : InOrder (names_of rooted_text)
-  order_now = subst InOrder (sym (ap (λ (t : Text). names_of t) rooted.text ∙ names_now counts behind_counts behind_objects lines opened_text objects_text rowed)) rowed.order
+  order_now = subst InOrder (sym (ap (λ (text : Text). names_of text) rooted.text ∙ names_now counts behind_counts behind_objects lines opened_text objects_text rowed)) rowed.order
 
   pub few_now : length rooted_text.roots ≤ 8
   few_now = omega (arith, ap length roots_now, len_map (map held) all, rooted.count, few)
@@ -149,7 +149,7 @@ module _ (config : Config) (counts dump_bytes behind_head behind_counts behind_o
         ∙ ap (λ (rs : List (List Reference)). record { config = config; counts = counts; rows = rooted_text.rows; roots = rs }) (sym is_dump.2) in
         let marked : behind_roots ≡ mark_line ++ behind_mark = bytes_of_line behind_roots text behind_mark cut ∙ sym (append_assoc text (newline ∷ []) behind_mark) ∙ ap (λ (bs : List ℕ). bs ++ behind_mark) mark in
         let list = listed_spelled behind_counts behind_roots (lines + length objects_text.roots) (listed config counts [] []) whole listing refl refl (rooted.count ∙ sym threads) rooted.each smalls.0 smalls.1 in
-        subst (λ (d : Dumped). Resumes dump_bytes d scripts items) same
+        subst (λ (dump : Dumped). Resumes dump_bytes dump scripts items) same
         (record {
           dump = is_dump.0;
           lines = body.lines;

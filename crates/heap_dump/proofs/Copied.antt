@@ -7,27 +7,27 @@ use Rattle.std.proofs.Math.Seq.{set-append_seam}
 abbrev pub mixed : {A : Type 0} → ℕ → List A → List A → List A
 mixed i xs ys = take i xs ++ drop i ys
 
-pub mixed_more : {A : Type 0} (xs ys : List A) (i : ℕ) (d : A) → length ys ≡ length xs → i < length xs → set (mixed i xs ys) i (get_or xs i d) ≡ mixed (i + 1) xs ys
-mixed_more xs ys i d same low =
-    let x = get_or xs i d in
-    let y = get_or ys i d in
-    let rest = drop (suc i) ys in
-    let long : length (take i xs) ≡ i = length-take-le i xs (omega arith) in
-    let next : suc i ≡ i + 1 = omega arith in
-    ap (λ t. set (take i xs ++ t) i x) (drop-cons ys i d (omega arith))
-    ∙ ap (λ k. set (take i xs ++ y ∷ rest) k x) (sym long)
-    ∙ set-append_seam (take i xs) y rest x
-    ∙ sym (append_assoc (take i xs) (x ∷ []) rest)
-    ∙ ap (λ t. t ++ rest) (sym (take_more xs i d low))
-    ∙ ap (λ k. take (i + 1) xs ++ drop k ys) next
+pub mixed_more : {A : Type 0} (xs ys : List A) (index : ℕ) (d : A) → length ys ≡ length xs → index < length xs → set (mixed index xs ys) index (get_or xs index d) ≡ mixed (index + 1) xs ys
+mixed_more xs ys index d same low =
+    let x = get_or xs index d in
+    let y = get_or ys index d in
+    let rest = drop (suc index) ys in
+    let long : length (take index xs) ≡ index = length-take-le index xs (omega arith) in
+    let next : suc index ≡ index + 1 = omega arith in
+    ap (λ t. set (take index xs ++ t) index x) (drop-cons ys index d (omega arith))
+    ∙ ap (λ k. set (take index xs ++ y ∷ rest) k x) (sym long)
+    ∙ set-append_seam (take index xs) y rest x
+    ∙ sym (append_assoc (take index xs) (x ∷ []) rest)
+    ∙ ap (λ t. t ++ rest) (sym (take_more xs index d low))
+    ∙ ap (λ k. take (index + 1) xs ++ drop k ys) next
 
-pub mixed_next : {A : Type 0} (xs ys : List A) (i : ℕ) (d : A) → length ys ≡ length xs → i < length xs → get_or (mixed i xs ys) i d ≡ get_or ys i d
-mixed_next xs ys i d same low =
-    let long : length (take i xs) ≡ i = length-take-le i xs (omega arith) in
-    let none : i - i ≡ 0 = omega arith in
-    get_or-append_right (take i xs) (drop i ys) i i d long (omega arith)
-    ∙ ap (λ k. get_or (drop i ys) k d) none
-    ∙ ap (λ t. get_or t 0 d) (drop-cons ys i d (omega arith))
+pub mixed_next : {A : Type 0} (xs ys : List A) (index : ℕ) (d : A) → length ys ≡ length xs → index < length xs → get_or (mixed index xs ys) index d ≡ get_or ys index d
+mixed_next xs ys index d same low =
+    let long : length (take index xs) ≡ index = length-take-le index xs (omega arith) in
+    let none : index - index ≡ 0 = omega arith in
+    get_or-append_right (take index xs) (drop index ys) index index d long (omega arith)
+    ∙ ap (λ k. get_or (drop index ys) k d) none
+    ∙ ap (λ t. get_or t 0 d) (drop-cons ys index d (omega arith))
 
 pub length-mixed : {A : Type 0} (xs ys : List A) (i : ℕ) → length ys ≡ length xs → i ≤ length xs → length (mixed i xs ys) ≡ length xs
 length-mixed xs ys i same low = omega (arith, length-append (take i xs) (drop i ys), length-take-le i xs low, length-drop i ys)

@@ -11,11 +11,11 @@ use Rattle.shen_graph.specs.Reach.IsReachable.{from_root, from_pin, from_field}
 abbrev pub counted : List Row → List (List Reference) → List ℕ → Graph
 counted rows roots counts = graph_of (record { rows = rows; roots = [] ∷ roots; counts = counts; pins = [] })
 
-pub reachable_again : (rows : List Row) (roots : List (List Reference)) (counts more : List ℕ) (n : Name) → IsReachable (counted rows roots counts) n → IsReachable (counted rows roots more) n
+pub reachable_again : (rows : List Row) (roots : List (List Reference)) (counts more : List ℕ) (name : Name) → IsReachable (counted rows roots counts) name → IsReachable (counted rows roots more) name
 unfolding graph_of
-reachable_again rows roots counts more _ (from_root thread root n is) = from_root thread root n is
+reachable_again rows roots counts more _ (from_root thread root name is) = from_root thread root name is
 reachable_again rows roots counts more _ (from_pin thread slot held is) = absurd cc
-reachable_again rows roots counts more _ (from_field m n field before is) = from_field m n field (reachable_again rows roots counts more m before) is
+reachable_again rows roots counts more _ (from_field m name field before is) = from_field m name field (reachable_again rows roots counts more m before) is
 
 pub reach_again : (rows : List Row) (roots : List (List Reference)) (counts more : List ℕ) (names : List Name) → IsReach (counted rows roots counts) names → IsReach (counted rows roots more) names
 reach_again rows roots counts more names r = record {
@@ -28,24 +28,24 @@ abbrev nothing : Object
 nothing = record { refs = []; nums = [] }
 
 -- a field of an object that is there in both
-same_field : (few all : Option Object) → ((o : Object) → few ≡ Some o → all ≡ Some o) → (field : ℕ) (r : Reference) → slice_get (unwrap_or few nothing).refs field ≡ Some r → slice_get (unwrap_or all nothing).refs field ≡ Some r
-same_field None all there field r is = absurd cc
-same_field (Some o) all there field r is = subst (λ (p : Option Object). slice_get (unwrap_or p nothing).refs field ≡ Some r) (sym (there o refl)) is
+same_field : (few all : Option Object) → ((object : Object) → few ≡ Some object → all ≡ Some object) → (field : ℕ) (reference : Reference) → slice_get (unwrap_or few nothing).refs field ≡ Some reference → slice_get (unwrap_or all nothing).refs field ≡ Some reference
+same_field None all there field reference is = absurd cc
+same_field (Some object) all there field reference is = subst (λ (found : Option Object). slice_get (unwrap_or found nothing).refs field ≡ Some reference) (sym (there object refl)) is
 
 -- fewer rows lead to no more
-pub leads_in_all : (few all : List Row) (roots : List (List Reference)) (counts : List ℕ) → ((n : Name) (o : Object) → object_in few n ≡ Some o → object_in all n ≡ Some o)
-    → (n : Name) → IsReachable (counted few roots counts) n → IsReachable (counted all roots counts) n
+pub leads_in_all : (few all : List Row) (roots : List (List Reference)) (counts : List ℕ) → ((name : Name) (object : Object) → object_in few name ≡ Some object → object_in all name ≡ Some object)
+    → (name : Name) → IsReachable (counted few roots counts) name → IsReachable (counted all roots counts) name
 unfolding graph_of
-leads_in_all few all roots counts there _ (from_root thread root n is) = from_root thread root n is
+leads_in_all few all roots counts there _ (from_root thread root name is) = from_root thread root name is
 leads_in_all few all roots counts there _ (from_pin thread slot held is) = absurd cc
-leads_in_all few all roots counts there _ (from_field m n field before is) =
-    from_field m n field (leads_in_all few all roots counts there m before) (same_field (object_in few m) (object_in all m) (there m) field (Some n) is)
+leads_in_all few all roots counts there _ (from_field m name field before is) =
+    from_field m name field (leads_in_all few all roots counts there m before) (same_field (object_in few m) (object_in all m) (there m) field (Some name) is)
 
 -- and no less, where they have the object of each name to which all lead
-pub leads_in_few : (few all : List Row) (roots : List (List Reference)) (counts : List ℕ) → ((n : Name) → IsReachable (counted all roots counts) n → object_in all n ≡ object_in few n)
-    → (n : Name) → IsReachable (counted all roots counts) n → IsReachable (counted few roots counts) n
+pub leads_in_few : (few all : List Row) (roots : List (List Reference)) (counts : List ℕ) → ((name : Name) → IsReachable (counted all roots counts) name → object_in all name ≡ object_in few name)
+    → (name : Name) → IsReachable (counted all roots counts) name → IsReachable (counted few roots counts) name
 unfolding graph_of
-leads_in_few few all roots counts same _ (from_root thread root n is) = from_root thread root n is
+leads_in_few few all roots counts same _ (from_root thread root name is) = from_root thread root name is
 leads_in_few few all roots counts same _ (from_pin thread slot held is) = absurd cc
-leads_in_few few all roots counts same _ (from_field m n field before is) =
-    from_field m n field (leads_in_few few all roots counts same m before) (subst (λ (p : Option Object). slice_get (unwrap_or p nothing).refs field ≡ Some (Some n)) (same m before) is)
+leads_in_few few all roots counts same _ (from_field m name field before is) =
+    from_field m name field (leads_in_few few all roots counts same m before) (subst (λ (found : Option Object). slice_get (unwrap_or found nothing).refs field ≡ Some (Some name)) (same m before) is)

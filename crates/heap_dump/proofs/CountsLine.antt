@@ -133,6 +133,6 @@ counts_many text bytes rest count threads counts first taken all some ns size fi
     by_left w = by_ms w.ms w.split w.left
 
 -- a stop there
-pub no_counts_line : (c : Config) (threads : ℕ) (text : List ℕ) → c.mutators ≡ threads → ((ns : List ℕ) → length ns ≡ threads → All (λ n. n ≤ most_made) ns → Spells text (titled counts_title ns) → ⊥)
-    → (next : DumpStage) → DumpFollows (Counts c) text next → ⊥
-no_counts_line c threads text same none next follows = none follows.0 (follows.1 ∙ same) follows.2 follows.3
+pub no_counts_line : (config : Config) (threads : ℕ) (text : List ℕ) → config.mutators ≡ threads → ((ns : List ℕ) → length ns ≡ threads → All (λ n. n ≤ most_made) ns → Spells text (titled counts_title ns) → ⊥)
+    → (next : DumpStage) → DumpFollows (Counts config) text next → ⊥
+no_counts_line config threads text same none next follows = none follows.0 (follows.1 ∙ same) follows.2 follows.3

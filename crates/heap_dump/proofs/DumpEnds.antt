@@ -26,14 +26,14 @@ within_next (Behind stage) text next within f = subst IsWithin (sym f.2) tt
 
 -- ---- behind the line `trace`
 
-pub behind_lead : (xs : List (List ℕ)) (l : LineStage) (a : DumpStage) → DumpLead (Behind l) xs a → (m : LineStage) × (a ≡ Behind m) × Lead l xs m
-behind_lead [] l a lead = (l, sym lead, refl)
-behind_lead (x ∷ xs) l a lead =
-    let more = behind_lead xs lead.1.0 a (subst (λ (s : DumpStage). DumpLead s xs a) lead.1.2 lead.2) in
+pub behind_lead : (xs : List (List ℕ)) (other_stage : LineStage) (stage : DumpStage) → DumpLead (Behind other_stage) xs stage → (m : LineStage) × (stage ≡ Behind m) × Lead other_stage xs m
+behind_lead [] other_stage stage lead = (other_stage, sym lead, refl)
+behind_lead (x ∷ xs) other_stage stage lead =
+    let more = behind_lead xs lead.1.0 stage (subst (λ (s : DumpStage). DumpLead s xs stage) lead.1.2 lead.2) in
     (more.0, more.1, (lead.1.0, lead.1.1, more.2))
 
-same_stage : (l m : LineStage) → Behind l ≡ Behind m → l ≡ m
-same_stage l m e = cc
+same_stage : (stage other_stage : LineStage) → Behind stage ≡ Behind other_stage → stage ≡ other_stage
+same_stage stage other_stage e = cc
 
 -- ---- ends
 
@@ -51,7 +51,7 @@ stop_why [] = DumpWanted
 stop_why (t ∷ []) = ends_by t
 stop_why (t ∷ u ∷ ts) = DumpWanted
 
-stop_is : (s : DumpStage) (texts : List (List ℕ)) (why : Why) → IsDumping s → StopsFor s texts why → why ≡ stop_why texts
+stop_is : (stage : DumpStage) (texts : List (List ℕ)) (why : Why) → IsDumping stage → StopsFor stage texts why → why ≡ stop_why texts
 stop_is Version [] why is h = absurd h
 stop_is Version (t ∷ []) why is h = h
 stop_is Version (t ∷ u ∷ ts) why is h = h.0
@@ -70,7 +70,7 @@ stop_is (Listed d) (t ∷ u ∷ ts) why is h = h.0
 stop_is (Behind l) texts why is h = absurd is
 
 -- no line follows where the first of them may not stand
-no_more : (s : DumpStage) (text u : List ℕ) (ts : List (List ℕ)) (why : Why) (next : DumpStage) → IsDumping s → StopsFor s (text ∷ u ∷ ts) why → DumpFollows s text next → ⊥
+no_more : (stage : DumpStage) (text u : List ℕ) (ts : List (List ℕ)) (why : Why) (next : DumpStage) → IsDumping stage → StopsFor stage (text ∷ u ∷ ts) why → DumpFollows stage text next → ⊥
 no_more Version text u ts why next is h f = h.1 next f
 no_more Heap text u ts why next is h f = h.1 next f
 no_more (Threads c) text u ts why next is h f = h.1 next f
@@ -78,17 +78,17 @@ no_more (Counts c) text u ts why next is h f = h.1 next f
 no_more (Listed d) text u ts why next is h f = h.1 next f
 no_more (Behind l) text u ts why next is h f = absurd is
 
-not_behind : (s : DumpStage) (l : LineStage) → IsDumping s → s ≡ Behind l → ⊥
-not_behind s l is e = subst IsDumping e is
+not_behind : (stage : DumpStage) (other_stage : LineStage) → IsDumping stage → stage ≡ Behind other_stage → ⊥
+not_behind stage other_stage is e = subst IsDumping e is
 
-no_cause : (l : LineStage) (why : Why) → cause_of l [] ≡ Some why → ⊥
+no_cause : (stage : LineStage) (why : Why) → cause_of stage [] ≡ Some why → ⊥
 unfolding cause_of
-no_cause l why e = absurd cc
+no_cause stage why e = absurd cc
 
 -- what is at an end is some text
-some_text : (s : DumpStage) (texts : List (List ℕ)) → IsAtEnd s texts → texts ≡ [] → ⊥
-some_text s texts (inr x) e = absurd (omega (arith, ap length (sym x.2 ∙ e)))
-some_text s (t ∷ ts) (inl x) e = absurd (omega (arith, ap length e))
+some_text : (stage : DumpStage) (texts : List (List ℕ)) → IsAtEnd stage texts → texts ≡ [] → ⊥
+some_text stage texts (inr x) e = absurd (omega (arith, ap length (sym x.2 ∙ e)))
+some_text stage (t ∷ ts) (inl x) e = absurd (omega (arith, ap length e))
 some_text Version [] (inl x) e = x.1
 some_text Heap [] (inl x) e = x.1
 some_text (Threads c) [] (inl x) e = x.1
@@ -96,15 +96,15 @@ some_text (Counts c) [] (inl x) e = x.1
 some_text (Listed d) [] (inl x) e = x.1
 some_text (Behind l) [] (inl x) e = no_cause l x.0 x.1
 
-at_stop : (s : DumpStage) (texts : List (List ℕ)) → IsDumping s → (end : IsAtEnd s texts) → cause_at s texts end ≡ Some (stop_why texts)
-at_stop s texts is (inl x) = ap Some (stop_is s texts x.0 is x.1)
-at_stop s texts is (inr x) = absurd (not_behind s x.0 is x.1)
+at_stop : (stage : DumpStage) (texts : List (List ℕ)) → IsDumping stage → (end : IsAtEnd stage texts) → cause_at stage texts end ≡ Some (stop_why texts)
+at_stop stage texts is (inl x) = ap Some (stop_is stage texts x.0 is x.1)
+at_stop stage texts is (inr x) = absurd (not_behind stage x.0 is x.1)
 
 -- an end is none where a line follows
-goes_on : (s : DumpStage) (text : List ℕ) (others : List (List ℕ)) (next : DumpStage) → IsDumping s → (others ≡ [] → ⊥) → IsAtEnd s (text ∷ others) → DumpFollows s text next → ⊥
-goes_on s text [] next is some end f = some refl
-goes_on s text (u ∷ ts) next is some (inl x) f = no_more s text u ts x.0 next is x.1 f
-goes_on s text (u ∷ ts) next is some (inr x) f = not_behind s x.0 is x.1
+goes_on : (stage : DumpStage) (text : List ℕ) (others : List (List ℕ)) (next : DumpStage) → IsDumping stage → (others ≡ [] → ⊥) → IsAtEnd stage (text ∷ others) → DumpFollows stage text next → ⊥
+goes_on stage text [] next is some end f = some refl
+goes_on stage text (u ∷ ts) next is some (inl x) f = no_more stage text u ts x.0 next is x.1 f
+goes_on stage text (u ∷ ts) next is some (inr x) f = not_behind stage x.0 is x.1
 
 appended : (xs ys : List (List ℕ)) → (ys ≡ [] → ⊥) → xs ++ ys ≡ [] → ⊥
 appended [] ys some e = some e
@@ -121,12 +121,12 @@ behind_once : (l : LineStage) (xs ys : List (List ℕ)) (a b : DumpStage) (p q :
 behind_once l xs ys a b p q one other e f g = by_stages (behind_lead xs l a one).0 (behind_lead ys l b other).0 (behind_lead xs l a one).1 (behind_lead ys l b other).1 (behind_lead xs l a one).2 (behind_lead ys l b other).2
   where
     to_end : (s : DumpStage) (m : LineStage) (texts : List (List ℕ)) → s ≡ Behind m → IsAtEnd s texts → ((why : Why) × (cause_of m texts ≡ Some why)) ⊎ ((texts ≡ [] ∷ []) × (cause_of m texts ≡ None))
-    to_end s m texts is (inl x) = inl (x.0, subst (λ (t : DumpStage). StopsFor t texts x.0) is x.1)
-    to_end s m texts is (inr x) = inr (x.2, subst (λ (k : LineStage). cause_of k texts ≡ None) (same_stage x.0 m (sym x.1 ∙ is)) x.3)
+    to_end s m texts is (inl x) = inl (x.0, subst (λ (stage : DumpStage). StopsFor stage texts x.0) is x.1)
+    to_end s m texts is (inr x) = inr (x.2, subst (λ (stage : LineStage). cause_of stage texts ≡ None) (same_stage x.0 m (sym x.1 ∙ is)) x.3)
 
     its_cause : (s : DumpStage) (m : LineStage) (texts : List (List ℕ)) → s ≡ Behind m → (end : IsAtEnd s texts) → cause_at s texts end ≡ cause_of m texts
-    its_cause s m texts is (inl x) = sym (subst (λ (t : DumpStage). StopsFor t texts x.0) is x.1)
-    its_cause s m texts is (inr x) = sym (subst (λ (k : LineStage). cause_of k texts ≡ None) (same_stage x.0 m (sym x.1 ∙ is)) x.3)
+    its_cause s m texts is (inl x) = sym (subst (λ (stage : DumpStage). StopsFor stage texts x.0) is x.1)
+    its_cause s m texts is (inr x) = sym (subst (λ (stage : LineStage). cause_of stage texts ≡ None) (same_stage x.0 m (sym x.1 ∙ is)) x.3)
 
     by_stages : (m k : LineStage) → a ≡ Behind m → b ≡ Behind k → Lead l xs m → Lead l ys k → OneEnd xs ys (cause_at a p f) (cause_at b q g)
     by_stages m k is also lead more =
@@ -135,9 +135,9 @@ behind_once l xs ys a b p q one other e f g = by_stages (behind_lead xs l a one)
 
 -- a stage is before the line `trace` or behind it
 abbrev Which : DumpStage → Type 0
-Which s = IsDumping s ⊎ ((l : LineStage) × (s ≡ Behind l))
+Which stage = IsDumping stage ⊎ ((other_stage : LineStage) × (stage ≡ Behind other_stage))
 
-which : (s : DumpStage) → Which s
+which : (stage : DumpStage) → Which stage
 which Version = inl tt
 which Heap = inl tt
 which (Threads c) = inl tt
@@ -145,18 +145,18 @@ which (Counts c) = inl tt
 which (Listed d) = inl tt
 which (Behind l) = inr (l, refl)
 
-dumping_same : (s t : DumpStage) → Same s t → IsDumping s → IsDumping t
-dumping_same s t (inl e) is = subst IsDumping e is
-dumping_same s t (inr x) is = subst IsDumping (sym x.3) tt
+dumping_same : (stage other_stage : DumpStage) → Same stage other_stage → IsDumping stage → IsDumping other_stage
+dumping_same stage other_stage (inl e) is = subst IsDumping e is
+dumping_same stage other_stage (inr x) is = subst IsDumping (sym x.3) tt
 
-behind_same : (s t : DumpStage) (l : LineStage) → Same s t → s ≡ Behind l → t ≡ Behind l
-behind_same s t l (inl e) is = sym e ∙ is
-behind_same s t l (inr x) is = absurd (not_behind (Threads x.0) l tt (sym x.2 ∙ is))
+behind_same : (stage other_stage : DumpStage) (l : LineStage) → Same stage other_stage → stage ≡ Behind l → other_stage ≡ Behind l
+behind_same stage other_stage l (inl e) is = sym e ∙ is
+behind_same stage other_stage l (inr x) is = absurd (not_behind (Threads x.0) l tt (sym x.2 ∙ is))
 
-from_behind : (s t : DumpStage) (l : LineStage) → s ≡ Behind l → Same s t → (xs ys : List (List ℕ)) (a b : DumpStage) (p q : List (List ℕ)) → DumpLead s xs a → DumpLead t ys b → xs ++ p ≡ ys ++ q
+from_behind : (s t : DumpStage) (stage : LineStage) → s ≡ Behind stage → Same s t → (xs ys : List (List ℕ)) (a b : DumpStage) (p q : List (List ℕ)) → DumpLead s xs a → DumpLead t ys b → xs ++ p ≡ ys ++ q
     → (f : IsAtEnd a p) (g : IsAtEnd b q) → OneEnd xs ys (cause_at a p f) (cause_at b q g)
-from_behind s t l is same xs ys a b p q one other e f g =
-    behind_once l xs ys a b p q (subst (λ (k : DumpStage). DumpLead k xs a) is one) (subst (λ (k : DumpStage). DumpLead k ys b) (behind_same s t l same is) other) e f g
+from_behind s t stage is same xs ys a b p q one other e f g =
+    behind_once stage xs ys a b p q (subst (λ (stage : DumpStage). DumpLead stage xs a) is one) (subst (λ (stage : DumpStage). DumpLead stage ys b) (behind_same s t stage same is) other) e f g
 
 pub dump_end : (s t : DumpStage) (xs ys : List (List ℕ)) (a b : DumpStage) (p q : List (List ℕ)) → Same s t → IsWithin s → DumpLead s xs a → DumpLead t ys b → xs ++ p ≡ ys ++ q
     → (f : IsAtEnd a p) (g : IsAtEnd b q) → OneEnd xs ys (cause_at a p f) (cause_at b q g)
@@ -172,14 +172,14 @@ dump_end s t [] (y ∷ ys) a b p q same within one other e f g = by_which (which
   where
     by_which : Which s → OneEnd [] (y ∷ ys) (cause_at a p f) (cause_at b q g)
     by_which (inl is) =
-        let here : IsAtEnd s (y ∷ (ys ++ q)) = subst (λ (k : DumpStage). IsAtEnd k (y ∷ (ys ++ q))) (sym one) (subst (IsAtEnd a) e f) in
+        let here : IsAtEnd s (y ∷ (ys ++ q)) = subst (λ (stage : DumpStage). IsAtEnd stage (y ∷ (ys ++ q))) (sym one) (subst (IsAtEnd a) e f) in
         absurd (goes_on s y (ys ++ q) other.0 is (appended ys q (some_text b q g)) here (carry s t y other.0 same other.1))
     by_which (inr x) = from_behind s t x.0 x.1 same [] (y ∷ ys) a b p q one other e f g
 dump_end s t (x ∷ xs) [] a b p q same within one other e f g = by_which (which s)
   where
     by_which : Which s → OneEnd (x ∷ xs) [] (cause_at a p f) (cause_at b q g)
     by_which (inl is) =
-        let here : IsAtEnd t (x ∷ (xs ++ p)) = subst (λ (k : DumpStage). IsAtEnd k (x ∷ (xs ++ p))) (sym other) (subst (IsAtEnd b) (sym e) g) in
+        let here : IsAtEnd t (x ∷ (xs ++ p)) = subst (λ (stage : DumpStage). IsAtEnd stage (x ∷ (xs ++ p))) (sym other) (subst (IsAtEnd b) (sym e) g) in
         absurd (goes_on t x (xs ++ p) one.0 (dumping_same s t same is) (appended xs p (some_text a p f)) here (carry t s x one.0 (same_back s t same) one.1))
     by_which (inr z) = from_behind s t z.0 z.1 same (x ∷ xs) [] a b p q one other e f g
 dump_end s t (x ∷ xs) (y ∷ ys) a b p q same within one other e f g = by_which (which s) (λ u v alike fine lead more rest. dump_end u v xs ys a b p q alike fine lead more rest f g)

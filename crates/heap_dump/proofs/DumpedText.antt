@@ -26,58 +26,58 @@ use Rattle.graph_placing.specs.TextGraph.{row_object, text_graph, IsGraphOf}
 use Rattle.graph_placing.proofs.Searching.{names_count, name_of_row}
 use Rattle.graph_placing.proofs.TextGraphs.{has_object, is_graph}
 
-module _ (c : Config) (counts : List ℕ) (t : Text) (is : IsDump (dumped c counts t)) where
+module _ (config : Config) (counts : List ℕ) (text : Text) (is : IsDump (dumped config counts text)) where
   abbrev g : Graph
-  g = graph_in (dumped c counts t)
+  g = graph_in (dumped config counts text)
 
   abbrev n : ℕ
-  n = length t.rows
+  n = length text.rows
 
-  row_is : (k : ℕ) → k < n → IsRow counts (row_of t k)
-  row_is k below = All-get_or (IsRow counts) t.rows k (bare hub) below is.form.rows
+  row_is : (k : ℕ) → k < n → IsRow counts (row_of text k)
+  row_is k below = All-get_or (IsRow counts) text.rows k (bare hub) below is.form.rows
 
   -- each row can be reached
-  row_reached : (k : ℕ) → k < n → IsReachable g (row_of t k).name
-  row_reached k below =
-      let there : get_or (names_of t) k hub ≡ (row_of t k).name = name_of_row t k hub below in
-      subst (IsReachable g) there (is.reach.only (get_or (names_of t) k hub) (Contains-get_or (names_of t) k hub (omega (arith, below, names_count t))))
+  row_reached : (index : ℕ) → index < n → IsReachable g (row_of text index).name
+  row_reached index below =
+      let there : get_or (names_of text) index hub ≡ (row_of text index).name = name_of_row text index hub below in
+      subst (IsReachable g) there (is.reach.only (get_or (names_of text) index hub) (Contains-get_or (names_of text) index hub (omega (arith, below, names_count text))))
 
   -- and its object is the graph's
-  row_named : (k : ℕ) → k < n → named g (Some (row_of t k).name) ≡ row_object (row_of t k)
+  row_named : (k : ℕ) → k < n → named g (Some (row_of text k).name) ≡ row_object (row_of text k)
   unfolding graph_of
-  row_named k below = ap (λ (o : Option Object). unwrap_or o (record { refs = []; nums = [] })) (has_object t.rows is.form.order k (bare hub) below)
+  row_named k below = ap (λ (found : Option Object). unwrap_or found (record { refs = []; nums = [] })) (has_object text.rows is.form.order k (bare hub) below)
 
-  root_is : (thread index : ℕ) → 1 ≤ thread → g.root thread index ≡ root_of t thread index
+  root_is : (thread index : ℕ) → 1 ≤ thread → g.root thread index ≡ root_of text thread index
   unfolding graph_of
   root_is zero index some = absurd (omega (arith, some))
-  root_is (suc thread) index some = let back : thread ≡ suc thread - 1 = omega arith in ap (λ (k : ℕ). get_or (get_or t.roots k []) index None) back
+  root_is (suc thread) index some = let back : thread ≡ suc thread - 1 = omega arith in ap (λ (k : ℕ). get_or (get_or text.roots k []) index None) back
 
-  pub placeable : IsPlaceable c t
+  pub placeable : IsPlaceable config text
   placeable = record {
     threads = is.form.each;
     sixteen = is.form.roots;
     in_order = is.form.order;
     short = λ k below. let fields = (row_is k below).fields in record { refs = fields.few_refs; nums = fields.few_nums };
     references = λ k i name below names.
-        is.reach.all name (from_field (row_of t k).name name i (row_reached k below) (ap (λ (o : Object). slice_get o.refs i) (row_named k below) ∙ names));
+        is.reach.all name (from_field (row_of text k).name name i (row_reached k below) (ap (λ (object : Object). slice_get object.refs i) (row_named k below) ∙ names));
     roots = λ thread index name some within small names. is.reach.all name (from_root thread index name (root_is thread index some ∙ names));
   }
 
   -- no thread has made too many
-  few : (m : ℕ) → get_or counts m 0 < 2 ^ 32
-  few m = ⊎_elim
-      (λ (below : m < length counts). let most = All-get_or (λ (x : ℕ). x ≤ most_made) counts m 0 below is.form.counts in omega (arith, most))
-      (λ (past : length counts ≤ m). let none = get_or_past counts m 0 past in omega (arith, none))
-      (cases_lt m (length counts))
+  few : (index : ℕ) → get_or counts index 0 < 2 ^ 32
+  few index = ⊎_elim
+      (λ (below : index < length counts). let most = All-get_or (λ (x : ℕ). x ≤ most_made) counts index 0 below is.form.counts in omega (arith, most))
+      (λ (past : length counts ≤ index). let none = get_or_past counts index 0 past in omega (arith, none))
+      (cases_lt index (length counts))
 
-  count_is : (thread : ℕ) → 1 ≤ thread → (text_graph t counts).count thread ≡ get_or counts (thread - 1) 0
+  count_is : (thread : ℕ) → 1 ≤ thread → (text_graph text counts).count thread ≡ get_or counts (thread - 1) 0
   unfolding graph_of
   count_is zero some = absurd (omega (arith, some))
   count_is (suc thread) some = let back : thread ≡ suc thread - 1 = omega arith in ap (λ (k : ℕ). get_or counts k 0) back
 
-  is_given : (name : Name) → IsNamed counts name → IsGiven c (text_graph t counts).count name
+  is_given : (name : Name) → IsNamed counts name → IsGiven config (text_graph text counts).count name
   is_given name named_by = ⊎_elim
-      (λ (is_hub : name ≡ hub). subst (IsGiven c (text_graph t counts).count) (sym is_hub) (record { thread = omega arith; made = omega arith; by_thread = λ one. absurd (omega (arith, one)); small = omega arith }))
+      (λ (is_hub : name ≡ hub). subst (IsGiven config (text_graph text counts).count) (sym is_hub) (record { thread = omega arith; made = omega arith; by_thread = λ one. absurd (omega (arith, one)); small = omega arith }))
       (λ (made : IsMadeBy counts name).
       let count = count_is name.thread made.from_first in
       record {
@@ -88,10 +88,10 @@ module _ (c : Config) (counts : List ℕ) (t : Text) (is : IsDump (dumped c coun
       })
       named_by
 
-  graph_is : IsGraphOf c t counts g
-  graph_is = is_graph c t counts placeable (λ k below. is_given (row_of t k).name (row_is k below).name)
+  graph_is : IsGraphOf config text counts g
+  graph_is = is_graph config text counts placeable (λ k below. is_given (row_of text k).name (row_is k below).name)
 
-  pub can_begin : (memory : Word → ℕ) → IsPlaced c t memory → ((more : List ℕ) (h : Graph) → IsGraphOf c t more h → Represents c memory h (λ m. nothing)) → CanBeginFrom c memory counts g
+  pub can_begin : (memory : Word → ℕ) → IsPlaced config text memory → ((more : List ℕ) (graph : Graph) → IsGraphOf config text more graph → Represents config memory graph (λ m. nothing)) → CanBeginFrom config memory counts g
   can_begin memory placed stands = record {
     stands = stands counts g graph_is;
     outside = record { pause = placed.others Pause refl; states = λ seat below. placed.others (State seat) refl; left = placed.left };

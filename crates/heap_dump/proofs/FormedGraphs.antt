@@ -18,11 +18,11 @@ use Rattle.shen_graph.proofs.PlainLemmas.{same_name-true}
 use Rattle.heap_dump.specs.ObjectsMade.{IsEntryInRange}
 
 -- the name of an object that one of these threads made, each of which made so many
-pub record IsMade (threads : ℕ) (count : ℕ → ℕ) (n : Name) : Type 0 where
-  pub from_first : 1 ≤ n.thread
-  pub to_last : n.thread ≤ threads
-  pub from_one : 1 ≤ n.count
-  pub to_count : n.count ≤ count n.thread
+pub record IsMade (threads : ℕ) (count : ℕ → ℕ) (name : Name) : Type 0 where
+  pub from_first : 1 ≤ name.thread
+  pub to_last : name.thread ≤ threads
+  pub from_one : 1 ≤ name.count
+  pub to_count : name.count ≤ count name.thread
 
 -- null, the hub, or the name of such an object
 abbrev pub IsKnown : ℕ → (ℕ → ℕ) → Reference → Type 0
@@ -30,38 +30,38 @@ IsKnown threads count None = Unit {0}
 IsKnown threads count (Some n) = (n ≡ hub) ⊎ IsMade threads count n
 
 -- an object of a name
-pub record IsFormedObject (threads : ℕ) (count : ℕ → ℕ) (n : Name) (o : Object) : Type 0 where
-  pub refs : All (IsKnown threads count) o.refs
-  pub few_refs : length o.refs ≤ 16
-  pub few_nums : length o.nums ≤ 16
-  pub fit : All (λ x. x < 2 ^ 64) o.nums
-  pub hub_refs : n ≡ hub → length o.refs ≡ 16
-  pub hub_nums : n ≡ hub → length o.nums ≡ 0
+pub record IsFormedObject (threads : ℕ) (count : ℕ → ℕ) (name : Name) (object : Object) : Type 0 where
+  pub refs : All (IsKnown threads count) object.refs
+  pub few_refs : length object.refs ≤ 16
+  pub few_nums : length object.nums ≤ 16
+  pub fit : All (λ x. x < 2 ^ 64) object.nums
+  pub hub_refs : name ≡ hub → length object.refs ≡ 16
+  pub hub_nums : name ≡ hub → length object.nums ≡ 0
 
 -- the root of a number of a thread is one of 16, of one of so many threads
-pub record IsRootWithin (threads t r : ℕ) : Type 0 where
+pub record IsRootWithin (threads t index : ℕ) : Type 0 where
   pub from_first : 1 ≤ t
   pub to_last : t ≤ threads
-  pub low : r < 16
+  pub low : index < 16
 
-pub record IsFormed (threads : ℕ) (g : Graph) : Type 0 where
-  pub root : (t r : ℕ) → IsKnown threads g.count (g.root t r)
-  pub within : (t r : ℕ) (n : Name) → g.root t r ≡ Some n → IsRootWithin threads t r
-  pub object : (n : Name) (o : Object) → g.object n ≡ Some o → IsFormedObject threads g.count n o
-  pub hub_there : (o : Object) × (g.object hub ≡ Some o)
-  pub pin : (t s : ℕ) → IsKnown threads g.count (name_in (g.pin t s))
+pub record IsFormed (threads : ℕ) (graph : Graph) : Type 0 where
+  pub root : (thread r : ℕ) → IsKnown threads graph.count (graph.root thread r)
+  pub within : (thread r : ℕ) (name : Name) → graph.root thread r ≡ Some name → IsRootWithin threads thread r
+  pub object : (name : Name) (o : Object) → graph.object name ≡ Some o → IsFormedObject threads graph.count name o
+  pub hub_there : (o : Object) × (graph.object hub ≡ Some o)
+  pub pin : (thread s : ℕ) → IsKnown threads graph.count (name_in (graph.pin thread s))
 
 -- ---- more objects
 
-more_known : (threads : ℕ) (count more : ℕ → ℕ) (r : Reference) → ((t : ℕ) → count t ≤ more t) → IsKnown threads count r → IsKnown threads more r
+more_known : (threads : ℕ) (count more : ℕ → ℕ) (reference : Reference) → ((t : ℕ) → count t ≤ more t) → IsKnown threads count reference → IsKnown threads more reference
 more_known threads count more None up known = tt
 more_known threads count more (Some n) up (inl is) = inl is
 more_known threads count more (Some n) up (inr made) =
     let higher = up n.thread in
     inr (record { from_first = made.from_first; to_last = made.to_last; from_one = made.from_one; to_count = omega (arith, made.to_count, higher) })
 
-more_formed : (threads : ℕ) (count more : ℕ → ℕ) (n : Name) (o : Object) → ((t : ℕ) → count t ≤ more t) → IsFormedObject threads count n o → IsFormedObject threads more n o
-more_formed threads count more n o up formed = record {
+more_formed : (threads : ℕ) (count more : ℕ → ℕ) (name : Name) (object : Object) → ((t : ℕ) → count t ≤ more t) → IsFormedObject threads count name object → IsFormedObject threads more name object
+more_formed threads count more name object up formed = record {
   refs = λ k d below. more_known threads count more _ up (formed.refs k d below);
   few_refs = formed.few_refs;
   few_nums = formed.few_nums;
@@ -72,8 +72,8 @@ more_formed threads count more n o up formed = record {
 
 -- ---- what a reference names
 
-nothing_formed : (threads : ℕ) (count : ℕ → ℕ) (n : Name) → (n ≡ hub → ⊥) → IsFormedObject threads count n (record { refs = []; nums = [] })
-nothing_formed threads count n other = record {
+nothing_formed : (threads : ℕ) (count : ℕ → ℕ) (name : Name) → (name ≡ hub → ⊥) → IsFormedObject threads count name (record { refs = []; nums = [] })
+nothing_formed threads count name other = record {
   refs = All-nil (IsKnown threads count);
   few_refs = omega arith;
   few_nums = omega arith;
@@ -83,89 +83,89 @@ nothing_formed threads count n other = record {
 }
 
 -- the object of a name, also where there is none
-pub named_formed : (threads : ℕ) (g : Graph) (n : Name) → IsFormed threads g → IsFormedObject threads g.count n (named g (Some n))
-named_formed threads g n formed = by_object (g.object n) refl
+pub named_formed : (threads : ℕ) (graph : Graph) (name : Name) → IsFormed threads graph → IsFormedObject threads graph.count name (named graph (Some name))
+named_formed threads graph name formed = by_object (graph.object name) refl
   where
     no_object : Object
     no_object = record { refs = []; nums = [] }
 
-    by_object : (o : Option Object) → g.object n ≡ o → IsFormedObject threads g.count n (unwrap_or o (record { refs = []; nums = [] }))
-    by_object (Some o) is = formed.object n o is
-    by_object None is = nothing_formed threads g.count n (λ (is_hub : n ≡ hub).
+    by_object : (found : Option Object) → graph.object name ≡ found → IsFormedObject threads graph.count name (unwrap_or found (record { refs = []; nums = [] }))
+    by_object (Some found) is = formed.object name found is
+    by_object None is = nothing_formed threads graph.count name (λ (is_hub : name ≡ hub).
         let there = formed.hub_there in
-        let none : g.object hub ≡ None = ap g.object (sym is_hub) ∙ is in
+        let none : graph.object hub ≡ None = ap graph.object (sym is_hub) ∙ is in
         let both : ◌≡◌ {A = Option Object} (Some there.0) None = sym there.1 ∙ none in
         absurd cc)
 
 -- its references
-pub refs_known : (threads : ℕ) (g : Graph) (r : Reference) → IsFormed threads g → All (IsKnown threads g.count) (named g r).refs
-refs_known threads g None formed = All-nil (IsKnown threads g.count)
-refs_known threads g (Some n) formed = (named_formed threads g n formed).refs
+pub refs_known : (threads : ℕ) (graph : Graph) (reference : Reference) → IsFormed threads graph → All (IsKnown threads graph.count) (named graph reference).refs
+refs_known threads graph None formed = All-nil (IsKnown threads graph.count)
+refs_known threads graph (Some n) formed = (named_formed threads graph n formed).refs
 
 -- ---- graphs of which one thing is another
 
-known_either : (threads : ℕ) (count : ℕ → ℕ) (b : Bool) (x y : Reference) → IsKnown threads count x → IsKnown threads count y → IsKnown threads count (cond b x y)
-known_either threads count true x y p q = p
-known_either threads count false x y p q = q
+known_either : (threads : ℕ) (count : ℕ → ℕ) (holds : Bool) (reference other_reference : Reference) → IsKnown threads count reference → IsKnown threads count other_reference → IsKnown threads count (cond holds reference other_reference)
+known_either threads count true reference other_reference p q = p
+known_either threads count false reference other_reference p q = q
 
-root_formed : (threads : ℕ) (g : Graph) (t r : ℕ) (value : Reference) → 1 ≤ t → t ≤ threads → r < 16 → IsKnown threads g.count value → IsFormed threads g → IsFormed threads (with_root g t r value)
-root_formed threads g t r value first last low known formed = record {
-  root = λ u s. known_either threads g.count _ value (g.root u s) known (formed.root u s);
-  within = λ u s n is. by_thread u s n (eqb u t) (eqb s r) refl refl is;
+root_formed : (threads : ℕ) (graph : Graph) (t index : ℕ) (value : Reference) → 1 ≤ t → t ≤ threads → index < 16 → IsKnown threads graph.count value → IsFormed threads graph → IsFormed threads (with_root graph t index value)
+root_formed threads graph t index value first last low known formed = record {
+  root = λ thread s. known_either threads graph.count _ value (graph.root thread s) known (formed.root thread s);
+  within = λ thread s name is. by_thread thread s name (eqb thread t) (eqb s index) refl refl is;
   object = formed.object;
   hub_there = formed.hub_there;
   pin = formed.pin;
 }
   where
-    by_thread : (u s : ℕ) (n : Name) (a b : Bool) → eqb u t ≡ a → eqb s r ≡ b → cond (a && b) value (g.root u s) ≡ Some n → IsRootWithin threads u s
-    by_thread u s n true true same_t same_r is =
-        let one : u ≡ t = grind (arith, nat_tests) in
-        let other : s ≡ r = grind (arith, nat_tests) in
+    by_thread : (thread s : ℕ) (name : Name) (holds other_holds : Bool) → eqb thread t ≡ holds → eqb s index ≡ other_holds → cond (holds && other_holds) value (graph.root thread s) ≡ Some name → IsRootWithin threads thread s
+    by_thread thread s name true true same_t same_r is =
+        let one : thread ≡ t = grind (arith, nat_tests) in
+        let other : s ≡ index = grind (arith, nat_tests) in
         record { from_first = omega arith; to_last = omega arith; low = omega arith }
-    by_thread u s n true false same_t same_r is = formed.within u s n is
-    by_thread u s n false b same_t same_r is = formed.within u s n is
+    by_thread thread s name true false same_t same_r is = formed.within thread s name is
+    by_thread thread s name false other_holds same_t same_r is = formed.within thread s name is
 
-object_either : (threads : ℕ) (count : ℕ → ℕ) (n m : Name) (b : Bool) (x : Object) (other : Option Object) (o : Object) → (b ≡ true → m ≡ n) → IsFormedObject threads count n x
-    → (other ≡ Some o → IsFormedObject threads count m o) → cond b (Some x) other ≡ Some o → IsFormedObject threads count m o
-object_either threads count n m true x other o same p q e = subst (IsFormedObject threads count m) (same_Some x o e) (subst (λ k. IsFormedObject threads count k x) (sym (same refl)) p)
-object_either threads count n m false x other o same p q e = q e
+object_either : (threads : ℕ) (count : ℕ → ℕ) (name other_name : Name) (holds : Bool) (object : Object) (other : Option Object) (other_object : Object) → (holds ≡ true → other_name ≡ name) → IsFormedObject threads count name object
+    → (other ≡ Some other_object → IsFormedObject threads count other_name other_object) → cond holds (Some object) other ≡ Some other_object → IsFormedObject threads count other_name other_object
+object_either threads count name other_name true object other other_object same p q e = subst (IsFormedObject threads count other_name) (same_Some object other_object e) (subst (λ k. IsFormedObject threads count k object) (sym (same refl)) p)
+object_either threads count name other_name false object other other_object same p q e = q e
 
-there_either : (b : Bool) (x : Object) (other : Option Object) → ((o : Object) × (other ≡ Some o)) → (o : Object) × (cond b (Some x) other ≡ Some o)
-there_either true x other there = (x, refl)
-there_either false x other there = there
+there_either : (holds : Bool) (object : Object) (other : Option Object) → ((other_object : Object) × (other ≡ Some other_object)) → (other_object : Object) × (cond holds (Some object) other ≡ Some other_object)
+there_either true object other there = (object, refl)
+there_either false object other there = there
 
-object_formed : (threads : ℕ) (g : Graph) (n : Name) (o : Object) → IsFormedObject threads g.count n o → IsFormed threads g → IsFormed threads (with_object g n o)
-object_formed threads g n o fits formed = record {
+object_formed : (threads : ℕ) (graph : Graph) (name : Name) (object : Object) → IsFormedObject threads graph.count name object → IsFormed threads graph → IsFormed threads (with_object graph name object)
+object_formed threads graph name object fits formed = record {
   root = formed.root;
   within = formed.within;
-  object = λ m p e. object_either threads g.count n m (same_name m n) o (g.object m) p (λ same. same_name-true m n same) fits (λ other. formed.object m p other) e;
-  hub_there = there_either (same_name hub n) o (g.object hub) formed.hub_there;
+  object = λ m p e. object_either threads graph.count name m (same_name m name) object (graph.object m) p (λ same. same_name-true m name same) fits (λ other. formed.object m p other) e;
+  hub_there = there_either (same_name hub name) object (graph.object hub) formed.hub_there;
   pin = formed.pin;
 }
 
-held_either : (threads : ℕ) (count : ℕ → ℕ) (b : Bool) (x y : Option Pinned) → IsKnown threads count (name_in x) → IsKnown threads count (name_in y) → IsKnown threads count (name_in (cond b x y))
-held_either threads count true x y p q = p
-held_either threads count false x y p q = q
+held_either : (threads : ℕ) (count : ℕ → ℕ) (holds : Bool) (found other_found : Option Pinned) → IsKnown threads count (name_in found) → IsKnown threads count (name_in other_found) → IsKnown threads count (name_in (cond holds found other_found))
+held_either threads count true found other_found p q = p
+held_either threads count false found other_found p q = q
 
 -- a pin slot holds something else
-pin_formed : (threads : ℕ) (g : Graph) (t slot : ℕ) (held : Option Pinned) → IsKnown threads g.count (name_in held) → IsFormed threads g → IsFormed threads (with_pin g t slot held)
-pin_formed threads g t slot held known formed = record {
+pin_formed : (threads : ℕ) (graph : Graph) (t slot : ℕ) (held : Option Pinned) → IsKnown threads graph.count (name_in held) → IsFormed threads graph → IsFormed threads (with_pin graph t slot held)
+pin_formed threads graph t slot held known formed = record {
   root = formed.root;
   within = formed.within;
   object = formed.object;
   hub_there = formed.hub_there;
-  pin = λ u s. held_either threads g.count (eqb u t && eqb s slot) held (g.pin u s) known (formed.pin u s);
+  pin = λ u s. held_either threads graph.count (eqb u t && eqb s slot) held (graph.pin u s) known (formed.pin u s);
 }
 
 -- the object that a reference names has other references, as many
-refs_formed : (threads : ℕ) (g : Graph) (r : Reference) (field : ℕ) (value : Reference) → IsKnown threads g.count value → IsFormed threads g
-    → IsFormed threads (with_named g r (record { refs = slice_set (named g r).refs field value; nums = (named g r).nums }))
-refs_formed threads g None field value known formed = formed
-refs_formed threads g (Some n) field value known formed =
-    let was = named_formed threads g n formed in
-    let many = length-set (named g (Some n)).refs field value in
-    object_formed threads g n _ (record {
-      refs = All-set (IsKnown threads g.count) (named g (Some n)).refs field value known was.refs;
+refs_formed : (threads : ℕ) (graph : Graph) (reference : Reference) (field : ℕ) (value : Reference) → IsKnown threads graph.count value → IsFormed threads graph
+    → IsFormed threads (with_named graph reference (record { refs = slice_set (named graph reference).refs field value; nums = (named graph reference).nums }))
+refs_formed threads graph None field value known formed = formed
+refs_formed threads graph (Some n) field value known formed =
+    let was = named_formed threads graph n formed in
+    let many = length-set (named graph (Some n)).refs field value in
+    object_formed threads graph n _ (record {
+      refs = All-set (IsKnown threads graph.count) (named graph (Some n)).refs field value known was.refs;
       few_refs = omega (arith, many, was.few_refs);
       few_nums = was.few_nums;
       fit = was.fit;
@@ -173,46 +173,46 @@ refs_formed threads g (Some n) field value known formed =
       hub_nums = was.hub_nums;
     }) formed
 
-nums_formed : (threads : ℕ) (g : Graph) (r : Reference) (index value : ℕ) → value < 2 ^ 64 → IsFormed threads g
-    → IsFormed threads (with_named g r (record { refs = (named g r).refs; nums = slice_set (named g r).nums index value }))
-nums_formed threads g None index value fits formed = formed
-nums_formed threads g (Some n) index value fits formed =
-    let was = named_formed threads g n formed in
-    let many = length-set (named g (Some n)).nums index value in
-    object_formed threads g n _ (record {
+nums_formed : (threads : ℕ) (graph : Graph) (reference : Reference) (index value : ℕ) → value < 2 ^ 64 → IsFormed threads graph
+    → IsFormed threads (with_named graph reference (record { refs = (named graph reference).refs; nums = slice_set (named graph reference).nums index value }))
+nums_formed threads graph None index value fits formed = formed
+nums_formed threads graph (Some n) index value fits formed =
+    let was = named_formed threads graph n formed in
+    let many = length-set (named graph (Some n)).nums index value in
+    object_formed threads graph n _ (record {
       refs = was.refs;
       few_refs = was.few_refs;
       few_nums = omega (arith, many, was.few_nums);
-      fit = All-set (λ x. x < 2 ^ 64) (named g (Some n)).nums index value fits was.fit;
+      fit = All-set (λ x. x < 2 ^ 64) (named graph (Some n)).nums index value fits was.fit;
       hub_refs = was.hub_refs;
       hub_nums = λ is. many ∙ was.hub_nums is;
     }) formed
 
 -- a new object of a thread
-fresh_formed : (threads : ℕ) (g : Graph) (t refs nums : ℕ) → 1 ≤ t → t ≤ threads → refs ≤ 16 → nums ≤ 16 → IsFormed threads g → IsFormed threads (with_fresh g t (blank refs nums))
-fresh_formed threads g t refs nums first last few_refs few_nums formed = record {
-  root = λ u s. more_known threads g.count more _ up (formed.root u s);
+fresh_formed : (threads : ℕ) (graph : Graph) (t refs nums : ℕ) → 1 ≤ t → t ≤ threads → refs ≤ 16 → nums ≤ 16 → IsFormed threads graph → IsFormed threads (with_fresh graph t (blank refs nums))
+fresh_formed threads graph t refs nums first last few_refs few_nums formed = record {
+  root = λ thread s. more_known threads graph.count more _ up (formed.root thread s);
   within = formed.within;
-  object = λ m p e. object_either threads more n m (same_name m n) (blank refs nums) (g.object m) p (λ same. same_name-true m n same) blank_formed (λ other. more_formed threads g.count more m p up (formed.object m p other)) e;
-  hub_there = there_either (same_name hub n) (blank refs nums) (g.object hub) formed.hub_there;
-  pin = λ u s. more_known threads g.count more _ up (formed.pin u s);
+  object = λ m p e. object_either threads more n m (same_name m n) (blank refs nums) (graph.object m) p (λ same. same_name-true m n same) blank_formed (λ other. more_formed threads graph.count more m p up (formed.object m p other)) e;
+  hub_there = there_either (same_name hub n) (blank refs nums) (graph.object hub) formed.hub_there;
+  pin = λ thread s. more_known threads graph.count more _ up (formed.pin thread s);
 }
   where
     n : Name
-    n = fresh g t
+    n = fresh graph t
 
     more : ℕ → ℕ
-    more = (with_fresh g t (blank refs nums)).count
+    more = (with_fresh graph t (blank refs nums)).count
 
-    either_up : (b : Bool) (x : ℕ) → x ≤ cond b (x + 1) x
+    either_up : (holds : Bool) (x : ℕ) → x ≤ cond holds (x + 1) x
     either_up true x = omega arith
     either_up false x = omega arith
 
-    up : (u : ℕ) → g.count u ≤ more u
-    up u = either_up (eqb u t) (g.count u)
+    up : (thread : ℕ) → graph.count thread ≤ more thread
+    up thread = either_up (eqb thread t) (graph.count thread)
 
     other : n ≡ hub → ⊥
-    other is = absurd (omega (arith, first, ap (λ (k : Name). k.thread) is))
+    other is = absurd (omega (arith, first, ap (λ (name : Name). name.thread) is))
 
     blank_formed : IsFormedObject threads more n (blank refs nums)
     blank_formed = record {
@@ -225,74 +225,74 @@ fresh_formed threads g t refs nums first last few_refs few_nums formed = record 
     }
 
 -- its name is known then
-fresh_known : (threads : ℕ) (g : Graph) (t refs nums : ℕ) → 1 ≤ t → t ≤ threads → IsKnown threads (with_fresh g t (blank refs nums)).count (Some (fresh g t))
-fresh_known threads g t refs nums first last = inr (record { from_first = first; to_last = last; from_one = omega arith; to_count = counted (eqb t t) refl })
+fresh_known : (threads : ℕ) (graph : Graph) (thread refs nums : ℕ) → 1 ≤ thread → thread ≤ threads → IsKnown threads (with_fresh graph thread (blank refs nums)).count (Some (fresh graph thread))
+fresh_known threads graph thread refs nums first last = inr (record { from_first = first; to_last = last; from_one = omega arith; to_count = counted (eqb thread thread) refl })
   where
-    counted : (b : Bool) → eqb t t ≡ b → g.count t + 1 ≤ cond b (g.count t + 1) (g.count t)
+    counted : (holds : Bool) → eqb thread thread ≡ holds → graph.count thread + 1 ≤ cond holds (graph.count thread + 1) (graph.count thread)
     counted true same = omega arith
     counted false same = absurd (grind (arith, nat_tests))
 
 -- ---- outcomes
 
-on_formed : {A : Type 0} (threads : ℕ) (o : Option A) (g : Graph) (f : A → Outcome) → IsFormed threads g → ((v : A) → o ≡ Some v → IsFormed threads (f v).graph) → IsFormed threads (on o g f).graph
-on_formed threads None g f formed each = formed
-on_formed threads (Some v) g f formed each = each v refl
+on_formed : {A : Type 0} (threads : ℕ) (found : Option A) (graph : Graph) (f : A → Outcome) → IsFormed threads graph → ((v : A) → found ≡ Some v → IsFormed threads (f v).graph) → IsFormed threads (on found graph f).graph
+on_formed threads None graph f formed each = formed
+on_formed threads (Some v) graph f formed each = each v refl
 
-either_formed : (threads : ℕ) (b : Bool) (x y : Outcome) → IsFormed threads x.graph → IsFormed threads y.graph → IsFormed threads (cond b x y).graph
+either_formed : (threads : ℕ) (holds : Bool) (x y : Outcome) → IsFormed threads x.graph → IsFormed threads y.graph → IsFormed threads (cond holds x y).graph
 either_formed threads true x y p q = p
 either_formed threads false x y p q = q
 
-element : {X : Type 0} (P : X → Type 0) (xs : List X) (i : ℕ) (x : X) → All P xs → slice_get xs i ≡ Some x → P x
-element P xs i x all there = subst P (get_or_from_slice_get xs i x x there) (all i x (slice_get_within xs i x there))
+element : {X : Type 0} (P : X → Type 0) (xs : List X) (index : ℕ) (x : X) → All P xs → slice_get xs index ≡ Some x → P x
+element P xs index x all there = subst P (get_or_from_slice_get xs index x x there) (all index x (slice_get_within xs index x there))
 
 -- the counts of a graph are those that it has with another object
-with_named-count : (g : Graph) (r : Reference) (o : Object) → (with_named g r o).count ≡ g.count
-with_named-count g None o = refl
-with_named-count g (Some n) o = refl
+with_named-count : (graph : Graph) (reference : Reference) (object : Object) → (with_named graph reference object).count ≡ graph.count
+with_named-count graph None object = refl
+with_named-count graph (Some n) object = refl
 
-outcome_formed : (threads : ℕ) (g : Graph) (t : ℕ) (c : Command) → 1 ≤ t → t ≤ threads → IsValid c → FitsValue c → IsFormed threads g → IsFormed threads (outcome g t c).graph
-outcome_formed threads g t (New dst refs nums) first last valid fits formed =
-    root_formed threads (with_fresh g t (blank refs nums)) t dst (Some (fresh g t)) first last valid.0 (fresh_known threads g t refs nums first last) (fresh_formed threads g t refs nums first last valid.1 valid.2 formed)
-outcome_formed threads g t (Get dst src field) first last valid fits formed =
-    on_formed threads (field_at g t src field) g _ formed (λ v there.
-    root_formed threads g t dst v first last valid.0 (element (IsKnown threads g.count) (named g (g.root t src)).refs field v (refs_known threads g (g.root t src) formed) there) formed)
-outcome_formed threads g t (Set obj field val) first last valid fits formed =
-    on_formed threads (field_at g t obj field) g _ formed (λ v there. refs_formed threads g (g.root t obj) field (g.root t val) (formed.root t val) formed)
-outcome_formed threads g t (Cas obj field expect val) first last valid fits formed =
-    on_formed threads (field_at g t obj field) g _ formed (λ v there.
-    either_formed threads (same_reference v (g.root t expect)) _ _ (refs_formed threads g (g.root t obj) field (g.root t val) (formed.root t val) formed) formed)
-outcome_formed threads g t (Xchg dst obj field val) first last valid fits formed =
-    on_formed threads (field_at g t obj field) g _ formed (λ v there.
-    let was = element (IsKnown threads g.count) (named g (g.root t obj)).refs field v (refs_known threads g (g.root t obj) formed) there in
-    let swapped = with_field g t obj field (g.root t val) in
-    root_formed threads swapped t dst v first last valid.0
-    (subst (λ count. IsKnown threads count v) (sym (with_named-count g (g.root t obj) _)) was)
-    (refs_formed threads g (g.root t obj) field (g.root t val) (formed.root t val) formed))
-outcome_formed threads g t (Rd obj index) first last valid fits formed = on_formed threads (number_at g t obj index) g _ formed (λ v there. formed)
-outcome_formed threads g t (Wr obj index value) first last valid fits formed =
-    on_formed threads (number_at g t obj index) g _ formed (λ v there. nums_formed threads g (g.root t obj) index value fits formed)
-outcome_formed threads g t (Copy dst src) first last valid fits formed = root_formed threads g t dst (g.root t src) first last valid.0 (formed.root t src) formed
-outcome_formed threads g t (Drop dst) first last valid fits formed = root_formed threads g t dst None first last valid tt formed
-outcome_formed threads g t (Same a b) first last valid fits formed = formed
-outcome_formed threads g t Gc first last valid fits formed = formed
-outcome_formed threads g t (Pin slot obj) first last valid fits formed = formed
-outcome_formed threads g t (Unpin slot) first last valid fits formed = on_formed threads (g.pin t slot) g _ formed (λ v there. pin_formed threads g t slot None tt formed)
+outcome_formed : (threads : ℕ) (graph : Graph) (thread : ℕ) (command : Command) → 1 ≤ thread → thread ≤ threads → IsValid command → FitsValue command → IsFormed threads graph → IsFormed threads (outcome graph thread command).graph
+outcome_formed threads graph thread (New dst refs nums) first last valid fits formed =
+    root_formed threads (with_fresh graph thread (blank refs nums)) thread dst (Some (fresh graph thread)) first last valid.0 (fresh_known threads graph thread refs nums first last) (fresh_formed threads graph thread refs nums first last valid.1 valid.2 formed)
+outcome_formed threads graph thread (Get dst src field) first last valid fits formed =
+    on_formed threads (field_at graph thread src field) graph _ formed (λ v there.
+    root_formed threads graph thread dst v first last valid.0 (element (IsKnown threads graph.count) (named graph (graph.root thread src)).refs field v (refs_known threads graph (graph.root thread src) formed) there) formed)
+outcome_formed threads graph thread (Set obj field val) first last valid fits formed =
+    on_formed threads (field_at graph thread obj field) graph _ formed (λ v there. refs_formed threads graph (graph.root thread obj) field (graph.root thread val) (formed.root thread val) formed)
+outcome_formed threads graph thread (Cas obj field expect val) first last valid fits formed =
+    on_formed threads (field_at graph thread obj field) graph _ formed (λ v there.
+    either_formed threads (same_reference v (graph.root thread expect)) _ _ (refs_formed threads graph (graph.root thread obj) field (graph.root thread val) (formed.root thread val) formed) formed)
+outcome_formed threads graph thread (Xchg dst obj field val) first last valid fits formed =
+    on_formed threads (field_at graph thread obj field) graph _ formed (λ v there.
+    let was = element (IsKnown threads graph.count) (named graph (graph.root thread obj)).refs field v (refs_known threads graph (graph.root thread obj) formed) there in
+    let swapped = with_field graph thread obj field (graph.root thread val) in
+    root_formed threads swapped thread dst v first last valid.0
+    (subst (λ count. IsKnown threads count v) (sym (with_named-count graph (graph.root thread obj) _)) was)
+    (refs_formed threads graph (graph.root thread obj) field (graph.root thread val) (formed.root thread val) formed))
+outcome_formed threads graph thread (Rd obj index) first last valid fits formed = on_formed threads (number_at graph thread obj index) graph _ formed (λ v there. formed)
+outcome_formed threads graph thread (Wr obj index value) first last valid fits formed =
+    on_formed threads (number_at graph thread obj index) graph _ formed (λ v there. nums_formed threads graph (graph.root thread obj) index value fits formed)
+outcome_formed threads graph thread (Copy dst src) first last valid fits formed = root_formed threads graph thread dst (graph.root thread src) first last valid.0 (formed.root thread src) formed
+outcome_formed threads graph thread (Drop dst) first last valid fits formed = root_formed threads graph thread dst None first last valid tt formed
+outcome_formed threads graph thread (Same a b) first last valid fits formed = formed
+outcome_formed threads graph thread Gc first last valid fits formed = formed
+outcome_formed threads graph thread (Pin slot obj) first last valid fits formed = formed
+outcome_formed threads graph thread (Unpin slot) first last valid fits formed = on_formed threads (graph.pin thread slot) graph _ formed (λ v there. pin_formed threads graph thread slot None tt formed)
 
 -- what a command pins is known
-pinned_known : (threads : ℕ) (g : Graph) (t : ℕ) (c : Command) → IsFormed threads g → IsKnown threads g.count (pinned_by g t c)
-pinned_known threads g t (New dst refs nums) formed = tt
-pinned_known threads g t (Get dst src field) formed = tt
-pinned_known threads g t (Set obj field val) formed = tt
-pinned_known threads g t (Cas obj field expect val) formed = tt
-pinned_known threads g t (Xchg dst obj field val) formed = tt
-pinned_known threads g t (Rd obj index) formed = tt
-pinned_known threads g t (Wr obj index value) formed = tt
-pinned_known threads g t (Copy dst src) formed = tt
-pinned_known threads g t (Drop dst) formed = tt
-pinned_known threads g t (Same a b) formed = tt
-pinned_known threads g t Gc formed = tt
-pinned_known threads g t (Pin slot obj) formed = known_either threads g.count (is_some (g.pin t slot)) None (g.root t obj) tt (formed.root t obj)
-pinned_known threads g t (Unpin slot) formed = tt
+pinned_known : (threads : ℕ) (graph : Graph) (thread : ℕ) (command : Command) → IsFormed threads graph → IsKnown threads graph.count (pinned_by graph thread command)
+pinned_known threads graph thread (New dst refs nums) formed = tt
+pinned_known threads graph thread (Get dst src field) formed = tt
+pinned_known threads graph thread (Set obj field val) formed = tt
+pinned_known threads graph thread (Cas obj field expect val) formed = tt
+pinned_known threads graph thread (Xchg dst obj field val) formed = tt
+pinned_known threads graph thread (Rd obj index) formed = tt
+pinned_known threads graph thread (Wr obj index value) formed = tt
+pinned_known threads graph thread (Copy dst src) formed = tt
+pinned_known threads graph thread (Drop dst) formed = tt
+pinned_known threads graph thread (Same a b) formed = tt
+pinned_known threads graph thread Gc formed = tt
+pinned_known threads graph thread (Pin slot obj) formed = known_either threads graph.count (is_some (graph.pin thread slot)) None (graph.root thread obj) tt (formed.root thread obj)
+pinned_known threads graph thread (Unpin slot) formed = tt
 
 -- ---- histories
 
@@ -315,16 +315,16 @@ opening_formed threads = record {
       hub_nums = λ is. refl;
     }
 
-entry_formed : (threads regions region_words : ℕ) (g : Graph) (e : Entry) (h : Graph) → IsEntryInRange threads e → IsLegal regions region_words g e.thread e.command e.reply h → IsFormed threads g → IsFormed threads h
-entry_formed threads regions region_words g e h range (inl told) formed =
-    subst (IsFormed threads) (sym (ap (λ (o : Outcome). o.graph) told.1)) (outcome_formed threads g e.thread e.command range.from_first range.to_last range.valid range.fits formed)
-entry_formed threads regions region_words g e h range (inr (inl full)) formed = subst (IsFormed threads) (sym full.2) formed
-entry_formed threads regions region_words g e h range (inr (inr pinning)) formed =
-    let known = subst (IsKnown threads g.count) pinning.pins (pinned_known threads g e.thread e.command formed) in
-    subst (IsFormed threads) (sym pinning.graph) (pin_formed threads g e.thread (slot_of e.command) (Some (record { name = pinning.name; place = pinning.place })) known formed)
+entry_formed : (threads regions region_words : ℕ) (graph : Graph) (entry : Entry) (other_graph : Graph) → IsEntryInRange threads entry → IsLegal regions region_words graph entry.thread entry.command entry.reply other_graph → IsFormed threads graph → IsFormed threads other_graph
+entry_formed threads regions region_words graph entry other_graph range (inl told) formed =
+    subst (IsFormed threads) (sym (ap (λ (o : Outcome). o.graph) told.1)) (outcome_formed threads graph entry.thread entry.command range.from_first range.to_last range.valid range.fits formed)
+entry_formed threads regions region_words graph entry other_graph range (inr (inl full)) formed = subst (IsFormed threads) (sym full.2) formed
+entry_formed threads regions region_words graph entry other_graph range (inr (inr pinning)) formed =
+    let known = subst (IsKnown threads graph.count) pinning.pins (pinned_known threads graph entry.thread entry.command formed) in
+    subst (IsFormed threads) (sym pinning.graph) (pin_formed threads graph entry.thread (slot_of entry.command) (Some (record { name = pinning.name; place = pinning.place })) known formed)
 
-pub history_formed : (threads regions region_words : ℕ) (g : Graph) (es : List Entry) → EachIsLegal regions region_words g es → All (IsEntryInRange threads) es → IsFormed threads g → IsFormed threads (after g es)
-history_formed threads regions region_words g [] legal range formed = formed
-history_formed threads regions region_words g (e ∷ es) legal range formed =
-    history_formed threads regions region_words (after_entry g e) es legal.1 (All-tail (IsEntryInRange threads) e es range)
-    (entry_formed threads regions region_words g e (after_entry g e) (All-head (IsEntryInRange threads) e es range) legal.0 formed)
+pub history_formed : (threads regions region_words : ℕ) (graph : Graph) (es : List Entry) → EachIsLegal regions region_words graph es → All (IsEntryInRange threads) es → IsFormed threads graph → IsFormed threads (after graph es)
+history_formed threads regions region_words graph [] legal range formed = formed
+history_formed threads regions region_words graph (e ∷ es) legal range formed =
+    history_formed threads regions region_words (after_entry graph e) es legal.1 (All-tail (IsEntryInRange threads) e es range)
+    (entry_formed threads regions region_words graph e (after_entry graph e) (All-head (IsEntryInRange threads) e es range) legal.0 formed)

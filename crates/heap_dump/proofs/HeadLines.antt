@@ -62,35 +62,35 @@ abbrev pub heap_limits : List ℕ
 heap_limits = 64 ∷ 1024 ∷ 63 ∷ []
 
 abbrev pub heap_numbers : Config → List ℕ
-heap_numbers c = c.regions ∷ c.region_words ∷ c.reserve ∷ []
+heap_numbers config = config.regions ∷ config.region_words ∷ config.reserve ∷ []
 
 abbrev pub heap_small : AreSmall heap_limits
 heap_small = (lit< tt, (lit< tt, (lit< tt, tt)))
 
-pub heap_within : (c : Config) → IsNarrow c → AreWithinLimits heap_limits (heap_numbers c)
-heap_within c narrow = (omega arith, (omega arith, (omega arith, tt)))
+pub heap_within : (config : Config) → IsNarrow config → AreWithinLimits heap_limits (heap_numbers config)
+heap_within config narrow = (omega arith, (omega arith, (omega arith, tt)))
 
-no_heap_fault : (c : Config) → IsNarrow c → fault_of c.regions c.region_words 1 0 c.reserve ≡ None
-no_heap_fault c narrow = grind (arith, nat_tests)
+no_heap_fault : (config : Config) → IsNarrow config → fault_of config.regions config.region_words 1 0 config.reserve ≡ None
+no_heap_fault config narrow = grind (arith, nat_tests)
 
-pub heap_refused : (text rest more s : List ℕ) (r : Option BadConfig) → ◌≡◌ {A = Option (List ℕ)} (Some rest) (behind (codes "heap") text) → ◌≡◌ {A = Option (List ℕ × List ℕ)} (Some (take 3 s, more)) (numbers_at heap_limits rest)
-    → r ≡ fault_of (get_or s 0 0) (get_or s 1 0) 1 0 (get_or s 2 0) → (r ≡ None → ⊥) → (c : Config) → IsNarrow c → Spells text (heap_line c) → ⊥
-heap_refused text rest more s r first second fault some c narrow e =
+pub heap_refused : (text rest more s : List ℕ) (found : Option BadConfig) → ◌≡◌ {A = Option (List ℕ)} (Some rest) (behind (codes "heap") text) → ◌≡◌ {A = Option (List ℕ × List ℕ)} (Some (take 3 s, more)) (numbers_at heap_limits rest)
+    → found ≡ fault_of (get_or s 0 0) (get_or s 1 0) 1 0 (get_or s 2 0) → (found ≡ None → ⊥) → (config : Config) → IsNarrow config → Spells text (heap_line config) → ⊥
+heap_refused text rest more s found first second fault some config narrow e =
     let read : List ℕ × List ℕ = (take 3 s, more) in
-    let is = numbers_are heap_limits (heap_numbers c) rest read second (rest_is (codes "heap") (heap_numbers c) text rest first e) (heap_within c narrow) heap_small in
-    let sizes : take 3 s ≡ heap_numbers c = ap (λ (x : List ℕ × List ℕ). x.0) is in
+    let is = numbers_are heap_limits (heap_numbers config) rest read second (rest_is (codes "heap") (heap_numbers config) text rest first e) (heap_within config narrow) heap_small in
+    let sizes : take 3 s ≡ heap_numbers config = ap (λ (x : List ℕ × List ℕ). x.0) is in
     let regions = sym (get_or-take 3 s 0 0 (lit< tt)) ∙ ap (λ (l : List ℕ). get_or l 0 0) sizes in
     let words = sym (get_or-take 3 s 1 0 (lit< tt)) ∙ ap (λ (l : List ℕ). get_or l 1 0) sizes in
     let reserve = sym (get_or-take 3 s 2 0 (lit< tt)) ∙ ap (λ (l : List ℕ). get_or l 2 0) sizes in
-    let fine : fault_of (get_or s 0 0) (get_or s 1 0) 1 0 (get_or s 2 0) ≡ None = rw (regions, words, reserve) (no_heap_fault c narrow) in
+    let fine : fault_of (get_or s 0 0) (get_or s 1 0) 1 0 (get_or s 2 0) ≡ None = rw (regions, words, reserve) (no_heap_fault config narrow) in
     some (fault ∙ fine)
 
-pub heap_read : (text rest more s : List ℕ) (c : Config) → ◌≡◌ {A = Option (List ℕ)} (Some rest) (behind (codes "heap") text) → ◌≡◌ {A = Option (List ℕ × List ℕ)} (Some (take 3 s, more)) (numbers_at heap_limits rest) → more ≡ []
-    → c.regions ≡ get_or s 0 0 → c.region_words ≡ get_or s 1 0 → c.reserve ≡ get_or s 2 0 → Spells text (heap_line c)
-heap_read text rest more s c first second none regions words reserve =
+pub heap_read : (text rest more s : List ℕ) (config : Config) → ◌≡◌ {A = Option (List ℕ)} (Some rest) (behind (codes "heap") text) → ◌≡◌ {A = Option (List ℕ × List ℕ)} (Some (take 3 s, more)) (numbers_at heap_limits rest) → more ≡ []
+    → config.regions ≡ get_or s 0 0 → config.region_words ≡ get_or s 1 0 → config.reserve ≡ get_or s 2 0 → Spells text (heap_line config)
+heap_read text rest more s config first second none regions words reserve =
     let read : List ℕ × List ℕ = (take 3 s, more) in
     let all = spelled_so (codes "heap") text rest heap_limits read first second heap_small none in
-    let sizes : heap_numbers c ≡ take 3 s = rw (regions, words, reserve, ← get_or-take 3 s 0 0 (lit< tt), ← get_or-take 3 s 1 0 (lit< tt), ← get_or-take 3 s 2 0 (lit< tt)) (three_listed (take 3 s) all.1) in
+    let sizes : heap_numbers config ≡ take 3 s = rw (regions, words, reserve, ← get_or-take 3 s 0 0 (lit< tt), ← get_or-take 3 s 1 0 (lit< tt), ← get_or-take 3 s 2 0 (lit< tt)) (three_listed (take 3 s) all.1) in
     all.0 ∙ ap (titled (codes "heap")) (sym sizes)
 
 -- ---- the machines
@@ -99,31 +99,31 @@ abbrev pub threads_limits : List ℕ
 threads_limits = 8 ∷ 3 ∷ []
 
 abbrev pub threads_numbers : Config → List ℕ
-threads_numbers c = c.mutators ∷ c.helpers ∷ []
+threads_numbers config = config.mutators ∷ config.helpers ∷ []
 
 abbrev pub threads_small : AreSmall threads_limits
 threads_small = (lit< tt, (lit< tt, tt))
 
-pub threads_within : (c : Config) → AreWithinLimits threads_limits (threads_numbers c)
-threads_within c = (omega arith, (omega arith, tt))
+pub threads_within : (config : Config) → AreWithinLimits threads_limits (threads_numbers config)
+threads_within config = (omega arith, (omega arith, tt))
 
-pub threads_refused : (h : Config) (text rest more s : List ℕ) (r : Option BadConfig) → ◌≡◌ {A = Option (List ℕ)} (Some rest) (behind (codes "threads") text) → ◌≡◌ {A = Option (List ℕ × List ℕ)} (Some (take 2 s, more)) (numbers_at threads_limits rest)
-    → r ≡ fault_of h.regions h.region_words (get_or s 0 0) (get_or s 1 0) h.reserve → (r ≡ None → ⊥) → IsNarrow h → (c : Config) → IsHeapOf h c → Spells text (threads_line c) → ⊥
-threads_refused h text rest more s r first second fault some narrow c same e =
+pub threads_refused : (config : Config) (text rest more s : List ℕ) (found : Option BadConfig) → ◌≡◌ {A = Option (List ℕ)} (Some rest) (behind (codes "threads") text) → ◌≡◌ {A = Option (List ℕ × List ℕ)} (Some (take 2 s, more)) (numbers_at threads_limits rest)
+    → found ≡ fault_of config.regions config.region_words (get_or s 0 0) (get_or s 1 0) config.reserve → (found ≡ None → ⊥) → IsNarrow config → (other_config : Config) → IsHeapOf config other_config → Spells text (threads_line other_config) → ⊥
+threads_refused config text rest more s found first second fault some narrow other_config same e =
     let read : List ℕ × List ℕ = (take 2 s, more) in
-    let is = numbers_are threads_limits (threads_numbers c) rest read second (rest_is (codes "threads") (threads_numbers c) text rest first e) (threads_within c) threads_small in
-    let sizes : take 2 s ≡ threads_numbers c = ap (λ (x : List ℕ × List ℕ). x.0) is in
+    let is = numbers_are threads_limits (threads_numbers other_config) rest read second (rest_is (codes "threads") (threads_numbers other_config) text rest first e) (threads_within other_config) threads_small in
+    let sizes : take 2 s ≡ threads_numbers other_config = ap (λ (x : List ℕ × List ℕ). x.0) is in
     let mutators = sym (get_or-take 2 s 0 0 (lit< tt)) ∙ ap (λ (l : List ℕ). get_or l 0 0) sizes in
     let helpers = sym (get_or-take 2 s 1 0 (lit< tt)) ∙ ap (λ (l : List ℕ). get_or l 1 0) sizes in
-    let fine : fault_of h.regions h.region_words (get_or s 0 0) (get_or s 1 0) h.reserve ≡ None = rw (← same.regions, ← same.region_words, ← same.reserve, mutators, helpers) (no_fault c (omega (arith, narrow, same.region_words))) in
+    let fine : fault_of config.regions config.region_words (get_or s 0 0) (get_or s 1 0) config.reserve ≡ None = rw (← same.regions, ← same.region_words, ← same.reserve, mutators, helpers) (no_fault other_config (omega (arith, narrow, same.region_words))) in
     some (fault ∙ fine)
 
-pub threads_read : (text rest more s : List ℕ) (c : Config) → ◌≡◌ {A = Option (List ℕ)} (Some rest) (behind (codes "threads") text) → ◌≡◌ {A = Option (List ℕ × List ℕ)} (Some (take 2 s, more)) (numbers_at threads_limits rest) → more ≡ []
-    → c.mutators ≡ get_or s 0 0 → c.helpers ≡ get_or s 1 0 → Spells text (threads_line c)
-threads_read text rest more s c first second none mutators helpers =
+pub threads_read : (text rest more s : List ℕ) (config : Config) → ◌≡◌ {A = Option (List ℕ)} (Some rest) (behind (codes "threads") text) → ◌≡◌ {A = Option (List ℕ × List ℕ)} (Some (take 2 s, more)) (numbers_at threads_limits rest) → more ≡ []
+    → config.mutators ≡ get_or s 0 0 → config.helpers ≡ get_or s 1 0 → Spells text (threads_line config)
+threads_read text rest more s config first second none mutators helpers =
     let read : List ℕ × List ℕ = (take 2 s, more) in
     let all = spelled_so (codes "threads") text rest threads_limits read first second threads_small none in
-    let sizes : threads_numbers c ≡ take 2 s = rw (mutators, helpers, ← get_or-take 2 s 0 0 (lit< tt), ← get_or-take 2 s 1 0 (lit< tt)) (two_listed (take 2 s) all.1) in
+    let sizes : threads_numbers config ≡ take 2 s = rw (mutators, helpers, ← get_or-take 2 s 0 0 (lit< tt), ← get_or-take 2 s 1 0 (lit< tt)) (two_listed (take 2 s) all.1) in
     all.0 ∙ ap (titled (codes "threads")) (sym sizes)
 
 -- ---- the version

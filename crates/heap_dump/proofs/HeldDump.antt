@@ -25,148 +25,148 @@ use Rattle.heap_dump.proofs.RowMarks.{field_at, root_led, there_row, row_there}
 
 -- ---- references that are held as they are
 
-held_at : (refs : List Reference) (k : ℕ) → get_or (map held refs) k None ≡ held (get_or refs k None)
-held_at [] k = refl
+held_at : (refs : List Reference) (index : ℕ) → get_or (map held refs) index None ≡ held (get_or refs index None)
+held_at [] index = refl
 held_at (r ∷ refs) zero = refl
-held_at (r ∷ refs) (suc k) = held_at refs k
+held_at (r ∷ refs) (suc index) = held_at refs index
 
-row_at : (rows : List Row) (k : ℕ) → get_or (map held_row rows) k (bare hub) ≡ held_row (get_or rows k (bare hub))
-row_at [] k = refl
+row_at : (rows : List Row) (index : ℕ) → get_or (map held_row rows) index (bare hub) ≡ held_row (get_or rows index (bare hub))
+row_at [] index = refl
 row_at (r ∷ rows) zero = refl
-row_at (r ∷ rows) (suc k) = row_at rows k
+row_at (r ∷ rows) (suc index) = row_at rows index
 
-roots_at : (roots : List (List Reference)) (k : ℕ) → get_or (map (map held) roots) k [] ≡ map held (get_or roots k [])
-roots_at [] k = refl
+roots_at : (roots : List (List Reference)) (index : ℕ) → get_or (map (map held) roots) index [] ≡ map held (get_or roots index [])
+roots_at [] index = refl
 roots_at (r ∷ roots) zero = refl
-roots_at (r ∷ roots) (suc k) = roots_at roots k
+roots_at (r ∷ roots) (suc index) = roots_at roots index
 
 module _ (counts : List ℕ) (h : Reference → Reference) (fixed : (r : Reference) → ((n : Name) → h r ≡ Some n → IsNamed counts n) → held r ≡ r) where
-  refs_fixed : (refs : List Reference) → ((k : ℕ) (n : Name) → h (get_or refs k None) ≡ Some n → IsNamed counts n) → map held refs ≡ refs
+  refs_fixed : (refs : List Reference) → ((index : ℕ) (name : Name) → h (get_or refs index None) ≡ Some name → IsNamed counts name) → map held refs ≡ refs
   refs_fixed [] each = refl
-  refs_fixed (r ∷ refs) each = ap (λ (q : Reference). q ∷ map held refs) (fixed r (each 0)) ∙ ap (λ (qs : List Reference). r ∷ qs) (refs_fixed refs (λ k. each (suc k)))
+  refs_fixed (r ∷ refs) each = ap (λ (reference : Reference). reference ∷ map held refs) (fixed r (each 0)) ∙ ap (λ (qs : List Reference). r ∷ qs) (refs_fixed refs (λ index. each (suc index)))
 
-  rows_fixed : (rows : List Row) → ((k field : ℕ) (n : Name) → h (get_or (get_or rows k (bare hub)).refs field None) ≡ Some n → IsNamed counts n) → map held_row rows ≡ rows
+  rows_fixed : (rows : List Row) → ((index field : ℕ) (name : Name) → h (get_or (get_or rows index (bare hub)).refs field None) ≡ Some name → IsNamed counts name) → map held_row rows ≡ rows
   rows_fixed [] each = refl
   rows_fixed (r ∷ rows) each =
       ap (λ (qs : List Reference). record { name = r.name; refs = qs; nums = r.nums } ∷ map held_row rows) (refs_fixed r.refs (each 0))
-      ∙ ap (λ (qs : List Row). r ∷ qs) (rows_fixed rows (λ k. each (suc k)))
+      ∙ ap (λ (qs : List Row). r ∷ qs) (rows_fixed rows (λ index. each (suc index)))
 
-  roots_fixed : (roots : List (List Reference)) → ((k index : ℕ) (n : Name) → h (get_or (get_or roots k []) index None) ≡ Some n → IsNamed counts n) → map (map held) roots ≡ roots
+  roots_fixed : (roots : List (List Reference)) → ((other_index index : ℕ) (name : Name) → h (get_or (get_or roots other_index []) index None) ≡ Some name → IsNamed counts name) → map (map held) roots ≡ roots
   roots_fixed [] each = refl
   roots_fixed (r ∷ roots) each =
-      ap (λ (q : List Reference). q ∷ map (map held) roots) (refs_fixed r (each 0))
-      ∙ ap (λ (qs : List (List Reference)). r ∷ qs) (roots_fixed roots (λ k. each (suc k)))
+      ap (λ (references : List Reference). references ∷ map (map held) roots) (refs_fixed r (each 0))
+      ∙ ap (λ (qs : List (List Reference)). r ∷ qs) (roots_fixed roots (λ other_index. each (suc other_index)))
 
 -- ---- what a whole text refers to
 
-module _ (counts : List ℕ) (t : Text) (reach : IsReach (graph_from t) (names_of t)) (named : (k : ℕ) → k < length t.rows → IsNamed counts (row_of t k).name) where
-  led_named : (n : Name) → IsReachable (graph_from t) n → IsNamed counts n
-  led_named n led = let w = there_row t n (reach.all n led) in subst (IsNamed counts) w.2 (named w.0 w.1)
+module _ (counts : List ℕ) (text : Text) (reach : IsReach (graph_from text) (names_of text)) (named : (k : ℕ) → k < length text.rows → IsNamed counts (row_of text k).name) where
+  led_named : (name : Name) → IsReachable (graph_from text) name → IsNamed counts name
+  led_named name led = let w = there_row text name (reach.all name led) in subst (IsNamed counts) w.2 (named w.0 w.1)
 
-  field_named : (k field : ℕ) (n : Name) → get_or (row_of t k).refs field None ≡ Some n → IsNamed counts n
-  field_named k field n is = by_row (lt_or_ge k (length t.rows))
+  field_named : (index field : ℕ) (name : Name) → get_or (row_of text index).refs field None ≡ Some name → IsNamed counts name
+  field_named index field name is = by_row (lt_or_ge index (length text.rows))
     where
-      by_field : k < length t.rows → (field < length (row_of t k).refs) ⊎ (length (row_of t k).refs ≤ field) → IsNamed counts n
-      by_field low (inr high) = absurd (let e : None ≡ Some n = sym (get_or_past (row_of t k).refs field None high) ∙ is in cc)
+      by_field : index < length text.rows → (field < length (row_of text index).refs) ⊎ (length (row_of text index).refs ≤ field) → IsNamed counts name
+      by_field low (inr high) = absurd (let e : None ≡ Some name = sym (get_or_past (row_of text index).refs field None high) ∙ is in cc)
       by_field low (inl inside) =
-          led_named n (field_at t k field (get_or (row_of t k).refs field None) reach.in_order low (λ m e. let same : (row_of t k).name ≡ m = cc in subst (IsReachable (graph_from t)) same (reach.only (row_of t k).name (row_there t k low))) inside refl n is)
+          led_named name (field_at text index field (get_or (row_of text index).refs field None) reach.in_order low (λ m e. let same : (row_of text index).name ≡ m = cc in subst (IsReachable (graph_from text)) same (reach.only (row_of text index).name (row_there text index low))) inside refl name is)
 
-      by_row : (k < length t.rows) ⊎ (length t.rows ≤ k) → IsNamed counts n
-      by_row (inl low) = by_field low (lt_or_ge field (length (row_of t k).refs))
-      by_row (inr high) = absurd (let e : None ≡ Some n = sym (ap (λ (r : Row). get_or r.refs field None) (get_or_past t.rows k (bare hub) high)) ∙ is in cc)
+      by_row : (index < length text.rows) ⊎ (length text.rows ≤ index) → IsNamed counts name
+      by_row (inl low) = by_field low (lt_or_ge field (length (row_of text index).refs))
+      by_row (inr high) = absurd (let e : None ≡ Some name = sym (ap (λ (row : Row). get_or row.refs field None) (get_or_past text.rows index (bare hub) high)) ∙ is in cc)
 
-  root_named : (k index : ℕ) (n : Name) → get_or (get_or t.roots k []) index None ≡ Some n → IsNamed counts n
-  root_named k index n is =
+  root_named : (k index : ℕ) (name : Name) → get_or (get_or text.roots k []) index None ≡ Some name → IsNamed counts name
+  root_named k index name is =
       let back : k ≡ k + 1 - 1 = omega arith in
-      led_named n (root_led t (k + 1) index (get_or (get_or t.roots k []) index None) (omega arith) (ap (λ (j : ℕ). get_or (get_or t.roots j []) index None) back) n is)
+      led_named name (root_led text (k + 1) index (get_or (get_or text.roots k []) index None) (omega arith) (ap (λ (j : ℕ). get_or (get_or text.roots j []) index None) back) name is)
 
 -- ---- a dump and what is held of it
 
 abbrev text_in : Dumped → Text
-text_in d = record { rows = d.rows; roots = d.roots; pins = []; spare = 0; room = 0 }
+text_in dump = record { rows = dump.rows; roots = dump.roots; pins = []; spare = 0; room = 0 }
 
 abbrev text_held : Dumped → Text
-text_held d = record { rows = map held_row d.rows; roots = map (map held) d.roots; pins = []; spare = 0; room = 0 }
+text_held dump = record { rows = map held_row dump.rows; roots = map (map held) dump.roots; pins = []; spare = 0; room = 0 }
 
-module _ (d : Dumped) (form : IsInForm d) (few : length d.counts ≤ 8) where
-  small : (k : ℕ) → slice_index d.counts k < 2 ^ 32
-  small k = by_low (lt_or_ge k (length d.counts))
+module _ (dump : Dumped) (form : IsInForm dump) (few : length dump.counts ≤ 8) where
+  small : (index : ℕ) → slice_index dump.counts index < 2 ^ 32
+  small index = by_low (lt_or_ge index (length dump.counts))
     where
-      by_low : (k < length d.counts) ⊎ (length d.counts ≤ k) → slice_index d.counts k < 2 ^ 32
-      by_low (inl low) = omega (arith, All-get_or (λ n. n ≤ most_made) d.counts k 0 low form.counts)
-      by_low (inr high) = omega (arith, get_or_past d.counts k 0 high)
+      by_low : (index < length dump.counts) ⊎ (length dump.counts ≤ index) → slice_index dump.counts index < 2 ^ 32
+      by_low (inl low) = omega (arith, All-get_or (λ n. n ≤ most_made) dump.counts index 0 low form.counts)
+      by_low (inr high) = omega (arith, get_or_past dump.counts index 0 high)
 
-  as_is : (r : Reference) → ((n : Name) → r ≡ Some n → IsNamed d.counts n) → held r ≡ r
+  as_is : (reference : Reference) → ((name : Name) → reference ≡ Some name → IsNamed dump.counts name) → held reference ≡ reference
   as_is None each = refl
-  as_is (Some n) each = let s = named_small d.counts n few small (each n refl) in ap Some (held_small n s.0 s.1)
+  as_is (Some name) each = let s = named_small dump.counts name few small (each name refl) in ap Some (held_small name s.0 s.1)
 
-  as_held : (r : Reference) → ((n : Name) → held r ≡ Some n → IsNamed d.counts n) → held r ≡ r
+  as_held : (reference : Reference) → ((name : Name) → held reference ≡ Some name → IsNamed dump.counts name) → held reference ≡ reference
   as_held None each = refl
-  as_held (Some n) each = ap Some (held_named d.counts n few (each (held_name n) refl))
+  as_held (Some name) each = ap Some (held_named dump.counts name few (each (held_name name) refl))
 
-  row_named : (k : ℕ) → k < length d.rows → IsNamed d.counts (get_or d.rows k (bare hub)).name
-  row_named k low = (All-get_or (IsRow d.counts) d.rows k (bare hub) low form.rows).name
+  row_named : (index : ℕ) → index < length dump.rows → IsNamed dump.counts (get_or dump.rows index (bare hub)).name
+  row_named index low = (All-get_or (IsRow dump.counts) dump.rows index (bare hub) low form.rows).name
 
-  held_row_named : (k : ℕ) → k < length (map held_row d.rows) → IsNamed d.counts (get_or (map held_row d.rows) k (bare hub)).name
-  held_row_named k low = subst (λ (r : Row). IsNamed d.counts r.name) (sym (row_at d.rows k)) (row_named k (omega (arith, low, len_map held_row d.rows)))
+  held_row_named : (index : ℕ) → index < length (map held_row dump.rows) → IsNamed dump.counts (get_or (map held_row dump.rows) index (bare hub)).name
+  held_row_named index low = subst (λ (row : Row). IsNamed dump.counts row.name) (sym (row_at dump.rows index)) (row_named index (omega (arith, low, len_map held_row dump.rows)))
 
-  pub rows_of_dump : IsReach (graph_in d) (names_in d) → (map held_row d.rows ≡ d.rows) × (map (map held) d.roots ≡ d.roots)
+  pub rows_of_dump : IsReach (graph_in dump) (names_in dump) → (map held_row dump.rows ≡ dump.rows) × (map (map held) dump.roots ≡ dump.roots)
   rows_of_dump reach =
-      let r : IsReach (graph_from (text_in d)) (names_of (text_in d)) = reach_again d.rows d.roots (0 ∷ d.counts) [] (names_in d) reach in
-      (rows_fixed d.counts (λ r. r) as_is d.rows (field_named d.counts (text_in d) r row_named), roots_fixed d.counts (λ r. r) as_is d.roots (root_named d.counts (text_in d) r row_named))
+      let r : IsReach (graph_from (text_in dump)) (names_of (text_in dump)) = reach_again dump.rows dump.roots (0 ∷ dump.counts) [] (names_in dump) reach in
+      (rows_fixed dump.counts (λ r. r) as_is dump.rows (field_named dump.counts (text_in dump) r row_named), roots_fixed dump.counts (λ r. r) as_is dump.roots (root_named dump.counts (text_in dump) r row_named))
 
-  pub rows_of_held : IsReach (graph_from (text_held d)) (names_of (text_held d)) → (map held_row d.rows ≡ d.rows) × (map (map held) d.roots ≡ d.roots)
+  pub rows_of_held : IsReach (graph_from (text_held dump)) (names_of (text_held dump)) → (map held_row dump.rows ≡ dump.rows) × (map (map held) dump.roots ≡ dump.roots)
   rows_of_held reach = (
-    rows_fixed d.counts held as_held d.rows (λ k field n e. field_named d.counts (text_held d) reach held_row_named k field n
-        (ap (λ (r : Row). get_or r.refs field None) (row_at d.rows k) ∙ held_at (get_or d.rows k (bare hub)).refs field ∙ e)),
-    roots_fixed d.counts held as_held d.roots (λ k index n e. root_named d.counts (text_held d) reach held_row_named k index n
-        (ap (λ (rs : List Reference). get_or rs index None) (roots_at d.roots k) ∙ held_at (get_or d.roots k []) index ∙ e)),
+    rows_fixed dump.counts held as_held dump.rows (λ k field n e. field_named dump.counts (text_held dump) reach held_row_named k field n
+        (ap (λ (row : Row). get_or row.refs field None) (row_at dump.rows k) ∙ held_at (get_or dump.rows k (bare hub)).refs field ∙ e)),
+    roots_fixed dump.counts held as_held dump.roots (λ k index n e. root_named dump.counts (text_held dump) reach held_row_named k index n
+        (ap (λ (rs : List Reference). get_or rs index None) (roots_at dump.roots k) ∙ held_at (get_or dump.roots k []) index ∙ e)),
   )
 
-few_counts : (d : Dumped) (t : Text) → IsHeldDump d t → length t.roots ≤ 8 → length d.counts ≤ 8
-few_counts d t h few = omega (arith, few, ap length h.roots, len_map (map held) d.roots, h.form.each, h.form.threads)
+few_counts : (dump : Dumped) (text : Text) → IsHeldDump dump text → length text.roots ≤ 8 → length dump.counts ≤ 8
+few_counts dump text h few = omega (arith, few, ap length h.roots, len_map (map held) dump.roots, h.form.each, h.form.threads)
 
-pub dump_is_held : (d : Dumped) (t : Text) → IsHeldDump d t → length t.roots ≤ 8 → IsDump d → IsReach (graph_from t) (names_of t)
-dump_is_held d t h few is =
-    let same = rows_of_dump d h.form (few_counts d t h few) is.reach in
-    let rows : t.rows ≡ d.rows = h.rows ∙ same.0 in
-    let roots : t.roots ≡ d.roots = h.roots ∙ same.1 in
-    subst (λ (rs : List (List Reference)). IsReach (counted t.rows rs []) (names_of t)) (sym roots)
-    (subst (λ (rs : List Row). IsReach (counted rs d.roots []) (map (λ (r : Row). r.name) rs)) (sym rows) (reach_again d.rows d.roots (0 ∷ d.counts) [] (names_in d) is.reach))
+pub dump_is_held : (dump : Dumped) (text : Text) → IsHeldDump dump text → length text.roots ≤ 8 → IsDump dump → IsReach (graph_from text) (names_of text)
+dump_is_held dump text h few is =
+    let same = rows_of_dump dump h.form (few_counts dump text h few) is.reach in
+    let rows : text.rows ≡ dump.rows = h.rows ∙ same.0 in
+    let roots : text.roots ≡ dump.roots = h.roots ∙ same.1 in
+    subst (λ (rs : List (List Reference)). IsReach (counted text.rows rs []) (names_of text)) (sym roots)
+    (subst (λ (rs : List Row). IsReach (counted rs dump.roots []) (map (λ (row : Row). row.name) rs)) (sym rows) (reach_again dump.rows dump.roots (0 ∷ dump.counts) [] (names_in dump) is.reach))
 
-pub held_is_dump : (d : Dumped) (t : Text) → IsHeldDump d t → length t.roots ≤ 8 → IsReach (graph_from t) (names_of t) → IsDump d × (t.rows ≡ d.rows) × (t.roots ≡ d.roots)
-held_is_dump d t h few reach =
-    let r : IsReach (graph_from (text_held d)) (names_of (text_held d)) =
-    subst (λ (rs : List (List Reference)). IsReach (counted (map held_row d.rows) rs []) (map (λ (r : Row). r.name) (map held_row d.rows))) h.roots
-    (subst (λ (rs : List Row). IsReach (counted rs t.roots []) (map (λ (r : Row). r.name) rs)) h.rows reach) in
-    let same = rows_of_held d h.form (few_counts d t h few) r in
-    let rows : t.rows ≡ d.rows = h.rows ∙ same.0 in
-    let roots : t.roots ≡ d.roots = h.roots ∙ same.1 in (
+pub held_is_dump : (dump : Dumped) (text : Text) → IsHeldDump dump text → length text.roots ≤ 8 → IsReach (graph_from text) (names_of text) → IsDump dump × (text.rows ≡ dump.rows) × (text.roots ≡ dump.roots)
+held_is_dump dump text h few reach =
+    let r : IsReach (graph_from (text_held dump)) (names_of (text_held dump)) =
+    subst (λ (rs : List (List Reference)). IsReach (counted (map held_row dump.rows) rs []) (map (λ (row : Row). row.name) (map held_row dump.rows))) h.roots
+    (subst (λ (rs : List Row). IsReach (counted rs text.roots []) (map (λ (row : Row). row.name) rs)) h.rows reach) in
+    let same = rows_of_held dump h.form (few_counts dump text h few) r in
+    let rows : text.rows ≡ dump.rows = h.rows ∙ same.0 in
+    let roots : text.roots ≡ dump.roots = h.roots ∙ same.1 in (
       record {
         form = h.form;
-        reach = reach_again d.rows d.roots [] (0 ∷ d.counts) (names_in d)
-            (subst (λ (rs : List (List Reference)). IsReach (counted d.rows rs []) (names_in d)) roots
-            (subst (λ (rs : List Row). IsReach (counted rs t.roots []) (map (λ (r : Row). r.name) rs)) rows reach));
+        reach = reach_again dump.rows dump.roots [] (0 ∷ dump.counts) (names_in dump)
+            (subst (λ (rs : List (List Reference)). IsReach (counted dump.rows rs []) (names_in dump)) roots
+            (subst (λ (rs : List Row). IsReach (counted rs text.roots []) (map (λ (row : Row). row.name) rs)) rows reach));
       },
       rows,
       roots,
     )
 
 -- behind the roots of all threads only the line `trace` may follow
-pub mark_refused : (d : Dumped) (text : List ℕ) → IsInForm d → d.roots ≢ [] → (IsDump d → Spells text mark_line → ⊥) → (next : DumpStage) → DumpFollows (Listed d) text next → ⊥
-mark_refused d text form some none next (inl f) = some f.2
-mark_refused d text form some none next (inr (inl f)) = omega (arith, f.2, form.each)
-mark_refused d text form some none next (inr (inr f)) = none f.0 f.1
+pub mark_refused : (dump : Dumped) (text : List ℕ) → IsInForm dump → dump.roots ≢ [] → (IsDump dump → Spells text mark_line → ⊥) → (next : DumpStage) → DumpFollows (Listed dump) text next → ⊥
+mark_refused dump text form some none next (inl f) = some f.2
+mark_refused dump text form some none next (inr (inl f)) = omega (arith, f.2, form.each)
+mark_refused dump text form some none next (inr (inr f)) = none f.0 f.1
 
 pub not_mark : (text word : List ℕ) → word ≡ codes "trace" → false ≡ is_same text word → Spells text mark_line → ⊥
 not_mark text word is other e =
     not_same text word other (same_before_end text (codes "trace") newline e ∙ sym is)
 
-pub dump_small : (d : Dumped) → IsDump d → length d.counts ≤ 8 → ((k : ℕ) → AreSmall (get_or d.rows k (bare hub)).refs) × ((k : ℕ) → AreSmall (get_or d.roots k []))
-dump_small d is few =
-    let r : IsReach (graph_from (text_in d)) (names_of (text_in d)) = reach_again d.rows d.roots (0 ∷ d.counts) [] (names_in d) is.reach in
-    let named = row_named d is.form few in
-    let fits = small d is.form few in (
-      λ k field n e. let s = named_small d.counts n few fits (field_named d.counts (text_in d) r named k field n e) in (omega (arith, s.0), omega (arith, s.1)),
-      λ k index n e. let s = named_small d.counts n few fits (root_named d.counts (text_in d) r named k index n e) in (omega (arith, s.0), omega (arith, s.1)),
+pub dump_small : (dump : Dumped) → IsDump dump → length dump.counts ≤ 8 → ((k : ℕ) → AreSmall (get_or dump.rows k (bare hub)).refs) × ((k : ℕ) → AreSmall (get_or dump.roots k []))
+dump_small dump is few =
+    let r : IsReach (graph_from (text_in dump)) (names_of (text_in dump)) = reach_again dump.rows dump.roots (0 ∷ dump.counts) [] (names_in dump) is.reach in
+    let named = row_named dump is.form few in
+    let fits = small dump is.form few in (
+      λ k field n e. let s = named_small dump.counts n few fits (field_named dump.counts (text_in dump) r named k field n e) in (omega (arith, s.0), omega (arith, s.1)),
+      λ k index n e. let s = named_small dump.counts n few fits (root_named dump.counts (text_in dump) r named k index n e) in (omega (arith, s.0), omega (arith, s.1)),
     )

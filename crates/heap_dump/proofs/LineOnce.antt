@@ -47,16 +47,16 @@ references_once [] (r ∷ rs) qs a b = absurd a
 references_once (w ∷ ws) [] qs a b = absurd a
 references_once (w ∷ ws) (r ∷ rs) [] a b = absurd b
 references_once (w ∷ ws) (r ∷ rs) (q ∷ qs) a b =
-    ap (λ (x : Reference). x ∷ rs) (reference_once w r q a.0 b.0) ∙ ap (λ (xs : List Reference). q ∷ xs) (references_once ws rs qs a.1 b.1)
+    ap (λ (reference : Reference). reference ∷ rs) (reference_once w r q a.0 b.0) ∙ ap (λ (xs : List Reference). q ∷ xs) (references_once ws rs qs a.1 b.1)
 
 same_references : (ws vs : List (List ℕ)) (rs qs : List Reference) → AreReferences ws rs → AreReferences vs qs → ws ≡ vs → rs ≡ qs
 same_references ws vs rs qs a b e = references_once ws rs qs a (subst (λ (us : List (List ℕ)). AreReferences us qs) (sym e) b)
 
-same_row : (r q : Row) → r.name ≡ q.name → r.refs ≡ q.refs → r.nums ≡ q.nums → r ≡ q
-same_row r q name refs nums =
-    ap (λ (n : Name). record { name = n; refs = r.refs; nums = r.nums }) name
-    ∙ ap (λ (xs : List Reference). record { name = q.name; refs = xs; nums = r.nums }) refs
-    ∙ ap (λ (xs : List ℕ). record { name = q.name; refs = q.refs; nums = xs }) nums
+same_row : (row other_row : Row) → row.name ≡ other_row.name → row.refs ≡ other_row.refs → row.nums ≡ other_row.nums → row ≡ other_row
+same_row row other_row name refs nums =
+    ap (λ (name : Name). record { name = name; refs = row.refs; nums = row.nums }) name
+    ∙ ap (λ (xs : List Reference). record { name = other_row.name; refs = xs; nums = row.nums }) refs
+    ∙ ap (λ (xs : List ℕ). record { name = other_row.name; refs = other_row.refs; nums = xs }) nums
 
 -- ---- counts
 
@@ -70,30 +70,30 @@ pub counts_words : (text : List ℕ) (counts : List ℕ) → All (λ n. n ≤ mo
 counts_words text counts all e =
     line_words text (codes "counts") (map decimal counts) (counts_title, numbers_are_words counts (small_counts counts all)) (e ∙ sym (titled_is (codes "counts") counts))
 
-pub each_small : (counts : List ℕ) → All (λ n. n ≤ most_made) counts → (k : ℕ) → slice_index counts k < 2 ^ 32
-each_small counts all k = by_low (lt_or_ge k (length counts))
+pub each_small : (counts : List ℕ) → All (λ n. n ≤ most_made) counts → (index : ℕ) → slice_index counts index < 2 ^ 32
+each_small counts all index = by_low (lt_or_ge index (length counts))
   where
-    by_low : (k < length counts) ⊎ (length counts ≤ k) → slice_index counts k < 2 ^ 32
-    by_low (inl low) = let here = All-get_or (λ n. n ≤ most_made) counts k 0 low all in omega (arith, here)
-    by_low (inr high) = let none : slice_index counts k ≡ 0 = get_or_past counts k 0 high in omega (arith, none)
+    by_low : (index < length counts) ⊎ (length counts ≤ index) → slice_index counts index < 2 ^ 32
+    by_low (inl low) = let here = All-get_or (λ n. n ≤ most_made) counts index 0 low all in omega (arith, here)
+    by_low (inr high) = let none : slice_index counts index ≡ 0 = get_or_past counts index 0 high in omega (arith, none)
 
 -- ---- the heap
 
 abbrev heap_numbers : Config → List (List ℕ)
-heap_numbers c = map decimal (c.regions ∷ c.region_words ∷ c.reserve ∷ [])
+heap_numbers config = map decimal (config.regions ∷ config.region_words ∷ config.reserve ∷ [])
 
-word_at : (ws vs : List (List ℕ)) (i : ℕ) → ws ≡ vs → get_or ws i [] ≡ get_or vs i []
-word_at ws vs i e = ap (λ (l : List (List ℕ)). get_or l i []) e
+word_at : (ws vs : List (List ℕ)) (index : ℕ) → ws ≡ vs → get_or ws index [] ≡ get_or vs index []
+word_at ws vs index e = ap (λ (l : List (List ℕ)). get_or l index []) e
 
-same_heap : (c d : Config) (text : List ℕ) → IsNarrow c → IsNarrow d → Spells text (heap_line c) → Spells text (heap_line d) → IsHeapOf c d
-same_heap c d text one other e f =
-    let same = sym (heap_again 2 d text other f).2 ∙ (heap_again 2 c text one e).2 in
-    let ws = codes "heap" ∷ heap_numbers d in
-    let vs = codes "heap" ∷ heap_numbers c in
+same_heap : (config other_config : Config) (text : List ℕ) → IsNarrow config → IsNarrow other_config → Spells text (heap_line config) → Spells text (heap_line other_config) → IsHeapOf config other_config
+same_heap config other_config text one other e f =
+    let same = sym (heap_again 2 other_config text other f).2 ∙ (heap_again 2 config text one e).2 in
+    let ws = codes "heap" ∷ heap_numbers other_config in
+    let vs = codes "heap" ∷ heap_numbers config in
     record {
-      regions = decimal_once d.regions c.regions (omega (arith, d.in_range.most_regions)) (omega (arith, c.in_range.most_regions)) (word_at ws vs 1 same);
-      region_words = decimal_once d.region_words c.region_words (omega (arith, d.in_range.most_words)) (omega (arith, c.in_range.most_words)) (word_at ws vs 2 same);
-      reserve = decimal_once d.reserve c.reserve (omega (arith, d.in_range.some_left, d.in_range.most_regions)) (omega (arith, c.in_range.some_left, c.in_range.most_regions)) (word_at ws vs 3 same);
+      regions = decimal_once other_config.regions config.regions (omega (arith, other_config.in_range.most_regions)) (omega (arith, config.in_range.most_regions)) (word_at ws vs 1 same);
+      region_words = decimal_once other_config.region_words config.region_words (omega (arith, other_config.in_range.most_words)) (omega (arith, config.in_range.most_words)) (word_at ws vs 2 same);
+      reserve = decimal_once other_config.reserve config.reserve (omega (arith, other_config.in_range.some_left, other_config.in_range.most_regions)) (omega (arith, config.in_range.some_left, config.in_range.most_regions)) (word_at ws vs 3 same);
     }
 
 same_threads : (h c d : Config) (text : List ℕ) → IsHeapOf h c → IsHeapOf h d → Spells text (titled (codes "threads") (c.mutators ∷ c.helpers ∷ [])) → Spells text (titled (codes "threads") (d.mutators ∷ d.helpers ∷ [])) → c ≡ d
@@ -116,71 +116,71 @@ IsWithin (Counts c) = Unit {0}
 IsWithin (Listed d) = (length d.counts ≤ 8) × (length d.roots ≤ 8) × ((k : ℕ) → slice_index d.counts k < 2 ^ 32)
 IsWithin (Behind stage) = Unit {0}
 
-object_once : (d : Dumped) (text : List ℕ) (a b : DumpStage) → IsWithin (Listed d) → ObjectFollows d text a → ObjectFollows d text b → a ≡ b
-object_once d text a b within f g =
+object_once : (dump : Dumped) (text : List ℕ) (stage other_stage : DumpStage) → IsWithin (Listed dump) → ObjectFollows dump text stage → ObjectFollows dump text other_stage → stage ≡ other_stage
+object_once dump text stage other_stage within f g =
     let r = f.0 in
     let q = g.0 in
-    let one = named_small d.counts r.name within.0 within.2 f.3.name in
-    let two = named_small d.counts q.name within.0 within.2 g.3.name in
+    let one = named_small dump.counts r.name within.0 within.2 f.3.name in
+    let two = named_small dump.counts q.name within.0 within.2 g.3.name in
     let ws = object_words text r f.1 (omega (arith, one.0)) (omega (arith, one.1)) f.5 f.3.fields.fit f.6 in
     let vs = object_words text q g.1 (omega (arith, two.0)) (omega (arith, two.1)) g.5 g.3.fields.fit g.6 in
     let behind = heads (codes "object") (codes "object") (name_word r.name ∷ (f.1 ++ codes "/" ∷ map decimal r.nums)) (name_word q.name ∷ (g.1 ++ codes "/" ∷ map decimal q.nums)) (sym ws ∙ vs) in
     let both = heads (name_word r.name) (name_word q.name) (f.1 ++ codes "/" ∷ map decimal r.nums) (g.1 ++ codes "/" ∷ map decimal q.nums) behind.1 in
     let fields = same_behind f.1 g.1 r.refs q.refs (map decimal r.nums) (map decimal q.nums) f.5 g.5 both.1 in
-    let name = one_name d.counts (name_word r.name) r.name q.name within.0 within.2 f.3.name g.3.name refl both.0 in
+    let name = one_name dump.counts (name_word r.name) r.name q.name within.0 within.2 f.3.name g.3.name refl both.0 in
     let row = same_row r q name (same_references f.1 g.1 r.refs q.refs f.5 g.5 fields.0) (decimals_once r.nums q.nums f.3.fields.fit g.3.fields.fit fields.1) in
-    f.7 ∙ ap (λ (x : Row). Listed (with_row d x)) row ∙ sym g.7
+    f.7 ∙ ap (λ (row : Row). Listed (with_row dump row)) row ∙ sym g.7
 
-roots_once : (d : Dumped) (text : List ℕ) (a b : DumpStage) → IsWithin (Listed d) → RootsFollow d text a → RootsFollow d text b → a ≡ b
-roots_once d text a b within f g =
-    let t = length d.roots + 1 in
+roots_once : (dump : Dumped) (text : List ℕ) (stage other_stage : DumpStage) → IsWithin (Listed dump) → RootsFollow dump text stage → RootsFollow dump text other_stage → stage ≡ other_stage
+roots_once dump text stage other_stage within f g =
+    let t = length dump.roots + 1 in
     let low : t < 2 ^ 64 = omega (arith, within.1) in
     let same = sym (roots_words text t f.0 f.1 low f.4 f.5) ∙ roots_words text t g.0 g.1 low g.4 g.5 in
     let behind = heads (codes "roots") (codes "roots") (decimal t ∷ f.1) (decimal t ∷ g.1) same in
     let both = heads (decimal t) (decimal t) f.1 g.1 behind.1 in
-    f.6 ∙ ap (λ (x : List Reference). Listed (with_roots d x)) (same_references f.1 g.1 f.0 g.0 f.4 g.4 both.1) ∙ sym g.6
+    f.6 ∙ ap (λ (references : List Reference). Listed (with_roots dump references)) (same_references f.1 g.1 f.0 g.0 f.4 g.4 both.1) ∙ sym g.6
 
-object_text : (d : Dumped) (text : List ℕ) (a : DumpStage) → IsWithin (Listed d) → ObjectFollows d text a → (ws : List (List ℕ)) × (parts 32 text ≡ codes "object" ∷ ws)
-object_text d text a within f =
-    let one = named_small d.counts f.0.name within.0 within.2 f.3.name in
+object_text : (dump : Dumped) (text : List ℕ) (stage : DumpStage) → IsWithin (Listed dump) → ObjectFollows dump text stage → (ws : List (List ℕ)) × (parts 32 text ≡ codes "object" ∷ ws)
+object_text dump text stage within f =
+    let one = named_small dump.counts f.0.name within.0 within.2 f.3.name in
     (_, object_words text f.0 f.1 (omega (arith, one.0)) (omega (arith, one.1)) f.5 f.3.fields.fit f.6)
 
-roots_text : (d : Dumped) (text : List ℕ) (a : DumpStage) → IsWithin (Listed d) → RootsFollow d text a → (ws : List (List ℕ)) × (parts 32 text ≡ codes "roots" ∷ ws)
-roots_text d text a within f = (_, roots_words text (length d.roots + 1) f.0 f.1 (omega (arith, within.1)) f.4 f.5)
+roots_text : (dump : Dumped) (text : List ℕ) (stage : DumpStage) → IsWithin (Listed dump) → RootsFollow dump text stage → (ws : List (List ℕ)) × (parts 32 text ≡ codes "roots" ∷ ws)
+roots_text dump text stage within f = (_, roots_words text (length dump.roots + 1) f.0 f.1 (omega (arith, within.1)) f.4 f.5)
 
-pub listed_once : (d : Dumped) (text : List ℕ) (a b : DumpStage) → IsWithin (Listed d) → DumpFollows (Listed d) text a → DumpFollows (Listed d) text b → a ≡ b
-listed_once d text a b within (inl f) (inl g) = object_once d text a b within f g
-listed_once d text a b within (inl f) (inr (inl g)) =
-    let one = object_text d text a within f in let two = roots_text d text b within g in absurd (object_is_no_roots one.0 two.0 (sym one.1 ∙ two.1))
-listed_once d text a b within (inl f) (inr (inr g)) =
-    let one = object_text d text a within f in absurd (object_is_no_mark one.0 [] (sym one.1 ∙ mark_words text g.1))
-listed_once d text a b within (inr (inl f)) (inl g) =
-    let one = object_text d text b within g in let two = roots_text d text a within f in absurd (object_is_no_roots one.0 two.0 (sym one.1 ∙ two.1))
-listed_once d text a b within (inr (inl f)) (inr (inl g)) = roots_once d text a b within f g
-listed_once d text a b within (inr (inl f)) (inr (inr g)) =
-    let two = roots_text d text a within f in absurd (roots_is_no_mark two.0 [] (sym two.1 ∙ mark_words text g.1))
-listed_once d text a b within (inr (inr f)) (inl g) =
-    let one = object_text d text b within g in absurd (object_is_no_mark one.0 [] (sym one.1 ∙ mark_words text f.1))
-listed_once d text a b within (inr (inr f)) (inr (inl g)) =
-    let two = roots_text d text b within g in absurd (roots_is_no_mark two.0 [] (sym two.1 ∙ mark_words text f.1))
-listed_once d text a b within (inr (inr f)) (inr (inr g)) = f.2 ∙ sym g.2
+pub listed_once : (dump : Dumped) (text : List ℕ) (stage other_stage : DumpStage) → IsWithin (Listed dump) → DumpFollows (Listed dump) text stage → DumpFollows (Listed dump) text other_stage → stage ≡ other_stage
+listed_once dump text stage other_stage within (inl f) (inl g) = object_once dump text stage other_stage within f g
+listed_once dump text stage other_stage within (inl f) (inr (inl g)) =
+    let one = object_text dump text stage within f in let two = roots_text dump text other_stage within g in absurd (object_is_no_roots one.0 two.0 (sym one.1 ∙ two.1))
+listed_once dump text stage other_stage within (inl f) (inr (inr g)) =
+    let one = object_text dump text stage within f in absurd (object_is_no_mark one.0 [] (sym one.1 ∙ mark_words text g.1))
+listed_once dump text stage other_stage within (inr (inl f)) (inl g) =
+    let one = object_text dump text other_stage within g in let two = roots_text dump text stage within f in absurd (object_is_no_roots one.0 two.0 (sym one.1 ∙ two.1))
+listed_once dump text stage other_stage within (inr (inl f)) (inr (inl g)) = roots_once dump text stage other_stage within f g
+listed_once dump text stage other_stage within (inr (inl f)) (inr (inr g)) =
+    let two = roots_text dump text stage within f in absurd (roots_is_no_mark two.0 [] (sym two.1 ∙ mark_words text g.1))
+listed_once dump text stage other_stage within (inr (inr f)) (inl g) =
+    let one = object_text dump text other_stage within g in absurd (object_is_no_mark one.0 [] (sym one.1 ∙ mark_words text f.1))
+listed_once dump text stage other_stage within (inr (inr f)) (inr (inl g)) =
+    let two = roots_text dump text other_stage within g in absurd (roots_is_no_mark two.0 [] (sym two.1 ∙ mark_words text f.1))
+listed_once dump text stage other_stage within (inr (inr f)) (inr (inr g)) = f.2 ∙ sym g.2
 
 -- ---- stages that lead on alike
 
 -- they are one, or heaps of the same sizes
 abbrev pub Same : DumpStage → DumpStage → Type 0
-Same s t = (s ≡ t) ⊎ ((h : Config) × (k : Config) × (s ≡ Threads h) × (t ≡ Threads k) × IsHeapOf h k)
+Same stage other_stage = (stage ≡ other_stage) ⊎ ((config : Config) × (other_config : Config) × (stage ≡ Threads config) × (other_stage ≡ Threads other_config) × IsHeapOf config other_config)
 
-pub same_back : (s t : DumpStage) → Same s t → Same t s
-same_back s t (inl e) = inl (sym e)
-same_back s t (inr x) = inr (x.1, x.0, x.3, x.2, record { regions = sym x.4.regions; region_words = sym x.4.region_words; reserve = sym x.4.reserve })
+pub same_back : (stage other_stage : DumpStage) → Same stage other_stage → Same other_stage stage
+same_back stage other_stage (inl e) = inl (sym e)
+same_back stage other_stage (inr x) = inr (x.1, x.0, x.3, x.2, record { regions = sym x.4.regions; region_words = sym x.4.region_words; reserve = sym x.4.reserve })
 
-pub carry : (s t : DumpStage) (text : List ℕ) (next : DumpStage) → Same s t → DumpFollows t text next → DumpFollows s text next
-carry s t text next (inl e) f = subst (λ (x : DumpStage). DumpFollows x text next) (sym e) f
-carry s t text next (inr x) f = subst (λ (y : DumpStage). DumpFollows y text next) (sym x.2) (by_heap x.0 x.1 x.4 (subst (λ (y : DumpStage). DumpFollows y text next) x.3 f))
+pub carry : (stage other_stage : DumpStage) (text : List ℕ) (next : DumpStage) → Same stage other_stage → DumpFollows other_stage text next → DumpFollows stage text next
+carry stage other_stage text next (inl e) f = subst (λ (stage : DumpStage). DumpFollows stage text next) (sym e) f
+carry stage other_stage text next (inr x) f = subst (λ (stage : DumpStage). DumpFollows stage text next) (sym x.2) (by_heap x.0 x.1 x.4 (subst (λ (stage : DumpStage). DumpFollows stage text next) x.3 f))
   where
-    by_heap : (h k : Config) → IsHeapOf h k → DumpFollows (Threads k) text next → DumpFollows (Threads h) text next
-    by_heap h k of g = (g.0, record { regions = g.1.regions ∙ of.regions; region_words = g.1.region_words ∙ of.region_words; reserve = g.1.reserve ∙ of.reserve }, g.2, g.3)
+    by_heap : (config other_config : Config) → IsHeapOf config other_config → DumpFollows (Threads other_config) text next → DumpFollows (Threads config) text next
+    by_heap config other_config of g = (g.0, record { regions = g.1.regions ∙ of.regions; region_words = g.1.region_words ∙ of.region_words; reserve = g.1.reserve ∙ of.reserve }, g.2, g.3)
 
 -- a line leads on in one way
 pub follows_once : (s : DumpStage) (text : List ℕ) (a b : DumpStage) → IsDumping s → IsWithin s → DumpFollows s text a → DumpFollows s text b → Same a b

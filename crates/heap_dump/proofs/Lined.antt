@@ -38,10 +38,10 @@ dotted_word a b one other = record {
   no_end = free_both 10 (a ++ codes ".") b (free_both 10 a (codes ".") one.no_end refl) other.no_end;
 }
 
-pub name_is_word : (n : Name) → n.thread < 2 ^ 64 → n.count < 2 ^ 64 → IsWord (name_word n)
-name_is_word n thread count = dotted_word (decimal n.thread) (decimal n.count) (decimal_word n.thread thread) (decimal_word n.count count)
+pub name_is_word : (name : Name) → name.thread < 2 ^ 64 → name.count < 2 ^ 64 → IsWord (name_word name)
+name_is_word name thread count = dotted_word (decimal name.thread) (decimal name.count) (decimal_word name.thread thread) (decimal_word name.count count)
 
-dump_reference_word : (w : List ℕ) (r : Reference) → IsDumpReference w r → IsWord w
+dump_reference_word : (w : List ℕ) (reference : Reference) → IsDumpReference w reference → IsWord w
 dump_reference_word w None h = subst IsWord (sym h) dash_word
 dump_reference_word w (Some n) h =
     let first : IsWord h.0 = record { no_space = free_digits 32 h.0 (omega arith) (number_digits h.0 h.2); no_end = free_digits 10 h.0 (omega arith) (number_digits h.0 h.2) } in
@@ -79,11 +79,11 @@ roots_title = record { no_space = refl; no_end = refl }
 pub trace_title : IsWord (codes "trace")
 trace_title = record { no_space = refl; no_end = refl }
 
-pub object_words : (text : List ℕ) (r : Row) (ws : List (List ℕ)) → r.name.thread < 2 ^ 64 → r.name.count < 2 ^ 64 → AreReferences ws r.refs → All (λ n. n < 2 ^ 64) r.nums
-    → Spells text (line_of (codes "object" ∷ name_word r.name ∷ (ws ++ codes "/" ∷ map decimal r.nums))) → parts 32 text ≡ codes "object" ∷ name_word r.name ∷ (ws ++ codes "/" ∷ map decimal r.nums)
-object_words text r ws thread count are fit e =
-    line_words text (codes "object") (name_word r.name ∷ (ws ++ codes "/" ∷ map decimal r.nums))
-    (object_title, (name_is_word r.name thread count, words_both ws (codes "/" ∷ map decimal r.nums) (references_are_words ws r.refs are) (stroke_word, numbers_are_words r.nums fit))) e
+pub object_words : (text : List ℕ) (row : Row) (ws : List (List ℕ)) → row.name.thread < 2 ^ 64 → row.name.count < 2 ^ 64 → AreReferences ws row.refs → All (λ n. n < 2 ^ 64) row.nums
+    → Spells text (line_of (codes "object" ∷ name_word row.name ∷ (ws ++ codes "/" ∷ map decimal row.nums))) → parts 32 text ≡ codes "object" ∷ name_word row.name ∷ (ws ++ codes "/" ∷ map decimal row.nums)
+object_words text row ws thread count are fit e =
+    line_words text (codes "object") (name_word row.name ∷ (ws ++ codes "/" ∷ map decimal row.nums))
+    (object_title, (name_is_word row.name thread count, words_both ws (codes "/" ∷ map decimal row.nums) (references_are_words ws row.refs are) (stroke_word, numbers_are_words row.nums fit))) e
 
 pub roots_words : (text : List ℕ) (thread : ℕ) (roots : List Reference) (ws : List (List ℕ)) → thread < 2 ^ 64 → AreReferences ws roots → Spells text (line_of (codes "roots" ∷ decimal thread ∷ ws)) → parts 32 text ≡ codes "roots" ∷ decimal thread ∷ ws
 roots_words text thread roots ws low are e = line_words text (codes "roots") (decimal thread ∷ ws) (roots_title, (decimal_word thread low, references_are_words ws roots are)) e
@@ -105,22 +105,22 @@ roots_is_no_mark words ws e = let first = (heads 114 116 _ _ (heads (codes "root
 
 -- ---- the order of names
 
-pub names_held : (rows : List Row) → map (λ (r : Row). r.name) (map held_row rows) ≡ map (λ (r : Row). r.name) rows
+pub names_held : (rows : List Row) → map (λ (row : Row). row.name) (map held_row rows) ≡ map (λ (row : Row). row.name) rows
 names_held [] = refl
 names_held (r ∷ rows) = ap (λ (ns : List Name). r.name ∷ ns) (names_held rows)
 
-pub order_more : (ns : List Name) (n : Name) → InOrder ns → IsBehindLast ns n → InOrder (ns ++ n ∷ [])
-order_more [] n order behind = tt
-order_more (m ∷ []) n order behind = (behind, tt)
-order_more (m ∷ k ∷ ns) n order behind = (order.0, order_more (k ∷ ns) n order.1 behind)
+pub order_more : (ns : List Name) (name : Name) → InOrder ns → IsBehindLast ns name → InOrder (ns ++ name ∷ [])
+order_more [] name order behind = tt
+order_more (m ∷ []) name order behind = (behind, tt)
+order_more (m ∷ k ∷ ns) name order behind = (order.0, order_more (k ∷ ns) name order.1 behind)
 
-pub order_behind : (ns : List Name) (n : Name) → InOrder (ns ++ n ∷ []) → IsBehindLast ns n
-order_behind [] n order = tt
-order_behind (m ∷ []) n order = order.0
-order_behind (m ∷ k ∷ ns) n order = order_behind (k ∷ ns) n order.1
+pub order_behind : (ns : List Name) (name : Name) → InOrder (ns ++ name ∷ []) → IsBehindLast ns name
+order_behind [] name order = tt
+order_behind (m ∷ []) name order = order.0
+order_behind (m ∷ k ∷ ns) name order = order_behind (k ∷ ns) name order.1
 
-pub names_more : (rows : List Row) (r : Row) → map (λ (r : Row). r.name) (rows ++ r ∷ []) ≡ map (λ (r : Row). r.name) rows ++ r.name ∷ []
-names_more rows r = map-append (λ (q : Row). q.name) rows (r ∷ [])
+pub names_more : (rows : List Row) (row : Row) → map (λ (row : Row). row.name) (rows ++ row ∷ []) ≡ map (λ (row : Row). row.name) rows ++ row.name ∷ []
+names_more rows row = map-append (λ (row : Row). row.name) rows (row ∷ [])
 
 -- ---- room
 
@@ -130,8 +130,8 @@ is_separator b = cond ((b == 32) || (b == 10)) 1 0
 more_separators : (b : ℕ) (text : List ℕ) → separators (b ∷ text) ≡ is_separator b + separators text
 more_separators b text = sum_by-cons is_separator b text
 
-cut_room : (b : ℕ) (text : List ℕ) (first : List ℕ) (rest : List (List ℕ)) → parts 32 text ≡ first ∷ rest → length (parts 32 text) ≤ separators text + 1 → (t : Bool) → (b == 32) ≡ t
-    → length (cond t ([] ∷ parts 32 text) (onto_first b (parts 32 text))) ≤ is_separator b + separators text + 1
+cut_room : (b : ℕ) (text : List ℕ) (first : List ℕ) (rest : List (List ℕ)) → parts 32 text ≡ first ∷ rest → length (parts 32 text) ≤ separators text + 1 → (holds : Bool) → (b == 32) ≡ holds
+    → length (cond holds ([] ∷ parts 32 text) (onto_first b (parts 32 text))) ≤ is_separator b + separators text + 1
 cut_room b text first rest cut less true e = rw e (omega (arith, less))
 cut_room b text first rest cut less false e =
     let sizes = ap (λ (ws : List (List ℕ)). length (onto_first b ws)) cut in

@@ -30,28 +30,28 @@ ended-cons : (text : List ℕ) (texts : List (List ℕ)) (whole others : List �
 ended-cons text texts whole others e f = flat_map-cons ended text texts ∙ ap (λ (t : List ℕ). t ++ flat_map ended texts) e ∙ ap (λ (t : List ℕ). whole ++ t) f
 
 -- lines of commands and of a schedule that these texts are
-record AreBody (c : Config) (texts : List (List ℕ)) : Type 0 where
+record AreBody (config : Config) (texts : List (List ℕ)) : Type 0 where
   lines : List TraceLine
   turns : List (List Item)
-  in_range : AllByRecursion (IsLine run_version c.mutators) lines
-  turns_in_range : AllByRecursion (IsScheduleLine c) turns
+  in_range : AllByRecursion (IsLine run_version config.mutators) lines
+  turns_in_range : AllByRecursion (IsScheduleLine config) turns
   spelled : flat_map ended texts ≡ flat_map line lines ++ flat_map schedule_line turns
 
-of_turns : (c : Config) (texts : List (List ℕ)) (last : LineStage) → Lead (Turns c) texts last → (turns : List (List Item)) × AllByRecursion (IsScheduleLine c) turns × (flat_map ended texts ≡ flat_map schedule_line turns)
-of_turns c [] last lead = ([], tt, refl)
-of_turns c (text ∷ texts) last lead =
+of_turns : (config : Config) (texts : List (List ℕ)) (last : LineStage) → Lead (Turns config) texts last → (turns : List (List Item)) × AllByRecursion (IsScheduleLine config) turns × (flat_map ended texts ≡ flat_map schedule_line turns)
+of_turns config [] last lead = ([], tt, refl)
+of_turns config (text ∷ texts) last lead =
     let it = lead.1.0 in
-    let others = of_turns c texts last (subst (λ (s : LineStage). Lead s texts last) lead.1.1 lead.2) in
+    let others = of_turns config texts last (subst (λ (stage : LineStage). Lead stage texts last) lead.1.1 lead.2) in
     (it.0 ∷ others.0, (it.1, others.1), ended-cons text texts (schedule_line it.0) (flat_map schedule_line others.0) it.2 others.2 ∙ sym (flat_map-cons schedule_line it.0 others.0))
 
-of_commands : (c : Config) (texts : List (List ℕ)) (last : LineStage) → Lead (Commands run_version c) texts last → AreBody c texts
-of_commands c [] last lead = record { lines = []; turns = []; in_range = tt; turns_in_range = tt; spelled = refl }
-of_commands c (text ∷ texts) last lead = by_kind lead.0 lead.1 lead.2 (of_commands c texts last)
+of_commands : (config : Config) (texts : List (List ℕ)) (last : LineStage) → Lead (Commands run_version config) texts last → AreBody config texts
+of_commands config [] last lead = record { lines = []; turns = []; in_range = tt; turns_in_range = tt; spelled = refl }
+of_commands config (text ∷ texts) last lead = by_kind lead.0 lead.1 lead.2 (of_commands config texts last)
   where
-    by_kind : (next : LineStage) → LineFollows (Commands run_version c) text next → Lead next texts last → (Lead (Commands run_version c) texts last → AreBody c texts) → AreBody c (text ∷ texts)
+    by_kind : (next : LineStage) → LineFollows (Commands run_version config) text next → Lead next texts last → (Lead (Commands run_version config) texts last → AreBody config texts) → AreBody config (text ∷ texts)
     by_kind next (inl f) lead go =
         let it = f.0 in
-        let others = go (subst (λ (s : LineStage). Lead s texts last) f.1 lead) in
+        let others = go (subst (λ (stage : LineStage). Lead stage texts last) f.1 lead) in
         record {
           lines = it.0 ∷ others.lines;
           turns = others.turns;
@@ -63,7 +63,7 @@ of_commands c (text ∷ texts) last lead = by_kind lead.0 lead.1 lead.2 (of_comm
         }
     by_kind next (inr f) lead go =
         let it = f.0 in
-        let others = of_turns c texts last (subst (λ (s : LineStage). Lead s texts last) f.1 lead) in
+        let others = of_turns config texts last (subst (λ (stage : LineStage). Lead stage texts last) f.1 lead) in
         record {
           lines = [];
           turns = it.0 ∷ others.0;
@@ -93,7 +93,7 @@ nothing_left (Turns c) (b ∷ text) e = absurd cc
 
 -- ---- bytes that are neither
 
-module _ (dump_bytes : List ℕ) (short : length dump_bytes ≤ most_bytes) (none : (d : Dumped) (scripts : List (List Command)) (items : List Item) → Resumes dump_bytes d scripts items → ⊥) (fine : (n : ℕ) (why : Why) → DumpRefused dump_bytes n why → ⊥) where
+module _ (dump_bytes : List ℕ) (short : length dump_bytes ≤ most_bytes) (none : (dump : Dumped) (scripts : List (List Command)) (items : List Item) → Resumes dump_bytes dump scripts items → ⊥) (fine : (n : ℕ) (why : Why) → DumpRefused dump_bytes n why → ⊥) where
   fine_at : (stage : DumpStage) (b : List ℕ) (lines : ℕ) → Leads Version dump_bytes b lines stage → (why : Why) → StopsFor stage (parts 10 b) why → ⊥
   fine_at stage b lines led why stops = fine (1 + lines) why (refused dump_bytes (1 + lines) why short (record { rest = b; lines = lines; at = stage; led = led; number = refl; cause = stops }))
 
@@ -108,109 +108,109 @@ module _ (dump_bytes : List ℕ) (short : length dump_bytes ≤ most_bytes) (non
 
   -- ---- behind the line `trace`
 
-  module _ (c : Config) (behind_head behind_counts behind_roots behind_mark mark : List ℕ) (bare_dump d : Dumped) (listed : ℕ) (is : IsDump d) (config : d.config ≡ c) (counts : d.counts ≡ bare_dump.counts) (no_rows : bare_dump.rows ≡ []) (no_roots : bare_dump.roots ≡ [])
-      (head : Leads Version dump_bytes behind_head 3 (Counts c)) (counted : Leads (Counts c) behind_head behind_counts 1 (Listed bare_dump)) (rowed : Leads (Listed bare_dump) behind_counts behind_roots listed (Listed d)) (cut : parts 10 behind_roots ≡ mark ∷ parts 10 behind_mark) (marked : Spells mark mark_line) where
-    to_mark : Leads Version dump_bytes behind_mark (3 + 1 + listed + 1) (Behind (Commands run_version c))
+  module _ (other_config : Config) (behind_head behind_counts behind_roots behind_mark mark : List ℕ) (bare_dump dump : Dumped) (listed : ℕ) (is : IsDump dump) (config : dump.config ≡ other_config) (counts : dump.counts ≡ bare_dump.counts) (no_rows : bare_dump.rows ≡ []) (no_roots : bare_dump.roots ≡ [])
+      (head : Leads Version dump_bytes behind_head 3 (Counts other_config)) (counted : Leads (Counts other_config) behind_head behind_counts 1 (Listed bare_dump)) (rowed : Leads (Listed bare_dump) behind_counts behind_roots listed (Listed dump)) (cut : parts 10 behind_roots ≡ mark ∷ parts 10 behind_mark) (marked : Spells mark mark_line) where
+    to_mark : Leads Version dump_bytes behind_mark (3 + 1 + listed + 1) (Behind (Commands run_version other_config))
     to_mark =
-        leads_both Version (Listed d) (Behind (Commands run_version c)) dump_bytes behind_roots behind_mark (3 + 1 + listed) 1
-        (leads_both Version (Listed bare_dump) (Listed d) dump_bytes behind_counts behind_roots (3 + 1) listed (leads_both Version (Counts c) (Listed bare_dump) dump_bytes behind_head behind_counts 3 1 head counted) rowed)
-        (leads_one (Listed d) (Behind (Commands run_version c)) behind_roots mark behind_mark cut (inr (inr (is, marked, ap (λ (k : Config). Behind (Commands run_version k)) (sym config)))))
+        leads_both Version (Listed dump) (Behind (Commands run_version other_config)) dump_bytes behind_roots behind_mark (3 + 1 + listed) 1
+        (leads_both Version (Listed bare_dump) (Listed dump) dump_bytes behind_counts behind_roots (3 + 1) listed (leads_both Version (Counts other_config) (Listed bare_dump) dump_bytes behind_head behind_counts 3 1 head counted) rowed)
+        (leads_one (Listed dump) (Behind (Commands run_version other_config)) behind_roots mark behind_mark cut (inr (inr (is, marked, ap (λ (config : Config). Behind (Commands run_version config)) (sym config)))))
 
-    few_counts : length d.counts ≤ 8
-    few_counts = omega (arith, is.form.threads, d.config.in_range.most_mutators)
+    few_counts : length dump.counts ≤ 8
+    few_counts = omega (arith, is.form.threads, dump.config.in_range.most_mutators)
 
     -- nothing is left
-    complete : (l : LineStage) (n : ℕ) → Leads (Behind (Commands run_version c)) behind_mark [] n (Behind l) → ⊥
-    complete l n led =
-        let lead = behind_lead led.texts (Commands run_version c) (Behind l) led.lead in
-        let body = of_commands c led.texts lead.0 lead.2 in
-        let smalls = dump_small d is few_counts in
-        none d (scripts_of d.config.mutators body.lines) (items_of body.turns) (record {
+    complete : (stage : LineStage) (n : ℕ) → Leads (Behind (Commands run_version other_config)) behind_mark [] n (Behind stage) → ⊥
+    complete stage n led =
+        let lead = behind_lead led.texts (Commands run_version other_config) (Behind stage) led.lead in
+        let body = of_commands other_config led.texts lead.0 lead.2 in
+        let smalls = dump_small dump is few_counts in
+        none dump (scripts_of dump.config.mutators body.lines) (items_of body.turns) (record {
           dump = is;
           lines = body.lines;
-          in_range = subst (λ (k : Config). AllByRecursion (IsLine run_version k.mutators) body.lines) (sym config) body.in_range;
+          in_range = subst (λ (config : Config). AllByRecursion (IsLine run_version config.mutators) body.lines) (sym config) body.in_range;
           turns = body.turns;
-          turns_in_range = subst (λ (k : Config). AllByRecursion (IsScheduleLine k) body.turns) (sym config) body.turns_in_range;
-          spelled = all_spelled dump_bytes behind_head behind_counts behind_roots behind_mark mark_line (flat_map line body.lines ++ flat_map schedule_line body.turns) d
-              (head_spelled dump_bytes behind_head d.config (subst (λ (k : Config). Leads Version dump_bytes behind_head 3 (Counts k)) (sym config) head))
-              (counts_spelled behind_head behind_counts c bare_dump counted ∙ ap (λ (ns : List ℕ). titled (codes "counts") ns ++ behind_counts) (sym counts))
-              (listed_spelled behind_counts behind_roots listed bare_dump d rowed no_rows no_roots is.form.each is.form.roots smalls.0 smalls.1)
+          turns_in_range = subst (λ (config : Config). AllByRecursion (IsScheduleLine config) body.turns) (sym config) body.turns_in_range;
+          spelled = all_spelled dump_bytes behind_head behind_counts behind_roots behind_mark mark_line (flat_map line body.lines ++ flat_map schedule_line body.turns) dump
+              (head_spelled dump_bytes behind_head dump.config (subst (λ (config : Config). Leads Version dump_bytes behind_head 3 (Counts config)) (sym config) head))
+              (counts_spelled behind_head behind_counts other_config bare_dump counted ∙ ap (λ (ns : List ℕ). titled (codes "counts") ns ++ behind_counts) (sym counts))
+              (listed_spelled behind_counts behind_roots listed bare_dump dump rowed no_rows no_roots is.form.each is.form.roots smalls.0 smalls.1)
               (bytes_of_line behind_roots mark behind_mark cut ∙ sym (append_assoc mark (newline ∷ []) behind_mark) ∙ ap (λ (bs : List ℕ). bs ++ behind_mark) marked)
-              (leads_bytes (Behind (Commands run_version c)) (Behind l) behind_mark [] n led ∙ append-nil (flat_map ended led.texts) ∙ body.spelled);
+              (leads_bytes (Behind (Commands run_version other_config)) (Behind stage) behind_mark [] n led ∙ append-nil (flat_map ended led.texts) ∙ body.spelled);
           by_thread = refl;
           in_order = refl;
           short = short;
         })
 
-    from_there : (l : LineStage) (b : List ℕ) (n : ℕ) → Leads (Behind (Commands run_version c)) behind_mark b n (Behind l) → Leads Version dump_bytes b (3 + 1 + listed + 1 + n) (Behind l)
-    from_there l b n led = leads_both Version (Behind (Commands run_version c)) (Behind l) dump_bytes behind_mark b (3 + 1 + listed + 1) n to_mark led
+    from_there : (stage : LineStage) (b : List ℕ) (n : ℕ) → Leads (Behind (Commands run_version other_config)) behind_mark b n (Behind stage) → Leads Version dump_bytes b (3 + 1 + listed + 1 + n) (Behind stage)
+    from_there stage b n led = leads_both Version (Behind (Commands run_version other_config)) (Behind stage) dump_bytes behind_mark b (3 + 1 + listed + 1) n to_mark led
 
-    at_last : (l : LineStage) (b text : List ℕ) (n : ℕ) → Leads (Behind (Commands run_version c)) behind_mark b n (Behind l) → parts 10 b ≡ text ∷ [] → (cause : Option Why) → end_cause l text ≡ cause → ⊥
-    at_last l b text n led e (Some why) at = fine_at (Behind l) b (3 + 1 + listed + 1 + n) (from_there l b n led) why (cut_line l b text e ∙ at)
-    at_last l b text n led e None at =
-        let empty : b ≡ [] = bytes_of_last b text e ∙ nothing_left l text at in
-        complete l n (subst (λ (bs : List ℕ). Leads (Behind (Commands run_version c)) behind_mark bs n (Behind l)) empty led)
+    at_last : (stage : LineStage) (b text : List ℕ) (n : ℕ) → Leads (Behind (Commands run_version other_config)) behind_mark b n (Behind stage) → parts 10 b ≡ text ∷ [] → (cause : Option Why) → end_cause stage text ≡ cause → ⊥
+    at_last stage b text n led e (Some why) at = fine_at (Behind stage) b (3 + 1 + listed + 1 + n) (from_there stage b n led) why (cut_line stage b text e ∙ at)
+    at_last stage b text n led e None at =
+        let empty : b ≡ [] = bytes_of_last b text e ∙ nothing_left stage text at in
+        complete stage n (subst (λ (bs : List ℕ). Leads (Behind (Commands run_version other_config)) behind_mark bs n (Behind stage)) empty led)
 
-    body_walk : (k : ℕ) (l : LineStage) (b : List ℕ) (n : ℕ) → Fits l → length b ≤ k → Leads (Behind (Commands run_version c)) behind_mark b n (Behind l) → ⊥
-    body_walk zero l b n fits le led = by_first (first_line b).0 (first_line b).1 (first_line b).2
+    body_walk : (k : ℕ) (stage : LineStage) (b : List ℕ) (n : ℕ) → Fits stage → length b ≤ k → Leads (Behind (Commands run_version other_config)) behind_mark b n (Behind stage) → ⊥
+    body_walk zero stage b n fits le led = by_first (first_line b).0 (first_line b).1 (first_line b).2
       where
         by_first : (text rest : List ℕ) → (parts 10 b ≡ text ∷ []) ⊎ (parts 10 b ≡ text ∷ parts 10 rest) → ⊥
-        by_first text rest (inl e) = at_last l b text n led e (end_cause l text) refl
+        by_first text rest (inl e) = at_last stage b text n led e (end_cause stage text) refl
         by_first text rest (inr e) = some_byte b text rest (bytes_of_line b text rest e) le
-    body_walk (suc k) l b n fits le led = by_first (λ s bs m f low leads. body_walk k s bs m f low leads) (first_line b).0 (first_line b).1 (first_line b).2
+    body_walk (suc k) stage b n fits le led = by_first (λ other_stage bs m f low leads. body_walk k other_stage bs m f low leads) (first_line b).0 (first_line b).1 (first_line b).2
       where
-        by_cause : ((s : LineStage) (bs : List ℕ) (m : ℕ) → Fits s → length bs ≤ k → Leads (Behind (Commands run_version c)) behind_mark bs m (Behind s) → ⊥) → (text rest : List ℕ) → parts 10 b ≡ text ∷ parts 10 rest
-            → (cause : Option Why) → words_cause l (parts 32 text) ≡ cause → ⊥
-        by_cause go text rest e (Some why) at = fine_at (Behind l) b (3 + 1 + listed + 1 + n) (from_there l b n led) why (whole_line l b text rest e ∙ at)
+        by_cause : ((other_stage : LineStage) (bs : List ℕ) (m : ℕ) → Fits other_stage → length bs ≤ k → Leads (Behind (Commands run_version other_config)) behind_mark bs m (Behind other_stage) → ⊥) → (text rest : List ℕ) → parts 10 b ≡ text ∷ parts 10 rest
+            → (cause : Option Why) → words_cause stage (parts 32 text) ≡ cause → ⊥
+        by_cause go text rest e (Some why) at = fine_at (Behind stage) b (3 + 1 + listed + 1 + n) (from_there stage b n led) why (whole_line stage b text rest e ∙ at)
         by_cause go text rest e None at =
-            let next = follows l text fits at in
+            let next = follows stage text fits at in
             go next.0 rest (n + 1) next.2 (fewer b text rest k (bytes_of_line b text rest e) le)
-            (leads_both (Behind (Commands run_version c)) (Behind l) (Behind next.0) behind_mark b rest n 1 led (leads_one (Behind l) (Behind next.0) b text rest e (next.0, next.1, refl)))
+            (leads_both (Behind (Commands run_version other_config)) (Behind stage) (Behind next.0) behind_mark b rest n 1 led (leads_one (Behind stage) (Behind next.0) b text rest e (next.0, next.1, refl)))
 
-        by_first : ((s : LineStage) (bs : List ℕ) (m : ℕ) → Fits s → length bs ≤ k → Leads (Behind (Commands run_version c)) behind_mark bs m (Behind s) → ⊥) → (text rest : List ℕ) → (parts 10 b ≡ text ∷ []) ⊎ (parts 10 b ≡ text ∷ parts 10 rest) → ⊥
-        by_first go text rest (inl e) = at_last l b text n led e (end_cause l text) refl
-        by_first go text rest (inr e) = by_cause go text rest e (words_cause l (parts 32 text)) refl
+        by_first : ((other_stage : LineStage) (bs : List ℕ) (m : ℕ) → Fits other_stage → length bs ≤ k → Leads (Behind (Commands run_version other_config)) behind_mark bs m (Behind other_stage) → ⊥) → (text rest : List ℕ) → (parts 10 b ≡ text ∷ []) ⊎ (parts 10 b ≡ text ∷ parts 10 rest) → ⊥
+        by_first go text rest (inl e) = at_last stage b text n led e (end_cause stage text) refl
+        by_first go text rest (inr e) = by_cause go text rest e (words_cause stage (parts 32 text)) refl
 
     from_mark : ⊥
-    from_mark = body_walk (length behind_mark) (Commands run_version c) behind_mark 0 tt (omega arith) (leads_none (Behind (Commands run_version c)) behind_mark)
+    from_mark = body_walk (length behind_mark) (Commands run_version other_config) behind_mark 0 tt (omega arith) (leads_none (Behind (Commands run_version other_config)) behind_mark)
 
   -- ---- objects and roots
 
-  module _ (c : Config) (behind_head behind_counts : List ℕ) (bare_dump : Dumped) (same : bare_dump.config ≡ c) (no_rows : bare_dump.rows ≡ []) (no_roots : bare_dump.roots ≡ []) (head : Leads Version dump_bytes behind_head 3 (Counts c)) (counted : Leads (Counts c) behind_head behind_counts 1 (Listed bare_dump)) where
-    to_here : (d : Dumped) (b : List ℕ) (n : ℕ) → Leads (Listed bare_dump) behind_counts b n (Listed d) → Leads Version dump_bytes b (3 + 1 + n) (Listed d)
-    to_here d b n led = leads_both Version (Listed bare_dump) (Listed d) dump_bytes behind_counts b (3 + 1) n (leads_both Version (Counts c) (Listed bare_dump) dump_bytes behind_head behind_counts 3 1 head counted) led
+  module _ (other_config : Config) (behind_head behind_counts : List ℕ) (bare_dump : Dumped) (same : bare_dump.config ≡ other_config) (no_rows : bare_dump.rows ≡ []) (no_roots : bare_dump.roots ≡ []) (head : Leads Version dump_bytes behind_head 3 (Counts other_config)) (counted : Leads (Counts other_config) behind_head behind_counts 1 (Listed bare_dump)) where
+    to_here : (dump : Dumped) (b : List ℕ) (n : ℕ) → Leads (Listed bare_dump) behind_counts b n (Listed dump) → Leads Version dump_bytes b (3 + 1 + n) (Listed dump)
+    to_here dump b n led = leads_both Version (Listed bare_dump) (Listed dump) dump_bytes behind_counts b (3 + 1) n (leads_both Version (Counts other_config) (Listed bare_dump) dump_bytes behind_head behind_counts 3 1 head counted) led
 
-    one_line : (d e : Dumped) (b text rest : List ℕ) (n : ℕ) → Leads (Listed bare_dump) behind_counts b n (Listed d) → parts 10 b ≡ text ∷ parts 10 rest → DumpFollows (Listed d) text (Listed e) → Leads (Listed bare_dump) behind_counts rest (n + 1) (Listed e)
-    one_line d e b text rest n led cut f = leads_both (Listed bare_dump) (Listed d) (Listed e) behind_counts b rest n 1 led (leads_one (Listed d) (Listed e) b text rest cut f)
+    one_line : (dump other_dump : Dumped) (b text rest : List ℕ) (n : ℕ) → Leads (Listed bare_dump) behind_counts b n (Listed dump) → parts 10 b ≡ text ∷ parts 10 rest → DumpFollows (Listed dump) text (Listed other_dump) → Leads (Listed bare_dump) behind_counts rest (n + 1) (Listed other_dump)
+    one_line dump other_dump b text rest n led cut f = leads_both (Listed bare_dump) (Listed dump) (Listed other_dump) behind_counts b rest n 1 led (leads_one (Listed dump) (Listed other_dump) b text rest cut f)
 
-    from_listed : (k : ℕ) (d : Dumped) (b : List ℕ) (n : ℕ) → length b ≤ k → d.config ≡ c → d.counts ≡ bare_dump.counts → Leads (Listed bare_dump) behind_counts b n (Listed d) → ⊥
-    from_listed zero d b n le config counts led = step (Listed d) tt b (3 + 1 + n) (to_here d b n led) (λ text rest next cut f. some_byte b text rest (bytes_of_line b text rest cut) le)
-    from_listed (suc k) d b n le config counts led = step (Listed d) tt b (3 + 1 + n) (to_here d b n led) (λ text rest next cut f. by_kind (λ e bs m low one other leads. from_listed k e bs m low one other leads) text rest next cut f)
+    from_listed : (k : ℕ) (dump : Dumped) (b : List ℕ) (n : ℕ) → length b ≤ k → dump.config ≡ other_config → dump.counts ≡ bare_dump.counts → Leads (Listed bare_dump) behind_counts b n (Listed dump) → ⊥
+    from_listed zero dump b n le config counts led = step (Listed dump) tt b (3 + 1 + n) (to_here dump b n led) (λ text rest next cut f. some_byte b text rest (bytes_of_line b text rest cut) le)
+    from_listed (suc k) dump b n le config counts led = step (Listed dump) tt b (3 + 1 + n) (to_here dump b n led) (λ text rest next cut f. by_kind (λ other_dump bs m low one other leads. from_listed k other_dump bs m low one other leads) text rest next cut f)
       where
-        by_kind : ((e : Dumped) (bs : List ℕ) (m : ℕ) → length bs ≤ k → e.config ≡ c → e.counts ≡ bare_dump.counts → Leads (Listed bare_dump) behind_counts bs m (Listed e) → ⊥) → (text rest : List ℕ) (next : DumpStage) → parts 10 b ≡ text ∷ parts 10 rest
-            → DumpFollows (Listed d) text next → ⊥
+        by_kind : ((other_dump : Dumped) (bs : List ℕ) (m : ℕ) → length bs ≤ k → other_dump.config ≡ other_config → other_dump.counts ≡ bare_dump.counts → Leads (Listed bare_dump) behind_counts bs m (Listed other_dump) → ⊥) → (text rest : List ℕ) (next : DumpStage) → parts 10 b ≡ text ∷ parts 10 rest
+            → DumpFollows (Listed dump) text next → ⊥
         by_kind go text rest next cut (inl f) =
-            go (with_row d f.0) rest (n + 1) (fewer b text rest k (bytes_of_line b text rest cut) le) config counts
-            (one_line d (with_row d f.0) b text rest n led cut (inl (f.0, f.1, f.2, f.3, f.4, f.5, f.6, refl)))
+            go (with_row dump f.0) rest (n + 1) (fewer b text rest k (bytes_of_line b text rest cut) le) config counts
+            (one_line dump (with_row dump f.0) b text rest n led cut (inl (f.0, f.1, f.2, f.3, f.4, f.5, f.6, refl)))
         by_kind go text rest next cut (inr (inl f)) =
-            go (with_roots d f.0) rest (n + 1) (fewer b text rest k (bytes_of_line b text rest cut) le) config counts
-            (one_line d (with_roots d f.0) b text rest n led cut (inr (inl (f.0, f.1, f.2, f.3, f.4, f.5, refl))))
-        by_kind go text rest next cut (inr (inr f)) = from_mark c behind_head behind_counts b rest text bare_dump d n f.0 config counts no_rows no_roots head counted led cut f.1
+            go (with_roots dump f.0) rest (n + 1) (fewer b text rest k (bytes_of_line b text rest cut) le) config counts
+            (one_line dump (with_roots dump f.0) b text rest n led cut (inr (inl (f.0, f.1, f.2, f.3, f.4, f.5, refl))))
+        by_kind go text rest next cut (inr (inr f)) = from_mark other_config behind_head behind_counts b rest text bare_dump dump n f.0 config counts no_rows no_roots head counted led cut f.1
 
   -- ---- the head
 
-  from_counts : (c : Config) (b : List ℕ) → Leads Version dump_bytes b 3 (Counts c) → ⊥
-  from_counts c b led = step (Counts c) tt b 3 led (λ text rest next cut f.
-      let bare_dump : Dumped = record { config = c; counts = f.0; rows = []; roots = [] } in
-      from_listed c b rest bare_dump refl refl refl led (subst (λ (s : DumpStage). Leads (Counts c) b rest 1 s) f.4 (leads_one (Counts c) next b text rest cut f)) (length rest) bare_dump rest 0 (omega arith) refl refl (leads_none (Listed bare_dump) rest))
+  from_counts : (other_config : Config) (b : List ℕ) → Leads Version dump_bytes b 3 (Counts other_config) → ⊥
+  from_counts other_config b led = step (Counts other_config) tt b 3 led (λ text rest next cut f.
+      let bare_dump : Dumped = record { config = other_config; counts = f.0; rows = []; roots = [] } in
+      from_listed other_config b rest bare_dump refl refl refl led (subst (λ (stage : DumpStage). Leads (Counts other_config) b rest 1 stage) f.4 (leads_one (Counts other_config) next b text rest cut f)) (length rest) bare_dump rest 0 (omega arith) refl refl (leads_none (Listed bare_dump) rest))
 
-  from_threads : (h : Config) (b : List ℕ) → Leads Version dump_bytes b 2 (Threads h) → ⊥
-  from_threads h b led = step (Threads h) tt b 2 led (λ text rest next cut f.
-      from_counts f.0 rest (subst (λ (s : DumpStage). Leads Version dump_bytes rest 3 s) f.3 (leads_both Version (Threads h) next dump_bytes b rest 2 1 led (leads_one (Threads h) next b text rest cut f))))
+  from_threads : (config : Config) (b : List ℕ) → Leads Version dump_bytes b 2 (Threads config) → ⊥
+  from_threads config b led = step (Threads config) tt b 2 led (λ text rest next cut f.
+      from_counts f.0 rest (subst (λ (stage : DumpStage). Leads Version dump_bytes rest 3 stage) f.3 (leads_both Version (Threads config) next dump_bytes b rest 2 1 led (leads_one (Threads config) next b text rest cut f))))
 
   from_heap : (b : List ℕ) → Leads Version dump_bytes b 1 Heap → ⊥
   from_heap b led = step Heap tt b 1 led (λ text rest next cut f.
-      from_threads f.0 rest (subst (λ (s : DumpStage). Leads Version dump_bytes rest 2 s) f.3 (leads_both Version Heap next dump_bytes b rest 1 1 led (leads_one Heap next b text rest cut f))))
+      from_threads f.0 rest (subst (λ (stage : DumpStage). Leads Version dump_bytes rest 2 stage) f.3 (leads_both Version Heap next dump_bytes b rest 1 1 led (leads_one Heap next b text rest cut f))))
 
   pub not_neither : ⊥
-  not_neither = step Version tt dump_bytes 0 (leads_none Version dump_bytes) (λ text rest next cut f. from_heap rest (subst (λ (s : DumpStage). Leads Version dump_bytes rest 1 s) f.1 (leads_one Version next dump_bytes text rest cut f)))
+  not_neither = step Version tt dump_bytes 0 (leads_none Version dump_bytes) (λ text rest next cut f. from_heap rest (subst (λ (stage : DumpStage). Leads Version dump_bytes rest 1 stage) f.1 (leads_one Version next dump_bytes text rest cut f)))

@@ -12,51 +12,51 @@ use Rattle.heap_dump.specs.ObjectsMade.{is_allocation, is_name_reply, has_made, 
 
 -- one more where it is so
 abbrev pub one_if : Bool → ℕ
-one_if b = cond b 1 0
+one_if holds = cond holds 1 0
 
 -- a command that is no allocation makes no object
-with_named-count : (g : Graph) (r : Reference) (o : Object) (t : ℕ) → (with_named g r o).count t ≡ g.count t
-with_named-count g None o t = refl
-with_named-count g (Some n) o t = refl
+with_named-count : (graph : Graph) (reference : Reference) (object : Object) (thread : ℕ) → (with_named graph reference object).count thread ≡ graph.count thread
+with_named-count graph None object thread = refl
+with_named-count graph (Some n) object thread = refl
 
-on-count : {A : Type 0} (o : Option A) (g : Graph) (f : A → Outcome) (t : ℕ) → ((v : A) → (f v).graph.count t ≡ g.count t) → (on o g f).graph.count t ≡ g.count t
-on-count None g f t each = refl
-on-count (Some v) g f t each = each v
+on-count : {A : Type 0} (found : Option A) (graph : Graph) (f : A → Outcome) (thread : ℕ) → ((v : A) → (f v).graph.count thread ≡ graph.count thread) → (on found graph f).graph.count thread ≡ graph.count thread
+on-count None graph f thread each = refl
+on-count (Some v) graph f thread each = each v
 
-either-count : (b : Bool) (x y : Outcome) (g : Graph) (t : ℕ) → x.graph.count t ≡ g.count t → y.graph.count t ≡ g.count t → (cond b x y).graph.count t ≡ g.count t
-either-count true x y g t p q = p
-either-count false x y g t p q = q
+either-count : (holds : Bool) (x y : Outcome) (graph : Graph) (thread : ℕ) → x.graph.count thread ≡ graph.count thread → y.graph.count thread ≡ graph.count thread → (cond holds x y).graph.count thread ≡ graph.count thread
+either-count true x y graph thread p q = p
+either-count false x y graph thread p q = q
 
 -- an allocation adds one to the count of its thread
-new-count : (g : Graph) (u t dst refs nums : ℕ) → (outcome g u (New dst refs nums)).graph.count t ≡ g.count t + one_if (eqb u t)
-new-count g u t dst refs nums = by_thread (eqb t u) (eqb u t) refl refl
+new-count : (graph : Graph) (u thread dst refs nums : ℕ) → (outcome graph u (New dst refs nums)).graph.count thread ≡ graph.count thread + one_if (eqb u thread)
+new-count graph u thread dst refs nums = by_thread (eqb thread u) (eqb u thread) refl refl
   where
-    by_thread : (a b : Bool) → eqb t u ≡ a → eqb u t ≡ b → cond a (g.count t + 1) (g.count t) ≡ g.count t + one_if b
+    by_thread : (holds other_holds : Bool) → eqb thread u ≡ holds → eqb u thread ≡ other_holds → cond holds (graph.count thread + 1) (graph.count thread) ≡ graph.count thread + one_if other_holds
     by_thread true true p q = omega arith
     by_thread true false p q = absurd (grind (arith, nat_tests))
     by_thread false true p q = absurd (grind (arith, nat_tests))
     by_thread false false p q = omega arith
 
 -- and another command none
-other-count : (g : Graph) (u t : ℕ) (c : Command) → is_allocation c ≡ false → (outcome g u c).graph.count t ≡ g.count t
-other-count g u t (New dst refs nums) other = absurd cc
-other-count g u t (Get dst src field) other = on-count (field_at g u src field) g _ t (λ v. refl)
-other-count g u t (Set obj field val) other = on-count (field_at g u obj field) g _ t (λ v. with_named-count g (g.root u obj) _ t)
-other-count g u t (Cas obj field expect val) other =
-    on-count (field_at g u obj field) g _ t (λ v. either-count (same_reference v (g.root u expect)) _ _ g t (with_named-count g (g.root u obj) _ t) refl)
-other-count g u t (Xchg dst obj field val) other = on-count (field_at g u obj field) g _ t (λ v. with_named-count g (g.root u obj) _ t)
-other-count g u t (Rd obj index) other = on-count (number_at g u obj index) g _ t (λ v. refl)
-other-count g u t (Wr obj index value) other = on-count (number_at g u obj index) g _ t (λ v. with_named-count g (g.root u obj) _ t)
-other-count g u t (Copy dst src) other = refl
-other-count g u t (Drop dst) other = refl
-other-count g u t (Same a b) other = refl
-other-count g u t Gc other = refl
-other-count g u t (Pin slot obj) other = refl
-other-count g u t (Unpin slot) other = on-count (g.pin u slot) g _ t (λ v. refl)
+other-count : (graph : Graph) (other_thread thread : ℕ) (command : Command) → is_allocation command ≡ false → (outcome graph other_thread command).graph.count thread ≡ graph.count thread
+other-count graph other_thread thread (New dst refs nums) other = absurd cc
+other-count graph other_thread thread (Get dst src field) other = on-count (field_at graph other_thread src field) graph _ thread (λ v. refl)
+other-count graph other_thread thread (Set obj field val) other = on-count (field_at graph other_thread obj field) graph _ thread (λ v. with_named-count graph (graph.root other_thread obj) _ thread)
+other-count graph other_thread thread (Cas obj field expect val) other =
+    on-count (field_at graph other_thread obj field) graph _ thread (λ v. either-count (same_reference v (graph.root other_thread expect)) _ _ graph thread (with_named-count graph (graph.root other_thread obj) _ thread) refl)
+other-count graph other_thread thread (Xchg dst obj field val) other = on-count (field_at graph other_thread obj field) graph _ thread (λ v. with_named-count graph (graph.root other_thread obj) _ thread)
+other-count graph other_thread thread (Rd obj index) other = on-count (number_at graph other_thread obj index) graph _ thread (λ v. refl)
+other-count graph other_thread thread (Wr obj index value) other = on-count (number_at graph other_thread obj index) graph _ thread (λ v. with_named-count graph (graph.root other_thread obj) _ thread)
+other-count graph other_thread thread (Copy dst src) other = refl
+other-count graph other_thread thread (Drop dst) other = refl
+other-count graph other_thread thread (Same a b) other = refl
+other-count graph other_thread thread Gc other = refl
+other-count graph other_thread thread (Pin slot obj) other = refl
+other-count graph other_thread thread (Unpin slot) other = on-count (graph.pin other_thread slot) graph _ thread (λ v. refl)
 
 -- ---- entries
 
-none_more : (b : Bool) (n : ℕ) → n ≡ n + one_if (b && false)
+none_more : (holds : Bool) (n : ℕ) → n ≡ n + one_if (holds && false)
 none_more true n = omega arith
 none_more false n = omega arith
 
@@ -72,40 +72,40 @@ no_name true true r n p = rw p (none_more true n)
 no_name true false r n p = none_more true n
 no_name false a r n p = none_more false n
 
-other-told : (g : Graph) (u t : ℕ) (c : Command) (r : Reply) (h : Graph) → is_allocation c ≡ false → answers r h ≡ outcome g u c → h.count t ≡ g.count t + one_if (eqb u t && (is_allocation c && is_name_reply r))
-other-told g u t c r h kind told = ap (λ (o : Outcome). o.graph.count t) told ∙ other-count g u t c kind ∙ no_allocation (eqb u t) (is_allocation c) (is_name_reply r) (g.count t) kind
+other-told : (graph : Graph) (u thread : ℕ) (command : Command) (reply : Reply) (other_graph : Graph) → is_allocation command ≡ false → answers reply other_graph ≡ outcome graph u command → other_graph.count thread ≡ graph.count thread + one_if (eqb u thread && (is_allocation command && is_name_reply reply))
+other-told graph u thread command reply other_graph kind told = ap (λ (o : Outcome). o.graph.count thread) told ∙ other-count graph u thread command kind ∙ no_allocation (eqb u thread) (is_allocation command) (is_name_reply reply) (graph.count thread) kind
 
-told-count : (g : Graph) (u t : ℕ) (c : Command) (r : Reply) (h : Graph) → answers r h ≡ outcome g u c → h.count t ≡ g.count t + one_if (eqb u t && (is_allocation c && is_name_reply r))
-told-count g u t (New dst refs nums) r h told =
-    ap (λ (o : Outcome). o.graph.count t) told ∙ new-count g u t dst refs nums
-    ∙ ap (λ (n : ℕ). g.count t + n) (one_more (eqb u t) true (is_name_reply r) refl (ap (λ (o : Outcome). is_name_reply o.reply) told))
-told-count g u t (Get dst src field) r h told = other-told g u t (Get dst src field) r h refl told
-told-count g u t (Set obj field val) r h told = other-told g u t (Set obj field val) r h refl told
-told-count g u t (Cas obj field expect val) r h told = other-told g u t (Cas obj field expect val) r h refl told
-told-count g u t (Xchg dst obj field val) r h told = other-told g u t (Xchg dst obj field val) r h refl told
-told-count g u t (Rd obj index) r h told = other-told g u t (Rd obj index) r h refl told
-told-count g u t (Wr obj index value) r h told = other-told g u t (Wr obj index value) r h refl told
-told-count g u t (Copy dst src) r h told = other-told g u t (Copy dst src) r h refl told
-told-count g u t (Drop dst) r h told = other-told g u t (Drop dst) r h refl told
-told-count g u t (Same a b) r h told = other-told g u t (Same a b) r h refl told
-told-count g u t Gc r h told = other-told g u t Gc r h refl told
-told-count g u t (Pin slot obj) r h told = other-told g u t (Pin slot obj) r h refl told
-told-count g u t (Unpin slot) r h told = other-told g u t (Unpin slot) r h refl told
+told-count : (graph : Graph) (u thread : ℕ) (command : Command) (reply : Reply) (other_graph : Graph) → answers reply other_graph ≡ outcome graph u command → other_graph.count thread ≡ graph.count thread + one_if (eqb u thread && (is_allocation command && is_name_reply reply))
+told-count graph u thread (New dst refs nums) reply other_graph told =
+    ap (λ (o : Outcome). o.graph.count thread) told ∙ new-count graph u thread dst refs nums
+    ∙ ap (λ (n : ℕ). graph.count thread + n) (one_more (eqb u thread) true (is_name_reply reply) refl (ap (λ (o : Outcome). is_name_reply o.reply) told))
+told-count graph u thread (Get dst src field) reply other_graph told = other-told graph u thread (Get dst src field) reply other_graph refl told
+told-count graph u thread (Set obj field val) reply other_graph told = other-told graph u thread (Set obj field val) reply other_graph refl told
+told-count graph u thread (Cas obj field expect val) reply other_graph told = other-told graph u thread (Cas obj field expect val) reply other_graph refl told
+told-count graph u thread (Xchg dst obj field val) reply other_graph told = other-told graph u thread (Xchg dst obj field val) reply other_graph refl told
+told-count graph u thread (Rd obj index) reply other_graph told = other-told graph u thread (Rd obj index) reply other_graph refl told
+told-count graph u thread (Wr obj index value) reply other_graph told = other-told graph u thread (Wr obj index value) reply other_graph refl told
+told-count graph u thread (Copy dst src) reply other_graph told = other-told graph u thread (Copy dst src) reply other_graph refl told
+told-count graph u thread (Drop dst) reply other_graph told = other-told graph u thread (Drop dst) reply other_graph refl told
+told-count graph u thread (Same a b) reply other_graph told = other-told graph u thread (Same a b) reply other_graph refl told
+told-count graph u thread Gc reply other_graph told = other-told graph u thread Gc reply other_graph refl told
+told-count graph u thread (Pin slot obj) reply other_graph told = other-told graph u thread (Pin slot obj) reply other_graph refl told
+told-count graph u thread (Unpin slot) reply other_graph told = other-told graph u thread (Unpin slot) reply other_graph refl told
 
-entry-count : (regions region_words : ℕ) (g : Graph) (e : Entry) (h : Graph) (t : ℕ) → IsLegal regions region_words g e.thread e.command e.reply h → h.count t ≡ g.count t + one_if (has_made t e)
-entry-count regions region_words g e h t (inl told) = told-count g e.thread t e.command e.reply h told.1
-entry-count regions region_words g e h t (inr (inl full)) =
-    ap (λ (k : Graph). k.count t) full.2 ∙ no_name (eqb e.thread t) (is_allocation e.command) (is_name_reply e.reply) (g.count t) (ap is_name_reply full.1)
-entry-count regions region_words g e h t (inr (inr pinning)) =
-    ap (λ (k : Graph). k.count t) pinning.graph ∙ no_name (eqb e.thread t) (is_allocation e.command) (is_name_reply e.reply) (g.count t) (ap is_name_reply pinning.reply)
+entry-count : (regions region_words : ℕ) (graph : Graph) (entry : Entry) (other_graph : Graph) (thread : ℕ) → IsLegal regions region_words graph entry.thread entry.command entry.reply other_graph → other_graph.count thread ≡ graph.count thread + one_if (has_made thread entry)
+entry-count regions region_words graph entry other_graph thread (inl told) = told-count graph entry.thread thread entry.command entry.reply other_graph told.1
+entry-count regions region_words graph entry other_graph thread (inr (inl full)) =
+    ap (λ (graph : Graph). graph.count thread) full.2 ∙ no_name (eqb entry.thread thread) (is_allocation entry.command) (is_name_reply entry.reply) (graph.count thread) (ap is_name_reply full.1)
+entry-count regions region_words graph entry other_graph thread (inr (inr pinning)) =
+    ap (λ (graph : Graph). graph.count thread) pinning.graph ∙ no_name (eqb entry.thread thread) (is_allocation entry.command) (is_name_reply entry.reply) (graph.count thread) (ap is_name_reply pinning.reply)
 
 -- ---- histories
 
 count_cons : (first rest end n one all : ℕ) → first ≡ n + one → end ≡ first + rest → all ≡ one + rest → end ≡ n + all
 count_cons first rest end n one all p q r = omega (arith, p, q, r)
 
-pub made-count : (regions region_words : ℕ) (g : Graph) (es : List Entry) (t : ℕ) → EachIsLegal regions region_words g es → (after g es).count t ≡ g.count t + objects_made es t
-made-count regions region_words g [] t legal = omega arith
-made-count regions region_words g (e ∷ es) t legal =
-    count_cons ((after_entry g e).count t) (objects_made es t) ((after (after_entry g e) es).count t) (g.count t) (one_if (has_made t e)) (objects_made (e ∷ es) t)
-    (entry-count regions region_words g e (after_entry g e) t legal.0) (made-count regions region_words (after_entry g e) es t legal.1) (sum_by-cons (λ (x : Entry). one_if (has_made t x)) e es)
+pub made-count : (regions region_words : ℕ) (graph : Graph) (es : List Entry) (thread : ℕ) → EachIsLegal regions region_words graph es → (after graph es).count thread ≡ graph.count thread + objects_made es thread
+made-count regions region_words graph [] thread legal = omega arith
+made-count regions region_words graph (e ∷ es) thread legal =
+    count_cons ((after_entry graph e).count thread) (objects_made es thread) ((after (after_entry graph e) es).count thread) (graph.count thread) (one_if (has_made thread e)) (objects_made (e ∷ es) thread)
+    (entry-count regions region_words graph e (after_entry graph e) thread legal.0) (made-count regions region_words (after_entry graph e) es thread legal.1) (sum_by-cons (λ (entry : Entry). one_if (has_made thread entry)) e es)

@@ -24,25 +24,25 @@ use Rattle.heap_dump.specs.DumpLines.{IsDumpReference}
 heads : {A : Type 0} (x y : A) (xs ys : List A) → x ∷ xs ≡ y ∷ ys → (x ≡ y) × (xs ≡ ys)
 heads x y xs ys e = (cc, cc)
 
-same_names : (n m : Name) → n.thread ≡ m.thread → n.count ≡ m.count → n ≡ m
-same_names n m thread count =
-    ap (λ t. record { thread = t; count = n.count }) thread ∙ ap (λ k. record { thread = m.thread; count = k }) count
+same_names : (name other_name : Name) → name.thread ≡ other_name.thread → name.count ≡ other_name.count → name ≡ other_name
+same_names name other_name thread count =
+    ap (λ t. record { thread = t; count = name.count }) thread ∙ ap (λ k. record { thread = other_name.thread; count = k }) count
 
 -- a name is two words with a dot between
-pub dotted : (w : List ℕ) (n : Name) (h : IsDumpReference w (Some n)) → parts 46 w ≡ h.0 ∷ h.1 ∷ []
-dotted w n h =
+pub dotted : (w : List ℕ) (name : Name) (h : IsDumpReference w (Some name)) → parts 46 w ≡ h.0 ∷ h.1 ∷ []
+dotted w name h =
     let first = free_digits 46 h.0 (omega arith) (number_digits h.0 h.2) in
     let second = free_digits 46 h.1 (omega arith) (number_digits h.1 h.3) in
     ap (parts 46) (h.4 ∙ append_assoc h.0 (codes ".") h.1) ∙ parts_at 46 h.0 h.1 first ∙ ap (λ (ws : List (List ℕ)). h.0 ∷ ws) (parts_none 46 h.1 second)
 
-dash_is_no_name : (w : List ℕ) (n : Name) → w ≡ codes "-" → IsDumpReference w (Some n) → ⊥
-dash_is_no_name w n dash h =
-    let e : codes "-" ∷ [] ≡ h.0 ∷ h.1 ∷ [] = sym (ap (parts 46) dash) ∙ dotted w n h in
+dash_is_no_name : (w : List ℕ) (name : Name) → w ≡ codes "-" → IsDumpReference w (Some name) → ⊥
+dash_is_no_name w name dash h =
+    let e : codes "-" ∷ [] ≡ h.0 ∷ h.1 ∷ [] = sym (ap (parts 46) dash) ∙ dotted w name h in
     let sizes = ap length e in
     absurd (omega (arith, sizes))
 
 -- a word is one reference at most
-pub reference_once : (w : List ℕ) (r q : Reference) → IsDumpReference w r → IsDumpReference w q → r ≡ q
+pub reference_once : (w : List ℕ) (reference other_reference : Reference) → IsDumpReference w reference → IsDumpReference w other_reference → reference ≡ other_reference
 reference_once w None None h k = refl
 reference_once w None (Some n) h k = absurd (dash_is_no_name w n h k)
 reference_once w (Some n) None h k = absurd (dash_is_no_name w n k h)
@@ -62,7 +62,7 @@ not_same w v other is = false≢true (other ∙ ap (λ (u : List ℕ). is_same u
 pub not_dash : (w : List ℕ) → false ≡ is_same w (codes "-") → w ≡ codes "-" → ⊥
 not_dash w other is = false≢true (other ∙ ap (λ (v : List ℕ). is_same v (codes "-")) is ∙ is_same_again (codes "-"))
 
-pub no_dot : (w thread rest : List ℕ) → parts 46 w ≡ thread ∷ parts_behind 46 rest → length rest ≡ 0 → false ≡ is_same w (codes "-") → (r : Reference) → IsDumpReference w r → ⊥
+pub no_dot : (w thread rest : List ℕ) → parts 46 w ≡ thread ∷ parts_behind 46 rest → length rest ≡ 0 → false ≡ is_same w (codes "-") → (reference : Reference) → IsDumpReference w reference → ⊥
 no_dot w thread rest cut none other None h = absurd (not_dash w other h)
 no_dot w thread (x ∷ rest) cut none other (Some n) h = absurd (omega (arith, none))
 no_dot w thread [] cut none other (Some n) h =
@@ -91,52 +91,52 @@ is_name w thread rest count x cut is first second =
 
 -- ---- names of objects
 
-pub word_of_name : (n : Name) → n.thread < 2 ^ 64 → n.count < 2 ^ 64 → IsDumpReference (name_word n) (Some n)
-word_of_name n thread count =
-    (decimal n.thread, decimal n.count, decimal_is_number n.thread thread, decimal_is_number n.count count, refl, sym (digits_value-decimal own n.thread thread), sym (digits_value-decimal own n.count count))
+pub word_of_name : (name : Name) → name.thread < 2 ^ 64 → name.count < 2 ^ 64 → IsDumpReference (name_word name) (Some name)
+word_of_name name thread count =
+    (decimal name.thread, decimal name.count, decimal_is_number name.thread thread, decimal_is_number name.count count, refl, sym (digits_value-decimal own name.thread thread), sym (digits_value-decimal own name.count count))
 
-pub name_of_word : (w : List ℕ) (n : Name) → n.thread < 2 ^ 64 → n.count < 2 ^ 64 → IsDumpReference w (Some n) → w ≡ name_word n
-name_of_word w n thread count h =
+pub name_of_word : (w : List ℕ) (name : Name) → name.thread < 2 ^ 64 → name.count < 2 ^ 64 → IsDumpReference w (Some name) → w ≡ name_word name
+name_of_word w name thread count h =
     let first = number_spelled h.0 h.2 (subst (λ (k : ℕ). k < 2 ^ 64) h.5 thread) ∙ ap decimal (sym h.5) in
     let second = number_spelled h.1 h.3 (subst (λ (k : ℕ). k < 2 ^ 64) h.6 count) ∙ ap decimal (sym h.6) in
-    h.4 ∙ ap (λ (v : List ℕ). v ++ codes "." ++ h.1) first ∙ ap (λ (v : List ℕ). decimal n.thread ++ codes "." ++ v) second
+    h.4 ∙ ap (λ (v : List ℕ). v ++ codes "." ++ h.1) first ∙ ap (λ (v : List ℕ). decimal name.thread ++ codes "." ++ v) second
 
 -- a name of an object fits
-pub named_small : (counts : List ℕ) (n : Name) → length counts ≤ 8 → ((k : ℕ) → slice_index counts k < 2 ^ 32) → IsNamed counts n → (n.thread < 2 ^ 32) × (n.count < 2 ^ 32)
-named_small counts n few each (inl is) = (subst (λ (m : Name). m.thread < 2 ^ 32) (sym is) (lit< tt), subst (λ (m : Name). m.count < 2 ^ 32) (sym is) (lit< tt))
-named_small counts n few each (inr made) = (omega (arith, made.to_last, few), omega (arith, made.to_count, each (n.thread - 1)))
+pub named_small : (counts : List ℕ) (name : Name) → length counts ≤ 8 → ((index : ℕ) → slice_index counts index < 2 ^ 32) → IsNamed counts name → (name.thread < 2 ^ 32) × (name.count < 2 ^ 32)
+named_small counts name few each (inl is) = (subst (λ (name : Name). name.thread < 2 ^ 32) (sym is) (lit< tt), subst (λ (name : Name). name.count < 2 ^ 32) (sym is) (lit< tt))
+named_small counts name few each (inr made) = (omega (arith, made.to_last, few), omega (arith, made.to_count, each (name.thread - 1)))
 
-pub held_small : (n : Name) → n.thread < 2 ^ 32 → n.count < 2 ^ 32 → held_name n ≡ n
-held_small n thread count = rw (lt-ltb n.thread (2 ^ 32) thread, lt-ltb n.count (2 ^ 32) count) refl
+pub held_small : (name : Name) → name.thread < 2 ^ 32 → name.count < 2 ^ 32 → held_name name ≡ name
+held_small name thread count = rw (lt-ltb name.thread (2 ^ 32) thread, lt-ltb name.count (2 ^ 32) count) refl
 
-nobody_unnamed : (counts : List ℕ) (n : Name) → length counts ≤ 8 → n ≡ nameless → IsNamed counts n → ⊥
-nobody_unnamed counts n few is (inl at_hub) = let e : ◌≡◌ {A = ℕ} 4294967295 0 = sym (ap (λ (m : Name). m.thread) is) ∙ ap (λ (m : Name). m.thread) at_hub in absurd (omega (arith, e))
-nobody_unnamed counts n few is (inr made) = omega (arith, made.to_last, few, ap (λ (m : Name). m.thread) is)
+nobody_unnamed : (counts : List ℕ) (name : Name) → length counts ≤ 8 → name ≡ nameless → IsNamed counts name → ⊥
+nobody_unnamed counts name few is (inl at_hub) = let e : ◌≡◌ {A = ℕ} 4294967295 0 = sym (ap (λ (name : Name). name.thread) is) ∙ ap (λ (name : Name). name.thread) at_hub in absurd (omega (arith, e))
+nobody_unnamed counts name few is (inr made) = omega (arith, made.to_last, few, ap (λ (name : Name). name.thread) is)
 
 -- what is held as the name of an object is that name
-pub held_named : (counts : List ℕ) (n : Name) → length counts ≤ 8 → IsNamed counts (held_name n) → held_name n ≡ n
-held_named counts n few is = by_test (fits n) refl
+pub held_named : (counts : List ℕ) (name : Name) → length counts ≤ 8 → IsNamed counts (held_name name) → held_name name ≡ name
+held_named counts name few is = by_test (fits name) refl
   where
-    by_test : (t : Bool) → fits n ≡ t → held_name n ≡ n
+    by_test : (holds : Bool) → fits name ≡ holds → held_name name ≡ name
     by_test true e = rw e refl
-    by_test false e = let here : held_name n ≡ nameless = rw e refl in absurd (nobody_unnamed counts (held_name n) few here is)
+    by_test false e = let here : held_name name ≡ nameless = rw e refl in absurd (nobody_unnamed counts (held_name name) few here is)
 
-pub no_named : (counts w : List ℕ) → length counts ≤ 8 → ((k : ℕ) → slice_index counts k < 2 ^ 32) → ((r : Reference) → IsDumpReference w r → ⊥) → (n : Name) → IsNamed counts n → w ≡ name_word n → ⊥
-no_named counts w few each none n named is =
-    let small = named_small counts n few each named in
-    none (Some n) (subst (λ (v : List ℕ). IsDumpReference v (Some n)) (sym is) (word_of_name n (omega (arith, small.0)) (omega (arith, small.1))))
+pub no_named : (counts w : List ℕ) → length counts ≤ 8 → ((index : ℕ) → slice_index counts index < 2 ^ 32) → ((reference : Reference) → IsDumpReference w reference → ⊥) → (name : Name) → IsNamed counts name → w ≡ name_word name → ⊥
+no_named counts w few each none name named is =
+    let small = named_small counts name few each named in
+    none (Some name) (subst (λ (v : List ℕ). IsDumpReference v (Some name)) (sym is) (word_of_name name (omega (arith, small.0)) (omega (arith, small.1))))
 
-pub taken_name : (counts w : List ℕ) (r : Reference) (name : Name) → length counts ≤ 8 → ((k : ℕ) → slice_index counts k < 2 ^ 32) → IsDumpReference w r → Some name ≡ held r → IsNamed counts name → w ≡ name_word name
+pub taken_name : (counts w : List ℕ) (reference : Reference) (name : Name) → length counts ≤ 8 → ((index : ℕ) → slice_index counts index < 2 ^ 32) → IsDumpReference w reference → Some name ≡ held reference → IsNamed counts name → w ≡ name_word name
 taken_name counts w None name few each is is_held named = absurd cc
 taken_name counts w (Some n) name few each is is_held named =
     let e : name ≡ held_name n = cc in
     let same : name ≡ n = e ∙ held_named counts n few (subst (IsNamed counts) e named) in
     let small = named_small counts name few each named in
-    name_of_word w name (omega (arith, small.0)) (omega (arith, small.1)) (subst (λ (m : Name). IsDumpReference w (Some m)) (sym same) is)
+    name_of_word w name (omega (arith, small.0)) (omega (arith, small.1)) (subst (λ (name : Name). IsDumpReference w (Some name)) (sym same) is)
 
-pub other_name : (counts w : List ℕ) (r : Reference) (x : Reference) → length counts ≤ 8 → ((k : ℕ) → slice_index counts k < 2 ^ 32) → IsDumpReference w r → x ≡ held r → ((name : Name) → x ≡ Some name → IsNamed counts name → ⊥)
+pub other_name : (counts w : List ℕ) (reference : Reference) (other_reference : Reference) → length counts ≤ 8 → ((index : ℕ) → slice_index counts index < 2 ^ 32) → IsDumpReference w reference → other_reference ≡ held reference → ((name : Name) → other_reference ≡ Some name → IsNamed counts name → ⊥)
     → (n : Name) → IsNamed counts n → w ≡ name_word n → ⊥
-other_name counts w r x few each is is_held none n named e =
+other_name counts w reference other_reference few each is is_held none n named e =
     let small = named_small counts n few each named in
-    let same : r ≡ Some n = reference_once w r (Some n) is (subst (λ (v : List ℕ). IsDumpReference v (Some n)) (sym e) (word_of_name n (omega (arith, small.0)) (omega (arith, small.1)))) in
+    let same : reference ≡ Some n = reference_once w reference (Some n) is (subst (λ (v : List ℕ). IsDumpReference v (Some n)) (sym e) (word_of_name n (omega (arith, small.0)) (omega (arith, small.1)))) in
     none n (is_held ∙ ap held same ∙ ap Some (held_small n small.0 small.1)) named

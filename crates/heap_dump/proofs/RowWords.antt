@@ -38,33 +38,33 @@ some_parts s (b ∷ bytes) e = let cut = ap length (cut_parts s bytes) in omega 
 
 -- ---- the last name
 
-pub last_before : (rows : List Row) (n : Name) (k : ℕ) → k + 1 ≡ length rows → IsBefore (get_or rows k (bare hub)).name n → IsBehindLast (map (λ (r : Row). r.name) rows) n
-last_before [] n k size h = tt
-last_before (r ∷ []) n zero size h = h
-last_before (r ∷ []) n (suc k) size h = absurd (omega (arith, size))
-last_before (r ∷ q ∷ rows) n zero size h = absurd (omega (arith, size))
-last_before (r ∷ q ∷ rows) n (suc k) size h = last_before (q ∷ rows) n k (omega (arith, size)) h
+pub last_before : (rows : List Row) (name : Name) (index : ℕ) → index + 1 ≡ length rows → IsBefore (get_or rows index (bare hub)).name name → IsBehindLast (map (λ (row : Row). row.name) rows) name
+last_before [] name index size h = tt
+last_before (r ∷ []) name zero size h = h
+last_before (r ∷ []) name (suc index) size h = absurd (omega (arith, size))
+last_before (r ∷ q ∷ rows) name zero size h = absurd (omega (arith, size))
+last_before (r ∷ q ∷ rows) name (suc index) size h = last_before (q ∷ rows) name index (omega (arith, size)) h
 
-pub before_last : (rows : List Row) (n : Name) (k : ℕ) → k + 1 ≡ length rows → IsBehindLast (map (λ (r : Row). r.name) rows) n → IsBefore (get_or rows k (bare hub)).name n
-before_last [] n k size h = absurd (omega (arith, size))
-before_last (r ∷ []) n zero size h = h
-before_last (r ∷ []) n (suc k) size h = absurd (omega (arith, size))
-before_last (r ∷ q ∷ rows) n zero size h = absurd (omega (arith, size))
-before_last (r ∷ q ∷ rows) n (suc k) size h = before_last (q ∷ rows) n k (omega (arith, size)) h
+pub before_last : (rows : List Row) (name : Name) (index : ℕ) → index + 1 ≡ length rows → IsBehindLast (map (λ (row : Row). row.name) rows) name → IsBefore (get_or rows index (bare hub)).name name
+before_last [] name index size h = absurd (omega (arith, size))
+before_last (r ∷ []) name zero size h = h
+before_last (r ∷ []) name (suc index) size h = absurd (omega (arith, size))
+before_last (r ∷ q ∷ rows) name zero size h = absurd (omega (arith, size))
+before_last (r ∷ q ∷ rows) name (suc index) size h = before_last (q ∷ rows) name index (omega (arith, size)) h
 
 -- ---- one row at most
 
-pub one_name : (counts w : List ℕ) (a b : Name) → length counts ≤ 8 → ((k : ℕ) → slice_index counts k < 2 ^ 32) → IsNamed counts a → IsNamed counts b → w ≡ name_word a → w ≡ name_word b → a ≡ b
-one_name counts w a b few each one other is also =
-    let first = named_small counts a few each one in
-    let second = named_small counts b few each other in
-    let e = reference_once w (Some a) (Some b)
-    (subst (λ (v : List ℕ). IsDumpReference v (Some a)) (sym is) (word_of_name a (omega (arith, first.0)) (omega (arith, first.1))))
-    (subst (λ (v : List ℕ). IsDumpReference v (Some b)) (sym also) (word_of_name b (omega (arith, second.0)) (omega (arith, second.1)))) in
+pub one_name : (counts w : List ℕ) (name other_name : Name) → length counts ≤ 8 → ((index : ℕ) → slice_index counts index < 2 ^ 32) → IsNamed counts name → IsNamed counts other_name → w ≡ name_word name → w ≡ name_word other_name → name ≡ other_name
+one_name counts w name other_name few each one other is also =
+    let first = named_small counts name few each one in
+    let second = named_small counts other_name few each other in
+    let e = reference_once w (Some name) (Some other_name)
+    (subst (λ (v : List ℕ). IsDumpReference v (Some name)) (sym is) (word_of_name name (omega (arith, first.0)) (omega (arith, first.1))))
+    (subst (λ (v : List ℕ). IsDumpReference v (Some other_name)) (sym also) (word_of_name other_name (omega (arith, second.0)) (omega (arith, second.1)))) in
     cc
 
 -- the name of a row with these words, and what is behind it
-pub row_name : (counts w : List ℕ) (rest : List (List ℕ)) (name : Name) (r : Row) → length counts ≤ 8 → ((k : ℕ) → slice_index counts k < 2 ^ 32) → IsNamed counts name → w ≡ name_word name → AreRowWords counts (w ∷ rest) r → name ≡ r.name
+pub row_name : (counts w : List ℕ) (rest : List (List ℕ)) (name : Name) (r : Row) → length counts ≤ 8 → ((index : ℕ) → slice_index counts index < 2 ^ 32) → IsNamed counts name → w ≡ name_word name → AreRowWords counts (w ∷ rest) r → name ≡ r.name
 row_name counts w rest name r few each named is row =
     one_name counts w name r.name few each named row.row.name is (heads w (name_word r.name) rest (row.spelled ++ codes "/" ∷ map decimal r.nums) row.words_are).0
 
@@ -96,23 +96,23 @@ refs_room words more refs all =
 
 -- ---- the row that is added
 
-pub nums_rows : (t : Text) (xs : List ℕ) → length (with_numbers t xs).rows ≡ length t.rows
-nums_rows t [] = refl
-nums_rows t (x ∷ xs) = nums_rows (with_number t x) xs ∙ length-change_last (add_number x) t.rows
+pub nums_rows : (text : Text) (xs : List ℕ) → length (with_numbers text xs).rows ≡ length text.rows
+nums_rows text [] = refl
+nums_rows text (x ∷ xs) = nums_rows (with_number text x) xs ∙ length-change_last (add_number x) text.rows
 
-pub added : (t : Text) (name : Name) (refs : List Reference) (nums : List ℕ) → with_numbers (with_references (with_row t name) (map held refs)) nums ≡ with_whole_row t (held_row (record { name = name; refs = refs; nums = nums }))
-added t name refs nums = whole t name (map held refs) nums
+pub added : (text : Text) (name : Name) (refs : List Reference) (nums : List ℕ) → with_numbers (with_references (with_row text name) (map held refs)) nums ≡ with_whole_row text (held_row (record { name = name; refs = refs; nums = nums }))
+added text name refs nums = whole text name (map held refs) nums
 
-pub added_row : (t : Text) (r : Row) → row_of (with_whole_row t r) (length t.rows) ≡ r
-added_row t r =
-    let none : length t.rows - length t.rows ≡ 0 = omega arith in
-    get_or-append_right t.rows (r ∷ []) (length t.rows) (length t.rows) (bare hub) refl (omega arith) ∙ ap (λ k. get_or (r ∷ []) k (bare hub)) none
+pub added_row : (text : Text) (row : Row) → row_of (with_whole_row text row) (length text.rows) ≡ row
+added_row text row =
+    let none : length text.rows - length text.rows ≡ 0 = omega arith in
+    get_or-append_right text.rows (row ∷ []) (length text.rows) (length text.rows) (bare hub) refl (omega arith) ∙ ap (λ k. get_or (row ∷ []) k (bare hub)) none
 
-pub held_fields : (r : Row) → HasHubFields (held_row r) → HasHubFields r
-held_fields r h is = let w = h is in (sym (len_map held r.refs) ∙ w.0, w.1)
+pub held_fields : (row : Row) → HasHubFields (held_row row) → HasHubFields row
+held_fields row h is = let w = h is in (sym (len_map held row.refs) ∙ w.0, w.1)
 
-pub fields_held : (r : Row) → HasHubFields r → HasHubFields (held_row r)
-fields_held r h is = let w = h is in (len_map held r.refs ∙ w.0, w.1)
+pub fields_held : (row : Row) → HasHubFields row → HasHubFields (held_row row)
+fields_held row h is = let w = h is in (len_map held row.refs ∙ w.0, w.1)
 
 -- the words are those of the row
 pub row_taken : (counts w : List ℕ) (rest more : List (List ℕ)) (name : Name) (refs : List Reference) (nums : List ℕ) → IsNamed counts name → w ≡ name_word name → AreRefsWords rest refs more → AreNumsWords more nums

@@ -23,10 +23,10 @@ use Rattle.heap_dump.proofs.Steps.{leads_none, leads_one, leads_both}
 use Rattle.heap_dump.proofs.Lined.{words_line, object_words, roots_words, mark_words, object_is_no_roots, object_is_no_mark, names_held, order_more, order_behind, names_more, parts_room, separators_line}
 
 abbrev name_of : Row → Name
-name_of r = r.name
+name_of row = row.name
 
-pub rows_none : (counts bytes : List ℕ) (t : Text) → t.rows ≡ [] → separators bytes ≤ t.spare → HasTakenRows counts bytes bytes 0 t t
-rows_none counts bytes t none room = record {
+pub rows_none : (counts bytes : List ℕ) (text : Text) → text.rows ≡ [] → separators bytes ≤ text.spare → HasTakenRows counts bytes bytes 0 text text
+rows_none counts bytes text none room = record {
   rows = [];
   led = λ config. leads_none (Listed (listed config counts [] [])) bytes;
   held = none;
@@ -74,23 +74,23 @@ rows_more counts bytes rest behind lines before now after text words r taken cut
       led = (λ config.
           leads_both (Listed (listed config counts [] [])) (Listed (listed config counts taken.rows [])) (Listed (listed config counts rows [])) bytes rest behind lines 1 (taken.led config)
           (leads_one (Listed (listed config counts taken.rows [])) (Listed (listed config counts rows [])) rest text behind cut (inl (r, row.spelled, refl, row.row, order, row.are, spells, refl))));
-      held = (ap (λ (t : Text). t.rows) made ∙ ap (λ (rs : List Row). rs ++ held_row r ∷ []) taken.held ∙ sym (map-append held_row taken.rows (r ∷ [])));
+      held = (ap (λ (text : Text). text.rows) made ∙ ap (λ (rs : List Row). rs ++ held_row r ∷ []) taken.held ∙ sym (map-append held_row taken.rows (r ∷ [])));
       order = order;
       all = All-push (IsRow counts) taken.rows r taken.all row.row;
-      roots = ap (λ (t : Text). t.roots) made ∙ taken.roots;
+      roots = ap (λ (text : Text). text.roots) made ∙ taken.roots;
       room = (omega (
         arith,
         object_room rest text behind words now.spare cut first taken.room,
         row_length counts (parts_behind 32 words) r row,
-        ap (λ (t : Text). t.spare) made,
+        ap (λ (text : Text). text.spare) made,
         len_map held r.refs,
       ));
       shorter = omega (arith, taken.shorter, less);
     }
 
 pub rows_refused : (counts bytes rest behind : List ℕ) (lines : ℕ) (before now : Text) (text words : List ℕ) (config : Config) → (taken : HasTakenRows counts bytes rest lines before now)
-    → parts 32 text ≡ codes "object" ∷ parts_behind 32 words → length counts ≤ 8 → ((k : ℕ) → slice_index counts k < 2 ^ 32)
-    → ((r : Row) → AreRowWords counts (parts_behind 32 words) r → IsBehindLast (names_of now) r.name → ⊥) → (next : DumpStage) → DumpFollows (Listed (listed config counts taken.rows [])) text next → ⊥
+    → parts 32 text ≡ codes "object" ∷ parts_behind 32 words → length counts ≤ 8 → ((index : ℕ) → slice_index counts index < 2 ^ 32)
+    → ((row : Row) → AreRowWords counts (parts_behind 32 words) row → IsBehindLast (names_of now) row.name → ⊥) → (next : DumpStage) → DumpFollows (Listed (listed config counts taken.rows [])) text next → ⊥
 rows_refused counts bytes rest behind lines before now text words config taken first few each none next (inl f) =
     let small = named_small counts f.0.name few each f.3.name in
     let all = object_words text f.0 f.1 (omega (arith, small.0)) (omega (arith, small.1)) f.5 f.3.fields.fit f.6 in

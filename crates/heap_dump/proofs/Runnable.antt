@@ -15,23 +15,23 @@ use Rattle.heap_dump.specs.Resumes.{run_version, Resumes, mark_line}
 use Rattle.heap_dump.specs.Resumed.{IsRunnableAfter}
 use Rattle.heap_dump.proofs.ScriptLines.{count_scripts, valid_script, short_script, items_in_seats}
 
-module _ (bytes : List ℕ) (d : Dumped) (scripts : List (List Command)) (items : List Item) (reads : Resumes bytes d scripts items) where
-  pub count_read : length scripts ≡ d.config.mutators
-  count_read = ap length reads.by_thread ∙ count_scripts d.config.mutators reads.lines
+module _ (bytes : List ℕ) (dump : Dumped) (scripts : List (List Command)) (items : List Item) (reads : Resumes bytes dump scripts items) where
+  pub count_read : length scripts ≡ dump.config.mutators
+  count_read = ap length reads.by_thread ∙ count_scripts dump.config.mutators reads.lines
 
-  few_commands : (t : ℕ) → t < d.config.mutators → length (get_or (scripts_of d.config.mutators reads.lines) t []) + most_made < most_objects
-  few_commands t below =
+  few_commands : (mutator : ℕ) → mutator < dump.config.mutators → length (get_or (scripts_of dump.config.mutators reads.lines) mutator []) + most_made < most_objects
+  few_commands mutator below =
       let lines = flat_map line reads.lines in
       let turns = flat_map schedule_line reads.turns in
-      omega (arith, short_script d.config.mutators reads.lines t below, reads.short, ap length reads.spelled, length-append (dump_text d) (mark_line ++ (lines ++ turns)), length-append mark_line (lines ++ turns), length-append lines turns)
+      omega (arith, short_script dump.config.mutators reads.lines mutator below, reads.short, ap length reads.spelled, length-append (dump_text dump) (mark_line ++ (lines ++ turns)), length-append mark_line (lines ++ turns), length-append lines turns)
 
   pub runnable_read : All IsRunnableAfter scripts
   runnable_read =
       subst (All IsRunnableAfter) (sym reads.by_thread)
-      (All-from_get_or IsRunnableAfter (scripts_of d.config.mutators reads.lines) [] (λ t within.
-      let count = count_scripts d.config.mutators reads.lines in
-      let below : t < d.config.mutators = omega (arith, within, count) in
-      (valid_script run_version d.config.mutators reads.lines t reads.in_range below, few_commands t below)))
+      (All-from_get_or IsRunnableAfter (scripts_of dump.config.mutators reads.lines) [] (λ t within.
+      let count = count_scripts dump.config.mutators reads.lines in
+      let below : t < dump.config.mutators = omega (arith, within, count) in
+      (valid_script run_version dump.config.mutators reads.lines t reads.in_range below, few_commands t below)))
 
-  pub items_read : All (IsInSeats d.config) items
-  items_read = subst (All (IsInSeats d.config)) (sym reads.in_order) (items_in_seats d.config reads.turns reads.turns_in_range)
+  pub items_read : All (IsInSeats dump.config) items
+  items_read = subst (All (IsInSeats dump.config)) (sym reads.in_order) (items_in_seats dump.config reads.turns reads.turns_in_range)

@@ -27,14 +27,14 @@ valid_lines version threads (l ∷ lines) t all = by_thread (eqb l.thread t) (va
 pub count_scripts : (threads : ℕ) (lines : List TraceLine) → length (scripts_of threads lines) ≡ threads
 count_scripts threads lines = length-map-range_with_len (commands_in lines) 1 threads
 
-script_at : (threads : ℕ) (lines : List TraceLine) (t : ℕ) → t < threads → get_or (scripts_of threads lines) t [] ≡ commands_in lines (t + 1)
-script_at threads lines t below =
+script_at : (threads : ℕ) (lines : List TraceLine) (index : ℕ) → index < threads → get_or (scripts_of threads lines) index [] ≡ commands_in lines (index + 1)
+script_at threads lines index below =
     let none : List Command = [] in
-    get_or-map-range_with_len (commands_in lines) 1 threads t (t + 1) none below (omega arith)
+    get_or-map-range_with_len (commands_in lines) 1 threads index (index + 1) none below (omega arith)
 
-pub valid_script : (version threads : ℕ) (lines : List TraceLine) (t : ℕ) → AllByRecursion (IsLine version threads) lines → t < threads → All IsValid (get_or (scripts_of threads lines) t [])
-valid_script version threads lines t in_range below =
-    subst (All IsValid) (sym (script_at threads lines t below)) (All-from_recursion IsValid _ (valid_lines version threads lines (t + 1) in_range))
+pub valid_script : (version threads : ℕ) (lines : List TraceLine) (index : ℕ) → AllByRecursion (IsLine version threads) lines → index < threads → All IsValid (get_or (scripts_of threads lines) index [])
+valid_script version threads lines index in_range below =
+    subst (All IsValid) (sym (script_at threads lines index below)) (All-from_recursion IsValid _ (valid_lines version threads lines (index + 1) in_range))
 
 pub valid_scripts : (version threads : ℕ) (lines : List TraceLine) → AllByRecursion (IsLine version threads) lines → All (All IsValid) (scripts_of threads lines)
 valid_scripts version threads lines in_range =
@@ -56,25 +56,25 @@ few_of_thread (l ∷ lines) t = by_thread (eqb l.thread t) (few_of_thread lines 
     by_thread true others = omega arith
     by_thread false others = omega arith
 
-pub short_script : (threads : ℕ) (lines : List TraceLine) (t : ℕ) → t < threads → length (get_or (scripts_of threads lines) t []) ≤ length (flat_map line lines)
-short_script threads lines t below =
-    let script = ap (λ (cs : List Command). length cs) (script_at threads lines t below) in
-    omega (arith, script, few_of_thread lines (t + 1), few_lines lines)
+pub short_script : (threads : ℕ) (lines : List TraceLine) (index : ℕ) → index < threads → length (get_or (scripts_of threads lines) index []) ≤ length (flat_map line lines)
+short_script threads lines index below =
+    let script = ap (λ (cs : List Command). length cs) (script_at threads lines index below) in
+    omega (arith, script, few_of_thread lines (index + 1), few_lines lines)
 
 -- ---- items
 
-in_seats : (c : Config) (i : Item) → IsItem c i → IsInSeats c i
-in_seats c (Steps number count) good = good.0
-in_seats c (Until number place) good = good
-in_seats c (Replies number count) good = good.0
+in_seats : (config : Config) (item : Item) → IsItem config item → IsInSeats config item
+in_seats config (Steps number count) good = good.0
+in_seats config (Until number place) good = good
+in_seats config (Replies number count) good = good.0
 
-items_append : (c : Config) (xs ys : List Item) → AllByRecursion (IsItem c) xs → AllByRecursion (IsInSeats c) ys → AllByRecursion (IsInSeats c) (xs ++ ys)
-items_append c [] ys all others = others
-items_append c (x ∷ xs) ys all others = (in_seats c x all.0, items_append c xs ys all.1 others)
+items_append : (config : Config) (xs ys : List Item) → AllByRecursion (IsItem config) xs → AllByRecursion (IsInSeats config) ys → AllByRecursion (IsInSeats config) (xs ++ ys)
+items_append config [] ys all others = others
+items_append config (x ∷ xs) ys all others = (in_seats config x all.0, items_append config xs ys all.1 others)
 
-turns_in_seats : (c : Config) (turns : List (List Item)) → AllByRecursion (IsScheduleLine c) turns → AllByRecursion (IsInSeats c) (items_of turns)
-turns_in_seats c [] all = tt
-turns_in_seats c (items ∷ turns) all = items_append c items (items_of turns) all.0.in_range (turns_in_seats c turns all.1)
+turns_in_seats : (config : Config) (turns : List (List Item)) → AllByRecursion (IsScheduleLine config) turns → AllByRecursion (IsInSeats config) (items_of turns)
+turns_in_seats config [] all = tt
+turns_in_seats config (items ∷ turns) all = items_append config items (items_of turns) all.0.in_range (turns_in_seats config turns all.1)
 
-pub items_in_seats : (c : Config) (turns : List (List Item)) → AllByRecursion (IsScheduleLine c) turns → All (IsInSeats c) (items_of turns)
-items_in_seats c turns in_range = All-from_recursion (IsInSeats c) (items_of turns) (turns_in_seats c turns in_range)
+pub items_in_seats : (config : Config) (turns : List (List Item)) → AllByRecursion (IsScheduleLine config) turns → All (IsInSeats config) (items_of turns)
+items_in_seats config turns in_range = All-from_recursion (IsInSeats config) (items_of turns) (turns_in_seats config turns in_range)

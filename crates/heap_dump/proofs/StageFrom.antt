@@ -36,69 +36,69 @@ use Rattle.heap_dump.specs.Resumed.{IsRunnableAfter, IsLeftBusy}
 use Rattle.heap_dump.specs.Resuming.{HasEndedFrom}
 
 -- nothing was done of a script
-progress_first : (scripts : Scripts) (t : ℕ) → t < length scripts → length scripts ≤ 8 → work.progress_of (work.opened scripts) t ≡ Some (work.begun (nth_script scripts t))
-progress_first scripts t below few =
-    get_or-map-range_with_len (λ m. option_map work.begun (slice_get scripts m)) 0 8 t t None (omega arith) (omega arith)
-    ∙ ap (option_map work.begun) (slice_get-get_or scripts t [] below)
+progress_first : (scripts : Scripts) (index : ℕ) → index < length scripts → length scripts ≤ 8 → work.progress_of (work.opened scripts) index ≡ Some (work.begun (nth_script scripts index))
+progress_first scripts index below few =
+    get_or-map-range_with_len (λ m. option_map work.begun (slice_get scripts m)) 0 8 index index None (omega arith) (omega arith)
+    ∙ ap (option_map work.begun) (slice_get-get_or scripts index [] below)
 
-module _ (c : Config) (words counts : List ℕ) where
+module _ (config : Config) (words counts : List ℕ) where
   abbrev start : Stage Actor
-  start = stage_from c words counts
+  start = stage_from config words counts
 
   -- the actor of a number
-  actor_at : (k : ℕ) → k < seat_count c.mutators c.helpers → slice_get start.machines k ≡ Some (actor_from c counts (view c words) k)
+  actor_at : (seat : ℕ) → seat < seat_count config.mutators config.helpers → slice_get start.machines seat ≡ Some (actor_from config counts (view config words) seat)
   unfolding stage_from
-  actor_at k below =
-      let made = actor_from c counts (view c words) in
-      let long = length-map-range_with_len made 0 (seat_count c.mutators c.helpers) in
-      slice_get-get_or start.machines k (made k) (omega (arith, long, below))
-      ∙ ap (λ (a : Actor). Some a) (get_or-map-range_with_len made 0 (seat_count c.mutators c.helpers) k k (made k) below (omega arith))
+  actor_at seat below =
+      let made = actor_from config counts (view config words) in
+      let long = length-map-range_with_len made 0 (seat_count config.mutators config.helpers) in
+      slice_get-get_or start.machines seat (made seat) (omega (arith, long, below))
+      ∙ ap (λ (actor : Actor). Some actor) (get_or-map-range_with_len made 0 (seat_count config.mutators config.helpers) seat seat (made seat) below (omega arith))
 
-  actor_is : (k : ℕ) (a : Actor) → slice_get start.machines k ≡ Some a → k < seat_count c.mutators c.helpers → actor_from c counts (view c words) k ≡ a
-  actor_is k a here below = sym (get_or_from_slice_get start.machines k (actor_from c counts (view c words) k) a (actor_at k below)) ∙ get_or_from_slice_get start.machines k a a here
+  actor_is : (seat : ℕ) (actor : Actor) → slice_get start.machines seat ≡ Some actor → seat < seat_count config.mutators config.helpers → actor_from config counts (view config words) seat ≡ actor
+  actor_is seat actor here below = sym (get_or_from_slice_get start.machines seat (actor_from config counts (view config words) seat) actor (actor_at seat below)) ∙ get_or_from_slice_get start.machines seat actor actor here
 
   -- the mutators come first
-  mutator_is : (k : ℕ) → k < c.mutators → machine_from c counts (view c words) k ≡ mutating (mutator_after k (slice_index counts k))
-  mutator_is k below =
-      ap (λ (b : Bool). if b then mutating (mutator_after k (slice_index counts k)) else (if nat_lt k (c.mutators + c.helpers) then fresh_helper k else control_from (view c words))) (lt-ltb k c.mutators below)
+  mutator_is : (mutator : ℕ) → mutator < config.mutators → machine_from config counts (view config words) mutator ≡ mutating (mutator_after mutator (slice_index counts mutator))
+  mutator_is mutator below =
+      ap (λ (holds : Bool). if holds then mutating (mutator_after mutator (slice_index counts mutator)) else (if nat_lt mutator (config.mutators + config.helpers) then fresh_helper mutator else control_from (view config words))) (lt-ltb mutator config.mutators below)
 
   -- a mutator in memory
-  shown_is : (machines : List Machine) (k : ℕ) → map (λ a. a.machine) start.machines ≡ machines → k < c.mutators → get_or machines k no_machine ≡ mutating (mutator_after k (slice_index counts k))
+  shown_is : (machines : List Machine) (mutator : ℕ) → map (λ a. a.machine) start.machines ≡ machines → mutator < config.mutators → get_or machines mutator no_machine ≡ mutating (mutator_after mutator (slice_index counts mutator))
   unfolding stage_from
-  shown_is machines k is below =
-      let made = machine_from c counts (view c words) in
-      ap (λ ms. get_or ms k no_machine) (sym is ∙ map-map (λ a. a.machine) (actor_from c counts (view c words)) (range_with_len 0 (seat_count c.mutators c.helpers)))
-      ∙ get_or-map-range_with_len made 0 (seat_count c.mutators c.helpers) k k no_machine (omega (arith, below)) (omega arith)
-      ∙ mutator_is k below
+  shown_is machines mutator is below =
+      let made = machine_from config counts (view config words) in
+      ap (λ ms. get_or ms mutator no_machine) (sym is ∙ map-map (λ a. a.machine) (actor_from config counts (view config words)) (range_with_len 0 (seat_count config.mutators config.helpers)))
+      ∙ get_or-map-range_with_len made 0 (seat_count config.mutators config.helpers) mutator mutator no_machine (omega (arith, below)) (omega arith)
+      ∙ mutator_is mutator below
 
   -- such a heap can run scripts of commands that can be given
-  pub can_run_from : (p : Plain) (scripts : Scripts) → config_of p ≡ c → Shows p start → All (λ order. order ≡ Nothing) (orders_of p) → length scripts ≡ c.mutators → All (λ n. n ≤ most_made) counts → All IsRunnableAfter scripts
-      → CanRun p (work.opened scripts)
-  can_run_from p scripts same shows orders count few_made runnable =
-      let mutators : (config_of p).mutators ≡ c.mutators = ap (λ (d : Config). d.mutators) same in
+  pub can_run_from : (plain : Plain) (scripts : Scripts) → config_of plain ≡ config → Shows plain start → All (λ order. order ≡ Nothing) (orders_of plain) → length scripts ≡ config.mutators → All (λ n. n ≤ most_made) counts → All IsRunnableAfter scripts
+      → CanRun plain (work.opened scripts)
+  can_run_from plain scripts same shows orders count few_made runnable =
+      let mutators : (config_of plain).mutators ≡ config.mutators = ap (λ (config : Config). config.mutators) same in
       let few : length scripts ≤ 8 = omega (arith, count) in
       record {
         orders = orders;
-        jobs_are = λ t below. subst (λ o. IsSome o) (sym (progress_first scripts t (omega (arith, below, mutators, count)) few)) refl;
-        commands = λ t below. subst (λ o. All IsValid (unwrap_or o (work.begun [])).script) (sym (progress_first scripts t (omega (arith, below, mutators, count)) few)) (runnable t [] (omega (arith, below, mutators, count))).0;
-        busy = λ t below busy. absurd (false≢true (sym busy ∙ ap is_resting (shown_is (machines_of p) t shows.machines_are (omega (arith, below, mutators)))));
-        made = λ t below.
-            let within : t < length scripts = omega (arith, below, mutators, count) in
-            let made : made_of_machine (get_or (machines_of p) t no_machine) ≡ slice_index counts t = ap made_of_machine (shown_is (machines_of p) t shows.machines_are (omega (arith, below, mutators))) in
-            let few_commands = (runnable t [] within).1 in
-            let is : work.script_in (work.opened scripts) t ≡ nth_script scripts t = ap (λ o. (unwrap_or o (work.begun [])).script) (progress_first scripts t within few) in
+        jobs_are = λ index below. subst (λ o. IsSome o) (sym (progress_first scripts index (omega (arith, below, mutators, count)) few)) refl;
+        commands = λ index below. subst (λ o. All IsValid (unwrap_or o (work.begun [])).script) (sym (progress_first scripts index (omega (arith, below, mutators, count)) few)) (runnable index [] (omega (arith, below, mutators, count))).0;
+        busy = λ index below busy. absurd (false≢true (sym busy ∙ ap is_resting (shown_is (machines_of plain) index shows.machines_are (omega (arith, below, mutators)))));
+        made = λ index below.
+            let within : index < length scripts = omega (arith, below, mutators, count) in
+            let made : made_of_machine (get_or (machines_of plain) index no_machine) ≡ slice_index counts index = ap made_of_machine (shown_is (machines_of plain) index shows.machines_are (omega (arith, below, mutators))) in
+            let few_commands = (runnable index [] within).1 in
+            let is : work.script_in (work.opened scripts) index ≡ nth_script scripts index = ap (λ o. (unwrap_or o (work.begun [])).script) (progress_first scripts index within few) in
             let long = ap length is in
-            omega (arith, made, few_commands, long, few_of counts t few_made);
+            omega (arith, made, few_commands, long, few_of counts index few_made);
       }
     where
-      few_of : (xs : List ℕ) (t : ℕ) → All (λ n. n ≤ most_made) xs → get_or xs t 0 ≤ most_made
-      few_of xs t all = ⊎_elim
-          (λ (below : t < length xs). All-get_or (λ (n : ℕ). n ≤ most_made) xs t 0 below all)
-          (λ (past : length xs ≤ t). let none = get_or_past xs t 0 past in omega (arith, none))
-          (cases_lt t (length xs))
+      few_of : (xs : List ℕ) (index : ℕ) → All (λ n. n ≤ most_made) xs → get_or xs index 0 ≤ most_made
+      few_of xs index all = ⊎_elim
+          (λ (below : index < length xs). All-get_or (λ (n : ℕ). n ≤ most_made) xs index 0 below all)
+          (λ (past : length xs ≤ index). let none = get_or_past xs index 0 past in omega (arith, none))
+          (cases_lt index (length xs))
 
   -- and the work tells the replies of its calls: there is none
-  pub tells_from : (scripts : Scripts) → length scripts ≡ c.mutators → Tells c scripts (work.opened scripts) start
+  pub tells_from : (scripts : Scripts) → length scripts ≡ config.mutators → Tells config scripts (work.opened scripts) start
   tells_from scripts count =
       let few : length scripts ≤ 8 = omega (arith, count) in
       record {
@@ -108,9 +108,9 @@ module _ (c : Config) (words counts : List ℕ) where
       }
 
   -- no command was called
-  pub all_call_from : (scripts : Scripts) → AllCall c scripts start
+  pub all_call_from : (scripts : Scripts) → AllCall config scripts start
   all_call_from scripts t below = record {
-    actor = actor_from c counts (view c words) t;
+    actor = actor_from config counts (view config words) t;
     here = actor_at t (omega (arith, below));
     role = ap is_mutating (mutator_is t below);
     calls = record {
@@ -121,27 +121,27 @@ module _ (c : Config) (words counts : List ℕ) where
   }
 
   -- the events of a schedule were made
-  has_run : (p q : Plain) (scripts : Scripts) (items : List Item) (limit : ℕ) (jobs later : Jobs) (result : Ran) → config_of p ≡ c → Shows p start → length scripts ≡ c.mutators → jobs ≡ work.opened scripts
-      → RunsSchedule p jobs items limit q later result → HasRun c scripts start (agenda_of items) limit q later result
-  has_run p q scripts items limit jobs later result same shows count opened runs =
-      subst (λ (d : Config). HasRun d scripts start (agenda_of items) limit q later result) same
-      (runs scripts start shows (subst (λ (d : Config). Tells d scripts jobs start) (sym same) (subst (λ (js : Jobs). Tells c scripts js start) (sym opened) (tells_from scripts count))))
+  has_run : (plain other_plain : Plain) (scripts : Scripts) (items : List Item) (limit : ℕ) (jobs later : Jobs) (result : Ran) → config_of plain ≡ config → Shows plain start → length scripts ≡ config.mutators → jobs ≡ work.opened scripts
+      → RunsSchedule plain jobs items limit other_plain later result → HasRun config scripts start (agenda_of items) limit other_plain later result
+  has_run plain other_plain scripts items limit jobs later result same shows count opened runs =
+      subst (λ (config : Config). HasRun config scripts start (agenda_of items) limit other_plain later result) same
+      (runs scripts start shows (subst (λ (config : Config). Tells config scripts jobs start) (sym same) (subst (λ (js : Jobs). Tells config scripts js start) (sym opened) (tells_from scripts count))))
 
-  pub ended : (p q : Plain) (scripts : Scripts) (items : List Item) (limit : ℕ) (jobs later : Jobs) → config_of p ≡ c → Shows p start → length scripts ≡ c.mutators → jobs ≡ work.opened scripts
-      → RunsSchedule p jobs items limit q later Finished → config_of q ≡ config_of p → CanRun q later → HasEndedFrom c start scripts items limit later q
-  ended p q scripts items limit jobs later same shows count opened runs kept can =
-      let ran = has_run p q scripts items limit jobs later Finished same shows count opened runs in
+  pub ended : (plain other_plain : Plain) (scripts : Scripts) (items : List Item) (limit : ℕ) (jobs later : Jobs) → config_of plain ≡ config → Shows plain start → length scripts ≡ config.mutators → jobs ≡ work.opened scripts
+      → RunsSchedule plain jobs items limit other_plain later Finished → config_of other_plain ≡ config_of plain → CanRun other_plain later → HasEndedFrom config start scripts items limit later other_plain
+  ended plain other_plain scripts items limit jobs later same shows count opened runs kept can =
+      let ran = has_run plain other_plain scripts items limit jobs later Finished same shows count opened runs in
       record {
         config = kept ∙ same;
         idle = ran.ended;
         called = ran.whole refl (all_call_from scripts);
         shows = ran.shows;
         tells = ran.tells;
-        jobs_are = λ t below. can.jobs_are t (subst (λ (d : Config). t < d.mutators) (sym (kept ∙ same)) below);
+        jobs_are = λ t below. can.jobs_are t (subst (λ (config : Config). t < config.mutators) (sym (kept ∙ same)) below);
       }
 
-  pub cut : (p q : Plain) (scripts : Scripts) (items : List Item) (limit : ℕ) (jobs later : Jobs) → config_of p ≡ c → Shows p start → length scripts ≡ c.mutators → jobs ≡ work.opened scripts
-      → RunsSchedule p jobs items limit q later Unfinished → IsLeftBusy c start scripts items limit
-  cut p q scripts items limit jobs later same shows count opened runs =
-      let ran = has_run p q scripts items limit jobs later Unfinished same shows count opened runs in
+  pub cut : (plain other_plain : Plain) (scripts : Scripts) (items : List Item) (limit : ℕ) (jobs later : Jobs) → config_of plain ≡ config → Shows plain start → length scripts ≡ config.mutators → jobs ≡ work.opened scripts
+      → RunsSchedule plain jobs items limit other_plain later Unfinished → IsLeftBusy config start scripts items limit
+  cut plain other_plain scripts items limit jobs later same shows count opened runs =
+      let ran = has_run plain other_plain scripts items limit jobs later Unfinished same shows count opened runs in
       record { busy = ran.ended.0; count = ran.ended.1 }

@@ -20,7 +20,7 @@ pub leads_one : (stage next : DumpStage) (bytes text rest : List ℕ) → parts 
 leads_one stage next bytes text rest cut follows = record { texts = text ∷ []; cut = cut; count = refl; lead = (next, follows, refl) }
 
 lead_both : (a b c : DumpStage) (xs ys : List (List ℕ)) → DumpLead a xs b → DumpLead b ys c → DumpLead a (xs ++ ys) c
-lead_both a b c [] ys one other = subst (λ (s : DumpStage). DumpLead s ys c) (sym one) other
+lead_both a b c [] ys one other = subst (λ (stage : DumpStage). DumpLead stage ys c) (sym one) other
 lead_both a b c (x ∷ xs) ys one other = (one.0, one.1, lead_both one.0 b c xs ys one.2 other)
 
 -- some lines, and more
@@ -37,12 +37,12 @@ leads_both a b c bytes rest more n m one other = record {
 pub stops_here : (stage : DumpStage) (first : ℕ) (bytes : List ℕ) (why : Why) → StopsFor stage (parts newline bytes) why → StopsAt stage first bytes first why
 stops_here stage first bytes why cause = record { rest = bytes; lines = 0; at = stage; led = leads_none stage bytes; number = omega arith; cause = cause }
 
-pub stops_behind : (a b : DumpStage) (first later : ℕ) (bytes rest : List ℕ) (k n : ℕ) (why : Why) → Leads a bytes rest k b → later ≡ first + k → StopsAt b later rest n why → StopsAt a first bytes n why
-stops_behind a b first later bytes rest k n why led number stops = record {
+pub stops_behind : (stage other_stage : DumpStage) (first later : ℕ) (bytes rest : List ℕ) (k n : ℕ) (why : Why) → Leads stage bytes rest k other_stage → later ≡ first + k → StopsAt other_stage later rest n why → StopsAt stage first bytes n why
+stops_behind stage other_stage first later bytes rest k n why led number stops = record {
   rest = stops.rest;
   lines = k + stops.lines;
   at = stops.at;
-  led = leads_both a b stops.at bytes rest stops.rest k stops.lines led stops.led;
+  led = leads_both stage other_stage stops.at bytes rest stops.rest k stops.lines led stops.led;
   number = omega (arith, number, stops.number);
   cause = stops.cause;
 }
@@ -76,13 +76,13 @@ refused_here stage bytes text rest is cut none =
     let whole = cut ∙ ap (λ (ts : List (List ℕ)). text ∷ ts) some.2 in
     subst (λ (ts : List (List ℕ)). StopsFor stage ts DumpWanted) (sym whole) (by_stage stage is none some.0 some.1)
   where
-    by_stage : (s : DumpStage) → IsDumping s → ((next : DumpStage) → DumpFollows s text next → ⊥) → (t : List ℕ) (more : List (List ℕ)) → StopsFor s (text ∷ t ∷ more) DumpWanted
+    by_stage : (other_stage : DumpStage) → IsDumping other_stage → ((next : DumpStage) → DumpFollows other_stage text next → ⊥) → (t : List ℕ) (more : List (List ℕ)) → StopsFor other_stage (text ∷ t ∷ more) DumpWanted
     by_stage Version dumping no_more t more = (refl, no_more)
     by_stage Heap dumping no_more t more = (refl, no_more)
     by_stage (Threads c) dumping no_more t more = (refl, no_more)
     by_stage (Counts c) dumping no_more t more = (refl, no_more)
     by_stage (Listed d) dumping no_more t more = (refl, no_more)
-    by_stage (Behind s) dumping no_more t more = absurd dumping
+    by_stage (Behind other_stage) dumping no_more t more = absurd dumping
 
 -- ---- lines by their words
 

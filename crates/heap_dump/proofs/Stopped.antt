@@ -43,58 +43,58 @@ behind_one stage next text whole rest e f =
     subst (λ (bs : List ℕ). Leads (Behind stage) bs rest 1 (Behind next)) (front_line text whole rest e)
     (leads_one (Behind stage) (Behind next) (text ++ 10 ∷ rest) text rest (line_in_front stage text rest next f) (next, f, refl))
 
-one_more : (a b : DumpStage) (bytes rest : List ℕ) (n : ℕ) → Leads a bytes rest (1 + n) b → Leads a bytes rest (suc n) b
-one_more a b bytes rest n led =
+one_more : (stage other_stage : DumpStage) (bytes rest : List ℕ) (n : ℕ) → Leads stage bytes rest (1 + n) other_stage → Leads stage bytes rest (suc n) other_stage
+one_more stage other_stage bytes rest n led =
     let same : 1 + n ≡ suc n = omega arith in
-    subst (λ (k : ℕ). Leads a bytes rest k b) same led
+    subst (λ (k : ℕ). Leads stage bytes rest k other_stage) same led
 
-pub behind_lines : (c : Config) (lines : List TraceLine) (rest : List ℕ) → AllByRecursion (IsLine run_version c.mutators) lines → Leads (Behind (Commands run_version c)) (flat_map line lines ++ rest) rest (length lines) (Behind (Commands run_version c))
-behind_lines c [] rest all = leads_none (Behind (Commands run_version c)) rest
-behind_lines c (l ∷ lines) rest all =
-    let here = Behind (Commands run_version c) in
+pub behind_lines : (config : Config) (lines : List TraceLine) (rest : List ℕ) → AllByRecursion (IsLine run_version config.mutators) lines → Leads (Behind (Commands run_version config)) (flat_map line lines ++ rest) rest (length lines) (Behind (Commands run_version config))
+behind_lines config [] rest all = leads_none (Behind (Commands run_version config)) rest
+behind_lines config (l ∷ lines) rest all =
+    let here = Behind (Commands run_version config) in
     let others = flat_map line lines ++ rest in
     let front : line l ++ others ≡ flat_map line (l ∷ lines) ++ rest = sym (append_assoc (line l) (flat_map line lines) rest) ∙ ap (λ (t : List ℕ). t ++ rest) (sym (flat_map-cons line l lines)) in
     let text = join_with_byte 32 (line_words l) in
-    let one = behind_one (Commands run_version c) (Commands run_version c) text (line l) others (line_is l) (inl ((l, all.0, line_is l), refl)) in
+    let one = behind_one (Commands run_version config) (Commands run_version config) text (line l) others (line_is l) (inl ((l, all.0, line_is l), refl)) in
     subst (λ (bs : List ℕ). Leads here bs rest (suc (length lines)) here) front
-    (one_more here here (line l ++ others) rest (length lines) (leads_both here here here (line l ++ others) others rest 1 (length lines) one (behind_lines c lines rest all.1)))
+    (one_more here here (line l ++ others) rest (length lines) (leads_both here here here (line l ++ others) others rest 1 (length lines) one (behind_lines config lines rest all.1)))
 
-behind_turns : (c : Config) (turns : List (List Item)) (rest : List ℕ) → AllByRecursion (IsScheduleLine c) turns → Leads (Behind (Turns c)) (flat_map schedule_line turns ++ rest) rest (length turns) (Behind (Turns c))
-behind_turns c [] rest all = leads_none (Behind (Turns c)) rest
-behind_turns c (items ∷ turns) rest all =
-    let here = Behind (Turns c) in
+behind_turns : (config : Config) (turns : List (List Item)) (rest : List ℕ) → AllByRecursion (IsScheduleLine config) turns → Leads (Behind (Turns config)) (flat_map schedule_line turns ++ rest) rest (length turns) (Behind (Turns config))
+behind_turns config [] rest all = leads_none (Behind (Turns config)) rest
+behind_turns config (items ∷ turns) rest all =
+    let here = Behind (Turns config) in
     let others = flat_map schedule_line turns ++ rest in
     let front : schedule_line items ++ others ≡ flat_map schedule_line (items ∷ turns) ++ rest = sym (append_assoc (schedule_line items) (flat_map schedule_line turns) rest) ∙ ap (λ (t : List ℕ). t ++ rest) (sym (flat_map-cons schedule_line items turns)) in
     let text = join_with_byte 32 (words_of_turn items) in
-    let one = behind_one (Turns c) (Turns c) text (schedule_line items) others (turn_is items) ((items, all.0, turn_is items), refl) in
+    let one = behind_one (Turns config) (Turns config) text (schedule_line items) others (turn_is items) ((items, all.0, turn_is items), refl) in
     subst (λ (bs : List ℕ). Leads here bs rest (suc (length turns)) here) front
-    (one_more here here (schedule_line items ++ others) rest (length turns) (leads_both here here here (schedule_line items ++ others) others rest 1 (length turns) one (behind_turns c turns rest all.1)))
+    (one_more here here (schedule_line items ++ others) rest (length turns) (leads_both here here here (schedule_line items ++ others) others rest 1 (length turns) one (behind_turns config turns rest all.1)))
 
-pub behind_first : (c : Config) (turns : List (List Item)) (rest : List ℕ) → AllByRecursion (IsScheduleLine c) turns → Leads (Behind (Commands run_version c)) (flat_map schedule_line turns ++ rest) rest (length turns) (Behind (body_stage run_version c (ltb 0 (length turns))))
-behind_first c [] rest all = leads_none (Behind (Commands run_version c)) rest
-behind_first c (items ∷ turns) rest all =
-    let here = Behind (Commands run_version c) in
-    let later = Behind (Turns c) in
+pub behind_first : (config : Config) (turns : List (List Item)) (rest : List ℕ) → AllByRecursion (IsScheduleLine config) turns → Leads (Behind (Commands run_version config)) (flat_map schedule_line turns ++ rest) rest (length turns) (Behind (body_stage run_version config (ltb 0 (length turns))))
+behind_first config [] rest all = leads_none (Behind (Commands run_version config)) rest
+behind_first config (items ∷ turns) rest all =
+    let here = Behind (Commands run_version config) in
+    let later = Behind (Turns config) in
     let others = flat_map schedule_line turns ++ rest in
     let front : schedule_line items ++ others ≡ flat_map schedule_line (items ∷ turns) ++ rest = sym (append_assoc (schedule_line items) (flat_map schedule_line turns) rest) ∙ ap (λ (t : List ℕ). t ++ rest) (sym (flat_map-cons schedule_line items turns)) in
     let text = join_with_byte 32 (words_of_turn items) in
-    let one = behind_one (Commands run_version c) (Turns c) text (schedule_line items) others (turn_is items) (inr ((items, all.0, turn_is items), refl)) in
+    let one = behind_one (Commands run_version config) (Turns config) text (schedule_line items) others (turn_is items) (inr ((items, all.0, turn_is items), refl)) in
     let some : ltb 0 (suc (length turns)) ≡ true = grind (arith, nat_tests) in
-    subst (λ (b : Bool). Leads here (flat_map schedule_line (items ∷ turns) ++ rest) rest (suc (length turns)) (Behind (body_stage run_version c b))) (sym some)
+    subst (λ (holds : Bool). Leads here (flat_map schedule_line (items ∷ turns) ++ rest) rest (suc (length turns)) (Behind (body_stage run_version config holds))) (sym some)
     (subst (λ (bs : List ℕ). Leads here bs rest (suc (length turns)) later) front
-    (one_more here later (schedule_line items ++ others) rest (length turns) (leads_both here later later (schedule_line items ++ others) others rest 1 (length turns) one (behind_turns c turns rest all.1))))
+    (one_more here later (schedule_line items ++ others) rest (length turns) (leads_both here later later (schedule_line items ++ others) others rest 1 (length turns) one (behind_turns config turns rest all.1))))
 
-pub body_stops : (c : Config) (first : ℕ) (bytes : List ℕ) (n : ℕ) (why : Why) → StopsBody run_version c first bytes n why → StopsAt (Behind (Commands run_version c)) first bytes n why
-body_stops c first bytes n why stops =
-    let here = Behind (Commands run_version c) in
-    let last = Behind (body_stage run_version c (ltb 0 (length stops.turns))) in
+pub body_stops : (config : Config) (first : ℕ) (bytes : List ℕ) (n : ℕ) (why : Why) → StopsBody run_version config first bytes n why → StopsAt (Behind (Commands run_version config)) first bytes n why
+body_stops config first bytes n why stops =
+    let here = Behind (Commands run_version config) in
+    let last = Behind (body_stage run_version config (ltb 0 (length stops.turns))) in
     let middle = flat_map schedule_line stops.turns ++ stops.rest in
     record {
       rest = stops.rest;
       lines = length stops.lines + length stops.turns;
       at = last;
       led = subst (λ (bs : List ℕ). Leads here bs stops.rest (length stops.lines + length stops.turns) last) (sym stops.spelled)
-          (leads_both here here last (flat_map line stops.lines ++ middle) middle stops.rest (length stops.lines) (length stops.turns) (behind_lines c stops.lines middle stops.in_range) (behind_first c stops.turns stops.rest stops.turns_in_range));
+          (leads_both here here last (flat_map line stops.lines ++ middle) middle stops.rest (length stops.lines) (length stops.turns) (behind_lines config stops.lines middle stops.in_range) (behind_first config stops.turns stops.rest stops.turns_in_range));
       number = omega (arith, stops.number);
       cause = stops.cause;
     }

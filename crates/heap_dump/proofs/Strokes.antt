@@ -9,23 +9,23 @@ heads : {A : Type 0} (x y : A) (xs ys : List A) → x ∷ xs ≡ y ∷ ys → (x
 heads x y xs ys e = (cc, cc)
 
 -- a stroke is no reference
-stroke : (w : List ℕ) (r : Reference) → IsDumpReference w r → w ≡ codes "/" → ⊥
+stroke : (w : List ℕ) (reference : Reference) → IsDumpReference w reference → w ≡ codes "/" → ⊥
 stroke w None h is = let e = (heads 45 47 [] [] (sym h ∙ is)).0 in absurd (omega (arith, e))
 stroke w (Some n) h is =
     let e : codes "/" ∷ [] ≡ h.0 ∷ h.1 ∷ [] = sym (ap (parts 46) is) ∙ dotted w n h in
     let sizes = ap length e in
     absurd (omega (arith, sizes))
 
-pub references_more : (ws : List (List ℕ)) (rs : List Reference) (w : List ℕ) (r : Reference) → AreReferences ws rs → IsDumpReference w r → AreReferences (ws ++ w ∷ []) (rs ++ r ∷ [])
-references_more [] [] w r are is = (is, tt)
-references_more [] (q ∷ rs) w r are is = absurd are
-references_more (v ∷ ws) [] w r are is = absurd are
-references_more (v ∷ ws) (q ∷ rs) w r are is = (are.0, references_more ws rs w r are.1 is)
+pub references_more : (ws : List (List ℕ)) (rs : List Reference) (w : List ℕ) (reference : Reference) → AreReferences ws rs → IsDumpReference w reference → AreReferences (ws ++ w ∷ []) (rs ++ reference ∷ [])
+references_more [] [] w reference are is = (is, tt)
+references_more [] (q ∷ rs) w reference are is = absurd are
+references_more (v ∷ ws) [] w reference are is = absurd are
+references_more (v ∷ ws) (q ∷ rs) w reference are is = (are.0, references_more ws rs w reference are.1 is)
 
 -- what stands behind the first of the references
 pub data Follows (w : List ℕ) (many all : ℕ) : Type 0 where
   is_stroke : w ≡ codes "/" → Follows w many all
-  is_another : (r : Reference) → IsDumpReference w r → many < all → Follows w many all
+  is_another : (reference : Reference) → IsDumpReference w reference → many < all → Follows w many all
 
 pub follows : (ws vs : List (List ℕ)) (rs qs : List Reference) (w : List ℕ) (rest more : List (List ℕ)) → AreReferences ws rs → AreReferences vs qs
     → ws ++ w ∷ rest ≡ vs ++ codes "/" ∷ more → Follows w (length rs) (length qs)

@@ -37,31 +37,31 @@ pub record TakenRefs (words rest : List (List ℕ)) (count : ℕ) (before now : 
 pub no_refs : (words : List (List ℕ)) (text : Text) → length words ≤ text.spare + 1 → TakenRefs words words 0 text text
 no_refs words text room = record { refs = []; spelled = []; are = tt; size = refl; few = omega arith; words_are = refl; text = refl; room = room; rows = refl }
 
-pub refs_more : (words rest : List (List ℕ)) (count : ℕ) (before now after : Text) (w : List ℕ) (r : Reference) → TakenRefs words (w ∷ rest) count before now → count < 16 → 1 ≤ now.spare → IsDumpReference w r
-    → after ≡ with_reference now (held r) → length after.rows ≡ length now.rows → TakenRefs words rest (count + 1) before after
-refs_more words rest count before now after w r taken low some is made rows = record {
-  refs = taken.refs ++ r ∷ [];
+pub refs_more : (words rest : List (List ℕ)) (count : ℕ) (before now after : Text) (w : List ℕ) (reference : Reference) → TakenRefs words (w ∷ rest) count before now → count < 16 → 1 ≤ now.spare → IsDumpReference w reference
+    → after ≡ with_reference now (held reference) → length after.rows ≡ length now.rows → TakenRefs words rest (count + 1) before after
+refs_more words rest count before now after w reference taken low some is made rows = record {
+  refs = taken.refs ++ reference ∷ [];
   spelled = taken.spelled ++ w ∷ [];
-  are = references_more taken.spelled taken.refs w r taken.are is;
-  size = omega (arith, length-append taken.refs (r ∷ []), taken.size);
+  are = references_more taken.spelled taken.refs w reference taken.are is;
+  size = omega (arith, length-append taken.refs (reference ∷ []), taken.size);
   few = omega arith;
   words_are = taken.words_are ∙ sym (append_assoc taken.spelled (w ∷ []) rest);
-  text = (made ∙ ap (λ (t : Text). with_reference t (held r)) taken.text
-      ∙ sym (with_references-push before (map held taken.refs) (held r))
-      ∙ ap (with_references before) (sym (map-append held taken.refs (r ∷ []))));
-  room = omega (arith, taken.room, ap (λ (t : Text). t.spare) made);
+  text = (made ∙ ap (λ (text : Text). with_reference text (held reference)) taken.text
+      ∙ sym (with_references-push before (map held taken.refs) (held reference))
+      ∙ ap (with_references before) (sym (map-append held taken.refs (reference ∷ []))));
+  room = omega (arith, taken.room, ap (λ (text : Text). text.spare) made);
   rows = rows ∙ taken.rows;
 }
 
-pub refs_refused : (words rest : List (List ℕ)) (count : ℕ) (before now : Text) (w : List ℕ) → TakenRefs words (w ∷ rest) count before now → (w ≡ codes "/" → ⊥) → (16 ≤ count) ⊎ ((r : Reference) → IsDumpReference w r → ⊥)
+pub refs_refused : (words rest : List (List ℕ)) (count : ℕ) (before now : Text) (w : List ℕ) → TakenRefs words (w ∷ rest) count before now → (w ≡ codes "/" → ⊥) → (16 ≤ count) ⊎ ((reference : Reference) → IsDumpReference w reference → ⊥)
     → (refs : List Reference) (more : List (List ℕ)) → AreRefsWords words refs more → ⊥
 refs_refused words rest count before now w taken never why refs more all =
     by_next (follows taken.spelled all.spelled taken.refs refs w rest more taken.are all.are (sym taken.words_are ∙ all.words_are)) why
   where
-    by_next : Follows w (length taken.refs) (length refs) → (16 ≤ count) ⊎ ((r : Reference) → IsDumpReference w r → ⊥) → ⊥
+    by_next : Follows w (length taken.refs) (length refs) → (16 ≤ count) ⊎ ((reference : Reference) → IsDumpReference w reference → ⊥) → ⊥
     by_next (is_stroke h) y = never h
-    by_next (is_another r h low) (inl full) = omega (arith, low, full, taken.size, all.few)
-    by_next (is_another r h low) (inr none) = none r h
+    by_next (is_another reference h low) (inl full) = omega (arith, low, full, taken.size, all.few)
+    by_next (is_another reference h low) (inr none) = none reference h
 
 -- a word that is no stroke, and none behind it
 pub refs_short : (words : List (List ℕ)) (count : ℕ) (before now : Text) (w : List ℕ) → TakenRefs words (w ∷ []) count before now → (w ≡ codes "/" → ⊥)
@@ -111,8 +111,8 @@ nums_more words rest count before now after w x taken low fit is made rows = rec
   words_are = (taken.words_are ∙ ap (λ (t : List ℕ). map decimal taken.nums ++ t ∷ rest) is
       ∙ sym (append_assoc (map decimal taken.nums) (decimal x ∷ []) rest)
       ∙ ap (λ (t : List (List ℕ)). t ++ rest) (sym (map-append decimal taken.nums (x ∷ []))));
-  text = (made ∙ ap (λ (t : Text). with_number t x) taken.text ∙ sym (with_numbers-push before taken.nums x));
-  room = omega (arith, taken.room, ap (λ (t : Text). t.spare) made);
+  text = (made ∙ ap (λ (text : Text). with_number text x) taken.text ∙ sym (with_numbers-push before taken.nums x));
+  room = omega (arith, taken.room, ap (λ (text : Text). text.spare) made);
   rows = rows ∙ taken.rows;
 }
 
@@ -120,7 +120,7 @@ heads : {A : Type 0} (x y : A) (xs ys : List A) → x ∷ xs ≡ y ∷ ys → (x
 heads x y xs ys e = (cc, cc)
 
 -- the word behind the first of the numbers is one of the numbers
-next_number : (xs ys : List ℕ) (w : List ℕ) (rest : List (List ℕ)) → map decimal xs ++ w ∷ rest ≡ map decimal ys → (length xs < length ys) × (y : ℕ) × (k : ℕ) × (k < length ys) × (y ≡ get_or ys k 0) × (w ≡ decimal y)
+next_number : (xs ys : List ℕ) (w : List ℕ) (rest : List (List ℕ)) → map decimal xs ++ w ∷ rest ≡ map decimal ys → (length xs < length ys) × (y : ℕ) × (index : ℕ) × (index < length ys) × (y ≡ get_or ys index 0) × (w ≡ decimal y)
 next_number [] [] w rest e = absurd (let sizes = ap length e in omega (arith, sizes))
 next_number [] (y ∷ ys) w rest e = (omega arith, y, 0, omega arith, refl, (heads w (decimal y) rest (map decimal ys) e).0)
 next_number (x ∷ xs) [] w rest e = absurd (let sizes = ap length e in omega (arith, sizes))
@@ -140,23 +140,23 @@ nums_refused words rest count before now w taken why nums all =
 
 -- ---- words of numbers
 
-none_of : {A : Type 0} (o : Option A) → false ≡ is_some o → o ≡ None
+none_of : {A : Type 0} (found : Option A) → false ≡ is_some found → found ≡ None
 none_of None e = refl
 none_of (Some x) e = absurd (false≢true e)
 
-some_of : {A : Type 0} (o : Option A) → true ≡ is_some o → o ≡ None → ⊥
+some_of : {A : Type 0} (found : Option A) → true ≡ is_some found → found ≡ None → ⊥
 some_of None e n = false≢true (sym e)
 some_of (Some x) e n = absurd cc
 
 abbrev pub most : ℕ
 most = 18446744073709551615
 
-pub no_number : (w : List ℕ) (o : Option Why) → o ≡ number_cause 0 most w → true ≡ is_some o → (x : ℕ) → x < 2 ^ 64 → w ≡ decimal x → ⊥
-no_number w o is some x fit e =
-    some_of o some (is ∙ ap (number_cause 0 most) e ∙ number_again 0 most x fit (omega arith) (omega (arith, fit)))
+pub no_number : (w : List ℕ) (found : Option Why) → found ≡ number_cause 0 most w → true ≡ is_some found → (x : ℕ) → x < 2 ^ 64 → w ≡ decimal x → ⊥
+no_number w found is some x fit e =
+    some_of found some (is ∙ ap (number_cause 0 most) e ∙ number_again 0 most x fit (omega arith) (omega (arith, fit)))
 
-pub is_number : (w : List ℕ) (o : Option Why) → o ≡ number_cause 0 most w → false ≡ is_some o → (is_plain_number w ≡ true) × (digits_value 10 w ≤ most)
-is_number w o is none = let fine = number_fine 0 most w (sym is ∙ none_of o none) in (fine.0, fine.2)
+pub is_number : (w : List ℕ) (found : Option Why) → found ≡ number_cause 0 most w → false ≡ is_some found → (is_plain_number w ≡ true) × (digits_value 10 w ≤ most)
+is_number w found is none = let fine = number_fine 0 most w (sym is ∙ none_of found none) in (fine.0, fine.2)
 
 pub number_is : (w : List ℕ) (x : ℕ) → is_plain_number w ≡ true → x < 2 ^ 64 → x ≡ digits_value 10 w → w ≡ decimal x
 number_is w x plain fit is = number_spelled w plain (subst (λ (n : ℕ). n < 2 ^ 64) is fit) ∙ ap decimal (sym is)

@@ -42,41 +42,41 @@ no_roots words thread text = record {
 }
 
 -- a root more is set
-set_next : (roots before : List Reference) (r : Reference) → length roots < length before → set (set_so_far roots before) (length roots) (held r) ≡ set_so_far (roots ++ r ∷ []) before
-set_next roots before r low =
+set_next : (roots before : List Reference) (reference : Reference) → length roots < length before → set (set_so_far roots before) (length roots) (held reference) ≡ set_so_far (roots ++ reference ∷ []) before
+set_next roots before reference low =
     let hs = map held roots in
     let y = get_or before (length roots) None in
     let rest = drop (suc (length roots)) before in
-    let next : suc (length roots) ≡ length (roots ++ r ∷ []) = omega (arith, length-append roots (r ∷ [])) in
-    ap (λ t. set (hs ++ t) (length roots) (held r)) (drop-cons before (length roots) None low)
-    ∙ ap (λ k. set (hs ++ y ∷ rest) k (held r)) (sym (len_map held roots))
-    ∙ set-append_seam hs y rest (held r)
-    ∙ sym (append_assoc hs (held r ∷ []) rest)
-    ∙ ap (λ t. t ++ rest) (sym (map-append held roots (r ∷ [])))
-    ∙ ap (λ k. map held (roots ++ r ∷ []) ++ drop k before) next
+    let next : suc (length roots) ≡ length (roots ++ reference ∷ []) = omega (arith, length-append roots (reference ∷ [])) in
+    ap (λ t. set (hs ++ t) (length roots) (held reference)) (drop-cons before (length roots) None low)
+    ∙ ap (λ k. set (hs ++ y ∷ rest) k (held reference)) (sym (len_map held roots))
+    ∙ set-append_seam hs y rest (held reference)
+    ∙ sym (append_assoc hs (held reference ∷ []) rest)
+    ∙ ap (λ t. t ++ rest) (sym (map-append held roots (reference ∷ [])))
+    ∙ ap (λ k. map held (roots ++ reference ∷ []) ++ drop k before) next
 
-pub roots_more : (words rest : List (List ℕ)) (count thread : ℕ) (before now after : Text) (w : List ℕ) (r : Reference) → TakenRoots words (w ∷ rest) count thread before now → count < 16
-    → thread - 1 < length before.roots → length (roots_of before thread) ≡ 16 → IsDumpReference w r → after ≡ with_root_of now thread count (held r) → TakenRoots words rest (count + 1) thread before after
-roots_more words rest count thread before now after w r taken low inside long is made =
+pub roots_more : (words rest : List (List ℕ)) (count thread : ℕ) (before now after : Text) (w : List ℕ) (reference : Reference) → TakenRoots words (w ∷ rest) count thread before now → count < 16
+    → thread - 1 < length before.roots → length (roots_of before thread) ≡ 16 → IsDumpReference w reference → after ≡ with_root_of now thread count (held reference) → TakenRoots words rest (count + 1) thread before after
+roots_more words rest count thread before now after w reference taken low inside long is made =
     let m = thread - 1 in
     let row = set_so_far taken.roots (roots_of before thread) in
-    let was = ap (λ (t : Text). t.roots) taken.text in
+    let was = ap (λ (text : Text). text.roots) taken.text in
     let here = ap (λ (rows : List (List Reference)). get_or rows m []) was ∙ get_or-set_same before.roots m row [] inside in
-    let wanted = set_so_far (taken.roots ++ r ∷ []) (roots_of before thread) in
-    let to = set now.roots m (set (get_or now.roots m []) count (held r)) in
+    let wanted = set_so_far (taken.roots ++ reference ∷ []) (roots_of before thread) in
+    let to = set now.roots m (set (get_or now.roots m []) count (held reference)) in
     let whole : to ≡ set before.roots m wanted =
-    ap (λ (rows : List (List Reference)). set rows m (set (get_or now.roots m []) count (held r))) was
-    ∙ set-set before.roots m row (set (get_or now.roots m []) count (held r))
-    ∙ ap (λ (x : List Reference). set before.roots m (set x count (held r))) here
-    ∙ ap (λ k. set before.roots m (set row k (held r))) (sym taken.size)
-    ∙ ap (λ (x : List Reference). set before.roots m x) (set_next taken.roots (roots_of before thread) r (omega (arith, taken.size, low, long))) in
+    ap (λ (rows : List (List Reference)). set rows m (set (get_or now.roots m []) count (held reference))) was
+    ∙ set-set before.roots m row (set (get_or now.roots m []) count (held reference))
+    ∙ ap (λ (references : List Reference). set before.roots m (set references count (held reference))) here
+    ∙ ap (λ k. set before.roots m (set row k (held reference))) (sym taken.size)
+    ∙ ap (λ (references : List Reference). set before.roots m references) (set_next taken.roots (roots_of before thread) reference (omega (arith, taken.size, low, long))) in
     record {
-      roots = taken.roots ++ r ∷ [];
+      roots = taken.roots ++ reference ∷ [];
       spelled = taken.spelled ++ w ∷ [];
-      are = references_more taken.spelled taken.roots w r taken.are is;
-      size = omega (arith, length-append taken.roots (r ∷ []), taken.size);
+      are = references_more taken.spelled taken.roots w reference taken.are is;
+      size = omega (arith, length-append taken.roots (reference ∷ []), taken.size);
       words_are = taken.words_are ∙ sym (append_assoc taken.spelled (w ∷ []) rest);
-      text = (made ∙ ap (λ (t : Text). record t { roots = to }) taken.text ∙ ap (λ (rows : List (List Reference)). record before { roots = rows }) whole);
+      text = (made ∙ ap (λ (text : Text). record text { roots = to }) taken.text ∙ ap (λ (rows : List (List Reference)). record before { roots = rows }) whole);
     }
 
 pub roots_end : (words : List (List ℕ)) (count thread : ℕ) (before now : Text) → length (roots_of before thread) ≡ 16 → count ≡ 16 → (taken : TakenRoots words [] count thread before now)
@@ -84,24 +84,24 @@ pub roots_end : (words : List (List ℕ)) (count thread : ℕ) (before now : Tex
 roots_end words count thread before now long all taken =
     let none = drop_all (length taken.roots) (roots_of before thread) (omega (arith, taken.size, all, long)) in (
       record { spelled = taken.spelled; are = taken.are; each = taken.size ∙ all; words_are = taken.words_are ∙ append-nil taken.spelled },
-      (taken.text ∙ ap (λ (t : List Reference). record before { roots = set before.roots (thread - 1) (map held taken.roots ++ t) }) none
-          ∙ ap (λ (t : List Reference). record before { roots = set before.roots (thread - 1) t }) (append-nil (map held taken.roots))),
+      (taken.text ∙ ap (λ (references : List Reference). record before { roots = set before.roots (thread - 1) (map held taken.roots ++ references) }) none
+          ∙ ap (λ (references : List Reference). record before { roots = set before.roots (thread - 1) references }) (append-nil (map held taken.roots))),
     )
 
 heads : {A : Type 0} (x y : A) (xs ys : List A) → x ∷ xs ≡ y ∷ ys → (x ≡ y) × (xs ≡ ys)
 heads x y xs ys e = (cc, cc)
 
 -- a word behind the first of the roots is that of a root, where there are more roots
-next_root : (ws vs : List (List ℕ)) (rs qs : List Reference) (w : List ℕ) (rest : List (List ℕ)) → AreReferences ws rs → AreReferences vs qs → ws ++ w ∷ rest ≡ vs → (q : Reference) × IsDumpReference w q
+next_root : (ws vs : List (List ℕ)) (rs qs : List Reference) (w : List ℕ) (rest : List (List ℕ)) → AreReferences ws rs → AreReferences vs qs → ws ++ w ∷ rest ≡ vs → (reference : Reference) × IsDumpReference w reference
 next_root [] [] rs qs w rest a b e = absurd (let sizes = ap length e in omega (arith, sizes))
 next_root [] (v ∷ vs) rs [] w rest a b e = absurd b
-next_root [] (v ∷ vs) rs (q ∷ qs) w rest a b e = (q, subst (λ (t : List ℕ). IsDumpReference t q) (sym (heads w v rest vs e).0) b.0)
+next_root [] (v ∷ vs) rs (reference ∷ qs) w rest a b e = (reference, subst (λ (t : List ℕ). IsDumpReference t reference) (sym (heads w v rest vs e).0) b.0)
 next_root (u ∷ ws) vs [] qs w rest a b e = absurd a
 next_root (u ∷ ws) [] (r ∷ rs) qs w rest a b e = absurd (let sizes = ap length e in omega (arith, sizes))
 next_root (u ∷ ws) (v ∷ vs) (r ∷ rs) [] w rest a b e = absurd b
-next_root (u ∷ ws) (v ∷ vs) (r ∷ rs) (q ∷ qs) w rest a b e = next_root ws vs rs qs w rest a.1 b.1 (heads u v (ws ++ w ∷ rest) vs e).1
+next_root (u ∷ ws) (v ∷ vs) (r ∷ rs) (reference ∷ qs) w rest a b e = next_root ws vs rs qs w rest a.1 b.1 (heads u v (ws ++ w ∷ rest) vs e).1
 
-pub roots_refused : (words rest : List (List ℕ)) (count thread : ℕ) (before now : Text) (w : List ℕ) → TakenRoots words (w ∷ rest) count thread before now → ((r : Reference) → IsDumpReference w r → ⊥)
+pub roots_refused : (words rest : List (List ℕ)) (count thread : ℕ) (before now : Text) (w : List ℕ) → TakenRoots words (w ∷ rest) count thread before now → ((reference : Reference) → IsDumpReference w reference → ⊥)
     → (roots : List Reference) → AreRootsWords words [] roots → ⊥
 roots_refused words rest count thread before now w taken none roots all =
     let next = next_root taken.spelled all.spelled taken.roots roots w rest taken.are all.are (sym taken.words_are ∙ all.words_are) in
@@ -138,9 +138,9 @@ pub none_first : (v : List ℕ) (front : List (List ℕ)) (roots : List Referenc
 none_first v front roots all = let sizes = ap length all.words_are in omega (arith, sizes)
 
 -- the same before and behind a word
-pub both_ways : (b : Bool) (w v : List ℕ) (rest front : List (List ℕ)) (G : List Reference → Type 0) → w ≡ v
-    → MatchBool b ((roots : List Reference) × AreRootsWords rest front roots × G roots) ((roots : List Reference) → AreRootsWords rest front roots → ⊥)
-    → MatchBool b ((roots : List Reference) × AreRootsWords (w ∷ rest) (v ∷ front) roots × G roots) ((roots : List Reference) → AreRootsWords (w ∷ rest) (v ∷ front) roots → ⊥)
+pub both_ways : (holds : Bool) (w v : List ℕ) (rest front : List (List ℕ)) (G : List Reference → Type 0) → w ≡ v
+    → MatchBool holds ((roots : List Reference) × AreRootsWords rest front roots × G roots) ((roots : List Reference) → AreRootsWords rest front roots → ⊥)
+    → MatchBool holds ((roots : List Reference) × AreRootsWords (w ∷ rest) (v ∷ front) roots × G roots) ((roots : List Reference) → AreRootsWords (w ∷ rest) (v ∷ front) roots → ⊥)
 both_ways true w v rest front G is h = (h.0, behind_first w v rest front h.0 is h.1, h.2)
 both_ways false w v rest front G is h = λ roots all. h roots (behind_it w v rest front roots all)
 

@@ -37,22 +37,22 @@ abbrev pub Spells : List ℕ → List ℕ → Type 0
 Spells text spelling = text ++ newline ∷ [] ≡ spelling
 
 abbrev pub with_row : Dumped → Row → Dumped
-with_row d r = record d { rows = d.rows ++ r ∷ [] }
+with_row dump row = record dump { rows = dump.rows ++ row ∷ [] }
 
 abbrev pub with_roots : Dumped → List Reference → Dumped
-with_roots d roots = record d { roots = d.roots ++ roots ∷ [] }
+with_roots dump roots = record dump { roots = dump.roots ++ roots ∷ [] }
 
 abbrev pub heap_line : Config → List ℕ
-heap_line c = titled (codes "heap") (c.regions ∷ c.region_words ∷ c.reserve ∷ [])
+heap_line config = titled (codes "heap") (config.regions ∷ config.region_words ∷ config.reserve ∷ [])
 
 abbrev pub threads_line : Config → List ℕ
-threads_line c = titled (codes "threads") (c.mutators ∷ c.helpers ∷ [])
+threads_line config = titled (codes "threads") (config.mutators ∷ config.helpers ∷ [])
 
 -- two configurations of one heap
-pub record IsHeapOf (h c : Config) : Type 0 where
-  pub regions : c.regions ≡ h.regions
-  pub region_words : c.region_words ≡ h.region_words
-  pub reserve : c.reserve ≡ h.reserve
+pub record IsHeapOf (config other_config : Config) : Type 0 where
+  pub regions : other_config.regions ≡ config.regions
+  pub region_words : other_config.region_words ≡ config.region_words
+  pub reserve : other_config.reserve ≡ config.reserve
 
 -- digits with no needless zero in front, of any number
 abbrev pub IsNumeral : List ℕ → Type 0
@@ -73,28 +73,28 @@ AreReferences (w ∷ ws) (r ∷ rs) = IsDumpReference w r × AreReferences ws rs
 
 -- An object's line: its fields and its name are in range, and its name is behind all before. It may name anything.
 abbrev pub ObjectFollows : Dumped → List ℕ → DumpStage → Type 0
-ObjectFollows d text next =
-    (r : Row) × (words : List (List ℕ)) × (d.roots ≡ []) × IsRow d.counts r × InOrder (names_in (with_row d r)) × AreReferences words r.refs
-    × Spells text (line_of (codes "object" ∷ name_word r.name ∷ (words ++ codes "/" ∷ map decimal r.nums))) × (next ≡ Listed (with_row d r))
+ObjectFollows dump text next =
+    (row : Row) × (words : List (List ℕ)) × (dump.roots ≡ []) × IsRow dump.counts row × InOrder (names_in (with_row dump row)) × AreReferences words row.refs
+    × Spells text (line_of (codes "object" ∷ name_word row.name ∷ (words ++ codes "/" ∷ map decimal row.nums))) × (next ≡ Listed (with_row dump row))
 
 -- the line of the roots of the next thread, which may name anything
 abbrev pub RootsFollow : Dumped → List ℕ → DumpStage → Type 0
-RootsFollow d text next =
-    (roots : List Reference) × (words : List (List ℕ)) × (length d.roots < d.config.mutators) × (length roots ≡ 16) × AreReferences words roots
-    × Spells text (line_of (codes "roots" ∷ decimal (length d.roots + 1) ∷ words)) × (next ≡ Listed (with_roots d roots))
+RootsFollow dump text next =
+    (roots : List Reference) × (words : List (List ℕ)) × (length dump.roots < dump.config.mutators) × (length roots ≡ 16) × AreReferences words roots
+    × Spells text (line_of (codes "roots" ∷ decimal (length dump.roots + 1) ∷ words)) × (next ≡ Listed (with_roots dump roots))
 
 -- the line `trace`, behind a whole dump
 abbrev pub MarkFollows : Dumped → List ℕ → DumpStage → Type 0
-MarkFollows d text next = IsDump d × Spells text mark_line × (next ≡ Behind (Commands run_version d.config))
+MarkFollows dump text next = IsDump dump × Spells text mark_line × (next ≡ Behind (Commands run_version dump.config))
 
 -- this text, with the end of its line, may stand there, and what is to stand on the next line
 abbrev pub DumpFollows : DumpStage → List ℕ → DumpStage → Type 0
 DumpFollows Version text next = Spells text (titled (codes "dump") (1 ∷ [])) × (next ≡ Heap)
-DumpFollows Heap text next = (c : Config) × IsNarrow c × Spells text (heap_line c) × (next ≡ Threads c)
-DumpFollows (Threads h) text next = (c : Config) × IsHeapOf h c × Spells text (threads_line c) × (next ≡ Counts c)
-DumpFollows (Counts c) text next =
-    (counts : List ℕ) × (length counts ≡ c.mutators) × All (λ n. n ≤ most_made) counts × Spells text (titled (codes "counts") counts)
-    × (next ≡ Listed (record { config = c; counts = counts; rows = []; roots = [] }))
+DumpFollows Heap text next = (config : Config) × IsNarrow config × Spells text (heap_line config) × (next ≡ Threads config)
+DumpFollows (Threads h) text next = (config : Config) × IsHeapOf h config × Spells text (threads_line config) × (next ≡ Counts config)
+DumpFollows (Counts config) text next =
+    (counts : List ℕ) × (length counts ≡ config.mutators) × All (λ n. n ≤ most_made) counts × Spells text (titled (codes "counts") counts)
+    × (next ≡ Listed (record { config = config; counts = counts; rows = []; roots = [] }))
 DumpFollows (Listed d) text next = ObjectFollows d text next ⊎ (RootsFollow d text next ⊎ MarkFollows d text next)
 DumpFollows (Behind stage) text next = (after : LineStage) × LineFollows stage text after × (next ≡ Behind after)
 

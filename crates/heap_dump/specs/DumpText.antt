@@ -9,9 +9,9 @@ use Rattle.heap_dump.specs.Dumped.{Dumped}
 
 -- the lines of the version, of the sizes of the heap, and of the machines that work on it
 abbrev pub sizes_head : Config → List ℕ
-sizes_head c =
+sizes_head config =
     titled (codes "dump") (1 ∷ [])
-    ++ (titled (codes "heap") (c.regions ∷ c.region_words ∷ c.reserve ∷ []) ++ titled (codes "threads") (c.mutators ∷ c.helpers ∷ []))
+    ++ (titled (codes "heap") (config.regions ∷ config.region_words ∷ config.reserve ∷ []) ++ titled (codes "threads") (config.mutators ∷ config.helpers ∷ []))
 
 -- the line of the roots of a thread, counted from 1
 abbrev pub roots_line_in : List (List Reference) → ℕ → List ℕ
@@ -20,4 +20,4 @@ roots_line_in roots t = roots_line t (λ index. slice_index_or (slice_index_or r
 -- the head, a line of how many objects each thread made, a line for each object, and a line for the roots of each thread; the
 -- last two as in an answer
 abbrev pub dump_text : Dumped → List ℕ
-dump_text d = sizes_head d.config ++ (titled (codes "counts") d.counts ++ (flat_map object_line d.rows ++ flat_map (roots_line_in d.roots) (thread_numbers d.config.mutators)))
+dump_text dump = sizes_head dump.config ++ (titled (codes "counts") dump.counts ++ (flat_map object_line dump.rows ++ flat_map (roots_line_in dump.roots) (thread_numbers dump.config.mutators)))

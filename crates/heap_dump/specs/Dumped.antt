@@ -23,85 +23,85 @@ dumped config counts text = record { config = config; counts = counts; rows = te
 
 -- the words that an object takes
 abbrev pub row_words : Row → ℕ
-row_words r = 3 + length r.refs + length r.nums
+row_words row = 3 + length row.refs + length row.nums
 
 -- the names of its objects, in the order of their rows
 abbrev pub names_in : Dumped → List Name
-names_in d = map (λ r. r.name) d.rows
+names_in dump = map (λ r. r.name) dump.rows
 
 -- the graph of a dump, in which no object is pinned. The threads are counted from 1: thread 0 has no root and made nothing
 abbrev pub graph_in : Dumped → Graph
-graph_in d = graph_of (record { rows = d.rows; roots = [] ∷ d.roots; counts = 0 ∷ d.counts; pins = [] })
+graph_in dump = graph_of (record { rows = dump.rows; roots = [] ∷ dump.roots; counts = 0 ∷ dump.counts; pins = [] })
 
 -- the most objects that a dumped thread has made
 abbrev pub most_made : ℕ
 most_made = 4000000000
 
 -- the name of an object that one of these threads made, each of which made so many
-pub record IsMadeBy (counts : List ℕ) (n : Name) : Type 0 where
-  pub from_first : 1 ≤ n.thread
-  pub to_last : n.thread ≤ length counts
-  pub from_one : 1 ≤ n.count
-  pub to_count : n.count ≤ slice_index counts (n.thread - 1)
+pub record IsMadeBy (counts : List ℕ) (name : Name) : Type 0 where
+  pub from_first : 1 ≤ name.thread
+  pub to_last : name.thread ≤ length counts
+  pub from_one : 1 ≤ name.count
+  pub to_count : name.count ≤ slice_index counts (name.thread - 1)
 
 -- the hub, or one that a thread made
 abbrev pub IsNamed : List ℕ → Name → Type 0
-IsNamed counts n = (n ≡ hub) ⊎ IsMadeBy counts n
+IsNamed counts name = (name ≡ hub) ⊎ IsMadeBy counts name
 
 -- An object has at most 16 references and 16 numbers of 64 bits, and the hub has 16 references and no number.
-pub record HasFields (r : Row) : Type 0 where
-  pub few_refs : length r.refs ≤ 16
-  pub few_nums : length r.nums ≤ 16
-  pub hub_refs : r.name ≡ hub → length r.refs ≡ 16
-  pub hub_nums : r.name ≡ hub → length r.nums ≡ 0
-  pub fit : All (λ x. x < 2 ^ 64) r.nums
+pub record HasFields (row : Row) : Type 0 where
+  pub few_refs : length row.refs ≤ 16
+  pub few_nums : length row.nums ≤ 16
+  pub hub_refs : row.name ≡ hub → length row.refs ≡ 16
+  pub hub_nums : row.name ≡ hub → length row.nums ≡ 0
+  pub fit : All (λ x. x < 2 ^ 64) row.nums
 
 -- a row of a dump in which the threads made so many objects. Its references may name anything
-pub record IsRow (counts : List ℕ) (r : Row) : Type 0 where
-  pub name : IsNamed counts r.name
-  pub fields : HasFields r
+pub record IsRow (counts : List ℕ) (row : Row) : Type 0 where
+  pub name : IsNamed counts row.name
+  pub fields : HasFields row
 
 -- Each line of a dump is of its form and in its ranges (a region has at most 1,024 words), and the names ascend; but references and roots may name anything, and an
 -- object may be one to which nothing leads.
-pub record IsInForm (d : Dumped) : Type 0 where
-  pub narrow : IsNarrow d.config
-  pub threads : length d.counts ≡ d.config.mutators
-  pub counts : All (λ n. n ≤ most_made) d.counts
-  pub rows : All (IsRow d.counts) d.rows
-  pub order : InOrder (names_in d)
-  pub each : length d.roots ≡ d.config.mutators
-  pub roots : All (λ row. length row ≡ 16) d.roots
+pub record IsInForm (dump : Dumped) : Type 0 where
+  pub narrow : IsNarrow dump.config
+  pub threads : length dump.counts ≡ dump.config.mutators
+  pub counts : All (λ n. n ≤ most_made) dump.counts
+  pub rows : All (IsRow dump.counts) dump.rows
+  pub order : InOrder (names_in dump)
+  pub each : length dump.roots ≡ dump.config.mutators
+  pub roots : All (λ row. length row ≡ 16) dump.roots
 
 -- A dump: its rows are those of the objects that its roots lead to. So each reference and each root is null or names a row, and
 -- each row can be reached.
-pub record IsDump (d : Dumped) : Type 0 where
-  pub form : IsInForm d
-  pub reach : IsReach (graph_in d) (names_in d)
+pub record IsDump (dump : Dumped) : Type 0 where
+  pub form : IsInForm dump
+  pub reach : IsReach (graph_in dump) (names_in dump)
 
 -- A dump can be made of these: its lines are of their form, in the order of names, and each name to which the roots lead has a row.
 -- What only pin slots lead to may have rows besides.
-pub record HasDump (d : Dumped) : Type 0 where
-  pub form : IsInForm d
-  pub all : (n : Name) → IsReachable (graph_in d) n → Contains (names_in d) n
+pub record HasDump (dump : Dumped) : Type 0 where
+  pub form : IsInForm dump
+  pub all : (name : Name) → IsReachable (graph_in dump) name → Contains (names_in dump) name
 
 -- the graph where no object is pinned
 abbrev pub unpinned : Graph → Graph
-unpinned g = record g { pin = λ _ _. None }
+unpinned graph = record graph { pin = λ _ _. None }
 
 -- the roots of the threads 1 to `threads`, 16 each
 abbrev pub root_rows : Graph → ℕ → List (List Reference)
-root_rows g threads = map (λ t. map (g.root t) (range_with_len 0 16)) (range_with_len 1 threads)
+root_rows graph threads = map (λ t. map (graph.root t) (range_with_len 0 16)) (range_with_len 1 threads)
 
 -- the dump of a graph, with rows for these names
 abbrev pub dump_of : Config → Graph → List Name → Dumped
-dump_of c g names = record {
-  config = c;
-  counts = map g.count (range_with_len 1 c.mutators);
-  rows = map (row_in g) names;
-  roots = root_rows g c.mutators;
+dump_of config graph names = record {
+  config = config;
+  counts = map graph.count (range_with_len 1 config.mutators);
+  rows = map (row_in graph) names;
+  roots = root_rows graph config.mutators;
 }
 
 -- the dump of a graph, whose rows are those of the objects that its roots lead to, in the order of names
-pub record IsDumpOf (c : Config) (g : Graph) (d : Dumped) : Type 0 where
-  pub reach : IsReach (unpinned g) (names_in d)
-  pub parts : d ≡ dump_of c g (names_in d)
+pub record IsDumpOf (config : Config) (graph : Graph) (dump : Dumped) : Type 0 where
+  pub reach : IsReach (unpinned graph) (names_in dump)
+  pub parts : dump ≡ dump_of config graph (names_in dump)

@@ -9,14 +9,14 @@ nameless = record { thread = 4294967295; count = 4294967295 }
 
 -- both numbers of a name fit 32 bits
 abbrev pub fits : Name → Bool
-fits n = nat_lt n.thread (2 ^ 32) && nat_lt n.count (2 ^ 32)
+fits name = nat_lt name.thread (2 ^ 32) && nat_lt name.count (2 ^ 32)
 
 abbrev pub held_name : Name → Name
-held_name n = if fits n then n else nameless
+held_name name = if fits name then name else nameless
 
 abbrev pub held : Reference → Reference
 held None = None
 held (Some n) = Some (held_name n)
 
 abbrev pub held_row : Row → Row
-held_row r = record { name = r.name; refs = map held r.refs; nums = r.nums }
+held_row row = record { name = row.name; refs = map held row.refs; nums = row.nums }

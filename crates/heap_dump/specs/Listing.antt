@@ -36,13 +36,13 @@ NoObjectLine bytes = (text rest : List ℕ) (words : List (List ℕ)) → parts 
 -- So many lines were taken, which are those of the roots of the first threads, and a text got these roots as memory holds them.
 pub record HasTakenRoots (bytes rest : List ℕ) (lines : ℕ) (before now : Text) (all : List (List Reference)) : Type 0 where
   pub count : length all ≡ lines
-  pub led : (d : Dumped) → d.roots ≡ [] → d.config.mutators ≡ length before.roots → Leads (Listed d) bytes rest lines (Listed (record d { roots = all }))
+  pub led : (dump : Dumped) → dump.roots ≡ [] → dump.config.mutators ≡ length before.roots → Leads (Listed dump) bytes rest lines (Listed (record dump { roots = all }))
   pub each : All (λ roots. length roots ≡ 16) all
   pub text : now ≡ record before { roots = map (map held) all ++ drop lines before.roots }
   pub shorter : lines + length rest ≤ length bytes
 
 -- a dump, and a text that holds it
-pub record IsHeldDump (d : Dumped) (t : Text) : Type 0 where
-  pub form : IsInForm d
-  pub rows : t.rows ≡ map held_row d.rows
-  pub roots : t.roots ≡ map (map held) d.roots
+pub record IsHeldDump (dump : Dumped) (text : Text) : Type 0 where
+  pub form : IsInForm dump
+  pub rows : text.rows ≡ map held_row dump.rows
+  pub roots : text.roots ≡ map (map held) dump.roots

@@ -31,13 +31,13 @@ pub record AreRowWords (counts : List ℕ) (words : List (List ℕ)) (r : Row) :
 
 -- the name is behind the last of these
 abbrev pub IsBehindLast : List Name → Name → Type 0
-IsBehindLast [] n = Unit {0}
-IsBehindLast (m ∷ []) n = IsBefore m n
-IsBehindLast (m ∷ k ∷ ns) n = IsBehindLast (k ∷ ns) n
+IsBehindLast [] name = Unit {0}
+IsBehindLast (m ∷ []) name = IsBefore m name
+IsBehindLast (m ∷ k ∷ ns) name = IsBehindLast (k ∷ ns) name
 
 -- the hub has 16 references and no number
 abbrev pub HasHubFields : Row → Type 0
-HasHubFields r = r.name ≡ hub → (length r.refs ≡ 16) × (length r.nums ≡ 0)
+HasHubFields row = row.name ≡ hub → (length row.refs ≡ 16) × (length row.nums ≡ 0)
 
 -- these words, and then those of 16 references
 pub record AreRootsWords (words front : List (List ℕ)) (roots : List Reference) : Type 0 where

@@ -21,7 +21,7 @@ is_name_reply _ = false
 
 -- an allocation of this thread that was answered a name
 abbrev pub has_made : ℕ → Entry → Bool
-has_made thread e = (e.thread == thread) && (is_allocation e.command && is_name_reply e.reply)
+has_made thread entry = (entry.thread == thread) && (is_allocation entry.command && is_name_reply entry.reply)
 
 -- how many objects a thread made: how many of its allocations were answered a name
 abbrev pub objects_made : List Entry → ℕ → ℕ
@@ -32,15 +32,15 @@ abbrev pub objects_made_by_each : List Entry → ℕ → List ℕ
 objects_made_by_each history threads = map (objects_made history) (range_with_len 1 threads)
 
 -- an entry of one of so many threads, whose command is in range
-pub record IsEntryInRange (threads : ℕ) (e : Entry) : Type 0 where
-  pub from_first : 1 ≤ e.thread
-  pub to_last : e.thread ≤ threads
-  pub valid : IsValid e.command
-  pub fits : FitsValue e.command
+pub record IsEntryInRange (threads : ℕ) (entry : Entry) : Type 0 where
+  pub from_first : 1 ≤ entry.thread
+  pub to_last : entry.thread ≤ threads
+  pub valid : IsValid entry.command
+  pub fits : FitsValue entry.command
 
 -- A legal history of the threads of a heap from the opening on, whose commands are in range, and in which no thread made too many
 -- objects for a dump.
-pub record IsDumpable (c : Config) (history : List Entry) : Type 0 where
-  pub each : EachIsLegal c.regions c.region_words (opening c.mutators) history
-  pub entries : All (IsEntryInRange c.mutators) history
+pub record IsDumpable (config : Config) (history : List Entry) : Type 0 where
+  pub each : EachIsLegal config.regions config.region_words (opening config.mutators) history
+  pub entries : All (IsEntryInRange config.mutators) history
   pub few : (thread : ℕ) → objects_made history thread ≤ most_made

@@ -24,10 +24,10 @@ IfAnswered TooSmall P = Unit {0}
 
 -- All machines are idle after the events of the schedule, and each mutator has called its whole script; memory shows the end, and the
 -- work has the replies.
-pub record HasEndedFrom (c : Config) (start : Stage Actor) (scripts : Scripts) (items : List Item) (limit : ℕ) (jobs : Jobs) (p : Plain) : Type 0 where
-  pub config : config_of p ≡ c
+pub record HasEndedFrom (c : Config) (start : Stage Actor) (scripts : Scripts) (items : List Item) (limit : ℕ) (jobs : Jobs) (plain : Plain) : Type 0 where
+  pub config : config_of plain ≡ c
   pub idle : AreIdle c scripts (led_to c start (schedule_events pause_image c scripts items limit start))
   pub called : AllHaveCalled c scripts (led_to c start (schedule_events pause_image c scripts items limit start))
-  pub shows : Shows p (led_to c start (schedule_events pause_image c scripts items limit start))
+  pub shows : Shows plain (led_to c start (schedule_events pause_image c scripts items limit start))
   pub tells : Tells c scripts jobs (led_to c start (schedule_events pause_image c scripts items limit start))
-  pub jobs_are : (t : ℕ) → t < c.mutators → work.HasScript jobs t
+  pub jobs_are : (mutator : ℕ) → mutator < c.mutators → work.HasScript jobs mutator

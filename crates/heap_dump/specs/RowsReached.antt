@@ -9,49 +9,49 @@ use Rattle.shen_graph.specs.Reach.{IsReachable}
 
 -- the graph of a text without its pin slots, whose threads are counted from 1, and made nothing that is told
 abbrev pub graph_from : Text → Graph
-graph_from t = graph_of (record { rows = t.rows; roots = [] ∷ t.roots; counts = []; pins = [] })
+graph_from text = graph_of (record { rows = text.rows; roots = [] ∷ text.roots; counts = []; pins = [] })
 
 -- the roots lead to what the reference names
 abbrev pub RootsLeadTo : Text → Reference → Type 0
-RootsLeadTo t r = (n : Name) → r ≡ Some n → IsReachable (graph_from t) n
+RootsLeadTo text reference = (name : Name) → reference ≡ Some name → IsReachable (graph_from text) name
 
 abbrev pub is_marked : List Bool → ℕ → Bool
 is_marked marks row = slice_index_or marks row false
 
 -- the reference is null, or names a row that is marked
 abbrev pub IsReachMarked : Text → List Bool → Reference → Type 0
-IsReachMarked t marks r = (n : Name) → r ≡ Some n → (row : ℕ) × (row < length t.rows) × ((row_of t row).name ≡ n) × (is_marked marks row ≡ true)
+IsReachMarked text marks reference = (name : Name) → reference ≡ Some name → (row : ℕ) × (row < length text.rows) × ((row_of text row).name ≡ name) × (is_marked marks row ≡ true)
 
 abbrev pub AreMarked : Text → List Bool → List Reference → Type 0
-AreMarked t marks refs = (field : ℕ) (r : Reference) → slice_get refs field ≡ Some r → IsReachMarked t marks r
+AreMarked text marks refs = (field : ℕ) (reference : Reference) → slice_get refs field ≡ Some reference → IsReachMarked text marks reference
 
 -- what rows with a mark refer to is marked
 abbrev pub IsClosed : Text → List Bool → Type 0
-IsClosed t marks = (row : ℕ) → row < length t.rows → is_marked marks row ≡ true → AreMarked t marks (row_of t row).refs
+IsClosed text marks = (row : ℕ) → row < length text.rows → is_marked marks row ≡ true → AreMarked text marks (row_of text row).refs
 
 -- each mark is there still, and what the list had it has at the same places
 pub record Grows (marks : List Bool) (order : List ℕ) (more : List Bool) (longer : List ℕ) : Type 0 where
   pub kept : (row : ℕ) → is_marked marks row ≡ true → is_marked more row ≡ true
-  pub same : (k : ℕ) → k < length order → slice_index longer k ≡ slice_index order k
+  pub same : (index : ℕ) → index < length order → slice_index longer index ≡ slice_index order index
   pub long : length order ≤ length longer
 
 -- Rows with a mark are reached, and the list has each of them.
-pub record RowsAreReached (t : Text) (marks : List Bool) (order : List ℕ) : Type 0 where
-  pub size : length marks ≡ length t.rows
+pub record RowsAreReached (text : Text) (marks : List Bool) (order : List ℕ) : Type 0 where
+  pub size : length marks ≡ length text.rows
   pub once : IsDistinct nat_eq order
   pub listed : (row : ℕ) → is_marked marks row ≡ true → Contains order row
-  pub marked : (row : ℕ) → Contains order row → (row < length t.rows) × (is_marked marks row ≡ true)
-  pub led : (row : ℕ) → is_marked marks row ≡ true → IsReachable (graph_from t) (row_of t row).name
+  pub marked : (row : ℕ) → Contains order row → (row < length text.rows) × (is_marked marks row ≡ true)
+  pub led : (row : ℕ) → is_marked marks row ≡ true → IsReachable (graph_from text) (row_of text row).name
 
 -- a name to which the roots lead has no row
 abbrev pub Lacks : Text → Type 0
-Lacks t = (n : Name) × IsReachable (graph_from t) n × (Contains (names_of t) n → ⊥)
+Lacks text = (name : Name) × IsReachable (graph_from text) name × (Contains (names_of text) name → ⊥)
 
 -- The mark of each row says whether the roots lead to its object, and each name to which they lead has a row.
-pub record MarksReached (t : Text) (marks : List Bool) : Type 0 where
-  pub size : length marks ≡ length t.rows
-  pub led : (row : ℕ) → is_marked marks row ≡ true → IsReachable (graph_from t) (row_of t row).name
-  pub all : (n : Name) → IsReachable (graph_from t) n → IsReachMarked t marks (Some n)
+pub record MarksReached (text : Text) (marks : List Bool) : Type 0 where
+  pub size : length marks ≡ length text.rows
+  pub led : (row : ℕ) → is_marked marks row ≡ true → IsReachable (graph_from text) (row_of text row).name
+  pub all : (name : Name) → IsReachable (graph_from text) name → IsReachMarked text marks (Some name)
 
 -- the rows with a mark, in their order
 abbrev pub marked_rows : List Bool → List Row → List Row

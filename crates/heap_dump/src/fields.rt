@@ -88,8 +88,8 @@ pub(crate) fn take_object(counts: &[u32], words: &[u8], graph: &mut GraphText) -
     requires counts { length counts.now ≤ 8 }
     requires room { length (parts_behind 32 words.now) + 1 ≤ graph.old.spare }
     ensures { MatchBool result
-        ((r : Row) × AreRowWords counts.now (parts_behind 32 words.now) r × IsBehindLast (names_of graph.old) r.name × (graph.new ≡ with_whole_row graph.old (held_row r)))
-        ((r : Row) → AreRowWords counts.now (parts_behind 32 words.now) r → IsBehindLast (names_of graph.old) r.name → ⊥) }
+        ((row : Row) × AreRowWords counts.now (parts_behind 32 words.now) row × IsBehindLast (names_of graph.old) row.name × (graph.new ≡ with_whole_row graph.old (held_row row)))
+        ((row : Row) → AreRowWords counts.now (parts_behind 32 words.now) row → IsBehindLast (names_of graph.old) row.name → ⊥) }
 {
     let Some((word, rest)) = next_word(words) else {
         return false;

@@ -92,7 +92,7 @@ fn take_all_roots<'a>(
     requires few { first + length bytes.now < 2 ^ 64 }
     requires object { NoObjectLine bytes.now }
     ensures ok { IfOk result (λ rest. (all : List (List Reference)) × HasTakenRoots bytes.now rest.now (length graph.old.roots) graph.old graph.new all × (length all ≡ length graph.old.roots)) }
-    ensures err { IfErr result (λ e. (d : Dumped) → d.roots ≡ [] → d.config.mutators ≡ length graph.old.roots → IsStop (Listed d) first bytes.now e) }
+    ensures err { IfErr result (λ e. (dump : Dumped) → dump.roots ≡ [] → dump.config.mutators ≡ length graph.old.roots → IsStop (Listed dump) first bytes.now e) }
 {
     let mut rest = bytes;
     for mutator in 0..graph.mutators() {
@@ -116,7 +116,7 @@ fn take_mark<'a>(
     requires order { InOrder (names_of graph.now) }
     requires few { length graph.now.roots ≤ 8 }
     ensures ok { IfOk result (λ rest. (text : List ℕ) × (parts 10 bytes.now ≡ text ∷ parts 10 rest.now) × Spells text mark_line × IsReach (graph_from graph.now) (names_of graph.now)) }
-    ensures err { IfErr result (λ e. (e ≡ TraceFault.NoMemory) ⊎ ((d : Dumped) → IsHeldDump d graph.now → d.roots ≢ [] → IsStop (Listed d) line bytes.now e)) }
+    ensures err { IfErr result (λ e. (e ≡ TraceFault.NoMemory) ⊎ ((dump : Dumped) → IsHeldDump dump graph.now → dump.roots ≢ [] → IsStop (Listed dump) line bytes.now e)) }
 {
     let (text, behind) = line_at(line, bytes)?;
     if text == b"trace".as_slice() {

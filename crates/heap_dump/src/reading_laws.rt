@@ -14,30 +14,30 @@ ghost use Rattle.heap_dump.specs.DumpLines.{DumpRefused};
 /// A law: the text of a dump, the line `trace`, lines of commands of version 2 and lines of a schedule, if they are not too long together, are read
 /// as that dump and what the lines say, and as nothing else; and none of these lines is refused.
 pub fn written_dumps_are_read()
-    ensures once { (bytes : List ℕ) (d e : Dumped) (lines : List TraceLine) (turns : List (List Item)) (scripts : List (List Command)) (items : List Item)
-        → IsDump d → AllByRecursion (IsLine run_version d.config.mutators) lines → AllByRecursion (IsScheduleLine d.config) turns
-        → bytes ≡ dump_text d ++ (mark_line ++ (flat_map line lines ++ flat_map schedule_line turns)) → length bytes ≤ most_bytes
-        → Resumes bytes e scripts items → IsSameReading d (scripts_of d.config.mutators lines) (items_of turns) e scripts items }
-    ensures never_refused { (bytes : List ℕ) (d : Dumped) (lines : List TraceLine) (turns : List (List Item)) (n : ℕ) (why : Why)
-        → IsDump d → AllByRecursion (IsLine run_version d.config.mutators) lines → AllByRecursion (IsScheduleLine d.config) turns
-        → bytes ≡ dump_text d ++ (mark_line ++ (flat_map line lines ++ flat_map schedule_line turns)) → length bytes ≤ most_bytes
+    ensures once { (bytes : List ℕ) (dump other_dump : Dumped) (lines : List TraceLine) (turns : List (List Item)) (scripts : List (List Command)) (items : List Item)
+        → IsDump dump → AllByRecursion (IsLine run_version dump.config.mutators) lines → AllByRecursion (IsScheduleLine dump.config) turns
+        → bytes ≡ dump_text dump ++ (mark_line ++ (flat_map line lines ++ flat_map schedule_line turns)) → length bytes ≤ most_bytes
+        → Resumes bytes other_dump scripts items → IsSameReading dump (scripts_of dump.config.mutators lines) (items_of turns) other_dump scripts items }
+    ensures never_refused { (bytes : List ℕ) (dump : Dumped) (lines : List TraceLine) (turns : List (List Item)) (n : ℕ) (why : Why)
+        → IsDump dump → AllByRecursion (IsLine run_version dump.config.mutators) lines → AllByRecursion (IsScheduleLine dump.config) turns
+        → bytes ≡ dump_text dump ++ (mark_line ++ (flat_map line lines ++ flat_map schedule_line turns)) → length bytes ≤ most_bytes
         → DumpRefused bytes n why → ⊥ }
 {}
 
 /// A law: bytes are one dump at most, with what is to run from it.
 pub fn dumps_are_read_once()
-    ensures { (bytes : List ℕ) (d e : Dumped) (xs ys : List (List Command)) (is js : List Item) → Resumes bytes d xs is → Resumes bytes e ys js → IsSameReading d xs is e ys js }
+    ensures { (bytes : List ℕ) (dump other_dump : Dumped) (xs ys : List (List Command)) (is js : List Item) → Resumes bytes dump xs is → Resumes bytes other_dump ys js → IsSameReading dump xs is other_dump ys js }
 {}
 
 /// A law: bytes that are a dump, with what is to run from it, are not refused; and bytes are refused at one line at most, for one
 /// cause.
 pub fn dumps_are_refused_once()
-    ensures never_both { (bytes : List ℕ) (d : Dumped) (scripts : List (List Command)) (items : List Item) (n : ℕ) (why : Why) → Resumes bytes d scripts items → DumpRefused bytes n why → ⊥ }
+    ensures never_both { (bytes : List ℕ) (dump : Dumped) (scripts : List (List Command)) (items : List Item) (n : ℕ) (why : Why) → Resumes bytes dump scripts items → DumpRefused bytes n why → ⊥ }
     ensures once { (bytes : List ℕ) (n m : ℕ) (why other : Why) → DumpRefused bytes n why → DumpRefused bytes m other → (n ≡ m) × (why ≡ other) }
 {}
 
 /// A law: bytes within the limit are a dump with what is to run from it, or are refused at a line for a cause: it cannot be that they are
 /// neither. That they are never both, and neither in two ways, the two laws above say.
 pub fn bytes_are_a_dump_or_refused()
-    ensures { (bytes : List ℕ) → length bytes ≤ most_bytes → ((d : Dumped) (scripts : List (List Command)) (items : List Item) → Resumes bytes d scripts items → ⊥) → ((n : ℕ) (why : Why) → DumpRefused bytes n why → ⊥) → ⊥ }
+    ensures { (bytes : List ℕ) → length bytes ≤ most_bytes → ((dump : Dumped) (scripts : List (List Command)) (items : List Item) → Resumes bytes dump scripts items → ⊥) → ((n : ℕ) (why : Why) → DumpRefused bytes n why → ⊥) → ⊥ }
 {}

@@ -44,7 +44,7 @@ fn name_of(thread: &[u8], count: &[u8]) -> Name
 
 /// The reference that a word spells: a dash for null, and two numbers with a dot between for a name.
 pub(crate) fn reference_in(word: &[u8]) -> Option<Option<Name>>
-    ensures { MatchOption result ((r : Reference) → IsDumpReference word.now r → ⊥) (λ x. (r : Reference) × IsDumpReference word.now r × (x ≡ held r)) }
+    ensures { MatchOption result ((reference : Reference) → IsDumpReference word.now reference → ⊥) (λ x. (reference : Reference) × IsDumpReference word.now reference × (x ≡ held reference)) }
 {
     if word == b"-".as_slice() {
         return Some(None);

@@ -9,11 +9,11 @@ ghost use Rattle.heap_dump.specs.Dumped.{Dumped, IsDump, IsDumpOf, dump_of, grap
 /// A law: a graph of which finitely much can be reached from roots has, with a configuration, exactly one dump. What is pinned alone is
 /// not in it.
 pub fn graphs_have_one_dump()
-    ensures some { (c : Config) (g : Graph) (names : List Name) → IsReach (unpinned g) names → IsDumpOf c g (dump_of c g names) }
-    ensures once { (c : Config) (g : Graph) (d e : Dumped) → IsDumpOf c g d → IsDumpOf c g e → d ≡ e }
+    ensures some { (config : Config) (graph : Graph) (names : List Name) → IsReach (unpinned graph) names → IsDumpOf config graph (dump_of config graph names) }
+    ensures once { (config : Config) (graph : Graph) (dump other_dump : Dumped) → IsDumpOf config graph dump → IsDumpOf config graph other_dump → dump ≡ other_dump }
 {}
 
 /// A law: each dump is the dump of its own graph.
 pub fn dumps_show_their_graph()
-    ensures { (d : Dumped) → IsDump d → IsDumpOf d.config (graph_in d) d }
+    ensures { (dump : Dumped) → IsDump dump → IsDumpOf dump.config (graph_in dump) dump }
 {}

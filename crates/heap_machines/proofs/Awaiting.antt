@@ -152,10 +152,10 @@ control_away _ = refl
 some_word : (got : ℕ) → got ≢ 0 → (got == 0) ≡ false
 some_word got some = grind (arith, nat_tests, some)
 
-module _ (c : Config) where
+module _ (config : Config) where
   -- a mutator
   mutator_awaits : (seat made : ℕ) (kept : Kept) (at : Spot) → is_machine_at E4 (mutating (record { seat = seat; made = made; kept = kept; spot = at })) (order_for None (mutating (record { seat = seat; made = made; kept = kept; spot = at }))) ≡ true
-      → Awaits c (mutating (record { seat = seat; made = made; kept = kept; spot = at }))
+      → Awaits config (mutating (record { seat = seat; made = made; kept = kept; spot = at }))
   mutator_awaits seat made kept (spot.Entering enter.Await Call) there = record {
     goes_on = λ next. refl;
     takes = refl;
@@ -187,7 +187,7 @@ module _ (c : Config) where
   mutator_awaits seat made kept _ there = absurd (false≢true there)
 
   -- a helper
-  helper_awaits : (seat hints : ℕ) (at : HelpSpot) → is_machine_at E4 (helping (record { seat = seat; spot = at; hints = hints })) (order_for None (helping (record { seat = seat; spot = at; hints = hints }))) ≡ true → Awaits c (helping (record { seat = seat; spot = at; hints = hints }))
+  helper_awaits : (seat hints : ℕ) (at : HelpSpot) → is_machine_at E4 (helping (record { seat = seat; spot = at; hints = hints })) (order_for None (helping (record { seat = seat; spot = at; hints = hints }))) ≡ true → Awaits config (helping (record { seat = seat; spot = at; hints = hints }))
   helper_awaits seat hints (help.Entering enter.Await) there = record {
     goes_on = λ next. refl;
     takes = refl;
@@ -202,7 +202,7 @@ module _ (c : Config) where
   helper_awaits seat hints _ there = absurd (false≢true there)
 
   -- the control never does
-  pub awaits_there : (machine : Machine) → is_machine_at E4 machine (order_for None machine) ≡ true → Awaits c machine
+  pub awaits_there : (machine : Machine) → is_machine_at E4 machine (order_for None machine) ≡ true → Awaits config machine
   awaits_there (mutating m) there = mutator_awaits m.seat m.made m.kept m.spot there
   awaits_there (helping h) there = helper_awaits h.seat h.hints h.spot there
   awaits_there (controlling k) there = absurd (by_gone (is_gone k.spot) there)

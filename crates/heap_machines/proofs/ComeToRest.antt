@@ -49,9 +49,9 @@ control_calm : (spot : ControlSpot) (image : List ℕ) → (if is_gone spot then
 control_calm controls.Gone image none = refl
 control_calm _ image none = absurd cc
 
-between_calls : (m : Mutating) → HasComeToRest (mutating m) → is_between_calls m.spot ≡ true
-between_calls m (inl rest) = rest
-between_calls m (inr other) = absurd (let none = other.0 in cc)
+between_calls : (mutator : Mutating) → HasComeToRest (mutating mutator) → is_between_calls mutator.spot ≡ true
+between_calls mutator (inl rest) = rest
+between_calls mutator (inr other) = absurd (let none = other.0 in cc)
 
 is_outside : (machine : Machine) → HasComeToRest machine → is_within (standing_of machine) ≡ false
 is_outside (mutating m) rests = mutator_outside m.spot (between_calls m rests)
@@ -60,14 +60,14 @@ is_outside (helping h) (inr none) = helper_outside h.spot none.1
 is_outside (controlling k) (inl rest) = absurd cc
 is_outside (controlling k) (inr none) = control_outside k.spot none.1
 
-has_ended : (k : Controlling) → HasComeToRest (controlling k) → (if is_gone k.spot then false else true) ≡ false
-has_ended k (inl rest) = absurd cc
-has_ended k (inr none) = none.1
+has_ended : (control : Controlling) → HasComeToRest (controlling control) → (if is_gone control.spot then false else true) ≡ false
+has_ended control (inl rest) = absurd cc
+has_ended control (inr none) = none.1
 
-pub all_at_rest : (c : Config) (s : Stage Actor) → ((number : ℕ) (a : Actor) → slice_get s.machines number ≡ Some a → HasComeToRest a.machine) → IsAtRest c s
-all_at_rest c s rests = record {
-  calls = λ number a m mutator. between_calls m (subst HasComeToRest mutator.is (rests number a mutator.here));
-  outside = λ number a here other. is_outside a.machine (rests number a here);
-  no_unit = λ number a k here is. control_free k.spot (has_ended k (subst HasComeToRest is (rests number a here)));
-  no_image = λ number a k here is. control_calm k.spot k.image (has_ended k (subst HasComeToRest is (rests number a here)));
+pub all_at_rest : (config : Config) (stage : Stage Actor) → ((number : ℕ) (actor : Actor) → slice_get stage.machines number ≡ Some actor → HasComeToRest actor.machine) → IsAtRest config stage
+all_at_rest config stage rests = record {
+  calls = λ number actor m mutator. between_calls m (subst HasComeToRest mutator.is (rests number actor mutator.here));
+  outside = λ number actor here other. is_outside actor.machine (rests number actor here);
+  no_unit = λ number actor k here is. control_free k.spot (has_ended k (subst HasComeToRest is (rests number actor here)));
+  no_image = λ number actor k here is. control_calm k.spot k.image (has_ended k (subst HasComeToRest is (rests number actor here)));
 }

@@ -13,8 +13,8 @@ use Rattle.control.proofs.Fitting.{part_of_some_can, can_collect_prop}
 use Rattle.step_core.specs.Fit.{IsWholeImage}
 
 -- a word that is fit for the control as a machine is fit for the control
-pub fit_for_control : (c : Config) (phase : ℕ) (spot : ControlSpot) (image : List ℕ) (got : ℕ) → IsWholeImage c phase spot image got → UnitGoesOn c spot got → fits_with c spot phase image got
-fit_for_control c phase (LoadWord index extent) image got whole goes = λ last.
-    ∥∥₁_elim (whole last) (can_collect_prop c (extent_after phase index extent got) (image_view c (loaded_all c image got)))
-    (λ h. part_of_some_can c (extent_after phase index extent got) h.0 (loaded_all c image got) h.1 h.2 h.4 h.5 h.6)
-fit_for_control c phase _ image got whole goes = goes
+pub fit_for_control : (config : Config) (phase : ℕ) (spot : ControlSpot) (image : List ℕ) (got : ℕ) → IsWholeImage config phase spot image got → UnitGoesOn config spot got → fits_with config spot phase image got
+fit_for_control config phase (LoadWord index extent) image got whole goes = λ last.
+    ∥∥₁_elim (whole last) (can_collect_prop config (extent_after phase index extent got) (image_view config (loaded_all config image got)))
+    (λ h. part_of_some_can config (extent_after phase index extent got) h.0 (loaded_all config image got) h.1 h.2 h.4 h.5 h.6)
+fit_for_control config phase _ image got whole goes = goes

@@ -50,9 +50,9 @@ use Rattle.mutator.specs.Rows.{Mutating, given_at, next_at, first_spot, after_ro
 abbrev InCall : Spot → Type 0
 InCall spot = is_between_calls spot ≡ false
 
-either : (b : Bool) (x y : Spot) → InCall x → InCall y → InCall (if b then x else y)
-either true x y one other = one
-either false x y one other = other
+either : (holds : Bool) (spot other_spot : Spot) → InCall spot → InCall other_spot → InCall (if holds then spot else other_spot)
+either true spot other_spot one other = one
+either false spot other_spot one other = other
 
 in_enter : (next : Entered) (at : EnterSpot) → InCall (after_enter next at)
 in_enter Call Inside = refl
@@ -127,24 +127,24 @@ in_resolved : (found answer : ℕ) (next : Loaded) → InCall (after_resolved fo
 in_resolved found answer ForRoot = refl
 in_resolved found answer (ToCompare object expect value) = in_expected object expect value found answer
 
-in_loaded : (c : Config) (phase cset found : ℕ) (next : Loaded) → InCall (with_loaded c phase cset found next)
-in_loaded c phase cset found next = either (must_resolve c phase cset found) (Resolving found LoadHeader next) (after_resolved found found next) refl (in_resolved found found next)
+in_loaded : (config : Config) (phase cset found : ℕ) (next : Loaded) → InCall (with_loaded config phase cset found next)
+in_loaded config phase cset found next = either (must_resolve config phase cset found) (Resolving found LoadHeader next) (after_resolved found found next) refl (in_resolved found found next)
 
 in_resolve : (found : ℕ) (next : Loaded) (at : ResolveSpot) → InCall (after_resolve found next at)
 in_resolve found next (Resolved answer) = in_resolved found answer next
 in_resolve found next _ = refl
 
-in_swap : (c : Config) (phase cset found : ℕ) → InCall (after_swap c phase cset found)
-in_swap c phase cset found = either (is_to_record phase found) (Recording LoadCount found overwrites.Xchg) (with_loaded c phase cset found ForRoot) refl (in_loaded c phase cset found ForRoot)
+in_swap : (config : Config) (phase cset found : ℕ) → InCall (after_swap config phase cset found)
+in_swap config phase cset found = either (is_to_record phase found) (Recording LoadCount found overwrites.Xchg) (with_loaded config phase cset found ForRoot) refl (in_loaded config phase cset found ForRoot)
 
-in_field : (c : Config) (phase cset object : ℕ) (at : FieldSpot) (got : ℕ) → InCall (field_next c phase cset object at got)
-in_field c phase cset object fields.Load got = in_loaded c phase cset got ForRoot
-in_field c phase cset object (fields.LoadExpected expect value) got = in_loaded c phase cset got (ToCompare object expect value)
-in_field c phase cset object (fields.LoadOld value) got = in_overwritten phase got (overwrites.Set object value)
-in_field c phase cset object (fields.Swap value) got = in_swap c phase cset got
-in_field c phase cset object (fields.Exchange found expect value) got =
+in_field : (config : Config) (phase cset object : ℕ) (at : FieldSpot) (got : ℕ) → InCall (field_next config phase cset object at got)
+in_field config phase cset object fields.Load got = in_loaded config phase cset got ForRoot
+in_field config phase cset object (fields.LoadExpected expect value) got = in_loaded config phase cset got (ToCompare object expect value)
+in_field config phase cset object (fields.LoadOld value) got = in_overwritten phase got (overwrites.Set object value)
+in_field config phase cset object (fields.Swap value) got = in_swap config phase cset got
+in_field config phase cset object (fields.Exchange found expect value) got =
     either (got == found) (overwritten phase found overwrites.Cas) (OnField object (fields.LoadExpected expect value)) (in_overwritten phase found overwrites.Cas) refl
-in_field c phase cset object _ got = refl
+in_field config phase cset object _ got = refl
 
 in_numbers : (at : NumberSpot) (got : ℕ) → InCall (number_next at got)
 in_numbers number.Load got = refl
@@ -158,32 +158,32 @@ in_pin : (value : ℕ) (command : Command) (at : PinSpot) (got : ℕ) → InCall
 in_pin value command pin.Look got = either (fits_slot command got) (Pinning value pin.Store) (Leave reply.Bad) refl refl
 in_pin value command pin.Store got = refl
 
-in_make : (c : Config) (seat made : ℕ) (command : Command) (at : MakeSpot) (got : ℕ) → InCall (make_next c seat made command at got)
-in_make c seat made command (make.Taking take) got = in_take (take_next c command take got)
-in_make c seat made command (make.StoreWord address done) got = refl
-in_make c seat made command (make.StoreRoot address) got = refl
+in_make : (config : Config) (seat made : ℕ) (command : Command) (at : MakeSpot) (got : ℕ) → InCall (make_next config seat made command at got)
+in_make config seat made command (make.Taking take) got = in_take (take_next config command take got)
+in_make config seat made command (make.StoreWord address done) got = refl
+in_make config seat made command (make.StoreRoot address) got = refl
 
 in_wait : (seat made : ℕ) (at : WaitSpot) (got : ℕ) → InCall (wait_next seat made at got)
 in_wait seat made wait.Poll got = either (got == 0) (Waiting wait.Poll) (Entering Raise Waited) refl refl
 in_wait seat made _ got = refl
 
 -- a call that is in progress goes on, but where its mutator leaves
-pub call_goes_on : (c : Config) (m : Mutating) (got : ℕ) (spot : Spot) → is_between_calls spot ≡ false → given_at spot ≡ None → is_between_calls (next_at c m Nothing got spot).spot ≡ false
-call_goes_on c m got Rest busy none = absurd (cc (busy))
-call_goes_on c m got (Ended reply) busy none = absurd (cc (busy))
-call_goes_on c m got Gone busy none = absurd (cc (busy))
-call_goes_on c m got (Entering at next) busy none = in_enter next (enter_next at got)
-call_goes_on c m got LoadPhase busy none = refl
-call_goes_on c m got LoadSet busy none = in_first_spot m.kept.command
-call_goes_on c m got (Loading at) busy none = in_load m.kept.phase m.kept.command at got
-call_goes_on c m got (OnField object at) busy none = in_field c m.kept.phase m.kept.cset object at got
-call_goes_on c m got (Resolving address at next) busy none = in_resolve address next (resolves.next_at c address m.kept.phase at got)
-call_goes_on c m got (Recording at address next) busy none = in_remember address next (satb.next_at at got)
-call_goes_on c m got (OnNumber object refs at) busy none = in_numbers at got
-call_goes_on c m got (Showing value at) busy none = in_show value at got
-call_goes_on c m got (StoreRoot value) busy none = refl
-call_goes_on c m got (Making at) busy none = in_make c m.seat m.made m.kept.command at got
-call_goes_on c m got AskCycle busy none = refl
-call_goes_on c m got (Pinning value at) busy none = in_pin value m.kept.command at got
-call_goes_on c m got (Waiting at) busy none = in_wait m.seat m.made at got
-call_goes_on c m got (Leave reply) busy none = absurd (cc (none))
+pub call_goes_on : (config : Config) (mutator : Mutating) (got : ℕ) (spot : Spot) → is_between_calls spot ≡ false → given_at spot ≡ None → is_between_calls (next_at config mutator Nothing got spot).spot ≡ false
+call_goes_on config mutator got Rest busy none = absurd (cc (busy))
+call_goes_on config mutator got (Ended reply) busy none = absurd (cc (busy))
+call_goes_on config mutator got Gone busy none = absurd (cc (busy))
+call_goes_on config mutator got (Entering at next) busy none = in_enter next (enter_next at got)
+call_goes_on config mutator got LoadPhase busy none = refl
+call_goes_on config mutator got LoadSet busy none = in_first_spot mutator.kept.command
+call_goes_on config mutator got (Loading at) busy none = in_load mutator.kept.phase mutator.kept.command at got
+call_goes_on config mutator got (OnField object at) busy none = in_field config mutator.kept.phase mutator.kept.cset object at got
+call_goes_on config mutator got (Resolving address at next) busy none = in_resolve address next (resolves.next_at config address mutator.kept.phase at got)
+call_goes_on config mutator got (Recording at address next) busy none = in_remember address next (satb.next_at at got)
+call_goes_on config mutator got (OnNumber object refs at) busy none = in_numbers at got
+call_goes_on config mutator got (Showing value at) busy none = in_show value at got
+call_goes_on config mutator got (StoreRoot value) busy none = refl
+call_goes_on config mutator got (Making at) busy none = in_make config mutator.seat mutator.made mutator.kept.command at got
+call_goes_on config mutator got AskCycle busy none = refl
+call_goes_on config mutator got (Pinning value at) busy none = in_pin value mutator.kept.command at got
+call_goes_on config mutator got (Waiting at) busy none = in_wait mutator.seat mutator.made at got
+call_goes_on config mutator got (Leave reply) busy none = absurd (cc (none))

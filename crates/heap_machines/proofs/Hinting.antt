@@ -14,11 +14,11 @@ hint_back None = refl
 hint_back (Some address) = refl
 
 -- so a machine goes on with just that
-pub helped : (c : Config) (hint : Option ℕ) (h : Helping) → helping_by c (hinting hint) h ≡ help_hinted c hint h
-helped c hint h = ap (λ o. help_hinted c o h) (hint_back hint)
+pub helped : (config : Config) (hint : Option ℕ) (helper : Helping) → helping_by config (hinting hint) helper ≡ help_hinted config hint helper
+helped config hint helper = ap (λ o. help_hinted config o helper) (hint_back hint)
 
-pub controlled : (c : Config) (hint : Option ℕ) (k : Controlling) → controlling_by c (hinting hint) k ≡ control_hinted c hint k
-controlled c hint k = ap (λ o. control_hinted c o k) (hint_back hint)
+pub controlled : (config : Config) (hint : Option ℕ) (control : Controlling) → controlling_by config (hinting hint) control ≡ control_hinted config hint control
+controlled config hint control = ap (λ o. control_hinted config o control) (hint_back hint)
 
 -- where it has a turn under a hint it has not ended
 pub goes_with_hint : (working gone : Bool) → (working && (if gone then false else true)) ≡ true → gone ≡ false
@@ -27,8 +27,8 @@ goes_with_hint true true goes = absurd (cc (goes))
 goes_with_hint false true goes = absurd (cc (goes))
 
 -- who takes a hint has loaded no image
-pub whole_with_hint : (c : Config) (hint : Option ℕ) (k : Controlling) (got : ℕ) → IsWholeImage c k.phase k.spot k.image got
-    → IsWholeImage c (control_hinted c hint k).phase (control_hinted c hint k).spot (control_hinted c hint k).image got
-whole_with_hint c None k got whole = whole
-whole_with_hint c (Some address) k got whole =
-    by_unit c (λ spot next. IsWholeImage c k.phase spot k.image got → IsWholeImage c k.phase next k.image got) (Some address) (λ spot same. same) (λ at same. tt) k.spot whole
+pub whole_with_hint : (config : Config) (hint : Option ℕ) (control : Controlling) (got : ℕ) → IsWholeImage config control.phase control.spot control.image got
+    → IsWholeImage config (control_hinted config hint control).phase (control_hinted config hint control).spot (control_hinted config hint control).image got
+whole_with_hint config None control got whole = whole
+whole_with_hint config (Some address) control got whole =
+    by_unit config (λ spot next. IsWholeImage config control.phase spot control.image got → IsWholeImage config control.phase next control.image got) (Some address) (λ spot same. same) (λ at same. tt) control.spot whole

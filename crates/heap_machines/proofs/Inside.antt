@@ -22,79 +22,79 @@ use Rattle.heap_machines.specs.Pause.{pause_image}
 use Rattle.heap_machines.specs.Inside.{is_inside_image, loads_left, stores_left}
 
 -- it has a turn, under no order, says that there is more to do, makes its access beside the pause word, and no address grey
-pub record GoesInside (c : Config) (machine : Machine) : Type 0 where
+pub record GoesInside (config : Config) (machine : Machine) : Type 0 where
   pub takes : takes_of machine Nothing ≡ true
   pub goes_on : (next : Option Command) → order_for next machine ≡ Some Nothing
-  pub says : (got : ℕ) → answer_of c Nothing machine got ≡ Some More
-  pub beside : word_at c Pause ≢ table_index (plan_of c Nothing machine)
+  pub says : (got : ℕ) → answer_of config Nothing machine got ≡ Some More
+  pub beside : word_at config Pause ≢ table_index (plan_of config Nothing machine)
   pub greys : greys_of machine ≡ None
 
 -- a word of the image is not the pause word
-apart : (c : Config) (index : ℕ) → 0 ≢ image_start c + index
-apart c index is = omega arith
+apart : (config : Config) (index : ℕ) → 0 ≢ image_start config + index
+apart config index is = omega arith
 
-control_goes : (c : Config) (seen phase cset hints : ℕ) (image : List ℕ) (spot : ControlSpot) → controls.is_inside_image c spot ≡ true → GoesInside c (controlling (record { spot = spot; seen = seen; phase = phase; cset = cset; hints = hints; image = image }))
-control_goes c seen phase cset hints image (LoadWord index Whole) inside = record { takes = refl; goes_on = λ next. refl; says = λ got. refl; beside = apart c index; greys = refl }
-control_goes c seen phase cset hints image (StoreWord index Whole) inside = record { takes = refl; goes_on = λ next. refl; says = λ got. refl; beside = apart c index; greys = refl }
-control_goes c seen phase cset hints image _ inside = absurd (false≢true inside)
+control_goes : (config : Config) (seen phase cset hints : ℕ) (image : List ℕ) (spot : ControlSpot) → controls.is_inside_image config spot ≡ true → GoesInside config (controlling (record { spot = spot; seen = seen; phase = phase; cset = cset; hints = hints; image = image }))
+control_goes config seen phase cset hints image (LoadWord index Whole) inside = record { takes = refl; goes_on = λ next. refl; says = λ got. refl; beside = apart config index; greys = refl }
+control_goes config seen phase cset hints image (StoreWord index Whole) inside = record { takes = refl; goes_on = λ next. refl; says = λ got. refl; beside = apart config index; greys = refl }
+control_goes config seen phase cset hints image _ inside = absurd (false≢true inside)
 
-pub goes_inside : (c : Config) (machine : Machine) → is_inside_image c machine ≡ true → GoesInside c machine
-goes_inside c (mutating m) inside = absurd (false≢true inside)
-goes_inside c (helping h) inside = absurd (false≢true inside)
-goes_inside c (controlling k) inside = control_goes c k.seen k.phase k.cset k.hints k.image k.spot inside
+pub goes_inside : (config : Config) (machine : Machine) → is_inside_image config machine ≡ true → GoesInside config machine
+goes_inside config (mutating m) inside = absurd (false≢true inside)
+goes_inside config (helping h) inside = absurd (false≢true inside)
+goes_inside config (controlling k) inside = control_goes config k.seen k.phase k.cset k.hints k.image k.spot inside
 
 -- so it is where words are left to load, or to store
-loads_in : (c : Config) (spot : ControlSpot) → 0 < controls.loads_left c spot → controls.is_inside_image c spot ≡ true
-loads_in c (LoadWord index Whole) some = lt-ltb (index + 1) (image_words c) (omega (arith, some))
-loads_in c _ some = absurd (omega (arith, some))
+loads_in : (config : Config) (spot : ControlSpot) → 0 < controls.loads_left config spot → controls.is_inside_image config spot ≡ true
+loads_in config (LoadWord index Whole) some = lt-ltb (index + 1) (image_words config) (omega (arith, some))
+loads_in config _ some = absurd (omega (arith, some))
 
-stores_in : (c : Config) (spot : ControlSpot) → 0 < controls.stores_left c spot → controls.is_inside_image c spot ≡ true
-stores_in c (StoreWord index Whole) some = lt-ltb (index + 1) (image_words c) (omega (arith, some))
-stores_in c _ some = absurd (omega (arith, some))
+stores_in : (config : Config) (spot : ControlSpot) → 0 < controls.stores_left config spot → controls.is_inside_image config spot ≡ true
+stores_in config (StoreWord index Whole) some = lt-ltb (index + 1) (image_words config) (omega (arith, some))
+stores_in config _ some = absurd (omega (arith, some))
 
-pub loads_inside : (c : Config) (machine : Machine) → 0 < loads_left c machine → is_inside_image c machine ≡ true
-loads_inside c (controlling k) some = loads_in c k.spot some
-loads_inside c _ some = absurd (omega (arith, some))
+pub loads_inside : (config : Config) (machine : Machine) → 0 < loads_left config machine → is_inside_image config machine ≡ true
+loads_inside config (controlling k) some = loads_in config k.spot some
+loads_inside config _ some = absurd (omega (arith, some))
 
-pub stores_inside : (c : Config) (machine : Machine) → 0 < stores_left c machine → is_inside_image c machine ≡ true
-stores_inside c (controlling k) some = stores_in c k.spot some
-stores_inside c _ some = absurd (omega (arith, some))
+pub stores_inside : (config : Config) (machine : Machine) → 0 < stores_left config machine → is_inside_image config machine ≡ true
+stores_inside config (controlling k) some = stores_in config k.spot some
+stores_inside config _ some = absurd (omega (arith, some))
 
 -- A step inside the image leaves one word fewer.
 whole_after : (phase index got : ℕ) → extent_after phase index Whole got ≡ Whole
 whole_after phase index got = by_test (says_room phase index got)
   where
-    by_test : (b : Bool) → (if b then Whole else Whole) ≡ Whole
+    by_test : (holds : Bool) → (if holds then Whole else Whole) ≡ Whole
     by_test true = refl
     by_test false = refl
 
-left_control : (c : Config) (seen phase cset got : ℕ) (image : List ℕ) (spot : ControlSpot) → controls.is_inside_image c spot ≡ true
-    → controls.loads_left c (next_spot c phase cset seen (stored_next c spot image) spot got) + controls.stores_left c (next_spot c phase cset seen (stored_next c spot image) spot got) + 1
-    ≡ controls.loads_left c spot + controls.stores_left c spot
-left_control c seen phase cset got image (LoadWord index Whole) inside =
-    let more : index + 1 < image_words c = ltb-true (index + 1) (image_words c) inside in
-    let next : LoadWord (index + 1) Whole ≡ after_load c (extent_after phase index Whole got) index =
-    sym (ap (λ e. after_load c e index) (whole_after phase index got) ∙ cond-true (nat_lt (index + 1) (image_words c)) (LoadWord (index + 1) Whole) (StoreWord 0 Whole) inside) in
-    subst (λ s. controls.loads_left c s + controls.stores_left c s + 1 ≡ image_words c - (index + 1) + 0) next (omega (arith, more))
-left_control c seen phase cset got image (StoreWord index Whole) inside =
-    let more : index + 1 < image_words c = ltb-true (index + 1) (image_words c) inside in
-    let here = next_stored c Whole image index in
-    let is : here ≡ index + 1 = stored_next_one c Whole image index here (index + 1) (stored_next_is c Whole image index (omega (arith, more)))
+left_control : (config : Config) (seen phase cset got : ℕ) (image : List ℕ) (spot : ControlSpot) → controls.is_inside_image config spot ≡ true
+    → controls.loads_left config (next_spot config phase cset seen (stored_next config spot image) spot got) + controls.stores_left config (next_spot config phase cset seen (stored_next config spot image) spot got) + 1
+    ≡ controls.loads_left config spot + controls.stores_left config spot
+left_control config seen phase cset got image (LoadWord index Whole) inside =
+    let more : index + 1 < image_words config = ltb-true (index + 1) (image_words config) inside in
+    let next : LoadWord (index + 1) Whole ≡ after_load config (extent_after phase index Whole got) index =
+    sym (ap (λ e. after_load config e index) (whole_after phase index got) ∙ cond-true (nat_lt (index + 1) (image_words config)) (LoadWord (index + 1) Whole) (StoreWord 0 Whole) inside) in
+    subst (λ s. controls.loads_left config s + controls.stores_left config s + 1 ≡ image_words config - (index + 1) + 0) next (omega (arith, more))
+left_control config seen phase cset got image (StoreWord index Whole) inside =
+    let more : index + 1 < image_words config = ltb-true (index + 1) (image_words config) inside in
+    let here = next_stored config Whole image index in
+    let is : here ≡ index + 1 = stored_next_one config Whole image index here (index + 1) (stored_next_is config Whole image index (omega (arith, more)))
     (record { above = omega arith; most = omega (arith, more); between = λ i above below. absurd (omega (arith, above, below)); here = λ below. refl }) in
-    let next : StoreWord (index + 1) Whole ≡ after_store c Whole here =
-    sym (ap (after_store c Whole) is ∙ cond-true (nat_lt (index + 1) (image_words c)) (StoreWord (index + 1) Whole) Go inside) in
-    subst (λ s. controls.loads_left c s + controls.stores_left c s + 1 ≡ 0 + (image_words c - (index + 1))) next (omega (arith, more))
-left_control c seen phase cset got image _ inside = absurd (false≢true inside)
+    let next : StoreWord (index + 1) Whole ≡ after_store config Whole here =
+    sym (ap (after_store config Whole) is ∙ cond-true (nat_lt (index + 1) (image_words config)) (StoreWord (index + 1) Whole) Go inside) in
+    subst (λ s. controls.loads_left config s + controls.stores_left config s + 1 ≡ 0 + (image_words config - (index + 1))) next (omega (arith, more))
+left_control config seen phase cset got image _ inside = absurd (false≢true inside)
 
-pub left_after : (c : Config) (m : Machine) (got : ℕ) → is_inside_image c m ≡ true
-    → loads_left c (machine_after pause_image c Nothing got m) + stores_left c (machine_after pause_image c Nothing got m) + 1 ≡ loads_left c m + stores_left c m
-left_after c (mutating m) got inside = absurd (false≢true inside)
-left_after c (helping h) got inside = absurd (false≢true inside)
-left_after c (controlling k) got inside = left_control c k.seen k.phase k.cset got k.image k.spot inside
+pub left_after : (config : Config) (machine : Machine) (got : ℕ) → is_inside_image config machine ≡ true
+    → loads_left config (machine_after pause_image config Nothing got machine) + stores_left config (machine_after pause_image config Nothing got machine) + 1 ≡ loads_left config machine + stores_left config machine
+left_after config (mutating machine) got inside = absurd (false≢true inside)
+left_after config (helping h) got inside = absurd (false≢true inside)
+left_after config (controlling k) got inside = left_control config k.seen k.phase k.cset got k.image k.spot inside
 
 -- it is inside the image where it has words left
-pub left_inside : (c : Config) (m : Machine) → 0 < loads_left c m + stores_left c m → is_inside_image c m ≡ true
-left_inside c m some = ⊎_elim
-    (λ (loads : 0 < loads_left c m). loads_inside c m loads)
-    (λ (none : loads_left c m ≤ 0). stores_inside c m (omega (arith, some, none)))
-    (cases_lt 0 (loads_left c m))
+pub left_inside : (config : Config) (machine : Machine) → 0 < loads_left config machine + stores_left config machine → is_inside_image config machine ≡ true
+left_inside config machine some = ⊎_elim
+    (λ (loads : 0 < loads_left config machine). loads_inside config machine loads)
+    (λ (none : loads_left config machine ≤ 0). stores_inside config machine (omega (arith, some, none)))
+    (cases_lt 0 (loads_left config machine))

@@ -19,29 +19,29 @@ use Rattle.heap_machines.proofs.Turns.{begins_at_rest}
 abbrev pub HasNames : Machine → (script replies : ℕ) → Type 0
 HasNames machine script replies = made_of_machine machine + script < most_objects + (replies + at_hand_of machine)
 
-module _ (change : Change) (c : Config) (order : Order) (got : ℕ) (machine : Machine) (script replies : ℕ) (names : HasNames machine script replies) where
+module _ (change : Change) (config : Config) (order : Order) (got : ℕ) (machine : Machine) (script replies : ℕ) (names : HasNames machine script replies) where
   -- after a step that gives no reply
-  pub names_on : reply_of_step machine ≡ None → HasNames (machine_after change c order got machine) script replies
-  names_on none = let step = none_after change c order got machine none in omega (arith, step, names)
+  pub names_on : reply_of_step machine ≡ None → HasNames (machine_after change config order got machine) script replies
+  names_on none = let step = none_after change config order got machine none in omega (arith, step, names)
 
   -- and after one whose reply was noted
-  pub names_noted : (r : Reply) → reply_of_step machine ≡ Some r → HasNames (machine_after change c order got machine) script (replies + 1)
-  names_noted r gives =
-      let step = given_after change c order got machine r gives in
+  pub names_noted : (reply : Reply) → reply_of_step machine ≡ Some reply → HasNames (machine_after change config order got machine) script (replies + 1)
+  names_noted reply gives =
+      let step = given_after change config order got machine reply gives in
       let made = step.made in
       let at_hand_before = step.was_at_hand in
       omega (arith, made, at_hand_before, names)
 
 -- a command that is there is one of the list
-one_of_these : {A : Type 0} (P : A → Type 0) (xs : List A) (k : ℕ) (x : A) → All P xs → slice_get xs k ≡ Some x → P x
-one_of_these P xs k x all here = subst P (get_or_from_slice_get xs k x x here) (all k x (slice_get_within xs k x here))
+one_of_these : {A : Type 0} (P : A → Type 0) (xs : List A) (index : ℕ) (x : A) → All P xs → slice_get xs index ≡ Some x → P x
+one_of_these P xs index x all here = subst P (get_or_from_slice_get xs index x x here) (all index x (slice_get_within xs index x here))
 
 -- the command that follows in its script can be given
 pub command_fits : (machine : Machine) (script : List Command) (replies : ℕ) → All IsValid script → HasNames machine (length script) replies → may_begin machine ≡ true
     → IfSome (slice_get script replies) (λ command. IsValid command × (made_of_machine machine < most_objects))
 command_fits machine script replies commands names may = by_next (slice_get script replies) refl
   where
-    by_next : (o : Option Command) → slice_get script replies ≡ o → IfSome o (λ command. IsValid command × (made_of_machine machine < most_objects))
+    by_next : (found : Option Command) → slice_get script replies ≡ found → IfSome found (λ command. IsValid command × (made_of_machine machine < most_objects))
     by_next None here = tt
     by_next (Some command) here = (
       one_of_these IsValid script replies command commands here,

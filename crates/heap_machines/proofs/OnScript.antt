@@ -24,137 +24,137 @@ use Rattle.step_core.proofs.Machines.Roles.{turn_in_call}
 use Rattle.heap_machines.proofs.Replies.{given_after, ended_none, ended_some, busy_after, begun_after, ended_after}
 
 -- the first elements and the next are one more
-take_next : {A : Type 0} (xs : List A) (n : ℕ) (x : A) → slice_get xs n ≡ Some x → take n xs ++ x ∷ [] ≡ take (n + 1) xs
-take_next [] n x e = absurd cc
+take_next : {A : Type 0} (xs : List A) (index : ℕ) (x : A) → slice_get xs index ≡ Some x → take index xs ++ x ∷ [] ≡ take (index + 1) xs
+take_next [] index x e = absurd cc
 take_next (y ∷ xs) zero x e = ap (λ z. z ∷ []) (sym (same_Some y x e))
-take_next (y ∷ xs) (suc n) x e = rw add-one (ap (λ zs. y ∷ zs) (take_next xs n x e ∙ rw add-one refl))
+take_next (y ∷ xs) (suc index) x e = rw add-one (ap (λ zs. y ∷ zs) (take_next xs index x e ∙ rw add-one refl))
 
 -- all elements, where there is no next one
-past_end : (xs : List Command) (n : ℕ) → slice_get xs n ≡ None → take n xs ≡ xs
+past_end : (xs : List Command) (index : ℕ) → slice_get xs index ≡ None → take index xs ≡ xs
 past_end [] zero e = refl
-past_end [] (suc n) e = refl
+past_end [] (suc index) e = refl
 past_end (x ∷ xs) zero e = absurd cc
-past_end (x ∷ xs) (suc n) e = ap (λ ys. x ∷ ys) (past_end xs n e)
+past_end (x ∷ xs) (suc index) e = ap (λ ys. x ∷ ys) (past_end xs index e)
 
 -- whose command follows in the script
 followed : (next : Option Command) (order : Order) (before : Command) → next_order next ≡ order → (command : Command) → next ≡ Some command → (order ≡ Begin command) × (command_by order before ≡ command)
 followed next order before is command some =
     let this : order ≡ Begin command = sym is ∙ ap next_order some in
-    (this, ap (λ (o : Order). command_by o before) this)
+    (this, ap (λ (order : Order). command_by order before) this)
 
 -- a mutator that begins something has a next command
-pub begins : (change : Change) (c : Config) (next : Option Command) (machine : Machine) (order : Order) (got : ℕ) → may_begin machine ≡ true → order_for next machine ≡ Some order
-    → is_resting (machine_after change c order got machine) ≡ false → (command : Command) × (next ≡ Some command)
-begins change c next machine order got may is busy = by_next next (same_Some (next_order next) order (sym (turn_at_rest machine next may) ∙ is))
+pub begins : (change : Change) (config : Config) (next : Option Command) (machine : Machine) (order : Order) (got : ℕ) → may_begin machine ≡ true → order_for next machine ≡ Some order
+    → is_resting (machine_after change config order got machine) ≡ false → (command : Command) × (next ≡ Some command)
+begins change config next machine order got may is busy = by_next next (same_Some (next_order next) order (sym (turn_at_rest machine next may) ∙ is))
   where
-    by_next : (o : Option Command) → next_order o ≡ order → (command : Command) × (o ≡ Some command)
-    by_next None e = absurd (false≢true (sym busy ∙ ap (λ (x : Order). is_resting (machine_after change c x got machine)) (sym e) ∙ ended_after change c got machine may))
+    by_next : (found : Option Command) → next_order found ≡ order → (command : Command) × (found ≡ Some command)
+    by_next None e = absurd (false≢true (sym busy ∙ ap (λ (order : Order). is_resting (machine_after change config order got machine)) (sym e) ∙ ended_after change config got machine may))
     by_next (Some k) e = (k, refl)
 
 -- who may be given no command, and has a turn, goes on with its call
 pub goes_on_with : (next : Option Command) (machine : Machine) (order : Order) → may_begin machine ≡ false → order_for next machine ≡ Some order → (is_resting machine ≡ false) × (order ≡ Nothing)
 goes_on_with next machine order none is = by_takes (takes_of machine Nothing) refl
   where
-    turn : (b : Bool) → takes_of machine Nothing ≡ b → ◌≡◌ {A = Option Order} (if b then Some Nothing else None) (Some order)
-    turn b takes = ap (λ (x : Bool). if x then Some Nothing else None) (sym takes) ∙ sym (turn_in_call machine next none) ∙ is
+    turn : (holds : Bool) → takes_of machine Nothing ≡ holds → ◌≡◌ {A = Option Order} (if holds then Some Nothing else None) (Some order)
+    turn holds takes = ap (λ (holds : Bool). if holds then Some Nothing else None) (sym takes) ∙ sym (turn_in_call machine next none) ∙ is
 
-    in_call : takes_of machine Nothing ≡ true → (b : Bool) → is_resting machine ≡ b → is_resting machine ≡ false
+    in_call : takes_of machine Nothing ≡ true → (holds : Bool) → is_resting machine ≡ holds → is_resting machine ≡ false
     in_call takes true rest = absurd (false≢true (sym (rest_takes machine rest) ∙ takes))
     in_call takes false busy = busy
 
-    by_takes : (b : Bool) → takes_of machine Nothing ≡ b → (is_resting machine ≡ false) × (order ≡ Nothing)
+    by_takes : (holds : Bool) → takes_of machine Nothing ≡ holds → (is_resting machine ≡ false) × (order ≡ Nothing)
     by_takes true takes = (in_call takes (is_resting machine) refl, sym (same_Some Nothing order (turn true takes)))
     by_takes false takes = absurd (let e = turn false takes in cc)
 
-module _ (change : Change) (c : Config) (script : List Command) (a : Actor) (order : Order) (got : ℕ) (on : IsOnScript script a) (is : order_for (slice_get script (length a.calls)) a.machine ≡ Some order) where
+module _ (change : Change) (config : Config) (script : List Command) (actor : Actor) (order : Order) (got : ℕ) (on : IsOnScript script actor) (is : order_for (slice_get script (length actor.calls)) actor.machine ≡ Some order) where
   -- what follows in the script
   abbrev next : Option Command
-  next = slice_get script (length a.calls)
+  next = slice_get script (length actor.calls)
 
   -- the machine after its turn
   abbrev then_is : Machine
-  then_is = machine_after change c order got a.machine
+  then_is = machine_after change config order got actor.machine
 
-  obeys : may_begin a.machine ≡ true → next_order next ≡ order
-  obeys may = same_Some (next_order next) order (sym (turn_at_rest a.machine next may) ∙ is)
+  obeys : may_begin actor.machine ≡ true → next_order next ≡ order
+  obeys may = same_Some (next_order next) order (sym (turn_at_rest actor.machine next may) ∙ is)
 
   -- after its turn a mutator that is in a call has the next command of its script
-  doing_then : is_resting then_is ≡ false → next ≡ Some (command_by order a.command)
-  doing_then busy = by_may (may_begin a.machine) refl
+  doing_then : is_resting then_is ≡ false → next ≡ Some (command_by order actor.command)
+  doing_then busy = by_may (may_begin actor.machine) refl
     where
-      by_may : (b : Bool) → may_begin a.machine ≡ b → next ≡ Some (command_by order a.command)
+      by_may : (holds : Bool) → may_begin actor.machine ≡ holds → next ≡ Some (command_by order actor.command)
       by_may true may =
-          let begin = begins change c next a.machine order got may is busy in
-          begin.1 ∙ ap (λ (k : Command). Some k) (sym (followed next order a.command (obeys may) begin.0 begin.1).1)
+          let begin = begins change config next actor.machine order got may is busy in
+          begin.1 ∙ ap (λ (command : Command). Some command) (sym (followed next order actor.command (obeys may) begin.0 begin.1).1)
       by_may false none =
-          let goes = goes_on_with next a.machine order none is in
-          on.doing goes.0 ∙ ap (λ (o : Order). Some (command_by o a.command)) (sym goes.1)
+          let goes = goes_on_with next actor.machine order none is in
+          on.doing goes.0 ∙ ap (λ (order : Order). Some (command_by order actor.command)) (sym goes.1)
 
   -- and where it has ended, there is none
-  ended_then : reply_of_step a.machine ≡ None → is_resting then_is ≡ true → next ≡ None
-  ended_then none_given rest = by_may (may_begin a.machine) refl
+  ended_then : reply_of_step actor.machine ≡ None → is_resting then_is ≡ true → next ≡ None
+  ended_then none_given rest = by_may (may_begin actor.machine) refl
     where
-      by_next : may_begin a.machine ≡ true → (o : Option Command) → next ≡ o → o ≡ None
+      by_next : may_begin actor.machine ≡ true → (found : Option Command) → next ≡ found → found ≡ None
       by_next may None e = refl
       by_next may (Some k) e =
-          let this = (followed next order a.command (obeys may) k e).0 in
-          absurd (false≢true (sym (begun_after change c k got a.machine may) ∙ ap (λ (o : Order). is_resting (machine_after change c o got a.machine)) (sym this) ∙ rest))
+          let this = (followed next order actor.command (obeys may) k e).0 in
+          absurd (false≢true (sym (begun_after change config k got actor.machine may) ∙ ap (λ (order : Order). is_resting (machine_after change config order got actor.machine)) (sym this) ∙ rest))
 
-      by_may : (b : Bool) → may_begin a.machine ≡ b → next ≡ None
+      by_may : (holds : Bool) → may_begin actor.machine ≡ holds → next ≡ None
       by_may true may = by_next may next refl
       by_may false none =
-          let goes = goes_on_with next a.machine order none is in
-          absurd (false≢true (sym (busy_after change c got a.machine goes.0 none_given) ∙ ap (λ (o : Order). is_resting (machine_after change c o got a.machine)) (sym goes.1) ∙ rest))
+          let goes = goes_on_with next actor.machine order none is in
+          absurd (false≢true (sym (busy_after change config got actor.machine goes.0 none_given) ∙ ap (λ (order : Order). is_resting (machine_after change config order got actor.machine)) (sym goes.1) ∙ rest))
 
   -- it stays on its script
-  pub script_step : IsOnScript script (took_of change c a order got a.machine)
-  script_step = by_given (reply_of_step a.machine) refl
+  pub script_step : IsOnScript script (took_of change config actor order got actor.machine)
+  script_step = by_given (reply_of_step actor.machine) refl
     where
-      by_given : (o : Option Reply) → reply_of_step a.machine ≡ o → IsOnScript script (took_of change c a order got a.machine)
+      by_given : (found : Option Reply) → reply_of_step actor.machine ≡ found → IsOnScript script (took_of change config actor order got actor.machine)
       by_given None none =
-          let same : a.calls ++ ended_by a.command a.machine ≡ a.calls = ap (λ es. a.calls ++ es) (ended_none a.command a.machine none) ∙ append-nil a.calls in
+          let same : actor.calls ++ ended_by actor.command actor.machine ≡ actor.calls = ap (λ es. actor.calls ++ es) (ended_none actor.command actor.machine none) ∙ append-nil actor.calls in
           record {
             done = ap commands_of same ∙ on.done ∙ ap (λ (es : List Entry). take (length es) script) (sym same);
             doing = λ busy. ap (λ (es : List Entry). slice_get script (length es)) same ∙ doing_then busy;
             ended = λ rest may. ap (λ (es : List Entry). slice_get script (length es)) same ∙ ended_then none rest;
           }
       by_given (Some reply) some =
-          let ended = ended_some a.command a.machine reply some in
-          let given = given_after change c order got a.machine reply some in
-          let calls : a.calls ++ ended_by a.command a.machine ≡ a.calls ++ ended.0 ∷ [] = ap (λ es. a.calls ++ es) ended.1 in
+          let ended = ended_some actor.command actor.machine reply some in
+          let given = given_after change config order got actor.machine reply some in
+          let calls : actor.calls ++ ended_by actor.command actor.machine ≡ actor.calls ++ ended.0 ∷ [] = ap (λ es. actor.calls ++ es) ended.1 in
           record {
             done = ap commands_of calls
-                ∙ map-append (λ (e : Entry). e.command) a.calls (ended.0 ∷ [])
-                ∙ ap (λ (k : Command). commands_of a.calls ++ k ∷ []) ended.2
-                ∙ ap (λ (ks : List Command). ks ++ a.command ∷ []) on.done
-                ∙ take_next script (length a.calls) a.command (on.doing given.busy)
-                ∙ ap (λ (n : ℕ). take n script) (sym (ap length calls ∙ length-append a.calls (ended.0 ∷ [])));
+                ∙ map-append (λ (entry : Entry). entry.command) actor.calls (ended.0 ∷ [])
+                ∙ ap (λ (command : Command). commands_of actor.calls ++ command ∷ []) ended.2
+                ∙ ap (λ (ks : List Command). ks ++ actor.command ∷ []) on.done
+                ∙ take_next script (length actor.calls) actor.command (on.doing given.busy)
+                ∙ ap (λ (n : ℕ). take n script) (sym (ap length calls ∙ length-append actor.calls (ended.0 ∷ [])));
             doing = λ busy. absurd (false≢true (sym busy ∙ given.rest));
             ended = λ rest may. absurd (false≢true (sym may ∙ given.free));
           }
 
 -- and where it has no turn, it has called the whole script
-pub script_done : (script : List Command) (a : Actor) → is_mutating a.machine ≡ true → IsOnScript script a → order_for (slice_get script (length a.calls)) a.machine ≡ None → HasDoneScript script a
-script_done script a role on idle = by_may (may_begin a.machine) refl
+pub script_done : (script : List Command) (actor : Actor) → is_mutating actor.machine ≡ true → IsOnScript script actor → order_for (slice_get script (length actor.calls)) actor.machine ≡ None → HasDoneScript script actor
+script_done script actor role on idle = by_may (may_begin actor.machine) refl
   where
     next : Option Command
-    next = slice_get script (length a.calls)
+    next = slice_get script (length actor.calls)
 
-    goes_on : (machine : Machine) → is_mutating machine ≡ true → is_resting machine ≡ false → order_for (slice_get script (length a.calls)) machine ≡ None → ⊥
+    goes_on : (machine : Machine) → is_mutating machine ≡ true → is_resting machine ≡ false → order_for (slice_get script (length actor.calls)) machine ≡ None → ⊥
     goes_on (mutating m) role busy none = never m.spot busy none
       where
         never : (spot : Spot) → is_between_calls spot ≡ false
-            → ◌≡◌ {A = Option Order} (if takes_commands spot then Some (next_order (slice_get script (length a.calls))) else (if is_between_calls spot then None else Some Nothing)) None → ⊥
+            → ◌≡◌ {A = Option Order} (if takes_commands spot then Some (next_order (slice_get script (length actor.calls))) else (if is_between_calls spot then None else Some Nothing)) None → ⊥
         never Rest busy none = cc
         never (Ended reply) busy none = cc
         never Gone busy none = cc
         never _ busy none = cc
     goes_on _ role busy none = cc
 
-    by_rest : may_begin a.machine ≡ false → (b : Bool) → is_resting a.machine ≡ b → HasDoneScript script a
-    by_rest may true rest = record { rest = rest; commands = on.done ∙ past_end script (length a.calls) (on.ended rest may) }
-    by_rest may false busy = absurd (goes_on a.machine role busy idle)
+    by_rest : may_begin actor.machine ≡ false → (holds : Bool) → is_resting actor.machine ≡ holds → HasDoneScript script actor
+    by_rest may true rest = record { rest = rest; commands = on.done ∙ past_end script (length actor.calls) (on.ended rest may) }
+    by_rest may false busy = absurd (goes_on actor.machine role busy idle)
 
-    by_may : (b : Bool) → may_begin a.machine ≡ b → HasDoneScript script a
-    by_may true may = absurd (let e = sym (turn_at_rest a.machine (slice_get script (length a.calls)) may) ∙ idle in cc)
-    by_may false may = by_rest may (is_resting a.machine) refl
+    by_may : (holds : Bool) → may_begin actor.machine ≡ holds → HasDoneScript script actor
+    by_may true may = absurd (let e = sym (turn_at_rest actor.machine (slice_get script (length actor.calls)) may) ∙ idle in cc)
+    by_may false may = by_rest may (is_resting actor.machine) refl

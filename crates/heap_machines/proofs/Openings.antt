@@ -20,62 +20,62 @@ use Rattle.heap_machines.specs.Shown.{shown}
 use Rattle.heap_machines.specs.Scripts.{IsOnScript}
 
 -- one machine more
-pub machines_more : (c : Config) (machines : List Machine) (new : Machine) (number : ℕ) → map shown machines ≡ map (opening_machine c) (range_with_len 0 number) → shown new ≡ opening_machine c number → map shown (machines ++ new ∷ []) ≡ map (opening_machine c) (range_with_len 0 (number + 1))
-machines_more c machines new number so_far is =
-    map-append shown machines (new ∷ []) ∙ ap (λ xs. xs ++ shown new ∷ []) so_far ∙ ap (λ x. map (opening_machine c) (range_with_len 0 number) ++ x ∷ []) is
-    ∙ sym (map-range_with_len_more (opening_machine c) 0 number number (omega arith))
+pub machines_more : (config : Config) (machines : List Machine) (new : Machine) (number : ℕ) → map shown machines ≡ map (opening_machine config) (range_with_len 0 number) → shown new ≡ opening_machine config number → map shown (machines ++ new ∷ []) ≡ map (opening_machine config) (range_with_len 0 (number + 1))
+machines_more config machines new number so_far is =
+    map-append shown machines (new ∷ []) ∙ ap (λ xs. xs ++ shown new ∷ []) so_far ∙ ap (λ x. map (opening_machine config) (range_with_len 0 number) ++ x ∷ []) is
+    ∙ sym (map-range_with_len_more (opening_machine config) 0 number number (omega arith))
 
 -- how many there are
-pub first_count : (c : Config) → length (opening c).machines ≡ seat_count c.mutators c.helpers
+pub first_count : (config : Config) → length (opening config).machines ≡ seat_count config.mutators config.helpers
 unfolding opening
-first_count c = length-map-range_with_len (opening_actor c) 0 (seat_count c.mutators c.helpers)
+first_count config = length-map-range_with_len (opening_actor config) 0 (seat_count config.mutators config.helpers)
 
 -- the actor of a number
-pub first_actor : (c : Config) (k : ℕ) → k < seat_count c.mutators c.helpers → slice_get (opening c).machines k ≡ Some (opening_actor c k)
+pub first_actor : (config : Config) (seat : ℕ) → seat < seat_count config.mutators config.helpers → slice_get (opening config).machines seat ≡ Some (opening_actor config seat)
 unfolding opening
-first_actor c k below =
-    slice_get-get_or (opening c).machines k (opening_actor c k) (let long = length-map-range_with_len (opening_actor c) 0 (seat_count c.mutators c.helpers) in omega arith)
-    ∙ ap (λ a. Some a) (get_or-map-range_with_len (opening_actor c) 0 (seat_count c.mutators c.helpers) k k (opening_actor c k) below (omega arith))
+first_actor config seat below =
+    slice_get-get_or (opening config).machines seat (opening_actor config seat) (let long = length-map-range_with_len (opening_actor config) 0 (seat_count config.mutators config.helpers) in omega arith)
+    ∙ ap (λ a. Some a) (get_or-map-range_with_len (opening_actor config) 0 (seat_count config.mutators config.helpers) seat seat (opening_actor config seat) below (omega arith))
 
-pub first_is : (c : Config) (k : ℕ) (a : Actor) → slice_get (opening c).machines k ≡ Some a → (k < seat_count c.mutators c.helpers) × (opening_actor c k ≡ a)
+pub first_is : (config : Config) (seat : ℕ) (actor : Actor) → slice_get (opening config).machines seat ≡ Some actor → (seat < seat_count config.mutators config.helpers) × (opening_actor config seat ≡ actor)
 unfolding opening
-first_is c k a here =
-    let within = slice_get_within (opening c).machines k a here in
-    let long = length-map-range_with_len (opening_actor c) 0 (seat_count c.mutators c.helpers) in
-    let below : k < seat_count c.mutators c.helpers = omega (arith, within, long) in
-    (below, sym (get_or-map-range_with_len (opening_actor c) 0 (seat_count c.mutators c.helpers) k k a below (omega arith)) ∙ get_or_from_slice_get (opening c).machines k a a here)
+first_is config seat actor here =
+    let within = slice_get_within (opening config).machines seat actor here in
+    let long = length-map-range_with_len (opening_actor config) 0 (seat_count config.mutators config.helpers) in
+    let below : seat < seat_count config.mutators config.helpers = omega (arith, within, long) in
+    (below, sym (get_or-map-range_with_len (opening_actor config) 0 (seat_count config.mutators config.helpers) seat seat actor below (omega arith)) ∙ get_or_from_slice_get (opening config).machines seat actor actor here)
 
 -- what memory keeps of them
-pub first_machines : (c : Config) → map (λ a. a.machine) (opening c).machines ≡ map (opening_machine c) (range_with_len 0 (seat_count c.mutators c.helpers))
+pub first_machines : (config : Config) → map (λ a. a.machine) (opening config).machines ≡ map (opening_machine config) (range_with_len 0 (seat_count config.mutators config.helpers))
 unfolding opening
-first_machines c = map-map (λ a. a.machine) (opening_actor c) (range_with_len 0 (seat_count c.mutators c.helpers))
+first_machines config = map-map (λ a. a.machine) (opening_actor config) (range_with_len 0 (seat_count config.mutators config.helpers))
 
 -- the first of them are the mutators
-pub first_role : (c : Config) (k : ℕ) → is_mutating (opening_machine c k) ≡ nat_lt k c.mutators
-first_role c k = by_test (nat_lt k c.mutators) (nat_lt k (c.mutators + c.helpers))
+pub first_role : (config : Config) (k : ℕ) → is_mutating (opening_machine config k) ≡ nat_lt k config.mutators
+first_role config k = by_test (nat_lt k config.mutators) (nat_lt k (config.mutators + config.helpers))
   where
-    by_test : (a b : Bool) → is_mutating (if a then mutating (fresh_mutator k) else (if b then fresh_helper k else fresh_control (first_free c.regions))) ≡ a
-    by_test true b = refl
+    by_test : (holds other_holds : Bool) → is_mutating (if holds then mutating (fresh_mutator k) else (if other_holds then fresh_helper k else fresh_control (first_free config.regions))) ≡ holds
+    by_test true other_holds = refl
     by_test false true = refl
     by_test false false = refl
 
 -- a mutator rests
-pub first_rests : (c : Config) (k : ℕ) → k < c.mutators → is_resting (opening_machine c k) ≡ true
-first_rests c k below = ap (λ b. is_resting (if b then mutating (fresh_mutator k) else (if nat_lt k (c.mutators + c.helpers) then fresh_helper k else fresh_control (first_free c.regions)))) (lt-ltb k c.mutators below)
+pub first_rests : (config : Config) (mutator : ℕ) → mutator < config.mutators → is_resting (opening_machine config mutator) ≡ true
+first_rests config mutator below = ap (λ b. is_resting (if b then mutating (fresh_mutator mutator) else (if nat_lt mutator (config.mutators + config.helpers) then fresh_helper mutator else fresh_control (first_free config.regions)))) (lt-ltb mutator config.mutators below)
 
 -- and may be given a command
-pub first_free_to_begin : (c : Config) (k : ℕ) → k < c.mutators → may_begin (opening_machine c k) ≡ true
-first_free_to_begin c k below = ap (λ b. may_begin (if b then mutating (fresh_mutator k) else (if nat_lt k (c.mutators + c.helpers) then fresh_helper k else fresh_control (first_free c.regions)))) (lt-ltb k c.mutators below)
+pub first_free_to_begin : (config : Config) (mutator : ℕ) → mutator < config.mutators → may_begin (opening_machine config mutator) ≡ true
+first_free_to_begin config mutator below = ap (λ b. may_begin (if b then mutating (fresh_mutator mutator) else (if nat_lt mutator (config.mutators + config.helpers) then fresh_helper mutator else fresh_control (first_free config.regions)))) (lt-ltb mutator config.mutators below)
 
 -- no machine has made an object
-pub first_made : (c : Config) (k : ℕ) → made_of_machine (opening_machine c k) ≡ 0
-first_made c k = by_test (nat_lt k c.mutators) (nat_lt k (c.mutators + c.helpers))
+pub first_made : (config : Config) (k : ℕ) → made_of_machine (opening_machine config k) ≡ 0
+first_made config k = by_test (nat_lt k config.mutators) (nat_lt k (config.mutators + config.helpers))
   where
-    by_test : (a b : Bool) → made_of_machine (if a then mutating (fresh_mutator k) else (if b then fresh_helper k else fresh_control (first_free c.regions))) ≡ 0
-    by_test true b = refl
+    by_test : (holds other_holds : Bool) → made_of_machine (if holds then mutating (fresh_mutator k) else (if other_holds then fresh_helper k else fresh_control (first_free config.regions))) ≡ 0
+    by_test true other_holds = refl
     by_test false true = refl
     by_test false false = refl
 
 -- no command of a script was called
-pub first_on_script : (c : Config) (k : ℕ) (script : List Command) → k < c.mutators → IsOnScript script (opening_actor c k)
-first_on_script c k script below = record { done = refl; doing = λ busy. absurd (false≢true (sym busy ∙ first_rests c k below)); ended = λ rest none. absurd (false≢true (sym none ∙ first_free_to_begin c k below)) }
+pub first_on_script : (config : Config) (mutator : ℕ) (script : List Command) → mutator < config.mutators → IsOnScript script (opening_actor config mutator)
+first_on_script config mutator script below = record { done = refl; doing = λ busy. absurd (false≢true (sym busy ∙ first_rests config mutator below)); ended = λ rest none. absurd (false≢true (sym none ∙ first_free_to_begin config mutator below)) }

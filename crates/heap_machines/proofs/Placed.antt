@@ -13,16 +13,16 @@ use Rattle.graph_placing.specs.NamesAnew.{text_anew}
 use Rattle.graph_placing.proofs.SameGraphs.{text_count}
 
 -- in the graph of a text nothing is pinned
-pub text_unpinned : (t : Text) (counts : List ℕ) (thread slot : ℕ) → (text_graph t counts).pin thread slot ≡ None
+pub text_unpinned : (text : Text) (counts : List ℕ) (thread slot : ℕ) → (text_graph text counts).pin thread slot ≡ None
 unfolding graph_of
-text_unpinned t counts thread slot = refl
+text_unpinned text counts thread slot = refl
 
-pub placed_can_begin : (c : Config) (t : Text) (counts : List ℕ) (memory : Word → ℕ) → IsPlaced c (text_anew t) memory → Represents c memory (text_graph (text_anew t) counts) (λ m. nothing)
-    → CanBeginFrom c memory counts (text_graph (text_anew t) counts)
-placed_can_begin c t counts memory placed stands = record {
+pub placed_can_begin : (config : Config) (text : Text) (counts : List ℕ) (memory : Word → ℕ) → IsPlaced config (text_anew text) memory → Represents config memory (text_graph (text_anew text) counts) (λ m. nothing)
+    → CanBeginFrom config memory counts (text_graph (text_anew text) counts)
+placed_can_begin config text counts memory placed stands = record {
   stands = stands;
   outside = record { pause = placed.others Pause refl; states = λ seat below. placed.others (State seat) refl; left = placed.left };
   counts_are = λ m below.
       let next : m + 1 ≡ suc m = omega arith in
-      ap (text_graph (text_anew t) counts).count next ∙ text_count (text_anew t) counts m;
+      ap (text_graph (text_anew text) counts).count next ∙ text_count (text_anew text) counts m;
 }

@@ -28,22 +28,22 @@ use Rattle.step_core.proofs.Machines.Roles.{others_go_on}
 use Rattle.heap_machines.proofs.GoesOn.{call_goes_on}
 
 -- a step that ends a call gives a reply
-pub done_gives : (c : Config) (order : Order) (machine : Machine) (got : ℕ) → answer_of c order machine got ≡ Some Done → (r : Reply) × (reply_of_step machine ≡ Some r)
-done_gives c order (mutating m) got done = ends.done_gives c m.kept m.spot got (let said = done in cc)
-done_gives c order other got done = absurd (others_go_on c order other got refl done)
+pub done_gives : (config : Config) (order : Order) (machine : Machine) (got : ℕ) → answer_of config order machine got ≡ Some Done → (reply : Reply) × (reply_of_step machine ≡ Some reply)
+done_gives config order (mutating m) got done = ends.done_gives config m.kept m.spot got (let said = done in cc)
+done_gives config order other got done = absurd (others_go_on config order other got refl done)
 
 -- no other step does
-pub other_gives : (c : Config) (order : Order) (machine : Machine) (got : ℕ) → (answer_of c order machine got ≡ Some Done → ⊥) → reply_of_step machine ≡ None
-other_gives c order (mutating m) got other = by_spot m.spot other
+pub other_gives : (config : Config) (order : Order) (machine : Machine) (got : ℕ) → (answer_of config order machine got ≡ Some Done → ⊥) → reply_of_step machine ≡ None
+other_gives config order (mutating m) got other = by_spot m.spot other
   where
-    by_spot : (spot : Spot) → (Some (answer_at c m.kept spot got) ≡ Some Done → ⊥) → given_at spot ≡ None
+    by_spot : (spot : Spot) → (Some (answer_at config m.kept spot got) ≡ Some Done → ⊥) → given_at spot ≡ None
     by_spot (Leave r) other = absurd (other refl)
     by_spot _ other = refl
-other_gives c order _ got other = refl
+other_gives config order _ got other = refl
 
 -- A machine that has given a reply: it has the reply, rests, and may go on. It has made no object, and the reply was at hand.
-pub record HasGiven (machine next : Machine) (r : Reply) : Type 0 where
-  pub replied : reply_in next ≡ Some r
+pub record HasGiven (machine next : Machine) (reply : Reply) : Type 0 where
+  pub replied : reply_in next ≡ Some reply
   pub rest : is_resting next ≡ true
   pub free : may_begin next ≡ true
   pub busy : is_resting machine ≡ false
@@ -51,8 +51,8 @@ pub record HasGiven (machine next : Machine) (r : Reply) : Type 0 where
   pub made : made_of_machine next ≡ made_of_machine machine
   pub was_at_hand : at_hand_of machine ≡ 1
 
-pub given_after : (change : Change) (c : Config) (order : Order) (got : ℕ) (machine : Machine) (r : Reply) → reply_of_step machine ≡ Some r → HasGiven machine (machine_after change c order got machine) r
-given_after change c order got (mutating m) r gives = record {
+pub given_after : (change : Change) (config : Config) (order : Order) (got : ℕ) (machine : Machine) (reply : Reply) → reply_of_step machine ≡ Some reply → HasGiven machine (machine_after change config order got machine) reply
+given_after change config order got (mutating m) reply gives = record {
   replied = replied m.spot gives;
   rest = rest m.spot gives;
   free = free m.spot gives;
@@ -62,30 +62,30 @@ given_after change c order got (mutating m) r gives = record {
   was_at_hand = at_hand_then m.spot gives;
 }
   where
-    replied : (spot : Spot) → given_at spot ≡ Some r → reply_at (next_at c m order got spot).spot ≡ Some r
+    replied : (spot : Spot) → given_at spot ≡ Some reply → reply_at (next_at config m order got spot).spot ≡ Some reply
     replied (Leave q) is = is
     replied _ is = absurd cc
 
-    rest : (spot : Spot) → given_at spot ≡ Some r → is_between_calls (next_at c m order got spot).spot ≡ true
+    rest : (spot : Spot) → given_at spot ≡ Some reply → is_between_calls (next_at config m order got spot).spot ≡ true
     rest (Leave q) is = refl
     rest _ is = absurd cc
 
-    free : (spot : Spot) → given_at spot ≡ Some r → takes_commands (next_at c m order got spot).spot ≡ true
+    free : (spot : Spot) → given_at spot ≡ Some reply → takes_commands (next_at config m order got spot).spot ≡ true
     free (Leave q) is = refl
     free _ is = absurd cc
 
-    busy : (spot : Spot) → given_at spot ≡ Some r → is_between_calls spot ≡ false
+    busy : (spot : Spot) → given_at spot ≡ Some reply → is_between_calls spot ≡ false
     busy (Leave q) is = refl
     busy _ is = absurd cc
 
-    made : (spot : Spot) → given_at spot ≡ Some r → (next_at c m order got spot).made ≡ m.made
+    made : (spot : Spot) → given_at spot ≡ Some reply → (next_at config m order got spot).made ≡ m.made
     made (Leave q) is = refl
     made _ is = absurd cc
 
-    at_hand_then : (spot : Spot) → given_at spot ≡ Some r → at_hand spot ≡ 1
+    at_hand_then : (spot : Spot) → given_at spot ≡ Some reply → at_hand spot ≡ 1
     at_hand_then (Leave q) is = refl
     at_hand_then _ is = absurd cc
-given_after change c order got _ r gives = absurd cc
+given_after change config order got _ reply gives = absurd cc
 
 -- between two calls no reply is at hand
 pub rest_at_hand : (machine : Machine) → is_resting machine ≡ true → at_hand_of machine ≡ 0
@@ -99,11 +99,11 @@ rest_at_hand (mutating m) rest = by_spot m.spot rest
 rest_at_hand _ rest = refl
 
 -- an order makes no object
-begun_made : (order : Order) (m : Mutating) → (call_begun order m).made ≡ m.made
-begun_made Nothing m = refl
-begun_made (Begin command) m = refl
-begun_made End m = refl
-begun_made (Hint address) m = refl
+begun_made : (order : Order) (mutator : Mutating) → (call_begun order mutator).made ≡ mutator.made
+begun_made Nothing mutator = refl
+begun_made (Begin command) mutator = refl
+begun_made End mutator = refl
+begun_made (Hint address) mutator = refl
 
 -- who records what its Cas has overwritten has the reply at hand until it leaves
 stays_at_hand : (address : ℕ) (next : Overwritten) (at : RememberSpot) → recorded_at_hand next ≤ at_hand (after_remember address next at)
@@ -113,11 +113,11 @@ stays_at_hand address overwrites.Cas Recorded = omega arith
 stays_at_hand address next _ = omega arith
 
 -- A machine that gives no reply makes at most one object in a step, and then a reply is at hand that was not before.
-pub none_after : (change : Change) (c : Config) (order : Order) (got : ℕ) (machine : Machine) → reply_of_step machine ≡ None
-    → made_of_machine (machine_after change c order got machine) + at_hand_of machine ≤ made_of_machine machine + at_hand_of (machine_after change c order got machine)
-none_after change c order got (mutating m) none = by_spot m.spot none
+pub none_after : (change : Change) (config : Config) (order : Order) (got : ℕ) (machine : Machine) → reply_of_step machine ≡ None
+    → made_of_machine (machine_after change config order got machine) + at_hand_of machine ≤ made_of_machine machine + at_hand_of (machine_after change config order got machine)
+none_after change config order got (mutating m) none = by_spot m.spot none
   where
-    by_spot : (spot : Spot) → given_at spot ≡ None → (next_at c m order got spot).made + at_hand spot ≤ m.made + at_hand (next_at c m order got spot).spot
+    by_spot : (spot : Spot) → given_at spot ≡ None → (next_at config m order got spot).made + at_hand spot ≤ m.made + at_hand (next_at config m order got spot).spot
     by_spot Rest none = omega (arith, begun_made order m)
     by_spot (Ended reply) none = omega (arith, begun_made order m)
     by_spot (Recording at address next) none = omega (arith, stays_at_hand address next (satb.next_at at got))
@@ -128,41 +128,41 @@ none_after change c order got (mutating m) none = by_spot m.spot none
     by_spot (Waiting at) none = omega arith
     by_spot (Leave r) none = absurd cc
     by_spot _ none = omega arith
-none_after change c order got _ none = omega arith
+none_after change config order got _ none = omega arith
 
 -- a machine in a call goes on with it, if it gives no reply
-pub busy_after : (change : Change) (c : Config) (got : ℕ) (machine : Machine) → is_resting machine ≡ false → reply_of_step machine ≡ None → is_resting (machine_after change c Nothing got machine) ≡ false
-busy_after change c got (mutating m) busy none = call_goes_on c m got m.spot busy none
-busy_after change c got _ busy none = refl
+pub busy_after : (change : Change) (config : Config) (got : ℕ) (machine : Machine) → is_resting machine ≡ false → reply_of_step machine ≡ None → is_resting (machine_after change config Nothing got machine) ≡ false
+busy_after change config got (mutating m) busy none = call_goes_on config m got m.spot busy none
+busy_after change config got _ busy none = refl
 
 -- a mutator that begins a command is in a call then
-pub begun_after : (change : Change) (c : Config) (command : Command) (got : ℕ) (machine : Machine) → may_begin machine ≡ true → is_resting (machine_after change c (Begin command) got machine) ≡ false
-begun_after change c command got (mutating m) may = by_spot m.spot may
+pub begun_after : (change : Change) (config : Config) (command : Command) (got : ℕ) (machine : Machine) → may_begin machine ≡ true → is_resting (machine_after change config (Begin command) got machine) ≡ false
+begun_after change config command got (mutating m) may = by_spot m.spot may
   where
-    by_spot : (spot : Spot) → takes_commands spot ≡ true → is_between_calls (next_at c m (Begin command) got spot).spot ≡ false
+    by_spot : (spot : Spot) → takes_commands spot ≡ true → is_between_calls (next_at config m (Begin command) got spot).spot ≡ false
     by_spot Rest may = refl
     by_spot (Ended reply) may = refl
     by_spot _ may = absurd cc
-begun_after change c command got _ may = refl
+begun_after change config command got _ may = refl
 
 -- and one that ends is in none
-pub ended_after : (change : Change) (c : Config) (got : ℕ) (machine : Machine) → may_begin machine ≡ true → is_resting (machine_after change c End got machine) ≡ true
-ended_after change c got (mutating m) may = by_spot m.spot may
+pub ended_after : (change : Change) (config : Config) (got : ℕ) (machine : Machine) → may_begin machine ≡ true → is_resting (machine_after change config End got machine) ≡ true
+ended_after change config got (mutating m) may = by_spot m.spot may
   where
-    by_spot : (spot : Spot) → takes_commands spot ≡ true → is_between_calls (next_at c m End got spot).spot ≡ true
+    by_spot : (spot : Spot) → takes_commands spot ≡ true → is_between_calls (next_at config m End got spot).spot ≡ true
     by_spot Rest may = refl
     by_spot (Ended reply) may = refl
     by_spot _ may = absurd cc
-ended_after change c got _ may = absurd cc
+ended_after change config got _ may = absurd cc
 
 -- the call that a step ends has the reply that it gives
 pub ended_none : (command : Command) (machine : Machine) → reply_of_step machine ≡ None → ended_by command machine ≡ []
 ended_none command (mutating m) none = ap (entries_of m.seat command) none
 ended_none command _ none = refl
 
-pub ended_some : (command : Command) (machine : Machine) (r : Reply) → reply_of_step machine ≡ Some r → (e : Entry) × (ended_by command machine ≡ e ∷ []) × (e.command ≡ command) × (e.reply ≡ r)
-ended_some command (mutating m) r gives = (record { thread = m.seat + 1; command = command; reply = r }, ap (entries_of m.seat command) gives, refl, refl)
-ended_some command _ r gives = absurd cc
+pub ended_some : (command : Command) (machine : Machine) (reply : Reply) → reply_of_step machine ≡ Some reply → (entry : Entry) × (ended_by command machine ≡ entry ∷ []) × (entry.command ≡ command) × (entry.reply ≡ reply)
+ended_some command (mutating m) reply gives = (record { thread = m.seat + 1; command = command; reply = reply }, ap (entries_of m.seat command) gives, refl, refl)
+ended_some command _ reply gives = absurd cc
 
 -- a reply as a list
 abbrev pub listed : Option Reply → List Reply
@@ -173,13 +173,13 @@ listed (Some r) = r ∷ []
 pub ended_replies : (command : Command) (machine : Machine) → map (λ e. e.reply) (ended_by command machine) ≡ listed (reply_of_step machine)
 ended_replies command (mutating m) = by_given (given_at m.spot)
   where
-    by_given : (o : Option Reply) → map (λ e. e.reply) (entries_of m.seat command o) ≡ listed o
+    by_given : (found : Option Reply) → map (λ e. e.reply) (entries_of m.seat command found) ≡ listed found
     by_given None = refl
     by_given (Some r) = refl
 ended_replies command _ = refl
 
 -- the replies of an actor's calls after its step
-pub took_replies : (a : Actor) → map (λ e. e.reply) (a.calls ++ ended_by a.command a.machine) ≡ map (λ e. e.reply) a.calls ++ listed (reply_of_step a.machine)
-took_replies a =
-    map-append (λ e. e.reply) a.calls (ended_by a.command a.machine)
-    ∙ ap (λ rs. map (λ e. e.reply) a.calls ++ rs) (ended_replies a.command a.machine)
+pub took_replies : (actor : Actor) → map (λ e. e.reply) (actor.calls ++ ended_by actor.command actor.machine) ≡ map (λ e. e.reply) actor.calls ++ listed (reply_of_step actor.machine)
+took_replies actor =
+    map-append (λ e. e.reply) actor.calls (ended_by actor.command actor.machine)
+    ∙ ap (λ rs. map (λ e. e.reply) actor.calls ++ rs) (ended_replies actor.command actor.machine)

@@ -19,43 +19,43 @@ use Rattle.step_core.specs.Sound.{IsSound}
 use Rattle.step_core.proofs.Theorem.EveryList.{run_sound, run_rests}
 use Rattle.heap_machines.specs.Reopened.{words_reopened, AreMadeBy}
 
-module _ (c : Config) (run : Run c) (rest : IsAtRest c (ending pause_image c run)) (counts : List ℕ) (made : AreMadeBy c.mutators (ending pause_image c run) counts) where
+module _ (config : Config) (run : Run config) (rest : IsAtRest config (ending pause_image config run)) (counts : List ℕ) (made : AreMadeBy config.mutators (ending pause_image config run) counts) where
   abbrev s : Stage Actor
-  s = ending pause_image c run
+  s = ending pause_image config run
 
   abbrev g : Graph
-  g = graph_after pause_image c run
+  g = graph_after pause_image config run
 
-  sound : IsSound c run.graph s (history_in pause_image c run)
-  sound = run_sound pause_image heap_pauses c run
+  sound : IsSound config run.graph s (history_in pause_image config run)
+  sound = run_sound pause_image heap_pauses config run
 
   -- no machine stores an image
-  no_image : (a : Actor) (machine : Machine) → slice_get s.machines (control_number c) ≡ Some a → a.machine ≡ machine → image_read machine ≡ None
-  no_image a (controlling k) here is = rest.no_image (control_number c) a k here is
-  no_image a _ here is = refl
+  no_image : (actor : Actor) (machine : Machine) → slice_get s.machines (control_number config) ≡ Some actor → actor.machine ≡ machine → image_read machine ≡ None
+  no_image actor (controlling k) here is = rest.no_image (control_number config) actor k here is
+  no_image actor _ here is = refl
 
-  is_calm : image_of (slice_get s.machines (control_number c)) ≡ None
-  is_calm = by_actor (slice_get s.machines (control_number c)) refl
+  is_calm : image_of (slice_get s.machines (control_number config)) ≡ None
+  is_calm = by_actor (slice_get s.machines (control_number config)) refl
     where
-      by_actor : (o : Option Actor) → slice_get s.machines (control_number c) ≡ o → image_of o ≡ None
+      by_actor : (found : Option Actor) → slice_get s.machines (control_number config) ≡ found → image_of found ≡ None
       by_actor None here = refl
       by_actor (Some a) here = no_image a a.machine here refl
 
   -- the words of the table count
-  counted : settled c s ≡ view c s.words
-  counted = ap (settled_by c s.words) is_calm
+  counted : settled config s ≡ view config s.words
+  counted = ap (settled_by config s.words) is_calm
 
-  represents : Represents c (view c s.words) g (λ t. nothing)
-  represents = subst (λ (memory : Word → ℕ). Represents c memory g (λ t. nothing)) counted (run_rests pause_image heap_pauses c run.start run.graph run.begins run.events rest)
+  represents : Represents config (view config s.words) g (λ t. nothing)
+  represents = subst (λ (memory : Word → ℕ). Represents config memory g (λ t. nothing)) counted (run_rests pause_image heap_pauses config run.start run.graph run.begins run.events rest)
 
-  made_is : (t : ℕ) → t < c.mutators → g.count (t + 1) ≡ slice_index counts t
-  made_is t below =
-      let there = sound.of_heap.mutators t below in
-      let seat : there.mutator.seat ≡ t = (sound.of_heap.numbers t there.actor there.mutator there.here).0 in
-      subst (λ (n : ℕ). g.count (n + 1) ≡ there.mutator.made) seat (sound.stands.mutators t there.actor there.mutator there.here).made
-      ∙ sym (made.each t there.actor below there.here.here ∙ ap made_of_machine there.here.is)
+  made_is : (mutator : ℕ) → mutator < config.mutators → g.count (mutator + 1) ≡ slice_index counts mutator
+  made_is mutator below =
+      let there = sound.of_heap.mutators mutator below in
+      let seat : there.mutator.seat ≡ mutator = (sound.of_heap.numbers mutator there.actor there.mutator there.here).0 in
+      subst (λ (n : ℕ). g.count (n + 1) ≡ there.mutator.made) seat (sound.stands.mutators mutator there.actor there.mutator there.here).made
+      ∙ sym (made.each mutator there.actor below there.here.here ∙ ap made_of_machine there.here.is)
 
-  pub can_begin_again : CanBeginFrom c (words_reopened c (view c s.words)) counts g
+  pub can_begin_again : CanBeginFrom config (words_reopened config (view config s.words)) counts g
   can_begin_again =
       let r = represents in
       record {

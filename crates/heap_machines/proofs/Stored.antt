@@ -7,34 +7,34 @@ use Rattle.heap_words.specs.declared.config.Config.{Config}
 use Rattle.heap_words.specs.Words.{Word, Pause, Left, End, State, write, view, word_at}
 use Rattle.heap_machines.specs.Reopened.{words_reopened, words_left_out}
 
-none_at : (m : Word → ℕ) (w : Word) → m w ≡ words_left_out 0 m w
-none_at m (State seat) = grind (arith, nat_tests)
-none_at m _ = refl
+none_at : (memory : Word → ℕ) (word : Word) → memory word ≡ words_left_out 0 memory word
+none_at memory (State seat) = grind (arith, nat_tests)
+none_at memory _ = refl
 
-pub none_out : (m : Word → ℕ) → m ≡ words_left_out 0 m
-none_out m = fun_ext (λ w. none_at m w)
+pub none_out : (memory : Word → ℕ) → memory ≡ words_left_out 0 memory
+none_out memory = fun_ext (λ w. none_at memory w)
 
 one_more : (seats seat x : ℕ) → (if seats == seat then 0 else (if nat_lt seat seats then 0 else x)) ≡ (if nat_lt seat (seats + 1) then 0 else x)
 one_more seats seat x = grind (arith, nat_tests)
 
-next_at : (seats : ℕ) (m : Word → ℕ) (w : Word) → write (words_left_out seats m) (State seats) 0 w ≡ words_left_out (seats + 1) m w
-next_at seats m (State seat) = one_more seats seat (m (State seat))
-next_at seats m _ = refl
+next_at : (seats : ℕ) (memory : Word → ℕ) (word : Word) → write (words_left_out seats memory) (State seats) 0 word ≡ words_left_out (seats + 1) memory word
+next_at seats memory (State seat) = one_more seats seat (memory (State seat))
+next_at seats memory _ = refl
 
-pub next_out : (seats : ℕ) (m : Word → ℕ) → write (words_left_out seats m) (State seats) 0 ≡ words_left_out (seats + 1) m
-next_out seats m = fun_ext (λ w. next_at seats m w)
+pub next_out : (seats : ℕ) (memory : Word → ℕ) → write (words_left_out seats memory) (State seats) 0 ≡ words_left_out (seats + 1) memory
+next_out seats memory = fun_ext (λ w. next_at seats memory w)
 
 -- a seat that there is not has no word
 all_out : (below : Bool) (x : ℕ) → (if below then 0 else (if below then x else 0)) ≡ 0
 all_out true x = refl
 all_out false x = refl
 
-stored_at : (c : Config) (words : List ℕ) (w : Word) → write (write (write (words_left_out (c.mutators + c.helpers) (view c words)) Pause 0) Left c.mutators) End 0 w ≡ words_reopened c (view c words) w
-stored_at c words (State seat) = all_out (nat_lt seat (c.mutators + c.helpers)) (slice_index words (word_at c (State seat)))
-stored_at c words Pause = refl
-stored_at c words Left = refl
-stored_at c words End = refl
-stored_at c words _ = refl
+stored_at : (config : Config) (words : List ℕ) (word : Word) → write (write (write (words_left_out (config.mutators + config.helpers) (view config words)) Pause 0) Left config.mutators) End 0 word ≡ words_reopened config (view config words) word
+stored_at config words (State seat) = all_out (nat_lt seat (config.mutators + config.helpers)) (slice_index words (word_at config (State seat)))
+stored_at config words Pause = refl
+stored_at config words Left = refl
+stored_at config words End = refl
+stored_at config words _ = refl
 
-pub all_stored : (c : Config) (words : List ℕ) → write (write (write (words_left_out (c.mutators + c.helpers) (view c words)) Pause 0) Left c.mutators) End 0 ≡ words_reopened c (view c words)
-all_stored c words = fun_ext (λ w. stored_at c words w)
+pub all_stored : (config : Config) (words : List ℕ) → write (write (write (words_left_out (config.mutators + config.helpers) (view config words)) Pause 0) Left config.mutators) End 0 ≡ words_reopened config (view config words)
+all_stored config words = fun_ext (λ w. stored_at config words w)

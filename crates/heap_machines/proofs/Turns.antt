@@ -44,9 +44,9 @@ pub order_of_script : (script : List Command) (calls : List Entry) (machine : Ma
 order_of_script script calls machine = refl
 
 -- it keeps its role
-pub role_stays : (change : Change) (c : Config) (order : Order) (got : ℕ) (machine : Machine) → is_mutating (machine_after change c order got machine) ≡ is_mutating machine
-role_stays change c order got (mutating m) = refl
-role_stays change c order got _ = refl
+pub role_stays : (change : Change) (config : Config) (order : Order) (got : ℕ) (machine : Machine) → is_mutating (machine_after change config order got machine) ≡ is_mutating machine
+role_stays change config order got (mutating m) = refl
+role_stays change config order got _ = refl
 
 -- only a mutator rests between calls
 pub rest_is_mutating : (machine : Machine) → is_resting machine ≡ true → is_mutating machine ≡ true
@@ -54,9 +54,9 @@ rest_is_mutating (mutating m) rest = refl
 rest_is_mutating _ rest = absurd cc
 
 -- whom no command is for does the same whatever would follow
-pub order_alike : (machine : Machine) (x y : Option Command) → is_mutating machine ≡ false → order_for x machine ≡ order_for y machine
-order_alike (mutating m) x y other = absurd cc
-order_alike _ x y other = refl
+pub order_alike : (machine : Machine) (found other_found : Option Command) → is_mutating machine ≡ false → order_for found machine ≡ order_for other_found machine
+order_alike (mutating m) found other_found other = absurd cc
+order_alike _ found other_found other = refl
 
 -- who may be given a command rests
 pub begins_at_rest : (machine : Machine) → may_begin machine ≡ true → is_resting machine ≡ true
@@ -69,10 +69,10 @@ begins_at_rest (mutating m) may = by_spot m.spot may
 begins_at_rest _ may = absurd cc
 
 -- whether it has a turn then
-pub turn_is_some : (machine : Machine) (next : Option Command) (b : Bool) → may_begin machine ≡ false → takes_of machine Nothing ≡ b → is_some (order_for next machine) ≡ b
-turn_is_some machine next b busy takes = ap is_some (turn_in_call machine next busy) ∙ by_takes (takes_of machine Nothing) ∙ takes
+pub turn_is_some : (machine : Machine) (next : Option Command) (holds : Bool) → may_begin machine ≡ false → takes_of machine Nothing ≡ holds → is_some (order_for next machine) ≡ holds
+turn_is_some machine next holds busy takes = ap is_some (turn_in_call machine next busy) ∙ by_takes (takes_of machine Nothing) ∙ takes
   where
-    by_takes : (x : Bool) → is_some (if◌then◌else◌ {A = Option Order} x (Some Nothing) None) ≡ x
+    by_takes : (other_holds : Bool) → is_some (if◌then◌else◌ {A = Option Order} other_holds (Some Nothing) None) ≡ other_holds
     by_takes true = refl
     by_takes false = refl
 
@@ -100,10 +100,10 @@ goes_on_in_call Gone next busy = absurd (cc (busy))
 goes_on_in_call _ next busy = refl
 
 -- where its next access stands
-pub stands_in_call : (m : Mutating) (next : Option Command) (place : Place) → is_between_calls m.spot ≡ false → is_machine_at place (mutating m) (order_for next (mutating m)) ≡ same_place (place_at Nothing m.spot) place
-stands_in_call m next place busy = ap (is_machine_at place (mutating m)) (goes_on_in_call m.spot next busy)
+pub stands_in_call : (mutator : Mutating) (next : Option Command) (place : Place) → is_between_calls mutator.spot ≡ false → is_machine_at place (mutating mutator) (order_for next (mutating mutator)) ≡ same_place (place_at Nothing mutator.spot) place
+stands_in_call mutator next place busy = ap (is_machine_at place (mutating mutator)) (goes_on_in_call mutator.spot next busy)
 
 -- a mutator that is not idle and has no order is in a call
-pub busy_without_order : (b : Bool) (order : Order) → order ≡ Nothing → b && is_nothing order ≡ false → b ≡ false
+pub busy_without_order : (holds : Bool) (order : Order) → order ≡ Nothing → holds && is_nothing order ≡ false → holds ≡ false
 busy_without_order true order none busy = absurd (let e : is_nothing order ≡ true = ap is_nothing none in cc)
 busy_without_order false order none busy = refl

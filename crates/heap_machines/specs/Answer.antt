@@ -20,4 +20,4 @@ stepped_by (Some said) = stepped_of said
 
 -- what a machine says of the step under an order that finds this word
 abbrev pub says : Config → Order → Machine → ℕ → Stepped
-says c order machine got = stepped_by (answer_of c order machine got)
+says config order machine got = stepped_by (answer_of config order machine got)

@@ -12,11 +12,11 @@ use Rattle.heap_machines.specs.Pause.{pause_image}
 use Rattle.heap_machines.specs.Settles.{reply_settled, refused_by}
 
 -- On its turn it looks at the pause word. As long as a pause is wanted it stays as it is, says that it waits, and settles nothing.
-pub record Awaits (c : Config) (machine : Machine) : Type 0 where
+pub record Awaits (config : Config) (machine : Machine) : Type 0 where
   pub goes_on : (next : Option Command) → order_for next machine ≡ Some Nothing
   pub takes : takes_of machine Nothing ≡ true
-  pub looks : plan_of c Nothing machine ≡ placed c (touch Pause loads)
-  pub stays : (got : ℕ) → got ≢ 0 → machine_after pause_image c Nothing got machine ≡ machine
-  pub waits : (got : ℕ) → got ≢ 0 → answer_of c Nothing machine got ≡ Some Again
+  pub looks : plan_of config Nothing machine ≡ placed config (touch Pause loads)
+  pub stays : (got : ℕ) → got ≢ 0 → machine_after pause_image config Nothing got machine ≡ machine
+  pub waits : (got : ℕ) → got ≢ 0 → answer_of config Nothing machine got ≡ Some Again
   pub settles : (memory : Word → ℕ) → reply_settled memory machine ≡ None
-  pub refuses : (words : List ℕ) → refused_by c words machine ≡ None
+  pub refuses : (words : List ℕ) → refused_by config words machine ≡ None

@@ -21,23 +21,23 @@ control_from memory = controlling (record { spot = LookLeft; seen = memory Free;
 -- The machine of a number in a heap of these words: the mutators come first, whose threads have made so many objects, then the
 -- helpers, then the control.
 abbrev pub machine_from : Config → List ℕ → (Word → ℕ) → ℕ → Machine
-machine_from c counts memory number =
-    if nat_lt number c.mutators then mutating (mutator_after number (slice_index counts number))
-    else (if nat_lt number (c.mutators + c.helpers) then fresh_helper number else control_from memory)
+machine_from config counts memory number =
+    if nat_lt number config.mutators then mutating (mutator_after number (slice_index counts number))
+    else (if nat_lt number (config.mutators + config.helpers) then fresh_helper number else control_from memory)
 
 abbrev pub actor_from : Config → List ℕ → (Word → ℕ) → ℕ → Actor
-actor_from c counts memory number = record { machine = machine_from c counts memory number; command = Gc; calls = [] }
+actor_from config counts memory number = record { machine = machine_from config counts memory number; command = Gc; calls = [] }
 
 -- the stage of these words, before the first event
 unfoldable pub stage_from : Config → List ℕ → List ℕ → Stage Actor
-stage_from c words counts = record {
+stage_from config words counts = record {
   words = words;
-  machines = map (actor_from c counts (view c words)) (range_with_len 0 (seat_count c.mutators c.helpers));
+  machines = map (actor_from config counts (view config words)) (range_with_len 0 (seat_count config.mutators config.helpers));
 }
 
 -- The words stand for the graph, in which the threads have made so many objects; nobody waits, no pause is wanted, no machine
 -- is inside, and no mutator has ended.
-pub record CanBeginFrom (c : Config) (memory : Word → ℕ) (counts : List ℕ) (g : Graph) : Type 0 where
-  pub stands : Represents c memory g (λ t. nothing)
-  pub outside : IsCalmOutside c memory
-  pub counts_are : (t : ℕ) → t < c.mutators → g.count (t + 1) ≡ slice_index counts t
+pub record CanBeginFrom (config : Config) (memory : Word → ℕ) (counts : List ℕ) (graph : Graph) : Type 0 where
+  pub stands : Represents config memory graph (λ mutator. nothing)
+  pub outside : IsCalmOutside config memory
+  pub counts_are : (mutator : ℕ) → mutator < config.mutators → graph.count (mutator + 1) ≡ slice_index counts mutator

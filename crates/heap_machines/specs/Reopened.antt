@@ -8,11 +8,11 @@ use Rattle.step_core.specs.Machines.{made_of_machine}
 
 -- No pause is wanted, no mutator has ended, nor has the control, and nobody is inside. All other words stay.
 abbrev pub words_reopened : Config → (Word → ℕ) → Word → ℕ
-words_reopened c memory Pause = 0
-words_reopened c memory Left = c.mutators
-words_reopened c memory End = 0
-words_reopened c memory (State seat) = 0
-words_reopened c memory word = memory word
+words_reopened config memory Pause = 0
+words_reopened config memory Left = config.mutators
+words_reopened config memory End = 0
+words_reopened config memory (State seat) = 0
+words_reopened config memory word = memory word
 
 -- the same, while the state words of the first so many seats were stored
 abbrev pub words_left_out : ℕ → (Word → ℕ) → Word → ℕ
@@ -20,6 +20,6 @@ words_left_out seats memory (State seat) = if nat_lt seat seats then 0 else memo
 words_left_out seats memory word = memory word
 
 -- for each of so many mutators, that of thread 1 first, how many objects its thread has made
-pub record AreMadeBy (threads : ℕ) (s : Stage Actor) (counts : List ℕ) : Type 0 where
+pub record AreMadeBy (threads : ℕ) (stage : Stage Actor) (counts : List ℕ) : Type 0 where
   pub long : length counts ≡ threads
-  pub each : (t : ℕ) (a : Actor) → t < threads → slice_get s.machines t ≡ Some a → slice_index counts t ≡ made_of_machine a.machine
+  pub each : (index : ℕ) (actor : Actor) → index < threads → slice_get stage.machines index ≡ Some actor → slice_index counts index ≡ made_of_machine actor.machine

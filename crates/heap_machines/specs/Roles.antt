@@ -17,9 +17,9 @@ phase_in machine = phase_by (control_in machine)
 
 -- of the control, if it is one
 abbrev pub CanShowBy : Config → List ℕ → Option Controlling → Type 0
-CanShowBy c table None = ⊥
-CanShowBy c table (Some k) = IsLoadedFrom c table k.spot k.image
+CanShowBy config table None = ⊥
+CanShowBy config table (Some k) = IsLoadedFrom config table k.spot k.image
 
 -- It is the control, and can work on all words of the image of a table: it has loaded no other words, and stores none.
 abbrev pub CanShow : Config → List ℕ → Machine → Type 0
-CanShow c table machine = CanShowBy c table (control_in machine)
+CanShow config table machine = CanShowBy config table (control_in machine)

@@ -29,15 +29,15 @@ refused_word _ before after = None
 
 -- by an access
 abbrev pub refused_access : Config → List ℕ → Access → Option ℕ
-refused_access c words (Store at value) = refused_word (name_of c at) (slice_index words at) value
-refused_access c words _ = None
+refused_access config words (Store at value) = refused_word (name_of config at) (slice_index words at) value
+refused_access config words _ = None
 
 -- by the next access of the control, which stores the words of a new image
 abbrev pub refused_at : Config → List ℕ → ControlSpot → List ℕ → Option ℕ
-refused_at c words (StoreWord index extent) image = refused_word (name_of c (image_start c + index)) (slice_index words (image_start c + index)) (slice_index image index)
-refused_at c words _ image = None
+refused_at config words (StoreWord index extent) image = refused_word (name_of config (image_start config + index)) (slice_index words (image_start config + index)) (slice_index image index)
+refused_at config words _ image = None
 
 -- and by that of a machine
 abbrev pub refused_by : Config → List ℕ → Machine → Option ℕ
-refused_by c words (controlling k) = refused_at c words k.spot k.image
-refused_by c words _ = None
+refused_by config words (controlling k) = refused_at config words k.spot k.image
+refused_by config words _ = None

@@ -37,12 +37,12 @@ config_of (Control k) = controls.config_in k
 
 -- whether it makes a step: it takes the order that it was given
 abbrev pub has_turn : Machine → Bool
-has_turn m = takes_of (shown m) (order_of m)
+has_turn machine = takes_of (shown machine) (order_of machine)
 
 -- its next access
 abbrev pub access_of : Machine → Access
-access_of m = plan_of (config_of m) (order_of m) (shown m)
+access_of machine = plan_of (config_of machine) (order_of machine) (shown machine)
 
 -- the word that this finds in a table
 abbrev pub word_found : Machine → List ℕ → ℕ
-word_found m words = slice_index words (table_index (access_of m))
+word_found machine words = slice_index words (table_index (access_of machine))

@@ -20,5 +20,5 @@ ghost use Rattle.heap_machines.specs.Reopened.{words_reopened, AreMadeBy};
 /// A law: where a heap is at rest, whatever happened before and in whichever phase it is, another one can begin from its words, and goes on
 /// from the graph after the history.
 pub fn rest_can_begin()
-    ensures { (c : Config) (start : Stage Actor) (g : Graph) → Begins c start g → (events : List (Event Order)) → IsAtRest c (go (kind pause_image c) start events) → (counts : List ℕ) → AreMadeBy c.mutators (go (kind pause_image c) start events) counts → CanBeginFrom c (words_reopened c (view c (go (kind pause_image c) start events).words)) counts (after g (history pause_image c start events)) }
+    ensures { (config : Config) (start : Stage Actor) (graph : Graph) → Begins config start graph → (events : List (Event Order)) → IsAtRest config (go (kind pause_image config) start events) → (counts : List ℕ) → AreMadeBy config.mutators (go (kind pause_image config) start events) counts → CanBeginFrom config (words_reopened config (view config (go (kind pause_image config) start events).words)) counts (after graph (history pause_image config start events)) }
 {}

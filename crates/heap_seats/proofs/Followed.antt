@@ -42,86 +42,86 @@ pub if_ok : {A E : Type 0} (r : Result A E) (P Q : A → Type 0) → ((x : A) �
 if_ok (Ok x) P Q goes is = goes x is
 if_ok (Err e) P Q goes is = tt
 
-pub if_some : {A : Type 0} (o : Option A) (P Q : A → Type 0) → ((x : A) → P x → Q x) → IfSome o P → IfSome o Q
+pub if_some : {A : Type 0} (found : Option A) (P Q : A → Type 0) → ((x : A) → P x → Q x) → IfSome found P → IfSome found Q
 if_some None P Q goes is = tt
 if_some (Some x) P Q goes is = goes x is
 
 -- what is so of some graphs is so of others that are among them
-pub begin_others : (c : Config) (Of Other : Graph → Type 0) (said : Renewal) (seats : List Seat) → ((g : Graph) → Other g → Of g) → BeginSeats c Of said seats → BeginSeats c Other said seats
-begin_others c Of Other said seats among begin = record { start = begin.start; fresh = begin.fresh; goes_on = begin.goes_on; graphs = λ g is. begin.graphs g (among g is) }
+pub begin_others : (config : Config) (Of Other : Graph → Type 0) (said : Renewal) (seats : List Seat) → ((graph : Graph) → Other graph → Of graph) → BeginSeats config Of said seats → BeginSeats config Other said seats
+begin_others config Of Other said seats among begin = record { start = begin.start; fresh = begin.fresh; goes_on = begin.goes_on; graphs = λ graph is. begin.graphs graph (among graph is) }
 
 -- the graph that a text shows which shows that of each run to a stage
-pub left_shown : (c : Config) (left : Stage Actor) (t : Text) → ((run : Run c) → ending pause_image c run ≡ left → ShowsGraph t c.mutators (graph_after pause_image c run)) → (g : Graph) → IsGraphLeft c left g → ShowsGraph t c.mutators g
-left_shown c left t shows g is_left = subst (ShowsGraph t c.mutators) is_left.graph (shows is_left.run is_left.ends)
+pub left_shown : (config : Config) (left : Stage Actor) (text : Text) → ((run : Run config) → ending pause_image config run ≡ left → ShowsGraph text config.mutators (graph_after pause_image config run)) → (graph : Graph) → IsGraphLeft config left graph → ShowsGraph text config.mutators graph
+left_shown config left text shows graph is_left = subst (ShowsGraph text config.mutators) is_left.graph (shows is_left.run is_left.ends)
 
 -- an image of a heap of these sizes
-module _ (c : Config) (image : Image) (sizes : images.config_of image ≡ c) (counts : List ℕ) where
+module _ (config : Config) (image : Image) (sizes : images.config_of image ≡ config) (counts : List ℕ) where
   abbrev pub start_of_image : Stage Actor
   start_of_image = stage_from (images.config_of image) (images.words_of image) counts
 
-  image_begins : (g : Graph) → CanBeginFrom c (images.memory_of image) counts g → Begins c start_of_image g
-  image_begins g can =
-      subst (λ (d : Config). Begins d start_of_image g) sizes
-      (begins_from (images.config_of image) (images.words_of image) counts image.all_words g (subst (λ (d : Config). CanBeginFrom d (images.memory_of image) counts g) (sym sizes) can))
+  image_begins : (graph : Graph) → CanBeginFrom config (images.memory_of image) counts graph → Begins config start_of_image graph
+  image_begins graph can =
+      subst (λ (config : Config). Begins config start_of_image graph) sizes
+      (begins_from (images.config_of image) (images.words_of image) counts image.all_words graph (subst (λ (config : Config). CanBeginFrom config (images.memory_of image) counts graph) (sym sizes) can))
 
   -- a word of its start is that of the image
-  start_word : (w : Word) → view c start_of_image.words w ≡ images.memory_of image w
-  start_word w =
-      ap (λ (words : List ℕ). view c words w) (stage_words (images.config_of image) (images.words_of image) counts)
-      ∙ ap (λ (d : Config). view d (images.words_of image) w) (sym sizes)
+  start_word : (word : Word) → view config start_of_image.words word ≡ images.memory_of image word
+  start_word word =
+      ap (λ (words : List ℕ). view config words word) (stage_words (images.config_of image) (images.words_of image) counts)
+      ∙ ap (λ (config : Config). view config (images.words_of image) word) (sym sizes)
 
-  fresh_seats : (seats : List Seat) → AreFreshSeats (images.config_of image) start_of_image seats → AreFreshSeats c start_of_image seats
-  fresh_seats seats fresh = subst (λ (d : Config). AreFreshSeats d start_of_image seats) sizes fresh
+  fresh_seats : (seats : List Seat) → AreFreshSeats (images.config_of image) start_of_image seats → AreFreshSeats config start_of_image seats
+  fresh_seats seats fresh = subst (λ (config : Config). AreFreshSeats config start_of_image seats) sizes fresh
 
-  image_can : (g : Graph) → CanBeginFrom c (images.memory_of image) counts g → IsRenewable c.mutators g
-      → (h : Graph) × CanBeginFrom (images.config_of image) (images.memory_of image) counts h × IsRenewable (images.config_of image).mutators h
-  image_can g can renewable = (
-    g,
-    subst (λ (d : Config). CanBeginFrom d (images.memory_of image) counts g) (sym sizes) can,
-    subst (λ (d : Config). IsRenewable d.mutators g) (sym sizes) renewable,
+  image_can : (graph : Graph) → CanBeginFrom config (images.memory_of image) counts graph → IsRenewable config.mutators graph
+      → (other_graph : Graph) × CanBeginFrom (images.config_of image) (images.memory_of image) counts other_graph × IsRenewable (images.config_of image).mutators other_graph
+  image_can graph can renewable = (
+    graph,
+    subst (λ (config : Config). CanBeginFrom config (images.memory_of image) counts graph) (sym sizes) can,
+    subst (λ (config : Config). IsRenewable config.mutators graph) (sym sizes) renewable,
   )
 
   -- in which the objects of a text have new names
-  module _ (t : Text) (whole : IsPlaceable c t) (threads : AreOfThreads c.mutators (names_of t)) (placed : IsPlaced c (text_anew t) (images.memory_of image))
-      (stands : Represents c (images.memory_of image) (text_graph (text_anew t) counts) (λ m. nothing)) where
-    new_can : CanBeginFrom c (images.memory_of image) counts (text_graph (text_anew t) counts)
-    new_can = placed_can_begin c t counts (images.memory_of image) placed stands
+  module _ (text : Text) (whole : IsPlaceable config text) (threads : AreOfThreads config.mutators (names_of text)) (placed : IsPlaced config (text_anew text) (images.memory_of image))
+      (stands : Represents config (images.memory_of image) (text_graph (text_anew text) counts) (λ m. nothing)) where
+    new_can : CanBeginFrom config (images.memory_of image) counts (text_graph (text_anew text) counts)
+    new_can = placed_can_begin config text counts (images.memory_of image) placed stands
 
-    pub renewed_can : ∥ ((h : Graph) × CanBeginFrom (images.config_of image) (images.memory_of image) counts h × IsRenewable (images.config_of image).mutators h) ∥₁
-    renewed_can = ∣ image_can (text_graph (text_anew t) counts) new_can (renewable_anew c t whole threads counts) ∣₁
+    pub renewed_can : ∥ ((graph : Graph) × CanBeginFrom (images.config_of image) (images.memory_of image) counts graph × IsRenewable (images.config_of image).mutators graph) ∥₁
+    renewed_can = ∣ image_can (text_graph (text_anew text) counts) new_can (renewable_anew config text whole threads counts) ∣₁
 
-    pub seats_renewed : AreCountsOf (names_of t) c.mutators counts → PinsNothing t → (seats : List Seat) → AreFreshSeats (images.config_of image) start_of_image seats → BeginSeats c (ShowsGraph t c.mutators) Renewed seats
+    pub seats_renewed : AreCountsOf (names_of text) config.mutators counts → PinsNothing text → (seats : List Seat) → AreFreshSeats (images.config_of image) start_of_image seats → BeginSeats config (ShowsGraph text config.mutators) Renewed seats
     seats_renewed are none seats fresh = record {
       start = start_of_image;
       fresh = fresh_seats seats fresh;
       goes_on = start_word End ∙ placed.others End refl;
       graphs = λ g shows. record {
-        graph = text_graph (text_anew t) counts;
-        begins = image_begins (text_graph (text_anew t) counts) new_can;
-        becomes = record { unpinned = nothing_pinned t c.mutators g shows whole.threads none; names = name_anew (names_of t); same = same_anew c t whole threads counts are g shows; no_pins = text_unpinned (text_anew t) counts };
+        graph = text_graph (text_anew text) counts;
+        begins = image_begins (text_graph (text_anew text) counts) new_can;
+        becomes = record { unpinned = nothing_pinned text config.mutators g shows whole.threads none; names = name_anew (names_of text); same = same_anew config text whole threads counts are g shows; no_pins = text_unpinned (text_anew text) counts };
       };
     }
 
   -- which has the words of a heap that came to rest
-  module _ (left : Stage Actor) (rest : IsAtRest c left) (made : AreMadeBy c.mutators left counts) (words : images.memory_of image ≡ words_reopened c (view c left.words)) where
-    again : (g : Graph) → IsGraphLeft c left g → CanBeginFrom c (images.memory_of image) counts g
-    again g is_left =
+  module _ (left : Stage Actor) (rest : IsAtRest config left) (made : AreMadeBy config.mutators left counts) (words : images.memory_of image ≡ words_reopened config (view config left.words)) where
+    again : (graph : Graph) → IsGraphLeft config left graph → CanBeginFrom config (images.memory_of image) counts graph
+    again graph is_left =
         let run = is_left.run in
-        subst (λ (h : Graph). CanBeginFrom c (images.memory_of image) counts h) is_left.graph
-        (subst (λ (memory : Word → ℕ). CanBeginFrom c memory counts (graph_after pause_image c run)) (sym words)
-        (subst (λ (s : Stage Actor). CanBeginFrom c (words_reopened c (view c s.words)) counts (graph_after pause_image c run)) is_left.ends
-        (can_begin_again c run (subst (λ (s : Stage Actor). IsAtRest c s) (sym is_left.ends) rest) counts (subst (λ (s : Stage Actor). AreMadeBy c.mutators s counts) (sym is_left.ends) made))))
+        subst (λ (graph : Graph). CanBeginFrom config (images.memory_of image) counts graph) is_left.graph
+        (subst (λ (memory : Word → ℕ). CanBeginFrom config memory counts (graph_after pause_image config run)) (sym words)
+        (subst (λ (stage : Stage Actor). CanBeginFrom config (words_reopened config (view config stage.words)) counts (graph_after pause_image config run)) is_left.ends
+        (can_begin_again config run (subst (λ (stage : Stage Actor). IsAtRest config stage) (sym is_left.ends) rest) counts (subst (λ (stage : Stage Actor). AreMadeBy config.mutators stage counts) (sym is_left.ends) made))))
 
-    pub reopened_can : ∥ IsLeftRenewable c left ∥₁ → ∥ ((h : Graph) × CanBeginFrom (images.config_of image) (images.memory_of image) counts h × IsRenewable (images.config_of image).mutators h) ∥₁
+    pub reopened_can : ∥ IsLeftRenewable config left ∥₁ → ∥ ((graph : Graph) × CanBeginFrom (images.config_of image) (images.memory_of image) counts graph × IsRenewable (images.config_of image).mutators graph) ∥₁
     reopened_can some = ∥∥₁_map some (λ l. image_can l.graph (again l.graph l.is_left) l.renewable)
 
-    becomes_kept : (why : Renewal) (g : Graph) → KeepsNames why c g → Becomes why c g g
-    becomes_kept Renewed g keeps = absurd keeps
-    becomes_kept Pinned g keeps = (refl, keeps)
-    becomes_kept TooSmall g keeps = (refl, keeps)
-    becomes_kept NoMemory g keeps = (refl, keeps)
+    becomes_kept : (why : Renewal) (graph : Graph) → KeepsNames why config graph → Becomes why config graph graph
+    becomes_kept Renewed graph keeps = absurd keeps
+    becomes_kept Pinned graph keeps = (refl, keeps)
+    becomes_kept TooSmall graph keeps = (refl, keeps)
+    becomes_kept NoMemory graph keeps = (refl, keeps)
 
-    pub seats_kept : (seats : List Seat) → AreFreshSeats (images.config_of image) start_of_image seats → (why : Renewal) → BeginSeats c (IsLeftKept c left why) why seats
+    pub seats_kept : (seats : List Seat) → AreFreshSeats (images.config_of image) start_of_image seats → (why : Renewal) → BeginSeats config (IsLeftKept config left why) why seats
     seats_kept seats fresh why = record {
       start = start_of_image;
       fresh = fresh_seats seats fresh;

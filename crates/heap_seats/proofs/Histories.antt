@@ -18,22 +18,22 @@ use Rattle.table_heap.proofs.Core.{run_from}
 use Rattle.heap_seats.specs.Going.{ArePartOfHistory}
 use Rattle.heap_seats.specs.Histories.{BeginsRenewable, IsLegalFrom}
 
-pub run_is_legal : (c : Config) (start : Stage Actor) (first : Graph) (begins : Begins c start first) (events : List (Event Order)) → IsLegalFrom c start events first
-run_is_legal c start first begins events =
-    let sound = run_sound pause_image heap_pauses c (run_from c start first begins events) in
+pub run_is_legal : (config : Config) (start : Stage Actor) (first : Graph) (begins : Begins config start first) (events : List (Event Order)) → IsLegalFrom config start events first
+run_is_legal config start first begins events =
+    let sound = run_sound pause_image heap_pauses config (run_from config start first begins events) in
     record { legal = sound.legal; crowded = sound.crowded }
 
-calls_of_run : (c : Config) (start : Stage Actor) → ∥ BeginsRenewable c start ∥₁ → (number : ℕ) (a : Actor) → HasReached (heap_kind c) start number a → is_resting a.machine ≡ true → ArePartOfHistory c start (number + 1) a.calls
-calls_of_run c start some number a has rest = record {
+calls_of_run : (config : Config) (start : Stage Actor) → ∥ BeginsRenewable config start ∥₁ → (number : ℕ) (actor : Actor) → HasReached (heap_kind config) start number actor → is_resting actor.machine ≡ true → ArePartOfHistory config start (number + 1) actor.calls
+calls_of_run config start some number actor has rest = record {
   events = has.reached.events;
   history = record {
     some = some;
     each = λ first begins.
-        let run : Run c = run_from c start first begins has.reached.events in
-        let here : slice_get (ending pause_image c run).machines number ≡ Some a = ap (λ s. slice_get s.machines number) has.reached.ends ∙ has.here in
-        record { legal = run_is_legal c start first begins has.reached.events; part = entries_at_rest c run number a here rest };
+        let run : Run config = run_from config start first begins has.reached.events in
+        let here : slice_get (ending pause_image config run).machines number ≡ Some actor = ap (λ s. slice_get s.machines number) has.reached.ends ∙ has.here in
+        record { legal = run_is_legal config start first begins has.reached.events; part = entries_at_rest config run number actor here rest };
   };
 }
 
-pub calls_are_part : (c : Config) (start : Stage Actor) → ∥ BeginsRenewable c start ∥₁ → (number : ℕ) (a : Actor) → ∥ HasReached (heap_kind c) start number a ∥₁ → is_resting a.machine ≡ true → ∥ ArePartOfHistory c start (number + 1) a.calls ∥₁
-calls_are_part c start some number a has rest = ∥∥₁_map has (λ reached. calls_of_run c start some number a reached rest)
+pub calls_are_part : (config : Config) (start : Stage Actor) → ∥ BeginsRenewable config start ∥₁ → (number : ℕ) (actor : Actor) → ∥ HasReached (heap_kind config) start number actor ∥₁ → is_resting actor.machine ≡ true → ∥ ArePartOfHistory config start (number + 1) actor.calls ∥₁
+calls_are_part config start some number actor has rest = ∥∥₁_map has (λ reached. calls_of_run config start some number actor reached rest)

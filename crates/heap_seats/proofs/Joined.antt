@@ -48,82 +48,82 @@ use Rattle.heap_seats.proofs.Known.{has_seen}
 use Rattle.heap_seats.proofs.Opened.{get_last, get_init}
 
 -- the machine of a seat
-seat_there : (s : Seat) → machine_of (view_of s.bundle) s.number ≡ Some (actor_in s)
-seat_there s = let a = in_view s.bundle s.number s.here in a.1 ∙ ap (λ (x : Actor). Some x) (sym (ap (λ o. unwrap_or o nobody) a.1))
+seat_there : (seat : Seat) → machine_of (view_of seat.bundle) seat.number ≡ Some (actor_in seat)
+seat_there seat = let a = in_view seat.bundle seat.number seat.here in a.1 ∙ ap (λ (actor : Actor). Some actor) (sym (ap (λ o. unwrap_or o nobody) a.1))
 
-seat_only : (s : Seat) (k : ℕ) (a : Actor) → machine_of (view_of s.bundle) k ≡ Some a → k ≡ s.number
-seat_only s k a there = s.only k (has_seen s.bundle k ∙ ap is_some there)
+seat_only : (seat : Seat) (k : ℕ) (actor : Actor) → machine_of (view_of seat.bundle) k ≡ Some actor → k ≡ seat.number
+seat_only seat k actor there = seat.only k (has_seen seat.bundle k ∙ ap is_some there)
 
-none_at : {A : Type 0} (o : Option A) → ((a : A) → o ≡ Some a → ⊥) → o ≡ None
+none_at : {A : Type 0} (found : Option A) → ((a : A) → found ≡ Some a → ⊥) → found ≡ None
 none_at None never = refl
 none_at (Some a) never = absurd (never a refl)
 
 pub same_some : {A : Type 0} (x y : A) → Some x ≡ Some y → x ≡ y
 same_some x y is = cc
 
-one_of : {A : Type 0} (y : A) (k : ℕ) (x : A) → slice_get (y ∷ []) k ≡ Some x → y ≡ x
+one_of : {A : Type 0} (y : A) (index : ℕ) (x : A) → slice_get (y ∷ []) index ≡ Some x → y ≡ x
 one_of y zero x is = same_some y x is
-one_of y (suc k) x is = absurd cc
+one_of y (suc index) x is = absurd cc
 
 -- one seat alone
-pub machines_one : (s : Seat) → AreMachinesOf (s ∷ []) (view_of s.bundle)
-machines_one s = record {
-  each = λ k t there. let seat = one_of s k t there in subst (λ (x : Seat). machine_of (view_of s.bundle) x.number ≡ Some (actor_in x)) seat (seat_there s);
-  only = λ number absent. none_at (machine_of (view_of s.bundle) number) (λ a is. absent 0 s refl (sym (seat_only s number a is)));
+pub machines_one : (other_seat : Seat) → AreMachinesOf (other_seat ∷ []) (view_of other_seat.bundle)
+machines_one other_seat = record {
+  each = λ k t there. let seat = one_of other_seat k t there in subst (λ (seat : Seat). machine_of (view_of other_seat.bundle) seat.number ≡ Some (actor_in seat)) seat (seat_there other_seat);
+  only = λ number absent. none_at (machine_of (view_of other_seat.bundle) number) (λ a is. absent 0 other_seat refl (sym (seat_only other_seat number a is)));
 }
 
-pub joined_one : (s : Seat) → AreJoined (arc_value s.heap) (s ∷ []) s.bundle
-joined_one s = record { of = s.fits; machines = machines_one s }
+pub joined_one : (seat : Seat) → AreJoined (arc_value seat.heap) (seat ∷ []) seat.bundle
+joined_one seat = record { of = seat.fits; machines = machines_one seat }
 
 -- what is under a number where two are joined
-first_there : {A : Type 0} (o p : Option A) (a : A) → o ≡ Some a → whichever_is_there o p ≡ Some a
-first_there o p a is = ap (λ x. whichever_is_there x p) is
+first_there : {A : Type 0} (found other_found : Option A) (a : A) → found ≡ Some a → whichever_is_there found other_found ≡ Some a
+first_there found other_found a is = ap (λ x. whichever_is_there x other_found) is
 
-second_there : {A : Type 0} (o p : Option A) (a : A) → o ≡ None → p ≡ Some a → whichever_is_there o p ≡ Some a
-second_there o p a none is = ap (λ x. whichever_is_there x p) none ∙ is
+second_there : {A : Type 0} (found other_found : Option A) (a : A) → found ≡ None → other_found ≡ Some a → whichever_is_there found other_found ≡ Some a
+second_there found other_found a none is = ap (λ x. whichever_is_there x other_found) none ∙ is
 
 -- a seat of two lists, one behind the other
-in_both : {A : Type 0} (xs ys : List A) (k : ℕ) (x : A) → slice_get (xs ++ ys) k ≡ Some x → (slice_get xs k ≡ Some x) ⊎ ((j : ℕ) × (slice_get ys j ≡ Some x))
-in_both [] ys k x is = inr (k, is)
+in_both : {A : Type 0} (xs ys : List A) (other_index : ℕ) (x : A) → slice_get (xs ++ ys) other_index ≡ Some x → (slice_get xs other_index ≡ Some x) ⊎ ((index : ℕ) × (slice_get ys index ≡ Some x))
+in_both [] ys other_index x is = inr (other_index, is)
 in_both (y ∷ xs) ys zero x is = inl is
-in_both (y ∷ xs) ys (suc k) x is = in_both xs ys k x is
+in_both (y ∷ xs) ys (suc other_index) x is = in_both xs ys other_index x is
 
 -- and one more behind it
-module _ (before : List Seat) (s : Seat) (old new : View Actor) (theirs : AreMachinesOf before old) (absent : HaveNot before s.number) (view : new ≡ merged old (view_of s.bundle)) where
-  under : (k : ℕ) → machine_of new k ≡ whichever_is_there (machine_of old k) (machine_of (view_of s.bundle) k)
-  under k = ap (λ v. machine_of v k) view ∙ machine_of-merged old (view_of s.bundle) k
+module _ (before : List Seat) (seat : Seat) (old new : View Actor) (theirs : AreMachinesOf before old) (absent : HaveNot before seat.number) (view : new ≡ merged old (view_of seat.bundle)) where
+  under : (k : ℕ) → machine_of new k ≡ whichever_is_there (machine_of old k) (machine_of (view_of seat.bundle) k)
+  under k = ap (λ v. machine_of v k) view ∙ machine_of-merged old (view_of seat.bundle) k
 
-  new_there : machine_of old s.number ≡ None
-  new_there = theirs.only s.number absent
+  new_there : machine_of old seat.number ≡ None
+  new_there = theirs.only seat.number absent
 
-  mine : machine_of new s.number ≡ Some (actor_in s)
-  mine = under s.number ∙ second_there (machine_of old s.number) (machine_of (view_of s.bundle) s.number) (actor_in s) new_there (seat_there s)
+  mine : machine_of new seat.number ≡ Some (actor_in seat)
+  mine = under seat.number ∙ second_there (machine_of old seat.number) (machine_of (view_of seat.bundle) seat.number) (actor_in seat) new_there (seat_there seat)
 
-  each_there : (k : ℕ) (t : Seat) → (slice_get before k ≡ Some t) ⊎ ((j : ℕ) × (slice_get (s ∷ []) j ≡ Some t)) → machine_of new t.number ≡ Some (actor_in t)
-  each_there k t (inl is) = under t.number ∙ first_there (machine_of old t.number) (machine_of (view_of s.bundle) t.number) (actor_in t) (theirs.each k t is)
-  each_there k t (inr is) = subst (λ (x : Seat). machine_of new x.number ≡ Some (actor_in x)) (one_of s is.0 t is.1) mine
+  each_there : (other_index : ℕ) (other_seat : Seat) → (slice_get before other_index ≡ Some other_seat) ⊎ ((index : ℕ) × (slice_get (seat ∷ []) index ≡ Some other_seat)) → machine_of new other_seat.number ≡ Some (actor_in other_seat)
+  each_there other_index other_seat (inl is) = under other_seat.number ∙ first_there (machine_of old other_seat.number) (machine_of (view_of seat.bundle) other_seat.number) (actor_in other_seat) (theirs.each other_index other_seat is)
+  each_there other_index other_seat (inr is) = subst (λ (seat : Seat). machine_of new seat.number ≡ Some (actor_in seat)) (one_of seat is.0 other_seat is.1) mine
 
-  none_there : (o p : Option Actor) → o ≡ None → p ≡ None → whichever_is_there o p ≡ None
-  none_there o p first second = ap (λ x. whichever_is_there x p) first ∙ second
+  none_there : (found other_found : Option Actor) → found ≡ None → other_found ≡ None → whichever_is_there found other_found ≡ None
+  none_there found other_found first second = ap (λ x. whichever_is_there x other_found) first ∙ second
 
-  only_these : (number : ℕ) → HaveNot (before ++ s ∷ []) number → machine_of new number ≡ None
+  only_these : (number : ℕ) → HaveNot (before ++ seat ∷ []) number → machine_of new number ≡ None
   only_these number none =
-      under number ∙ none_there (machine_of old number) (machine_of (view_of s.bundle) number) (theirs.only number (λ k t is. none k t (get_init before (s ∷ []) k t is)))
-      (none_at (machine_of (view_of s.bundle) number) (λ a is. none (length before) s (get_last before s) (sym (seat_only s number a is))))
+      under number ∙ none_there (machine_of old number) (machine_of (view_of seat.bundle) number) (theirs.only number (λ k t is. none k t (get_init before (seat ∷ []) k t is)))
+      (none_at (machine_of (view_of seat.bundle) number) (λ a is. none (length before) seat (get_last before seat) (sym (seat_only seat number a is))))
 
-  pub machines_more : AreMachinesOf (before ++ s ∷ []) new
-  machines_more = record { each = λ k t there. each_there k t (in_both before (s ∷ []) k t there); only = only_these }
+  pub machines_more : AreMachinesOf (before ++ seat ∷ []) new
+  machines_more = record { each = λ k t there. each_there k t (in_both before (seat ∷ []) k t there); only = only_these }
 
-pub joined_more : (h : Heap) (before : List Seat) (s : Seat) (old new : Bundle) → AreJoined h before old → HaveNot before s.number → IsBundleOf new h → view_of new ≡ merged (view_of old) (view_of s.bundle)
-    → AreJoined h (before ++ s ∷ []) new
-joined_more h before s old new joined absent of view = record { of = of; machines = machines_more before s (view_of old) (view_of new) joined.machines absent view }
+pub joined_more : (heap : Heap) (before : List Seat) (seat : Seat) (old new : Bundle) → AreJoined heap before old → HaveNot before seat.number → IsBundleOf new heap → view_of new ≡ merged (view_of old) (view_of seat.bundle)
+    → AreJoined heap (before ++ seat ∷ []) new
+joined_more heap before seat old new joined absent of view = record { of = of; machines = machines_more before seat (view_of old) (view_of new) joined.machines absent view }
 
 -- ---- all of them
 
-pub some_at : {A : Type 0} (xs : List A) (k : ℕ) → k < length xs → (x : A) × (slice_get xs k ≡ Some x)
-some_at [] k below = absurd (omega (arith, below))
+pub some_at : {A : Type 0} (xs : List A) (index : ℕ) → index < length xs → (x : A) × (slice_get xs index ≡ Some x)
+some_at [] index below = absurd (omega (arith, below))
 some_at (x ∷ xs) zero below = (x, refl)
-some_at (x ∷ xs) (suc k) below = some_at xs k (omega (arith, below))
+some_at (x ∷ xs) (suc index) below = some_at xs index (omega (arith, below))
 
 -- A machine that is no mutator and makes no step has ended, also where it was given a hint: a hint stands only where it is taken.
 no_hint_left : (hints : Bool) (hint : Option ℕ) (goes : Bool) → ((address : ℕ) → hint ≡ Some address → hints ≡ true) → (is_for_working hints (hinting hint) && goes) ≡ false → goes ≡ false
@@ -149,148 +149,148 @@ turn_ended true may is = absurd cc
 turn_ended false may is = refl
 
 -- what memory has of a seat that has ended
-module _ (s : Seat) (over : state_in s ≡ Ended) where
-  there : machine_of (view_of s.bundle) s.number ≡ Some (actor_in s)
-  there = seat_there s
+module _ (seat : Seat) (over : state_in seat ≡ Ended) where
+  there : machine_of (view_of seat.bundle) seat.number ≡ Some (actor_in seat)
+  there = seat_there seat
 
-  machine : machine_of_seat s ≡ (actor_in s).machine
-  machine = at_number s.bundle s.number (actor_in s) there
+  machine : machine_of_seat seat ≡ (actor_in seat).machine
+  machine = at_number seat.bundle seat.number (actor_in seat) there
 
-  found : (m : memory.Machine) × (machine_of s.bundle.machines.items s.number ≡ Some m) × (shown m ≡ (actor_in s).machine)
-  found = kept_here shown s.bundle.machines.items s.number (actor_in s).machine (in_memory s.bundle s.number (actor_in s) there)
+  found : (m : memory.Machine) × (machine_of seat.bundle.machines.items seat.number ≡ Some m) × (shown m ≡ (actor_in seat).machine)
+  found = kept_here shown seat.bundle.machines.items seat.number (actor_in seat).machine (in_memory seat.bundle seat.number (actor_in seat) there)
 
-  role : is_mutating (shown found.0) ≡ nat_lt s.number s.config.mutators
-  role = ap is_mutating found.2 ∙ role_at s.bundle s.number (actor_in s) there ∙ ap (λ (k : Config). nat_lt s.number k.mutators) s.same_config
+  role : is_mutating (shown found.0) ≡ nat_lt seat.number seat.config.mutators
+  role = ap is_mutating found.2 ∙ role_at seat.bundle seat.number (actor_in seat) there ∙ ap (λ (config : Config). nat_lt seat.number config.mutators) seat.same_config
 
-  order : order_at s.bundle s.number ≡ order_of found.0
-  order = shows_as order_of s.bundle.machines.items s.number found.0 Nothing found.1
+  order : order_at seat.bundle seat.number ≡ order_of found.0
+  order = shows_as order_of seat.bundle.machines.items seat.number found.0 Nothing found.1
 
   takes_none : takes_of (shown found.0) (order_of found.0) ≡ false
   takes_none =
-      ap (takes_of (shown found.0)) (sym order) ∙ ap (λ m. takes_of m (order_at s.bundle s.number)) (found.2 ∙ sym machine)
-      ∙ turn_ended (has_turn s.bundle s.number) (may_begin (machine_of_seat s)) over
+      ap (takes_of (shown found.0)) (sym order) ∙ ap (λ m. takes_of m (order_at seat.bundle seat.number)) (found.2 ∙ sym machine)
+      ∙ turn_ended (has_turn seat.bundle seat.number) (may_begin (machine_of_seat seat)) over
 
   -- where it is no mutator's, it takes no order
-  seat_idle : nat_lt s.number s.config.mutators ≡ false → takes_of (actor_in s).machine Nothing ≡ false
+  seat_idle : nat_lt seat.number seat.config.mutators ≡ false → takes_of (actor_in seat).machine Nothing ≡ false
   seat_idle other = ap (λ m. takes_of m Nothing) (sym found.2) ∙ no_turn_ended found.0 (role ∙ other) takes_none
 
   -- where it is, no call is in progress
-  seat_rests : nat_lt s.number s.config.mutators ≡ true → is_resting (actor_in s).machine ≡ true
+  seat_rests : nat_lt seat.number seat.config.mutators ≡ true → is_resting (actor_in seat).machine ≡ true
   seat_rests is = subst (λ m. is_resting m ≡ true) found.2 (no_turn_rests found.0 (role ∙ is) takes_none)
 
   -- so its machine has come to rest
-  pub seat_has_rested : HasComeToRest (actor_in s).machine
-  seat_has_rested = by_role (nat_lt s.number s.config.mutators) refl
+  pub seat_has_rested : HasComeToRest (actor_in seat).machine
+  seat_has_rested = by_role (nat_lt seat.number seat.config.mutators) refl
     where
-      by_role : (b : Bool) → nat_lt s.number s.config.mutators ≡ b → HasComeToRest (actor_in s).machine
+      by_role : (holds : Bool) → nat_lt seat.number seat.config.mutators ≡ holds → HasComeToRest (actor_in seat).machine
       by_role true is = inl (seat_rests is)
       by_role false is = inr (sym (ap is_mutating found.2) ∙ role ∙ is, seat_idle is)
 
-module _ (c : Config) (h : Heap) (all : List Seat) (view : View Actor) (seats : AreAllSeats c h all) (theirs : AreMachinesOf all view) where
-  each_is : (k : ℕ) (s : Seat) → slice_get all k ≡ Some s → machine_of view k ≡ Some (actor_in s)
-  each_is k s there = ap (machine_of view) (sym (seats.number k s there)) ∙ theirs.each k s there
+module _ (config : Config) (heap : Heap) (all : List Seat) (view : View Actor) (seats : AreAllSeats config heap all) (theirs : AreMachinesOf all view) where
+  each_is : (index : ℕ) (seat : Seat) → slice_get all index ≡ Some seat → machine_of view index ≡ Some (actor_in seat)
+  each_is index seat there = ap (machine_of view) (sym (seats.number index seat there)) ∙ theirs.each index seat there
 
   -- the seat of each number
-  seat_under : (k : ℕ) → k < seat_count c.mutators c.helpers → (s : Seat) × (slice_get all k ≡ Some s)
-  seat_under k inside = some_at all k (let count = seats.count in omega (arith, inside, count))
+  seat_under : (other_seat : ℕ) → other_seat < seat_count config.mutators config.helpers → (seat : Seat) × (slice_get all other_seat ≡ Some seat)
+  seat_under other_seat inside = some_at all other_seat (let count = seats.count in omega (arith, inside, count))
 
   -- the heap has these sizes
-  heap_is : (k : ℕ) (s : Seat) → slice_get all k ≡ Some s → h.config ≡ c
-  heap_is k s there = ap (λ (g : Heap). g.config) (sym (seats.heap k s there)) ∙ sym s.fits.config ∙ s.same_config ∙ seats.config k s there
+  heap_is : (index : ℕ) (seat : Seat) → slice_get all index ≡ Some seat → heap.config ≡ config
+  heap_is index seat there = ap (λ (heap : Heap). heap.config) (sym (seats.heap index seat there)) ∙ sym seat.fits.config ∙ seat.same_config ∙ seats.config index seat there
 
-  pub config_is : h.config ≡ c
+  pub config_is : heap.config ≡ config
   config_is = let first = seat_under 0 (omega arith) in heap_is 0 first.0 first.1
 
   -- it began with a graph that can be renewed
-  pub heap_begins : ∥ BeginsRenewable c (start_of_heap h) ∥₁
+  pub heap_begins : ∥ BeginsRenewable config (start_of_heap heap) ∥₁
   heap_begins =
       let first = seat_under 0 (omega arith) in
       let s = first.0 in
-      let start : start_in s.bundle ≡ start_of_heap h = ap start_of_key s.fits.key ∙ ap (λ (g : Heap). start_of_heap g) (seats.heap 0 s first.1) in
-      subst (λ (x : Stage Actor). ∥ BeginsRenewable c x ∥₁) start (subst (λ (x : Config). ∥ BeginsRenewable x (start_in s.bundle) ∥₁) (seats.config 0 s first.1) s.renewable)
+      let start : start_in s.bundle ≡ start_of_heap heap = ap start_of_key s.fits.key ∙ ap (λ (heap : Heap). start_of_heap heap) (seats.heap 0 s first.1) in
+      subst (λ (stage : Stage Actor). ∥ BeginsRenewable config stage ∥₁) start (subst (λ (config : Config). ∥ BeginsRenewable config (start_in s.bundle) ∥₁) (seats.config 0 s first.1) s.renewable)
 
   -- each machine is there
-  pub each_here : (k : ℕ) → k < seat_count c.mutators c.helpers → is_some (machine_of view k) ≡ true
-  each_here k inside = let s = seat_under k inside in ap is_some (each_is k s.0 s.1)
+  pub each_here : (seat : ℕ) → seat < seat_count config.mutators config.helpers → is_some (machine_of view seat) ≡ true
+  each_here seat inside = let s = seat_under seat inside in ap is_some (each_is seat s.0 s.1)
 
   -- a mutator's seat has no call in progress
-  rests : AreOver c all → (k : ℕ) (s : Seat) → slice_get all k ≡ Some s → k < c.mutators → is_resting (actor_in s).machine ≡ true
-  rests over k s there below =
-      let number = seats.number k s there in
-      let mutators : s.config.mutators ≡ c.mutators = ap (λ (x : Config). x.mutators) (seats.config k s there) in
-      let is : nat_lt s.number s.config.mutators ≡ true = grind (arith, nat_tests, number, mutators, below) in
-      seat_rests s (over k s there (inl below)) is
+  rests : AreOver config all → (mutator : ℕ) (seat : Seat) → slice_get all mutator ≡ Some seat → mutator < config.mutators → is_resting (actor_in seat).machine ≡ true
+  rests over mutator seat there below =
+      let number = seats.number mutator seat there in
+      let mutators : seat.config.mutators ≡ config.mutators = ap (λ (config : Config). config.mutators) (seats.config mutator seat there) in
+      let is : nat_lt seat.number seat.config.mutators ≡ true = grind (arith, nat_tests, number, mutators, below) in
+      seat_rests seat (over mutator seat there (inl below)) is
 
   -- where these are all machines of a stage
   module _ (stage : Stage Actor) (is_whole : view ≡ whole stage.machines) where
     stage_there : (k : ℕ) → slice_get stage.machines k ≡ machine_of view k
     stage_there k = sym (machine_of-whole stage.machines k) ∙ ap (λ v. machine_of v k) (sym is_whole)
 
-    pub stage_rests : AreOver c all → (k : ℕ) (a : Actor) → k < c.mutators → slice_get stage.machines k ≡ Some a → is_resting a.machine ≡ true
-    stage_rests over k a below there =
-        let s = seat_under k (omega (arith, below)) in
-        let same : actor_in s.0 ≡ a = same_some (actor_in s.0) a (sym (each_is k s.0 s.1) ∙ sym (stage_there k) ∙ there) in
-        subst (λ (x : Actor). is_resting x.machine ≡ true) same (rests over k s.0 s.1 below)
+    pub stage_rests : AreOver config all → (mutator : ℕ) (actor : Actor) → mutator < config.mutators → slice_get stage.machines mutator ≡ Some actor → is_resting actor.machine ≡ true
+    stage_rests over mutator actor below there =
+        let s = seat_under mutator (omega (arith, below)) in
+        let same : actor_in s.0 ≡ actor = same_some (actor_in s.0) actor (sym (each_is mutator s.0 s.1) ∙ sym (stage_there mutator) ∙ there) in
+        subst (λ (actor : Actor). is_resting actor.machine ≡ true) same (rests over mutator s.0 s.1 below)
 
     -- the machine of each seat is there
-    pub seat_at : (k : ℕ) (s : Seat) → slice_get all k ≡ Some s → slice_get stage.machines k ≡ Some (actor_in s)
-    seat_at k s there = stage_there k ∙ each_is k s there
+    pub seat_at : (index : ℕ) (seat : Seat) → slice_get all index ≡ Some seat → slice_get stage.machines index ≡ Some (actor_in seat)
+    seat_at index seat there = stage_there index ∙ each_is index seat there
 
     -- one history, of the events that lead there
-    pub history_there : AreOver c all → IsReached (heap_kind h.config) (start_of_heap h) stage → (events : List (Event Order)) × (led c (start_of_heap h) events ≡ stage) × OfEachBegun c (start_of_heap h) (IsHistoryOf c (start_of_heap h) all events)
+    pub history_there : AreOver config all → IsReached (heap_kind heap.config) (start_of_heap heap) stage → (events : List (Event Order)) × (led config (start_of_heap heap) events ≡ stage) × OfEachBegun config (start_of_heap heap) (IsHistoryOf config (start_of_heap heap) all events)
     history_there over reached_h =
-        let led_there : IsReached (heap_kind c) (start_of_heap h) stage = subst (λ (x : Config). IsReached (heap_kind x) (start_of_heap h) stage) config_is reached_h in (
+        let led_there : IsReached (heap_kind config) (start_of_heap heap) stage = subst (λ (config : Config). IsReached (heap_kind config) (start_of_heap heap) stage) config_is reached_h in (
           led_there.events,
           led_there.ends,
           record {
             some = heap_begins;
             each = λ first begins.
-                let run : Run c = run_from c (start_of_heap h) first begins led_there.events in
+                let run : Run config = run_from config (start_of_heap heap) first begins led_there.events in
                 record {
-                  legal = run_is_legal c (start_of_heap h) first begins led_there.events;
-                  entries = (run_sound pause_image heap_pauses c run).entries;
+                  legal = run_is_legal config (start_of_heap heap) first begins led_there.events;
+                  entries = (run_sound pause_image heap_pauses config run).entries;
                   parts = λ k s there below.
-                      entries_at_rest c run k (actor_in s) (ap (λ st. slice_get st.machines k) led_there.ends ∙ seat_at k s there) (rests over k s there below);
+                      entries_at_rest config run k (actor_in s) (ap (λ st. slice_get st.machines k) led_there.ends ∙ seat_at k s there) (rests over k s there below);
                 };
           },
         )
 
-module _ (c : Config) (h : Heap) (all : List Seat) (b : Bundle) (seats : AreAllSeats c h all) (joined : AreJoined h all b) where
-  sizes : b.config ≡ c
-  sizes = joined.of.config ∙ config_is c h all (view_of b) seats joined.machines
+module _ (config : Config) (heap : Heap) (all : List Seat) (bundle : Bundle) (seats : AreAllSeats config heap all) (joined : AreJoined heap all bundle) where
+  sizes : bundle.config ≡ config
+  sizes = joined.of.config ∙ config_is config heap all (view_of bundle) seats joined.machines
 
-  pub has_all : closed.HasAll b
+  pub has_all : closed.HasAll bundle
   has_all k below =
-      let inside : k < seat_count c.mutators c.helpers = subst (λ (x : Config). k < seat_count x.mutators x.helpers) sizes below in
-      has_seen b k ∙ each_here c h all (view_of b) seats joined.machines k inside
+      let inside : k < seat_count config.mutators config.helpers = subst (λ (config : Config). k < seat_count config.mutators config.helpers) sizes below in
+      has_seen bundle k ∙ each_here config heap all (view_of bundle) seats joined.machines k inside
 
-  pub control_idle : AreOver c all → closed.IsControlIdle b
+  pub control_idle : AreOver config all → closed.IsControlIdle bundle
   control_idle over a there =
-      let at = control_number c in
+      let at = control_number config in
       let s = some_at all at (let count = seats.count in omega (arith, count)) in
-      let here : machine_of (view_of b) at ≡ Some a = ap (λ (x : Config). machine_of (view_of b) (control_number x)) (sym sizes) ∙ there in
-      let same : actor_in s.0 ≡ a = same_some (actor_in s.0) a (sym (each_is c h all (view_of b) seats joined.machines at s.0 s.1) ∙ here) in
+      let here : machine_of (view_of bundle) at ≡ Some a = ap (λ (config : Config). machine_of (view_of bundle) (control_number config)) (sym sizes) ∙ there in
+      let same : actor_in s.0 ≡ a = same_some (actor_in s.0) a (sym (each_is config heap all (view_of bundle) seats joined.machines at s.0 s.1) ∙ here) in
       let number = seats.number at s.0 s.1 in
-      let mutators : s.0.config.mutators ≡ c.mutators = ap (λ (x : Config). x.mutators) (seats.config at s.0 s.1) in
+      let mutators : s.0.config.mutators ≡ config.mutators = ap (λ (config : Config). config.mutators) (seats.config at s.0 s.1) in
       let other : nat_lt s.0.number s.0.config.mutators ≡ false = grind (arith, nat_tests, number, mutators) in
-      subst (λ (x : Actor). takes_of x.machine Nothing ≡ false) same (seat_idle s.0 (over at s.0 s.1 (inr refl)) other)
+      subst (λ (actor : Actor). takes_of actor.machine Nothing ≡ false) same (seat_idle s.0 (over at s.0 s.1 (inr refl)) other)
 
   -- what is left of the machines
-  module _ (left : Closed) (view : view_of b ≡ whole (closed.machines_of left)) where
-    pub all_rest : closed.config_of left ≡ c → AreOver c all → closed.AllRest left
+  module _ (left : Closed) (view : view_of bundle ≡ whole (closed.machines_of left)) where
+    pub all_rest : closed.config_of left ≡ config → AreOver config all → closed.AllRest left
     all_rest is over k a below there =
-        let mutators : (closed.config_of left).mutators ≡ c.mutators = ap (λ (x : Config). x.mutators) is in
-        stage_rests c h all (view_of b) seats joined.machines (closed.stage_of left) view over k a (omega (arith, below, mutators)) there
+        let mutators : (closed.config_of left).mutators ≡ config.mutators = ap (λ (config : Config). config.mutators) is in
+        stage_rests config heap all (view_of bundle) seats joined.machines (closed.stage_of left) view over k a (omega (arith, below, mutators)) there
 
-    pub one_history : AreOver c all → IsReached (heap_kind h.config) (start_of_heap h) (closed.stage_of left) → HaveOneHistory c (start_of_heap h) all left
+    pub one_history : AreOver config all → IsReached (heap_kind heap.config) (start_of_heap heap) (closed.stage_of left) → HaveOneHistory config (start_of_heap heap) all left
     one_history over reached_h =
-        let found = history_there c h all (view_of b) seats joined.machines (closed.stage_of left) view over reached_h in
+        let found = history_there config heap all (view_of bundle) seats joined.machines (closed.stage_of left) view over reached_h in
         record { events = found.0; ends = found.1; history = found.2 }
 
     pub machines_left : AreMachinesLeft all left
     machines_left =
         let seats_there = seats.count in
-        let counted : length (view_of b) ≡ seat_count c.mutators c.helpers =
-        sym (length-kept machine_in (view_of b)) ∙ ap length b.kept ∙ length-kept shown b.machines.items ∙ b.seats ∙ ap (λ (x : Config). seat_count x.mutators x.helpers) sizes in
-        let whole_count : length (view_of b) ≡ length (closed.machines_of left) = ap length view ∙ length-map (closed.machines_of left) (λ (a : Actor). Some a) in
-        record { count = sym whole_count ∙ counted ∙ sym seats_there; each = seat_at c h all (view_of b) seats joined.machines (closed.stage_of left) view }
+        let counted : length (view_of bundle) ≡ seat_count config.mutators config.helpers =
+        sym (length-kept machine_in (view_of bundle)) ∙ ap length bundle.kept ∙ length-kept shown bundle.machines.items ∙ bundle.seats ∙ ap (λ (config : Config). seat_count config.mutators config.helpers) sizes in
+        let whole_count : length (view_of bundle) ≡ length (closed.machines_of left) = ap length view ∙ length-map (closed.machines_of left) (λ (actor : Actor). Some actor) in
+        record { count = sym whole_count ∙ counted ∙ sym seats_there; each = seat_at config heap all (view_of bundle) seats joined.machines (closed.stage_of left) view }

@@ -22,12 +22,12 @@ use Rattle.table_heap.specs.State.{config_in, start_in, view_of, machines_of, or
 use Rattle.heap_seats.specs.Histories.{BeginsRenewable}
 use Rattle.heap_seats.specs.Known.{HaveRun, HasOnly}
 
-pub stays_of : (h : Heap) (old new : Bundle) → IsSameBundle old new → IsBundleOf old h → IsBundleOf new h
-stays_of h old new same of = record { table = same.table ∙ of.table; config = same.config ∙ of.config; key = ap (λ k. k.value) same.key ∙ of.key }
+pub stays_of : (heap : Heap) (old new : Bundle) → IsSameBundle old new → IsBundleOf old heap → IsBundleOf new heap
+stays_of heap old new same of = record { table = same.table ∙ of.table; config = same.config ∙ of.config; key = ap (λ k. k.value) same.key ∙ of.key }
 
 -- memory has the machines of the view
-pub has_seen : (b : Bundle) (number : ℕ) → is_some (machine_of (machines_of b) number) ≡ is_some (machine_of (view_of b) number)
-has_seen b number = ap (λ v. is_some (machine_of v number)) (sym b.kept) ∙ kept_some machine_in (view_of b) number
+pub has_seen : (bundle : Bundle) (number : ℕ) → is_some (machine_of (machines_of bundle) number) ≡ is_some (machine_of (view_of bundle) number)
+has_seen bundle number = ap (λ v. is_some (machine_of v number)) (sym bundle.kept) ∙ kept_some machine_in (view_of bundle) number
 
 pub stays_here : (old new : Bundle) (number : ℕ) → IsSameBundle old new → HasMachine old number → HasMachine new number
 stays_here old new number same here = has_seen new number ∙ same.numbers.here number ∙ sym (has_seen old number) ∙ here
@@ -39,13 +39,13 @@ stays_only old new number same only k here = only k (has_seen old k ∙ sym (sam
 pub same_start : (old new : Bundle) → IsSameBundle old new → start_in new ≡ start_in old
 same_start old new same = ap (λ k. start_of_key k.value) same.key
 
-pub stays_renewable : (c : Config) (old new : Bundle) → IsSameBundle old new → ∥ BeginsRenewable c (start_in old) ∥₁ → ∥ BeginsRenewable c (start_in new) ∥₁
-stays_renewable c old new same some = subst (λ (s : Stage Actor). ∥ BeginsRenewable c s ∥₁) (sym (same_start old new same)) some
+pub stays_renewable : (config : Config) (old new : Bundle) → IsSameBundle old new → ∥ BeginsRenewable config (start_in old) ∥₁ → ∥ BeginsRenewable config (start_in new) ∥₁
+stays_renewable config old new same some = subst (λ (stage : Stage Actor). ∥ BeginsRenewable config stage ∥₁) (sym (same_start old new same)) some
 
 moved_run : (old new : Bundle) → IsSameBundle old new → AreReached (heap_kind (config_in old)) (start_in old) (view_of new) → HaveRun new
 moved_run old new same run =
-    subst (λ (s : Stage Actor). AreReached (heap_kind (config_in new)) s (view_of new)) (sym (same_start old new same))
-    (subst (λ (c : Config). AreReached (heap_kind c) (start_in old) (view_of new)) (sym same.config) run)
+    subst (λ (stage : Stage Actor). AreReached (heap_kind (config_in new)) stage (view_of new)) (sym (same_start old new same))
+    (subst (λ (config : Config). AreReached (heap_kind config) (start_in old) (view_of new)) (sym same.config) run)
 
 pub unmoved_run : (old new : Bundle) → IsUnmoved old new → HaveRun old → HaveRun new
 unmoved_run old new unmoved run = moved_run old new unmoved.same (λ number a there. run number a (ap (λ v. machine_of v number) (sym unmoved.view) ∙ there))

@@ -29,46 +29,46 @@ use Rattle.heap_seats.specs.Histories.{BeginsRenewable, led}
 use Rattle.heap_seats.specs.Renewing.{IsLeftRenewable}
 use Rattle.heap_seats.proofs.Merely.{placeable_merely, threads_merely}
 
-first_true : (a b : Bool) → (a && b) ≡ true → a ≡ true
-first_true true b is = refl
-first_true false b is = is
+first_true : (holds other_holds : Bool) → (holds && other_holds) ≡ true → holds ≡ true
+first_true true other_holds is = refl
+first_true false other_holds is = is
 
-entry_of : (threads : ℕ) (e : Entry) → IsSettled threads e → IsEntryOf threads e
-entry_of threads e settled = record {
+entry_of : (threads : ℕ) (entry : Entry) → IsSettled threads entry → IsEntryOf threads entry
+entry_of threads entry settled = record {
   from_first = settled.least;
   to_last = settled.most;
-  valid = (is_valid-Decides e.command).0 (first_true (ranges.is_valid e.command) _ settled.valid);
+  valid = (is_valid-Decides entry.command).0 (first_true (ranges.is_valid entry.command) _ settled.valid);
 }
 
-pub left_renewable : (c : Config) (start left : Stage Actor) (events : List (Event Order)) → led c start events ≡ left → ∥ BeginsRenewable c start ∥₁ → ∥ IsLeftRenewable c left ∥₁
-left_renewable c start left events ends some = ∥∥₁_map some (λ b.
-    let run : Run c = run_from c start b.graph b.begins events in
-    let sound = run_sound pause_image heap_pauses c run in
-    let past : List Entry = history_in pause_image c run in
+pub left_renewable : (config : Config) (start left : Stage Actor) (events : List (Event Order)) → led config start events ≡ left → ∥ BeginsRenewable config start ∥₁ → ∥ IsLeftRenewable config left ∥₁
+left_renewable config start left events ends some = ∥∥₁_map some (λ b.
+    let run : Run config = run_from config start b.graph b.begins events in
+    let sound = run_sound pause_image heap_pauses config run in
+    let past : List Entry = history_in pause_image config run in
     record {
-      graph = graph_after pause_image c run;
+      graph = graph_after pause_image config run;
       is_left = record { run = run; ends = ends; graph = refl };
-      renewable = history_renewable c.mutators c.regions c.region_words b.graph past sound.legal (All-weaker (IsSettled c.mutators) (IsEntryOf c.mutators) (entry_of c.mutators) past sound.entries) b.renewable;
+      renewable = history_renewable config.mutators config.regions config.region_words b.graph past sound.legal (All-weaker (IsSettled config.mutators) (IsEntryOf config.mutators) (entry_of config.mutators) past sound.entries) b.renewable;
     })
 
-module _ (c : Config) (left : Stage Actor) (some : ∥ IsLeftRenewable c left ∥₁) (t : Text) (shows : (run : Run c) → ending pause_image c run ≡ left → ShowsGraph t c.mutators (graph_after pause_image c run)) where
-  can : (l : IsLeftRenewable c left) → IsRenewable c.mutators (graph_after pause_image c l.is_left.run)
-  can l = subst (IsRenewable c.mutators) (sym l.is_left.graph) l.renewable
+module _ (config : Config) (left : Stage Actor) (some : ∥ IsLeftRenewable config left ∥₁) (text : Text) (shows : (run : Run config) → ending pause_image config run ≡ left → ShowsGraph text config.mutators (graph_after pause_image config run)) where
+  can : (l : IsLeftRenewable config left) → IsRenewable config.mutators (graph_after pause_image config l.is_left.run)
+  can l = subst (IsRenewable config.mutators) (sym l.is_left.graph) l.renewable
 
-  pub left_placeable : IsPlaceable c t
-  left_placeable = placeable_merely c t (∥∥₁_map some (λ l. placeable c t (graph_after pause_image c l.is_left.run) (can l) (shows l.is_left.run l.is_left.ends)))
+  pub left_placeable : IsPlaceable config text
+  left_placeable = placeable_merely config text (∥∥₁_map some (λ l. placeable config text (graph_after pause_image config l.is_left.run) (can l) (shows l.is_left.run l.is_left.ends)))
 
-  pub left_threads : AreOfThreads c.mutators (names_of t)
-  left_threads = threads_merely c.mutators (names_of t) (∥∥₁_map some (λ l. of_threads c t (graph_after pause_image c l.is_left.run) (can l) (shows l.is_left.run l.is_left.ends)))
+  pub left_threads : AreOfThreads config.mutators (names_of text)
+  left_threads = threads_merely config.mutators (names_of text) (∥∥₁_map some (λ l. of_threads config text (graph_after pause_image config l.is_left.run) (can l) (shows l.is_left.run l.is_left.ends)))
 
 -- one mutator's count more is noted
-pub noted_next : (counts : List ℕ) (made : ℕ → ℕ) (at x : ℕ) → at < length counts → x ≡ made at → ((t : ℕ) → t < at → slice_index counts t ≡ made t) → (t : ℕ) → t < at + 1 → slice_index (slice_set counts at x) t ≡ made t
-noted_next counts made at x within is so_far t below = by_number (t == at) refl
+pub noted_next : (counts : List ℕ) (made : ℕ → ℕ) (at x : ℕ) → at < length counts → x ≡ made at → ((index : ℕ) → index < at → slice_index counts index ≡ made index) → (index : ℕ) → index < at + 1 → slice_index (slice_set counts at x) index ≡ made index
+noted_next counts made at x within is so_far index below = by_number (index == at) refl
   where
-    by_number : (b : Bool) → (t == at) ≡ b → slice_index (slice_set counts at x) t ≡ made t
+    by_number : (holds : Bool) → (index == at) ≡ holds → slice_index (slice_set counts at x) index ≡ made index
     by_number true same =
-        let here : t ≡ at = grind (arith, nat_tests) in
+        let here : index ≡ at = grind (arith, nat_tests) in
         ap (slice_index (slice_set counts at x)) here ∙ get_or-set_same counts at x 0 within ∙ is ∙ ap made (sym here)
     by_number false other =
-        let there : t ≢ at = grind (arith, nat_tests) in
-        get_or-set_other counts at t x 0 there ∙ so_far t (grind (arith, nat_tests))
+        let there : index ≢ at = grind (arith, nat_tests) in
+        get_or-set_other counts at index x 0 there ∙ so_far index (grind (arith, nat_tests))

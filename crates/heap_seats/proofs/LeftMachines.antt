@@ -22,24 +22,24 @@ use Rattle.heap_seats.proofs.Joined.{some_at, same_some, seat_has_rested}
 
 module _ (seats : List Seat) (left : Closed) (machines : AreMachinesLeft seats left) where
   -- whose it is
-  of_seat : (number : ℕ) (a : Actor) → slice_get (closed.machines_of left) number ≡ Some a → (s : Seat) × (slice_get seats number ≡ Some s) × (actor_in s ≡ a)
-  of_seat number a here =
-      let within = slice_get_within (closed.machines_of left) number a here in
+  of_seat : (number : ℕ) (actor : Actor) → slice_get (closed.machines_of left) number ≡ Some actor → (s : Seat) × (slice_get seats number ≡ Some s) × (actor_in s ≡ actor)
+  of_seat number actor here =
+      let within = slice_get_within (closed.machines_of left) number actor here in
       let count = machines.count in
       let s = some_at seats number (omega (arith, within, count)) in
-      (s.0, s.1, same_some (actor_in s.0) a (sym (machines.each number s.0 s.1) ∙ here))
+      (s.0, s.1, same_some (actor_in s.0) actor (sym (machines.each number s.0 s.1) ∙ here))
 
-  pub left_rests : AllEnded seats → (c : Config) → IsAtRest c (closed.stage_of left)
-  left_rests over c = all_at_rest c (closed.stage_of left) (λ number a here.
+  pub left_rests : AllEnded seats → (config : Config) → IsAtRest config (closed.stage_of left)
+  left_rests over config = all_at_rest config (closed.stage_of left) (λ number a here.
       let s = of_seat number a here in
-      subst (λ (x : Actor). HasComeToRest x.machine) s.2 (seat_has_rested s.0 (over number s.0 s.1)))
+      subst (λ (actor : Actor). HasComeToRest actor.machine) s.2 (seat_has_rested s.0 (over number s.0 s.1)))
 
-pub left_made : (threads : ℕ) (seats : List Seat) (b : Bundle) (left : Closed) → AreMachinesOf seats (view_of b) → AreMachinesLeft seats left → ((k : ℕ) (s : Seat) → slice_get seats k ≡ Some s → number_of s ≡ k)
-    → (counts : List ℕ) → length counts ≡ threads → ((t : ℕ) → t < threads → slice_index counts t ≡ made_of_machine (machine_at b t)) → AreMadeBy threads (closed.stage_of left) counts
-left_made threads seats b left theirs machines numbers counts long each = record {
+pub left_made : (threads : ℕ) (seats : List Seat) (bundle : Bundle) (left : Closed) → AreMachinesOf seats (view_of bundle) → AreMachinesLeft seats left → ((index : ℕ) (s : Seat) → slice_get seats index ≡ Some s → number_of s ≡ index)
+    → (counts : List ℕ) → length counts ≡ threads → ((other_index : ℕ) → other_index < threads → slice_index counts other_index ≡ made_of_machine (machine_at bundle other_index)) → AreMadeBy threads (closed.stage_of left) counts
+left_made threads seats bundle left theirs machines numbers counts long each = record {
   long = long;
-  each = λ t a below here.
-      let s = of_seat seats left machines t a here in
-      let there : machine_of (view_of b) t ≡ Some (actor_in s.0) = ap (machine_of (view_of b)) (sym (numbers t s.0 s.1)) ∙ theirs.each t s.0 s.1 in
-      each t below ∙ ap made_of_machine (at_number b t (actor_in s.0) there ∙ ap (λ (x : Actor). x.machine) s.2);
+  each = λ other_index a below here.
+      let s = of_seat seats left machines other_index a here in
+      let there : machine_of (view_of bundle) other_index ≡ Some (actor_in s.0) = ap (machine_of (view_of bundle)) (sym (numbers other_index s.0 s.1)) ∙ theirs.each other_index s.0 s.1 in
+      each other_index below ∙ ap made_of_machine (at_number bundle other_index (actor_in s.0) there ∙ ap (λ (actor : Actor). actor.machine) s.2);
 }

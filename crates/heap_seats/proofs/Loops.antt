@@ -38,8 +38,8 @@ pub record GoesOn (first now : Seat) (made : ℕ) : Type 0 where
 was_then : (first now new : Seat) → IsAsItWas first now → IsAsItWas now new → IsAsItWas first new
 was_then first now new one two = record { actor = two.actor ∙ one.actor; machine = two.machine ∙ one.machine; order = two.order ∙ one.order; steps = two.steps ∙ one.steps }
 
-pub goes_first : (s : Seat) → GoesOn s s 0
-goes_first s = record {
+pub goes_first : (seat : Seat) → GoesOn seat seat 0
+goes_first seat = record {
   same = record { config = refl; number = refl; heap = refl };
   calls = refl;
   doing = refl;
@@ -53,20 +53,20 @@ pub same_on : (first now new : Seat) → IsSameSeat first now → IsSameSeat now
 same_on first now new one two = record { config = two.config ∙ one.config; number = two.number ∙ one.number; heap = two.heap ∙ one.heap }
 
 -- where its heap began
-pub start_is : (s : Seat) → start_in s.bundle ≡ start_of_seat s
-start_is s = ap start_of_key s.fits.key
+pub start_is : (seat : Seat) → start_in seat.bundle ≡ start_of_seat seat
+start_is seat = ap start_of_key seat.fits.key
 
 -- whenever no call is in progress, its calls are its part of a legal history
-pub seat_legal : (s : Seat) → is_resting (machine_of_seat s) ≡ true → ∥ ArePartOfHistory (config_of s) (start_of_seat s) (number_of s + 1) (calls_of s) ∥₁
-seat_legal s rest =
-    let a = in_view s.bundle s.number s.here in
-    let machine : machine_of_seat s ≡ a.0.machine = at_number s.bundle s.number a.0 a.1 in
-    let actor : actor_in s ≡ a.0 = ap (λ o. unwrap_or o nobody) a.1 in
-    let start = start_in s.bundle in
-    let reached : ∥ HasReached (heap_kind s.config) start s.number a.0 ∥₁ = subst (λ (c : Config). ∥ HasReached (heap_kind c) start s.number a.0 ∥₁) s.same_config (s.reached s.number a.0 a.1) in
-    subst (λ (x : Stage Actor). ∥ ArePartOfHistory s.config x (s.number + 1) (calls_of s) ∥₁) (start_is s)
-    (subst (λ (x : Actor). ∥ ArePartOfHistory s.config start (s.number + 1) x.calls ∥₁) (sym actor)
-    (calls_are_part s.config start s.renewable s.number a.0 reached (ap is_resting (sym machine) ∙ rest)))
+pub seat_legal : (seat : Seat) → is_resting (machine_of_seat seat) ≡ true → ∥ ArePartOfHistory (config_of seat) (start_of_seat seat) (number_of seat + 1) (calls_of seat) ∥₁
+seat_legal seat rest =
+    let a = in_view seat.bundle seat.number seat.here in
+    let machine : machine_of_seat seat ≡ a.0.machine = at_number seat.bundle seat.number a.0 a.1 in
+    let actor : actor_in seat ≡ a.0 = ap (λ o. unwrap_or o nobody) a.1 in
+    let start = start_in seat.bundle in
+    let reached : ∥ HasReached (heap_kind seat.config) start seat.number a.0 ∥₁ = subst (λ (config : Config). ∥ HasReached (heap_kind config) start seat.number a.0 ∥₁) seat.same_config (seat.reached seat.number a.0 a.1) in
+    subst (λ (stage : Stage Actor). ∥ ArePartOfHistory seat.config stage (seat.number + 1) (calls_of seat) ∥₁) (start_is seat)
+    (subst (λ (actor : Actor). ∥ ArePartOfHistory seat.config start (seat.number + 1) actor.calls ∥₁) (sym actor)
+    (calls_are_part seat.config start seat.renewable seat.number a.0 reached (ap is_resting (sym machine) ∙ rest)))
 
 -- the calls after a step
 calls_after : (first now new : Seat) (made : ℕ) (said : Stepped) (told : Option Reply) → GoesOn first now made → HasStepped now new said → given_by said (machine_of_seat new) ≡ told
@@ -74,8 +74,8 @@ calls_after : (first now new : Seat) (made : ℕ) (said : Stepped) (told : Optio
 calls_after first now new made said told on step given =
     step.calls ∙ ap (λ (es : List Entry). es ++ entries_of (number_of now) (doing_in now) (given_by said (machine_of_seat new))) on.calls
     ∙ ap (λ (n : ℕ). calls_of first ++ entries_of n (doing_in now) (given_by said (machine_of_seat new))) on.same.number
-    ∙ ap (λ (k : Command). calls_of first ++ entries_of (number_of first) k (given_by said (machine_of_seat new))) on.doing
-    ∙ ap (λ (o : Option Reply). calls_of first ++ entries_of (number_of first) (doing_in first) o) given
+    ∙ ap (λ (command : Command). calls_of first ++ entries_of (number_of first) command (given_by said (machine_of_seat new))) on.doing
+    ∙ ap (λ (found : Option Reply). calls_of first ++ entries_of (number_of first) (doing_in first) found) given
 
 -- one step more, and there is more to do
 pub goes_more : (first now new : Seat) (made : ℕ) (said : Stepped) → GoesOn first now made → IsSameSeat now new → HasStepped now new said → said ≡ stepped.More → GoesOn first new (made + 1)
@@ -109,10 +109,10 @@ made_last first now new made said told on step last =
 
 -- ---- helpers and the control
 
-seat_role : (s : Seat) → is_mutating (machine_of_seat s) ≡ is_mutator s
-seat_role s =
-    let a = in_view s.bundle s.number s.here in
-    ap is_mutating (at_number s.bundle s.number a.0 a.1) ∙ role_at s.bundle s.number a.0 a.1 ∙ ap (λ (k : Config). nat_lt s.number k.mutators) s.same_config
+seat_role : (seat : Seat) → is_mutating (machine_of_seat seat) ≡ is_mutator seat
+seat_role seat =
+    let a = in_view seat.bundle seat.number seat.here in
+    ap is_mutating (at_number seat.bundle seat.number a.0 a.1) ∙ role_at seat.bundle seat.number a.0 a.1 ∙ ap (λ (config : Config). nat_lt seat.number config.mutators) seat.same_config
 
 -- only a mutator has a reply, or may be given an order
 reply_is_mutators : (machine : Machine) (reply : Reply) → reply_in machine ≡ Some reply → is_mutating machine ≡ true
@@ -135,8 +135,8 @@ told_worker progress.More machine turn fits other = refl
 told_worker progress.Again machine turn fits other = refl
 told_worker progress.Ended machine turn fits other = refl
 
-seat_worker : (s : Seat) (told : Progress) → FitsState told (machine_of_seat s) (state_in s) → is_mutator s ≡ false → is_of_worker told ≡ true
-seat_worker s told fits other = told_worker told (machine_of_seat s) (has_turn s.bundle s.number) fits (seat_role s ∙ other)
+seat_worker : (seat : Seat) (told : Progress) → FitsState told (machine_of_seat seat) (state_in seat) → is_mutator seat ≡ false → is_of_worker told ≡ true
+seat_worker seat told fits other = told_worker told (machine_of_seat seat) (has_turn seat.bundle seat.number) fits (seat_role seat ∙ other)
 
 -- ---- where it stops
 
@@ -191,7 +191,7 @@ none_last Ended = refl
 stops : (first now : Seat) (made steps : ℕ) (said : Progress) → GoesOn first now made → said ≡ progress_at (state_in now) → made ≤ steps → (said ≡ progress.More → made ≡ steps) → HasGoneOn first now steps said
 stops first now made steps said on is most all = record {
   same = on.same;
-  calls = on.calls ∙ sym (append-nil (calls_of first)) ∙ ap (λ (o : Option Reply). calls_of first ++ entries_of (number_of first) (doing_in first) o) (sym (ap reply_told is ∙ none_told (state_in now)));
+  calls = on.calls ∙ sym (append-nil (calls_of first)) ∙ ap (λ (found : Option Reply). calls_of first ++ entries_of (number_of first) (doing_in first) found) (sym (ap reply_told is ∙ none_told (state_in now)));
   doing = on.doing;
   most = omega (arith, on.steps, most);
   all = λ more. let count : made ≡ steps = all more in omega (arith, on.steps, count);
@@ -227,12 +227,12 @@ no_more_at true may idle more = absurd cc
 -- there was none to make
 pub gone_idle : (first now new : Seat) (made steps : ℕ) (said : Progress) → GoesOn first now made → IsSameSeat now new → IsAsItWas now new → has_turn now.bundle now.number ≡ false → said ≡ progress_at (state_in new) → made < steps → HasGoneOn first new steps said
 gone_idle first now new made steps said on same still idle is below =
-    let turn : has_turn new.bundle new.number ≡ false = ap (λ (m : Machine). takes_of m (order_in new)) still.machine ∙ ap (takes_of (machine_of_seat now)) still.order ∙ idle in
+    let turn : has_turn new.bundle new.number ≡ false = ap (λ (machine : Machine). takes_of machine (order_in new)) still.machine ∙ ap (takes_of (machine_of_seat now)) still.order ∙ idle in
     stops first new made steps said
     (record {
       same = same_on first now new on.same same;
-      calls = ap (λ (a : Actor). a.calls) still.actor ∙ on.calls;
-      doing = ap (λ (a : Actor). Rattle.step_core.specs.Actor.command_by (order_in new) a.command) still.actor ∙ ap (λ o. Rattle.step_core.specs.Actor.command_by o (actor_in now).command) still.order ∙ on.doing;
+      calls = ap (λ (actor : Actor). actor.calls) still.actor ∙ on.calls;
+      doing = ap (λ (actor : Actor). Rattle.step_core.specs.Actor.command_by (order_in new) actor.command) still.actor ∙ ap (λ o. Rattle.step_core.specs.Actor.command_by o (actor_in now).command) still.order ∙ on.doing;
       steps = still.steps ∙ on.steps;
       went = record { words = on.went.words; count = on.went.count; machine = still.machine ∙ on.went.machine; order = still.order ∙ on.went.order; each = on.went.each };
       unmoved = λ none. was_then first now new (on.unmoved none) still;

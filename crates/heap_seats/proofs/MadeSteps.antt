@@ -30,21 +30,21 @@ left_more : (order : Order) (words : List ℕ) (got : ℕ) → order_left order 
 left_more order [] got = refl
 left_more order (other ∷ words) got = refl
 
-machine_more : (c : Config) (order : Order) (words : List ℕ) (got : ℕ) (machine : Machine)
-    → machine_through c order (words ++ got ∷ []) machine ≡ machine_after pause_image c (order_left order words) got (machine_through c order words machine)
-machine_more c order [] got machine = refl
-machine_more c order (other ∷ words) got machine =
-    let next = machine_after pause_image c order other machine in
-    machine_more c Nothing words got next ∙ ap (λ (o : Order). machine_after pause_image c o got (machine_through c Nothing words next)) (none_left words)
+machine_more : (config : Config) (order : Order) (words : List ℕ) (got : ℕ) (machine : Machine)
+    → machine_through config order (words ++ got ∷ []) machine ≡ machine_after pause_image config (order_left order words) got (machine_through config order words machine)
+machine_more config order [] got machine = refl
+machine_more config order (other ∷ words) got machine =
+    let next = machine_after pause_image config order other machine in
+    machine_more config Nothing words got next ∙ ap (λ (order : Order). machine_after pause_image config order got (machine_through config Nothing words next)) (none_left words)
 
-said_more : (c : Config) (order : Order) (words : List ℕ) (got : ℕ) (machine : Machine)
-    → said_through c order (words ++ got ∷ []) machine ≡ said_through c order words machine ++ said_of_step c (order_left order words) (machine_through c order words machine) got ∷ []
-said_more c order [] got machine = refl
-said_more c order (other ∷ words) got machine =
-    let next = machine_after pause_image c order other machine in
-    ap (λ (rest : List Stepped). said_of_step c order machine other ∷ rest)
-    (said_more c Nothing words got next
-    ∙ ap (λ (o : Order). said_through c Nothing words next ++ said_of_step c o (machine_through c Nothing words next) got ∷ []) (none_left words))
+said_more : (config : Config) (order : Order) (words : List ℕ) (got : ℕ) (machine : Machine)
+    → said_through config order (words ++ got ∷ []) machine ≡ said_through config order words machine ++ said_of_step config (order_left order words) (machine_through config order words machine) got ∷ []
+said_more config order [] got machine = refl
+said_more config order (other ∷ words) got machine =
+    let next = machine_after pause_image config order other machine in
+    ap (λ (rest : List Stepped). said_of_step config order machine other ∷ rest)
+    (said_more config Nothing words got next
+    ∙ ap (λ (order : Order). said_through config Nothing words next ++ said_of_step config order (machine_through config Nothing words next) got ∷ []) (none_left words))
 
 -- the steps from one seat to another, and what they said
 pub record Went (first now : Seat) (made : ℕ) (said : List Stepped) : Type 0 where
@@ -63,13 +63,13 @@ went_more first now new made before said same went step =
       words = went.words ++ step.got ∷ [];
       count = let long = length-append went.words (step.got ∷ []) in let count = went.count in omega (arith, long, count);
       machine =
-          step.machine ∙ ap (λ (k : Config). machine_after pause_image k (order_in now) step.got (machine_of_seat now)) same.config
-          ∙ ap (λ (o : Order). machine_after pause_image config o step.got (machine_of_seat now)) went.order
-          ∙ ap (λ (m : Machine). machine_after pause_image config (order_left order went.words) step.got m) went.machine ∙ sym (machine_more config order went.words step.got start);
+          step.machine ∙ ap (λ (config : Config). machine_after pause_image config (order_in now) step.got (machine_of_seat now)) same.config
+          ∙ ap (λ (order : Order). machine_after pause_image config order step.got (machine_of_seat now)) went.order
+          ∙ ap (λ (machine : Machine). machine_after pause_image config (order_left order went.words) step.got machine) went.machine ∙ sym (machine_more config order went.words step.got start);
       order = step.order ∙ sym (left_more order went.words step.got);
       each =
           said_more config order went.words step.got start
-          ∙ ap (λ (m : Machine). said_through config order went.words start ++ said_of_step config (order_left order went.words) m step.got ∷ []) (sym went.machine)
+          ∙ ap (λ (machine : Machine). said_through config order went.words start ++ said_of_step config (order_left order went.words) machine step.got ∷ []) (sym went.machine)
           ∙ ap (λ (o : Order). said_through config order went.words start ++ said_of_step config o (machine_of_seat now) step.got ∷ []) (sym went.order)
           ∙ ap (λ (k : Config). said_through config order went.words start ++ said_of_step k (order_in now) (machine_of_seat now) step.got ∷ []) (sym same.config)
           ∙ ap (λ (x : Stepped). said_through config order went.words start ++ x ∷ []) (sym step.answers) ∙ ap (λ (xs : List Stepped). xs ++ said ∷ []) went.each;
@@ -98,10 +98,10 @@ never_hinted (Ended reply) made address takes = cc
 never_hinted Gone made address takes = cc
 never_hinted _ made address takes = cc
 
-gone_then : (c : Config) (m : Mutating) (got : ℕ) (spot : Spot) → takes_at spot m.made End ≡ true → takes_commands (next_at c m End got spot).spot ≡ false
-gone_then c m got Rest takes = refl
-gone_then c m got (Ended reply) takes = refl
-gone_then c m got _ takes = absurd cc
+gone_then : (config : Config) (mutator : Mutating) (got : ℕ) (spot : Spot) → takes_at spot mutator.made End ≡ true → takes_commands (next_at config mutator End got spot).spot ≡ false
+gone_then config mutator got Rest takes = refl
+gone_then config mutator got (Ended reply) takes = refl
+gone_then config mutator got _ takes = absurd cc
 
 busy_takes_none : (machine : Machine) → is_resting machine ≡ false → may_begin machine ≡ false
 busy_takes_none (mutating m) busy = by_spot m.spot busy
@@ -112,23 +112,23 @@ busy_takes_none (mutating m) busy = by_spot m.spot busy
     by_spot _ busy = refl
 busy_takes_none _ busy = refl
 
-not_done : (c : Config) (order : Order) (machine : Machine) (got : ℕ) → says c order machine got ≡ stepped.More → answer_of c order machine got ≡ Some Done → ⊥
-not_done c order machine got more done = let both : stepped.More ≡ stepped.Done = sym more ∙ ap stepped_by done in cc
+not_done : (config : Config) (order : Order) (machine : Machine) (got : ℕ) → says config order machine got ≡ stepped.More → answer_of config order machine got ≡ Some Done → ⊥
+not_done config order machine got more done = let both : stepped.More ≡ stepped.Done = sym more ∙ ap stepped_by done in cc
 
-goes_on_busy : (c : Config) (order : Order) (got : ℕ) (m : Mutating) → takes_at m.spot m.made order ≡ true → says c order (mutating m) got ≡ stepped.More → may_begin (machine_after pause_image c order got (mutating m)) ≡ false
-goes_on_busy c Nothing got m takes more =
-    busy_takes_none (machine_after pause_image c Nothing got (mutating m))
-    (busy_after pause_image c got (mutating m) (in_call m.spot m.made takes) (other_gives c Nothing (mutating m) got (not_done c Nothing (mutating m) got more)))
-goes_on_busy c (Begin command) got m takes more =
-    busy_takes_none (machine_after pause_image c (Begin command) got (mutating m)) (begun_after pause_image c command got (mutating m) (commanded m.spot m.made command takes))
-goes_on_busy c End got m takes more = gone_then c m got m.spot takes
-goes_on_busy c (Hint address) got m takes more = absurd (never_hinted m.spot m.made address takes)
+goes_on_busy : (config : Config) (order : Order) (got : ℕ) (mutator : Mutating) → takes_at mutator.spot mutator.made order ≡ true → says config order (mutating mutator) got ≡ stepped.More → may_begin (machine_after pause_image config order got (mutating mutator)) ≡ false
+goes_on_busy config Nothing got mutator takes more =
+    busy_takes_none (machine_after pause_image config Nothing got (mutating mutator))
+    (busy_after pause_image config got (mutating mutator) (in_call mutator.spot mutator.made takes) (other_gives config Nothing (mutating mutator) got (not_done config Nothing (mutating mutator) got more)))
+goes_on_busy config (Begin command) got mutator takes more =
+    busy_takes_none (machine_after pause_image config (Begin command) got (mutating mutator)) (begun_after pause_image config command got (mutating mutator) (commanded mutator.spot mutator.made command takes))
+goes_on_busy config End got mutator takes more = gone_then config mutator got mutator.spot takes
+goes_on_busy config (Hint address) got mutator takes more = absurd (never_hinted mutator.spot mutator.made address takes)
 
-by_role : (c : Config) (order : Order) (machine : Machine) (got : ℕ) → takes_of machine order ≡ true → says c order machine got ≡ stepped.More → may_begin (machine_after pause_image c order got machine) ≡ false
-by_role c order (mutating m) got takes more = goes_on_busy c order got m takes more
-by_role c order _ got takes more = refl
+by_role : (config : Config) (order : Order) (machine : Machine) (got : ℕ) → takes_of machine order ≡ true → says config order machine got ≡ stepped.More → may_begin (machine_after pause_image config order got machine) ≡ false
+by_role config order (mutating m) got takes more = goes_on_busy config order got m takes more
+by_role config order _ got takes more = refl
 
-pub busy_step : (c : Config) (order : Order) (machine : Machine) (got : ℕ) → said_of_step c order machine got ≡ stepped.More → may_begin (machine_after pause_image c order got machine) ≡ false
-busy_step c order machine got is =
-    let both = taken (takes_of machine order) (says c order machine got) is in
-    by_role c order machine got both.0 both.1
+pub busy_step : (config : Config) (order : Order) (machine : Machine) (got : ℕ) → said_of_step config order machine got ≡ stepped.More → may_begin (machine_after pause_image config order got machine) ≡ false
+busy_step config order machine got is =
+    let both = taken (takes_of machine order) (says config order machine got) is in
+    by_role config order machine got both.0 both.1

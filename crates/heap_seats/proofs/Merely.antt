@@ -15,50 +15,50 @@ use Rattle.shen_graph.proofs.PlainLemmas.{same_name-true, same_name-itself}
 use Rattle.graph_placing.specs.PlaceableText.{IsPlaceable}
 use Rattle.graph_placing.specs.Renaming.{AreOfThreads}
 
-later : (m : Name) (ms : List Name) (n : Name) → same_name m n ≡ false → Contains (m ∷ ms) n → Contains ms n
-later m ms n other there = by_place there.0 there.1 there.2
+later : (name : Name) (ms : List Name) (other_name : Name) → same_name name other_name ≡ false → Contains (name ∷ ms) other_name → Contains ms other_name
+later name ms other_name other there = by_place there.0 there.1 there.2
   where
-    by_place : (k : ℕ) → k < length (m ∷ ms) → slice_index_or (m ∷ ms) k n ≡ n → Contains ms n
-    by_place zero below is = absurd (false≢true (sym other ∙ ap (λ (x : Name). same_name x n) is ∙ same_name-itself n))
-    by_place (suc k) below is = (k, omega (arith, below), is)
+    by_place : (index : ℕ) → index < length (name ∷ ms) → slice_index_or (name ∷ ms) index other_name ≡ other_name → Contains ms other_name
+    by_place zero below is = absurd (false≢true (sym other ∙ ap (λ (name : Name). same_name name other_name) is ∙ same_name-itself other_name))
+    by_place (suc index) below is = (index, omega (arith, below), is)
 
-contains_merely : (names : List Name) (n : Name) → ∥ Contains names n ∥₁ → Contains names n
-contains_merely [] n some = absurd (∥∥₁_elim some (hlevel) (λ there. let below = there.1 in omega (arith, below)))
-contains_merely (m ∷ ms) n some = ⊎_elim
-    (λ (same : same_name m n ≡ true). (0, omega arith, same_name-true m n same))
-    (λ (other : same_name m n ≡ false). let rest = contains_merely ms n (∥∥₁_map some (later m ms n other)) in (suc rest.0, omega (arith, rest.1), rest.2))
-    (cases_Bool (same_name m n))
+contains_merely : (names : List Name) (name : Name) → ∥ Contains names name ∥₁ → Contains names name
+contains_merely [] name some = absurd (∥∥₁_elim some (hlevel) (λ there. let below = there.1 in omega (arith, below)))
+contains_merely (m ∷ ms) name some = ⊎_elim
+    (λ (same : same_name m name ≡ true). (0, omega arith, same_name-true m name same))
+    (λ (other : same_name m name ≡ false). let rest = contains_merely ms name (∥∥₁_map some (later m ms name other)) in (suc rest.0, omega (arith, rest.1), rest.2))
+    (cases_Bool (same_name m name))
 
-before_merely : (a b : Name) → ∥ IsBefore a b ∥₁ → IsBefore a b
-before_merely a b some = ⊎_elim
-    (λ (below : a.thread < b.thread). inl below)
-    (λ (above : b.thread ≤ a.thread). inr (
+before_merely : (name other_name : Name) → ∥ IsBefore name other_name ∥₁ → IsBefore name other_name
+before_merely name other_name some = ⊎_elim
+    (λ (below : name.thread < other_name.thread). inl below)
+    (λ (above : other_name.thread ≤ name.thread). inr (
       ∥∥₁_elim some (hlevel ℕ_set) (λ before. ⊎_elim (λ below. absurd (omega (arith, above, below))) (λ both. both.0) before),
       ∥∥₁_elim some (hlevel le_prop) (λ before. ⊎_elim (λ below. absurd (omega (arith, above, below))) (λ both. both.1) before),
     ))
-    (cases_lt a.thread b.thread)
+    (cases_lt name.thread other_name.thread)
 
 in_order_merely : (names : List Name) → ∥ InOrder names ∥₁ → InOrder names
 in_order_merely [] some = tt
 in_order_merely (n ∷ []) some = tt
 in_order_merely (n ∷ m ∷ ns) some = (before_merely n m (∥∥₁_map some (λ order. order.0)), in_order_merely (m ∷ ns) (∥∥₁_map some (λ order. order.1)))
 
-pub placeable_merely : (c : Config) (t : Text) → ∥ IsPlaceable c t ∥₁ → IsPlaceable c t
-placeable_merely c t some = record {
+pub placeable_merely : (config : Config) (text : Text) → ∥ IsPlaceable config text ∥₁ → IsPlaceable config text
+placeable_merely config text some = record {
   threads = ∥∥₁_elim some (hlevel ℕ_set) (λ is. is.threads);
   sixteen = ∥∥₁_elim some (hlevel ℕ_set) (λ is. is.sixteen);
-  in_order = in_order_merely (names_of t) (∥∥₁_map some (λ is. is.in_order));
+  in_order = in_order_merely (names_of text) (∥∥₁_map some (λ is. is.in_order));
   short = λ k below. record {
     refs = ∥∥₁_elim some (hlevel le_prop) (λ is. (is.short k below).refs);
     nums = ∥∥₁_elim some (hlevel le_prop) (λ is. (is.short k below).nums);
   };
-  references = λ k i name below there. contains_merely (names_of t) name (∥∥₁_map some (λ is. is.references k i name below there));
-  roots = λ thread index name low high small there. contains_merely (names_of t) name (∥∥₁_map some (λ is. is.roots thread index name low high small there));
+  references = λ k i name below there. contains_merely (names_of text) name (∥∥₁_map some (λ is. is.references k i name below there));
+  roots = λ thread index name low high small there. contains_merely (names_of text) name (∥∥₁_map some (λ is. is.roots thread index name low high small there));
 }
 
 pub threads_merely : (threads : ℕ) (names : List Name) → ∥ AreOfThreads threads names ∥₁ → AreOfThreads threads names
 threads_merely threads names some = record {
   within = λ n there. ∥∥₁_elim some (hlevel le_prop) (λ are. are.within n there);
   hub_alone = λ n there none.
-      same_name-true n hub (∥∥₁_elim some (hlevel Bool-set) (λ are. ap (λ (x : Name). same_name x hub) (are.hub_alone n there none) ∙ same_name-itself hub));
+      same_name-true n hub (∥∥₁_elim some (hlevel Bool-set) (λ are. ap (λ (name : Name). same_name name hub) (are.hub_alone n there none) ∙ same_name-itself hub));
 }

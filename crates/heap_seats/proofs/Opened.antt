@@ -28,16 +28,16 @@ use Rattle.heap_seats.specs.Known.{HaveRun, HasOnly}
 use Rattle.heap_seats.proofs.Known.{has_seen}
 
 abbrev pub seats_in : Config → ℕ
-seats_in c = seat_count c.mutators c.helpers
+seats_in config = seat_count config.mutators config.helpers
 
 abbrev pub dealt_in : Config → Stage Actor → ℕ → View Actor
-dealt_in c start number = dealt_to (seats_in c) number (whole start.machines)
+dealt_in config start number = dealt_to (seats_in config) number (whole start.machines)
 
-some_of : {A : Type 0} (o : Option A) → is_some o ≡ true → (a : A) × (o ≡ Some a)
+some_of : {A : Type 0} (found : Option A) → is_some found ≡ true → (a : A) × (found ≡ Some a)
 some_of None is = absurd cc
 some_of (Some a) is = (a, refl)
 
-default_or : {A : Type 0} (o : Option A) (d : A) → ((x : A) → o ≡ Some x → x ≡ d) → unwrap_or o d ≡ d
+default_or : {A : Type 0} (found : Option A) (d : A) → ((x : A) → found ≡ Some x → x ≡ d) → unwrap_or found d ≡ d
 default_or None d each = refl
 default_or (Some x) d each = each x refl
 
@@ -47,49 +47,49 @@ empty_merely [] is = refl
 empty_merely (x ∷ xs) is = absurd (∥∥₁_elim is (hlevel) (λ e. cc))
 
 -- of a heap that begins so, with a graph that can be renewed
-module _ (c : Config) (start : Stage Actor) (begins : ∥ BeginsRenewable c start ∥₁) where
-  start_long : length start.machines ≡ seats_in c
+module _ (config : Config) (start : Stage Actor) (begins : ∥ BeginsRenewable config start ∥₁) where
+  start_long : length start.machines ≡ seats_in config
   start_long = ∥∥₁_elim begins (hlevel ℕ_set) (λ some. some.begins.seats)
 
   -- the actor of a number
-  start_there : (number : ℕ) → number < seats_in c → slice_get start.machines number ≡ Some (unwrap_or (slice_get start.machines number) nobody)
+  start_there : (number : ℕ) → number < seats_in config → slice_get start.machines number ≡ Some (unwrap_or (slice_get start.machines number) nobody)
   start_there number inside =
       let long = start_long in
       let there = slice_get-get_or start.machines number nobody (omega (arith, inside, long)) in
-      there ∙ ap (λ (o : Option Actor). Some (unwrap_or o nobody)) (sym there)
+      there ∙ ap (λ (found : Option Actor). Some (unwrap_or found nobody)) (sym there)
 
-  start_calls : (number : ℕ) → number < seats_in c → (unwrap_or (slice_get start.machines number) nobody).calls ≡ []
+  start_calls : (number : ℕ) → number < seats_in config → (unwrap_or (slice_get start.machines number) nobody).calls ≡ []
   start_calls number inside = empty_merely (unwrap_or (slice_get start.machines number) nobody).calls (∥∥₁_map begins (λ some. (some.begins.machines number (unwrap_or (slice_get start.machines number) nobody) (start_there number inside)).calls))
 
   -- is dealt to the bundle of that number
-  dealt_there : (number : ℕ) → number < seats_in c → machine_of (dealt_in c start number) number ≡ Some (unwrap_or (slice_get start.machines number) nobody)
+  dealt_there : (number : ℕ) → number < seats_in config → machine_of (dealt_in config start number) number ≡ Some (unwrap_or (slice_get start.machines number) nobody)
   dealt_there number inside =
-      let same : number % seats_in c ≡ number = mod-eq_of_lt inside in
-      let is : is_dealt_to (seats_in c) number number ≡ true = grind (arith, nat_tests, same) in
-      machine_of-picked (is_dealt_to (seats_in c) number) (whole start.machines) number
-      ∙ ap (λ (b : Bool). if b then machine_of (whole start.machines) number else None) is
+      let same : number % seats_in config ≡ number = mod-eq_of_lt inside in
+      let is : is_dealt_to (seats_in config) number number ≡ true = grind (arith, nat_tests, same) in
+      machine_of-picked (is_dealt_to (seats_in config) number) (whole start.machines) number
+      ∙ ap (λ (holds : Bool). if holds then machine_of (whole start.machines) number else None) is
       ∙ machine_of-whole start.machines number ∙ start_there number inside
 
   -- and no other one
-  dealt_only : (number k : ℕ) (a : Actor) → machine_of (dealt_in c start number) k ≡ Some a → k ≡ number
-  dealt_only number k a there = by_test (is_dealt_to (seats_in c) number k) refl (sym (machine_of-picked (is_dealt_to (seats_in c) number) (whole start.machines) k) ∙ there)
+  dealt_only : (number k : ℕ) (actor : Actor) → machine_of (dealt_in config start number) k ≡ Some actor → k ≡ number
+  dealt_only number k actor there = by_test (is_dealt_to (seats_in config) number k) refl (sym (machine_of-picked (is_dealt_to (seats_in config) number) (whole start.machines) k) ∙ there)
     where
-      by_test : (b : Bool) → is_dealt_to (seats_in c) number k ≡ b → (if b then machine_of (whole start.machines) k else None) ≡ Some a → k ≡ number
+      by_test : (b : Bool) → is_dealt_to (seats_in config) number k ≡ b → (if b then machine_of (whole start.machines) k else None) ≡ Some actor → k ≡ number
       by_test true is here =
-          let within = slice_get_within start.machines k a (sym (machine_of-whole start.machines k) ∙ here) in
+          let within = slice_get_within start.machines k actor (sym (machine_of-whole start.machines k) ∙ here) in
           let long = start_long in
-          let inside : k < seats_in c = omega (arith, within, long) in
-          let same : k % seats_in c ≡ k = mod-eq_of_lt inside in
+          let inside : k < seats_in config = omega (arith, within, long) in
+          let same : k % seats_in config ≡ k = mod-eq_of_lt inside in
           grind (arith, nat_tests, same, is)
       by_test false is here = absurd cc
 
-  module _ (h : Heap) (b : Bundle) (number : ℕ) (fresh : IsFresh h b (dealt_in c start number)) where
+  module _ (heap : Heap) (b : Bundle) (number : ℕ) (fresh : IsFresh heap b (dealt_in config start number)) where
     pub fresh_only : HasOnly b number
     fresh_only k here =
         let a = some_of (machine_of (view_of b) k) (sym (has_seen b k) ∙ here) in
         dealt_only number k a.0 (ap (λ v. machine_of v k) (sym fresh.machines) ∙ a.1)
 
-    module _ (inside : number < seats_in c) where
+    module _ (inside : number < seats_in config) where
       there : machine_of (view_of b) number ≡ Some (unwrap_or (slice_get start.machines number) nobody)
       there = ap (λ v. machine_of v number) fresh.machines ∙ dealt_there number inside
 
@@ -109,58 +109,58 @@ module _ (c : Config) (start : Stage Actor) (begins : ∥ BeginsRenewable c star
       fresh_calls = ap (λ o. (unwrap_or o nobody).calls) there ∙ start_calls number inside
 
 -- its machines stand as in a run of no event
-pub fresh_run : (c : Config) (h : Heap) (b : Bundle) (number : ℕ) → IsFresh h b (dealt_in c (start_of_heap h) number) → HaveRun b
-fresh_run c h b number fresh k a here =
-    let kind = heap_kind (config_in b) in
-    let start : start_in b ≡ start_of_heap h = ap start_of_key fresh.of.key in
-    subst (λ (s : Stage Actor). ∥ HasReached kind s k a ∥₁) (sym start)
-    (reached_picked kind (start_of_heap h) (is_dealt_to (seats_in c) number) (whole (start_of_heap h).machines) (reached_opens kind (start_of_heap h)) k a (ap (λ v. machine_of v k) (sym fresh.machines) ∙ here))
+pub fresh_run : (config : Config) (heap : Heap) (bundle : Bundle) (number : ℕ) → IsFresh heap bundle (dealt_in config (start_of_heap heap) number) → HaveRun bundle
+fresh_run config heap bundle number fresh k a here =
+    let kind = heap_kind (config_in bundle) in
+    let start : start_in bundle ≡ start_of_heap heap = ap start_of_key fresh.of.key in
+    subst (λ (stage : Stage Actor). ∥ HasReached kind stage k a ∥₁) (sym start)
+    (reached_picked kind (start_of_heap heap) (is_dealt_to (seats_in config) number) (whole (start_of_heap heap).machines) (reached_opens kind (start_of_heap heap)) k a (ap (λ v. machine_of v k) (sym fresh.machines) ∙ here))
 
 -- ---- lists
 
-pub get_reversed : {A : Type 0} (xs : List A) (k : ℕ) (x : A) → slice_get (reverse xs) k ≡ Some x → slice_get xs (length xs - 1 - k) ≡ Some x
-get_reversed {A = A} xs k x there =
-    let within = slice_get_within (reverse xs) k x there in
-    let below : k < length xs = omega (arith, within, length-reverse xs) in
-    slice_get-get_or xs (length xs - 1 - k) x (omega (arith, below)) ∙ ap (λ (y : A). Some y) (sym (get_or-reverse xs k x below) ∙ get_or_from_slice_get (reverse xs) k x x there)
+pub get_reversed : {A : Type 0} (xs : List A) (index : ℕ) (x : A) → slice_get (reverse xs) index ≡ Some x → slice_get xs (length xs - 1 - index) ≡ Some x
+get_reversed {A = A} xs index x there =
+    let within = slice_get_within (reverse xs) index x there in
+    let below : index < length xs = omega (arith, within, length-reverse xs) in
+    slice_get-get_or xs (length xs - 1 - index) x (omega (arith, below)) ∙ ap (λ (y : A). Some y) (sym (get_or-reverse xs index x below) ∙ get_or_from_slice_get (reverse xs) index x x there)
 
 pub get_last : {A : Type 0} (xs : List A) (x : A) → slice_get (xs ++ x ∷ []) (length xs) ≡ Some x
 get_last [] x = refl
 get_last (y ∷ ys) x = get_last ys x
 
-pub get_init : {A : Type 0} (xs ys : List A) (k : ℕ) (x : A) → slice_get xs k ≡ Some x → slice_get (xs ++ ys) k ≡ Some x
-get_init [] ys k x there = absurd cc
+pub get_init : {A : Type 0} (xs ys : List A) (index : ℕ) (x : A) → slice_get xs index ≡ Some x → slice_get (xs ++ ys) index ≡ Some x
+get_init [] ys index x there = absurd cc
 get_init (y ∷ xs) ys zero x there = there
-get_init (y ∷ xs) ys (suc k) x there = get_init xs ys k x there
+get_init (y ∷ xs) ys (suc index) x there = get_init xs ys index x there
 
 -- the bundles that are left, the last one for the next seat, and the seats so far
-pub record Opens (c : Config) (h : Heap) (bundles : List Bundle) (seats : List Seat) (number : ℕ) : Type 0 where
-  pub count : length bundles + number ≡ seats_in c
-  pub left : (k : ℕ) (b : Bundle) → slice_get bundles k ≡ Some b → IsFresh h b (dealt_in c (start_of_heap h) (seats_in c - 1 - k))
+pub record Opens (config : Config) (heap : Heap) (bundles : List Bundle) (seats : List Seat) (number : ℕ) : Type 0 where
+  pub count : length bundles + number ≡ seats_in config
+  pub left : (index : ℕ) (bundle : Bundle) → slice_get bundles index ≡ Some bundle → IsFresh heap bundle (dealt_in config (start_of_heap heap) (seats_in config - 1 - index))
   pub long : length seats ≡ number
-  pub each : (k : ℕ) (s : Seat) → slice_get seats k ≡ Some s → IsFreshSeat c h k s
+  pub each : (index : ℕ) (seat : Seat) → slice_get seats index ≡ Some seat → IsFreshSeat config heap index seat
 
-pub opens_first : (c : Config) (h : Heap) (bundles : List Bundle) → length bundles ≡ seats_in c → ((k : ℕ) (b : Bundle) → slice_get bundles k ≡ Some b → IsFresh h b (dealt_in c (start_of_heap h) k)) → Opens c h (reverse bundles) [] 0
-opens_first c h bundles count each = record {
+pub opens_first : (config : Config) (heap : Heap) (bundles : List Bundle) → length bundles ≡ seats_in config → ((index : ℕ) (bundle : Bundle) → slice_get bundles index ≡ Some bundle → IsFresh heap bundle (dealt_in config (start_of_heap heap) index)) → Opens config heap (reverse bundles) [] 0
+opens_first config heap bundles count each = record {
   count = omega (arith, count, length-reverse bundles);
-  left = λ k b there. subst (λ n. IsFresh h b (dealt_in c (start_of_heap h) (n - 1 - k))) count (each (length bundles - 1 - k) b (get_reversed bundles k b there));
+  left = λ index bundle there. subst (λ n. IsFresh heap bundle (dealt_in config (start_of_heap heap) (n - 1 - index))) count (each (length bundles - 1 - index) bundle (get_reversed bundles index bundle there));
   long = refl;
-  each = λ k s there. absurd cc;
+  each = λ index s there. absurd cc;
 }
 
-pub last_fresh : (c : Config) (h : Heap) (before after : List Bundle) (b : Bundle) (seats : List Seat) (number : ℕ) → Opens c h before seats number → before ≡ after ++ b ∷ [] → IsFresh h b (dealt_in c (start_of_heap h) number)
-last_fresh c h before after b seats number opens is =
-    let long : length before ≡ length after + 1 = ap length is ∙ Rattle.std.proofs.lemmas.List.length-append after (b ∷ []) in
-    let which : seats_in c - 1 - length after ≡ number = omega (arith, long, opens.count) in
-    subst (λ n. IsFresh h b (dealt_in c (start_of_heap h) n)) which (opens.left (length after) b (ap (λ xs. slice_get xs (length after)) is ∙ get_last after b))
+pub last_fresh : (config : Config) (heap : Heap) (before after : List Bundle) (bundle : Bundle) (seats : List Seat) (number : ℕ) → Opens config heap before seats number → before ≡ after ++ bundle ∷ [] → IsFresh heap bundle (dealt_in config (start_of_heap heap) number)
+last_fresh config heap before after bundle seats number opens is =
+    let long : length before ≡ length after + 1 = ap length is ∙ Rattle.std.proofs.lemmas.List.length-append after (bundle ∷ []) in
+    let which : seats_in config - 1 - length after ≡ number = omega (arith, long, opens.count) in
+    subst (λ n. IsFresh heap bundle (dealt_in config (start_of_heap heap) n)) which (opens.left (length after) bundle (ap (λ xs. slice_get xs (length after)) is ∙ get_last after bundle))
 
-pub opens_next : (c : Config) (h : Heap) (before after : List Bundle) (b : Bundle) (seats : List Seat) (s : Seat) (number : ℕ) → Opens c h before seats number → before ≡ after ++ b ∷ [] → IsFreshSeat c h number s → Opens c h after (seats ++ s ∷ []) (number + 1)
-opens_next c h before after b seats s number opens is fresh =
-    let long : length before ≡ length after + 1 = ap length is ∙ Rattle.std.proofs.lemmas.List.length-append after (b ∷ []) in
-    let more : length (seats ++ s ∷ []) ≡ length seats + 1 = Rattle.std.proofs.lemmas.List.length-append seats (s ∷ []) in
+pub opens_next : (config : Config) (heap : Heap) (before after : List Bundle) (bundle : Bundle) (seats : List Seat) (seat : Seat) (number : ℕ) → Opens config heap before seats number → before ≡ after ++ bundle ∷ [] → IsFreshSeat config heap number seat → Opens config heap after (seats ++ seat ∷ []) (number + 1)
+opens_next config heap before after bundle seats seat number opens is fresh =
+    let long : length before ≡ length after + 1 = ap length is ∙ Rattle.std.proofs.lemmas.List.length-append after (bundle ∷ []) in
+    let more : length (seats ++ seat ∷ []) ≡ length seats + 1 = Rattle.std.proofs.lemmas.List.length-append seats (seat ∷ []) in
     record {
       count = omega (arith, long, opens.count);
-      left = λ k x there. opens.left k x (ap (λ xs. slice_get xs k) is ∙ get_init after (b ∷ []) k x there);
+      left = λ k x there. opens.left k x (ap (λ xs. slice_get xs k) is ∙ get_init after (bundle ∷ []) k x there);
       long = omega (arith, more, opens.long);
-      each = Rattle.table_heap.proofs.Opened.each_more (λ k x. IsFreshSeat c h k x) seats s number opens.long opens.each fresh;
+      each = Rattle.table_heap.proofs.Opened.each_more (λ k x. IsFreshSeat config heap k x) seats seat number opens.long opens.each fresh;
     }

@@ -20,9 +20,9 @@ free_is AtWork is = absurd cc
 free_is Ended is = absurd cc
 
 pub refused_range : (valid : Bool) (made : ℕ) (state : State) → state ≡ Free → valid ≡ false → Some refused.OutOfRange ≡ refused_command valid made state
-refused_range valid made state free is = sym (ap (refused_command valid made) free ∙ ap (λ (v : Bool). refused_command v made Free) is)
+refused_range valid made state free is = sym (ap (refused_command valid made) free ∙ ap (λ (holds : Bool). refused_command holds made Free) is)
 
 pub refused_none : (valid : Bool) (made : ℕ) (state : State) → state ≡ Free → valid ≡ true → made ≢ most_objects → None ≡ refused_command valid made state
 refused_none valid made state free is few =
     let test : (made == most_objects) ≡ false = grind (arith, nat_tests, few) in
-    sym (ap (refused_command valid made) free ∙ ap (λ (v : Bool). refused_command v made Free) is ∙ ap (λ (t : Bool). if t then Some refused.Spent else None) test)
+    sym (ap (refused_command valid made) free ∙ ap (λ (holds : Bool). refused_command holds made Free) is ∙ ap (λ (holds : Bool). if holds then Some refused.Spent else None) test)

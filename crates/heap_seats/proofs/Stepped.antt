@@ -36,27 +36,27 @@ use Rattle.table_heap.proofs.Said.{done_by}
 use Rattle.heap_seats.specs.Going.{given_by, said_of_step}
 
 -- a mutator that some events lead to has its number as its seat
-seat_found : (k : HeapKey) (number : ℕ) (a : Actor) (order : Order) (got : ℕ) → Finds (heap_kind k.config) (start_of_key k) number a order got → (m : Mutating) → a.machine ≡ mutating m → m.seat ≡ number
-seat_found k number a order got finds m is = begun k (m.seat ≡ number) (hlevel ℕ_set) (λ g begins.
-    let run : Run k.config = run_from k.config (start_of_key k) g begins finds.reached.events in
-    let here : slice_get (ending pause_image k.config run).machines number ≡ Some a = ap (λ s. slice_get s.machines number) finds.reached.ends ∙ finds.here in
-    ((run_sound pause_image heap_pauses k.config run).of_heap.numbers number a m (record { here = here; is = is })).0)
+seat_found : (key : HeapKey) (number : ℕ) (actor : Actor) (order : Order) (got : ℕ) → Finds (heap_kind key.config) (start_of_key key) number actor order got → (mutator : Mutating) → actor.machine ≡ mutating mutator → mutator.seat ≡ number
+seat_found key number actor order got finds mutator is = begun key (mutator.seat ≡ number) (hlevel ℕ_set) (λ g begins.
+    let run : Run key.config = run_from key.config (start_of_key key) g begins finds.reached.events in
+    let here : slice_get (ending pause_image key.config run).machines number ≡ Some actor = ap (λ s. slice_get s.machines number) finds.reached.ends ∙ finds.here in
+    ((run_sound pause_image heap_pauses key.config run).of_heap.numbers number actor mutator (record { here = here; is = is })).0)
 
 -- who gives a reply goes on under no order
-leaves_free : (spot : Spot) (made : ℕ) (order : Order) (command : Command) (r : Reply) → given_at spot ≡ Some r → takes_at spot made order ≡ true → command_by order command ≡ command
-leaves_free (Leave q) made Nothing command r gives takes = refl
-leaves_free (Leave q) made (Begin other) command r gives takes = absurd cc
-leaves_free (Leave q) made End command r gives takes = refl
-leaves_free (Leave q) made (Hint address) command r gives takes = refl
-leaves_free _ made order command r gives takes = absurd cc
+leaves_free : (spot : Spot) (made : ℕ) (order : Order) (command : Command) (reply : Reply) → given_at spot ≡ Some reply → takes_at spot made order ≡ true → command_by order command ≡ command
+leaves_free (Leave q) made Nothing command reply gives takes = refl
+leaves_free (Leave q) made (Begin other) command reply gives takes = absurd cc
+leaves_free (Leave q) made End command reply gives takes = refl
+leaves_free (Leave q) made (Hint address) command reply gives takes = refl
+leaves_free _ made order command reply gives takes = absurd cc
 
 -- the call that a step ends, where it gives this reply
-ended_with : (machine : Machine) (command : Command) (number : ℕ) (order : Order) (r : Reply) → reply_of_step machine ≡ Some r → takes_of machine order ≡ true → ((m : Mutating) → machine ≡ mutating m → m.seat ≡ number)
-    → ended_by command machine ≡ entries_of number (command_by order command) (Some r)
-ended_with (mutating m) command number order r gives takes seat =
-    ap (entries_of m.seat command) gives ∙ ap (λ t. entries_of t command (Some r)) (seat m refl)
-    ∙ ap (λ (k : Command). entries_of number k (Some r)) (sym (leaves_free m.spot m.made order command r gives takes))
-ended_with other command number order r gives takes seat = absurd cc
+ended_with : (machine : Machine) (command : Command) (number : ℕ) (order : Order) (reply : Reply) → reply_of_step machine ≡ Some reply → takes_of machine order ≡ true → ((mutator : Mutating) → machine ≡ mutating mutator → mutator.seat ≡ number)
+    → ended_by command machine ≡ entries_of number (command_by order command) (Some reply)
+ended_with (mutating mutator) command number order reply gives takes seat =
+    ap (entries_of mutator.seat command) gives ∙ ap (λ t. entries_of t command (Some reply)) (seat mutator refl)
+    ∙ ap (λ (command : Command). entries_of number command (Some reply)) (sym (leaves_free mutator.spot mutator.made order command reply gives takes))
+ended_with other command number order reply gives takes seat = absurd cc
 
 -- what is under the number where an order was taken
 pub set_nothing : (v : View Order) (number : ℕ) → unwrap_or (machine_of (slice_set v number (Some Nothing)) number) Nothing ≡ Nothing
@@ -65,10 +65,10 @@ set_nothing (x ∷ xs) zero = refl
 set_nothing (x ∷ xs) (suc number) = set_nothing xs number
 
 -- and where a step was counted
-set_count : (v : View (Counted Actor)) (number count : ℕ) (a : Actor) → machine_of (kept_in_view uncounted_machine v) number ≡ Some a → unwrap_or (machine_of (slice_set (kept_in_view steps_made v) number (Some count)) number) 0 ≡ count
-set_count [] number count a here = absurd cc
-set_count (x ∷ xs) zero count a here = refl
-set_count (x ∷ xs) (suc number) count a here = set_count xs number count a here
+set_count : (v : View (Counted Actor)) (number count : ℕ) (actor : Actor) → machine_of (kept_in_view uncounted_machine v) number ≡ Some actor → unwrap_or (machine_of (slice_set (kept_in_view steps_made v) number (Some count)) number) 0 ≡ count
+set_count [] number count actor here = absurd cc
+set_count (x ∷ xs) zero count actor here = refl
+set_count (x ∷ xs) (suc number) count actor here = set_count xs number count actor here
 
 module _ (old new : Bundle) (number : ℕ) (said : Stepped) (step : IsBundleStep old new number said) where
   -- the machine before and after
@@ -84,7 +84,7 @@ module _ (old new : Bundle) (number : ℕ) (said : Stepped) (step : IsBundleStep
   pub there : machine_of (view_of new) number ≡ Some then_is
   there =
       ap (λ v. machine_of v number) (step.took.view ∙ ap (λ x. slice_set (view_of old) number (Some x)) (kind_took old.config was order step.got))
-      ∙ put_there (λ (x : Actor). x) (view_of old) number was then_is step.took.here
+      ∙ put_there (λ (actor : Actor). actor) (view_of old) number was then_is step.took.here
 
   pub actor_was : unwrap_or (machine_of (view_of old) number) nobody ≡ was
   actor_was = ap (λ o. unwrap_or o nobody) step.took.here
@@ -118,7 +118,7 @@ module _ (old new : Bundle) (number : ℕ) (said : Stepped) (step : IsBundleStep
   answers_then = step.said_is ∙ sym (ap (λ (turn : Bool). if turn then says old.config order (machine_at old number) step.got else stepped.Idle) (ap (λ m. takes_of m order) machine_was ∙ takes))
 
   finds : Finds (heap_kind old.key.value.config) (start_in old) number was order step.got
-  finds = subst (λ (c : Config). Finds (heap_kind c) (start_in old) number was order step.got) (sym old.same_sizes) step.took.finds
+  finds = subst (λ (config : Config). Finds (heap_kind config) (start_in old) number was order step.got) (sym old.same_sizes) step.took.finds
 
   ended : ended_by was.command was.machine ≡ entries_of number (command_by order was.command) (given_by said then_is.machine)
   ended = by_said said said_is
@@ -143,10 +143,10 @@ module _ (old new : Bundle) (number : ℕ) (said : Stepped) (step : IsBundleStep
   pub calls_go : (unwrap_or (machine_of (view_of new) number) nobody).calls
       ≡ (unwrap_or (machine_of (view_of old) number) nobody).calls ++ entries_of number (command_by (order_at old number) (unwrap_or (machine_of (view_of old) number) nobody).command) (given_by said (machine_at new number))
   calls_go =
-      ap (λ a. a.calls) actor_then ∙ calls_then ∙ ap (λ (a : Actor). a.calls ++ entries_of number (command_by order a.command) (given_by said then_is.machine)) (sym actor_was)
-      ∙ ap (λ (m : Machine). (unwrap_or (machine_of (view_of old) number) nobody).calls ++ entries_of number (command_by order (unwrap_or (machine_of (view_of old) number) nobody).command) (given_by said m)) (sym machine_then)
+      ap (λ a. a.calls) actor_then ∙ calls_then ∙ ap (λ (actor : Actor). actor.calls ++ entries_of number (command_by order actor.command) (given_by said then_is.machine)) (sym actor_was)
+      ∙ ap (λ (machine : Machine). (unwrap_or (machine_of (view_of old) number) nobody).calls ++ entries_of number (command_by order (unwrap_or (machine_of (view_of old) number) nobody).command) (given_by said machine)) (sym machine_then)
 
   pub doing_goes : command_by (order_at new number) (unwrap_or (machine_of (view_of new) number) nobody).command ≡ command_by (order_at old number) (unwrap_or (machine_of (view_of old) number) nobody).command
   doing_goes =
-      ap (λ (o : Order). command_by o (unwrap_or (machine_of (view_of new) number) nobody).command) order_then ∙ ap (λ (a : Actor). a.command) actor_then
-      ∙ ap (λ (a : Actor). command_by order a.command) (sym actor_was)
+      ap (λ (order : Order). command_by order (unwrap_or (machine_of (view_of new) number) nobody).command) order_then ∙ ap (λ (actor : Actor). actor.command) actor_then
+      ∙ ap (λ (actor : Actor). command_by order actor.command) (sym actor_was)

@@ -22,59 +22,59 @@ use Rattle.heap_seats.proofs.Joined.{each_here, history_there, machines_more}
 use Rattle.heap_seats.proofs.Opened.{get_last, get_init}
 
 -- a seat's sizes are those of its heap
-config_of_heap : (s : Seat) → config_of s ≡ (heap_shared s).config
-config_of_heap s = sym s.same_config ∙ s.fits.config
+config_of_heap : (seat : Seat) → config_of seat ≡ (heap_shared seat).config
+config_of_heap seat = sym seat.same_config ∙ seat.fits.config
 
 -- its view has a place for each number
-pub places : (s : Seat) → length (bundle_view s.bundle) ≡ seat_count (heap_shared s).config.mutators (heap_shared s).config.helpers
-places s =
-    let b = s.bundle in
-    sym (length-kept machine_in (bundle_view b)) ∙ ap length b.kept ∙ length-kept shown b.machines.items ∙ b.seats ∙ ap (λ (c : Config). seat_count c.mutators c.helpers) s.fits.config
+pub places : (seat : Seat) → length (bundle_view seat.bundle) ≡ seat_count (heap_shared seat).config.mutators (heap_shared seat).config.helpers
+places seat =
+    let b = seat.bundle in
+    sym (length-kept machine_in (bundle_view b)) ∙ ap length b.kept ∙ length-kept shown b.machines.items ∙ b.seats ∙ ap (λ (config : Config). seat_count config.mutators config.helpers) seat.fits.config
 
 -- ---- one more
 
-pub together_more : (before : List Seat) (s : Seat) (old new : Begun) → heap_begun new ≡ heap_begun old → AreTogether before old → heap_shared s ≡ heap_begun old → HaveNot before s.number
-    → view_of new.machines ≡ merged (view_of old.machines) (bundle_view s.bundle) → AreTogether (before ++ s ∷ []) new
-together_more before s old new kept together same absent view = record {
-  machines = machines_more before s (view_of old.machines) (view_of new.machines) together.machines absent view;
+pub together_more : (before : List Seat) (seat : Seat) (old new : Begun) → heap_begun new ≡ heap_begun old → AreTogether before old → heap_shared seat ≡ heap_begun old → HaveNot before seat.number
+    → view_of new.machines ≡ merged (view_of old.machines) (bundle_view seat.bundle) → AreTogether (before ++ seat ∷ []) new
+together_more before seat old new kept together same absent view = record {
+  machines = machines_more before seat (view_of old.machines) (view_of new.machines) together.machines absent view;
   long =
-      ap length view ∙ length-merged (view_of old.machines) (bundle_view s.bundle) (together.long ∙ sym (places s ∙ ap (λ (h : Heap). seat_count h.config.mutators h.config.helpers) same))
-      ∙ together.long ∙ ap (λ (h : Heap). seat_count h.config.mutators h.config.helpers) (sym kept);
+      ap length view ∙ length-merged (view_of old.machines) (bundle_view seat.bundle) (together.long ∙ sym (places seat ∙ ap (λ (heap : Heap). seat_count heap.config.mutators heap.config.helpers) same))
+      ∙ together.long ∙ ap (λ (heap : Heap). seat_count heap.config.mutators heap.config.helpers) (sym kept);
 }
 
-inside : {A : Type 0} (xs : List A) (k : ℕ) (x : A) → slice_get xs k ≡ Some x → k < length xs
-inside [] k x there = absurd cc
+inside : {A : Type 0} (xs : List A) (index : ℕ) (x : A) → slice_get xs index ≡ Some x → index < length xs
+inside [] index x there = absurd cc
 inside (y ∷ ys) zero x there = omega arith
-inside (y ∷ ys) (suc k) x there = let below = inside ys k x there in omega (arith, below)
+inside (y ∷ ys) (suc index) x there = let below = inside ys index x there in omega (arith, below)
 
 first_of : {A : Type 0} (xs : List A) (y x : A) → slice_get xs 0 ≡ Some x → slice_get (xs ++ y ∷ []) 0 ≡ Some x
 first_of xs y x there = get_init xs (y ∷ []) 0 x there
 
-module _ (before : List Seat) (s : Seat) (old new : Begun) (begun : AreBegun before old) (kept : heap_begun new ≡ heap_begun old)
-    (more : AreTogether before old → heap_shared s ≡ heap_begun old → HaveNot before s.number → AreTogether (before ++ s ∷ []) new) where
-  last : slice_get (before ++ s ∷ []) (length before) ≡ Some s
-  last = get_last before s
+module _ (before : List Seat) (seat : Seat) (old new : Begun) (begun : AreBegun before old) (kept : heap_begun new ≡ heap_begun old)
+    (more : AreTogether before old → heap_shared seat ≡ heap_begun old → HaveNot before seat.number → AreTogether (before ++ seat ∷ []) new) where
+  last : slice_get (before ++ seat ∷ []) (length before) ≡ Some seat
+  last = get_last before seat
 
-  no_other : AreNumbered (before ++ s ∷ []) → HaveNot before s.number
+  no_other : AreNumbered (before ++ seat ∷ []) → HaveNot before seat.number
   no_other numbered k t there same =
-      let own : number_of s ≡ length before = numbered (length before) s last in
-      let other : number_of t ≡ k = numbered k t (get_init before (s ∷ []) k t there) in
+      let own : number_of seat ≡ length before = numbered (length before) seat last in
+      let other : number_of t ≡ k = numbered k t (get_init before (seat ∷ []) k t there) in
       let below = inside before k t there in
       absurd (omega (arith, own, other, below, same))
 
-  pub begun_more : AreBegun (before ++ s ∷ []) new
+  pub begun_more : AreBegun (before ++ seat ∷ []) new
   begun_more = record {
     first = begun.first;
-    there = first_of before s begun.first begun.there;
+    there = first_of before seat begun.first begun.there;
     heap = begun.heap ∙ sym kept;
     together = λ one numbered.
-        let init : (k : ℕ) (t : Seat) → slice_get before k ≡ Some t → slice_get (before ++ s ∷ []) k ≡ Some t = λ k t there. get_init before (s ∷ []) k t there in
-        more (begun.together (λ k j t u at by. one k j t u (init k t at) (init j u by)) (λ k t at. numbered k t (init k t at)))
-        (one (length before) 0 s begun.first last (init 0 begun.first begun.there) ∙ begun.heap) (no_other numbered);
+        let init : (index : ℕ) (t : Seat) → slice_get before index ≡ Some t → slice_get (before ++ seat ∷ []) index ≡ Some t = λ index t there. get_init before (seat ∷ []) index t there in
+        more (begun.together (λ index j t u at by. one index j t u (init index t at) (init j u by)) (λ index t at. numbered index t (init index t at)))
+        (one (length before) 0 seat begun.first last (init 0 begun.first begun.there) ∙ begun.heap) (no_other numbered);
   }
 
-pub begun_one : (s : Seat) (b : Begun) → heap_begun b ≡ heap_shared s → AreTogether (s ∷ []) b → AreBegun (s ∷ []) b
-begun_one s b heap together = record { first = s; there = refl; heap = sym heap; together = λ one numbered. together }
+pub begun_one : (seat : Seat) (b : Begun) → heap_begun b ≡ heap_shared seat → AreTogether (seat ∷ []) b → AreBegun (seat ∷ []) b
+begun_one seat b heap together = record { first = seat; there = refl; heap = sym heap; together = λ one numbered. together }
 
 -- ---- all of them
 
@@ -91,26 +91,26 @@ module _ (b : Begun) (seats : List Seat) (given : AreTogether seats b) (all : Ar
         sizes = sizes_begun b;
         start = start_of_heap (heap_begun b);
         config = all.config;
-        begun = λ k s there. ap (λ (h : Heap). start_of_heap h) (all.heap k s there);
+        begun = λ k s there. ap (λ (heap : Heap). start_of_heap heap) (all.heap k s there);
         events = found.0;
         history = found.2;
       }
 
 -- seats that make up a heap are all seats of it
-module _ (h : Heap) (seats : List Seat) (first : Seat) (there : slice_get seats 0 ≡ Some first) (of : heap_shared first ≡ h) (up : MakeUpHeap seats) where
-  heaps : (k : ℕ) (s : Seat) → slice_get seats k ≡ Some s → heap_shared s ≡ h
-  heaps k s here = up.heap k 0 s first here there ∙ of
+module _ (heap : Heap) (seats : List Seat) (first : Seat) (there : slice_get seats 0 ≡ Some first) (of : heap_shared first ≡ heap) (up : MakeUpHeap seats) where
+  heaps : (index : ℕ) (seat : Seat) → slice_get seats index ≡ Some seat → heap_shared seat ≡ heap
+  heaps index seat here = up.heap index 0 seat first here there ∙ of
 
-  sizes : (k : ℕ) (s : Seat) → slice_get seats k ≡ Some s → config_of s ≡ h.config
-  sizes k s here = config_of_heap s ∙ ap (λ (g : Heap). g.config) (heaps k s here)
+  sizes : (index : ℕ) (seat : Seat) → slice_get seats index ≡ Some seat → config_of seat ≡ heap.config
+  sizes index seat here = config_of_heap seat ∙ ap (λ (heap : Heap). heap.config) (heaps index seat here)
 
-  pub all_seats : AreAllSeats h.config h seats
+  pub all_seats : AreAllSeats heap.config heap seats
   all_seats = record {
-    count = sym (up.count 0 first there) ∙ ap (λ (c : Config). seat_count c.mutators c.helpers) (sizes 0 first there);
+    count = sym (up.count 0 first there) ∙ ap (λ (config : Config). seat_count config.mutators config.helpers) (sizes 0 first there);
     config = sizes;
     heap = heaps;
     number = up.number;
   }
 
-  pub all_over : AreOver h.config seats
-  all_over k s here role = up.over k s here (subst (λ (c : Config). (k < c.mutators) ⊎ (k ≡ control_number c)) (sym (sizes k s here)) role)
+  pub all_over : AreOver heap.config seats
+  all_over k s here role = up.over k s here (subst (λ (config : Config). (k < config.mutators) ⊎ (k ≡ control_number config)) (sym (sizes k s here)) role)

@@ -16,18 +16,18 @@ abbrev pub first_machine : Stage Actor → ℕ → Machine
 first_machine start place = (unwrap_or (slice_get start.machines place) nobody).machine
 
 -- a seat before the first event: its machine is that of its number where its heap begins, with no order, no step and no call behind it
-pub record IsFreshSeat (c : Config) (h : Heap) (place : ℕ) (s : Seat) : Type 0 where
-  pub config : config_of s ≡ c
-  pub heap : heap_shared s ≡ h
-  pub number : number_of s ≡ place
-  pub machine : machine_of_seat s ≡ first_machine (start_of_heap h) place
-  pub order : order_in s ≡ Nothing
-  pub steps : steps_in s ≡ 0
-  pub calls : calls_of s ≡ []
+pub record IsFreshSeat (c : Config) (h : Heap) (place : ℕ) (seat : Seat) : Type 0 where
+  pub config : config_of seat ≡ c
+  pub heap : heap_shared seat ≡ h
+  pub number : number_of seat ≡ place
+  pub machine : machine_of_seat seat ≡ first_machine (start_of_heap h) place
+  pub order : order_in seat ≡ Nothing
+  pub steps : steps_in seat ≡ 0
+  pub calls : calls_of seat ≡ []
 
 -- all of one heap that begins so, in the order of their numbers
-pub record AreFreshSeats (c : Config) (start : Stage Actor) (seats : List Seat) : Type 0 where
+pub record AreFreshSeats (config : Config) (start : Stage Actor) (seats : List Seat) : Type 0 where
   pub heap : Heap
   pub begins : start_of_heap heap ≡ start
-  pub count : length seats ≡ seat_count c.mutators c.helpers
-  pub each : (k : ℕ) (s : Seat) → slice_get seats k ≡ Some s → IsFreshSeat c heap k s
+  pub count : length seats ≡ seat_count config.mutators config.helpers
+  pub each : (index : ℕ) (seat : Seat) → slice_get seats index ≡ Some seat → IsFreshSeat config heap index seat

@@ -20,27 +20,27 @@ use Rattle.heap_seats.specs.GivenUp.{AreMachinesOf, IsHistoryOf}
 
 -- any two of them are of one heap
 abbrev pub AreOfOneHeap : List Seat → Type 0
-AreOfOneHeap seats = (k j : ℕ) (s t : Seat) → slice_get seats k ≡ Some s → slice_get seats j ≡ Some t → heap_shared s ≡ heap_shared t
+AreOfOneHeap seats = (index other_index : ℕ) (seat other_seat : Seat) → slice_get seats index ≡ Some seat → slice_get seats other_index ≡ Some other_seat → heap_shared seat ≡ heap_shared other_seat
 
 -- each is at the place of its number
 abbrev pub AreNumbered : List Seat → Type 0
-AreNumbered seats = (k : ℕ) (s : Seat) → slice_get seats k ≡ Some s → number_of s ≡ k
+AreNumbered seats = (index : ℕ) (seat : Seat) → slice_get seats index ≡ Some seat → number_of seat ≡ index
 
 -- They are all seats of one heap, by their numbers, and its mutators and its control have ended.
 pub record MakeUpHeap (seats : List Seat) : Type 0 where
   pub some : 0 < length seats
   pub heap : AreOfOneHeap seats
   pub number : AreNumbered seats
-  pub count : (k : ℕ) (s : Seat) → slice_get seats k ≡ Some s → seat_count (config_of s).mutators (config_of s).helpers ≡ length seats
-  pub over : (k : ℕ) (s : Seat) → slice_get seats k ≡ Some s → (k < (config_of s).mutators) ⊎ (k ≡ control_number (config_of s)) → state_in s ≡ Ended
+  pub count : (index : ℕ) (seat : Seat) → slice_get seats index ≡ Some seat → seat_count (config_of seat).mutators (config_of seat).helpers ≡ length seats
+  pub over : (index : ℕ) (seat : Seat) → slice_get seats index ≡ Some seat → (index < (config_of seat).mutators) ⊎ (index ≡ control_number (config_of seat)) → state_in seat ≡ Ended
 
 -- They are of one configuration and of one start, and some events from there have the history of these seats, from each graph with which their heap may
 -- have begun.
 pub record HaveHistory (seats : List Seat) : Type 0 where
   pub sizes : Config
   pub start : Stage Actor
-  pub config : (k : ℕ) (s : Seat) → slice_get seats k ≡ Some s → config_of s ≡ sizes
-  pub begun : (k : ℕ) (s : Seat) → slice_get seats k ≡ Some s → start_of_seat s ≡ start
+  pub config : (index : ℕ) (seat : Seat) → slice_get seats index ≡ Some seat → config_of seat ≡ sizes
+  pub begun : (index : ℕ) (seat : Seat) → slice_get seats index ≡ Some seat → start_of_seat seat ≡ start
   pub events : List (Event Order)
   pub history : OfEachBegun sizes start (IsHistoryOf sizes start seats events)
 

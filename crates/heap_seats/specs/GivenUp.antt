@@ -35,17 +35,17 @@ start_closing closing = start_of_heap (heap_closing closing)
 
 -- none of them has this number
 abbrev pub HaveNot : List Seat → ℕ → Type 0
-HaveNot seats number = (k : ℕ) (s : Seat) → slice_get seats k ≡ Some s → number_of s ≢ number
+HaveNot seats number = (index : ℕ) (seat : Seat) → slice_get seats index ≡ Some seat → number_of seat ≢ number
 
 -- The view has the machine of each of these seats, under its number, and no other.
 pub record AreMachinesOf (seats : List Seat) (view : View Actor) : Type 0 where
-  pub each : (k : ℕ) (s : Seat) → slice_get seats k ≡ Some s → machine_of view (number_of s) ≡ Some (actor_in s)
+  pub each : (index : ℕ) (seat : Seat) → slice_get seats index ≡ Some seat → machine_of view (number_of seat) ≡ Some (actor_in seat)
   pub only : (number : ℕ) → HaveNot seats number → machine_of view number ≡ None
 
 -- The bundle has the machines of these seats of one heap.
-pub record AreJoined (h : Heap) (seats : List Seat) (b : Bundle) : Type 0 where
-  pub of : IsBundleOf b h
-  pub machines : AreMachinesOf seats (view_of b)
+pub record AreJoined (heap : Heap) (seats : List Seat) (bundle : Bundle) : Type 0 where
+  pub of : IsBundleOf bundle heap
+  pub machines : AreMachinesOf seats (view_of bundle)
 
 -- these are the seats that are given up
 abbrev pub AreGivenUp : List Seat → Closing → Type 0
@@ -54,13 +54,13 @@ AreGivenUp seats closing = AreJoined (heap_closing closing) seats closing.togeth
 -- all seats of one heap, in the order of their numbers
 pub record AreAllSeats (c : Config) (h : Heap) (seats : List Seat) : Type 0 where
   pub count : length seats ≡ seat_count c.mutators c.helpers
-  pub config : (k : ℕ) (s : Seat) → slice_get seats k ≡ Some s → config_of s ≡ c
-  pub heap : (k : ℕ) (s : Seat) → slice_get seats k ≡ Some s → heap_shared s ≡ h
-  pub number : (k : ℕ) (s : Seat) → slice_get seats k ≡ Some s → number_of s ≡ k
+  pub config : (index : ℕ) (seat : Seat) → slice_get seats index ≡ Some seat → config_of seat ≡ c
+  pub heap : (index : ℕ) (seat : Seat) → slice_get seats index ≡ Some seat → heap_shared seat ≡ h
+  pub number : (index : ℕ) (seat : Seat) → slice_get seats index ≡ Some seat → number_of seat ≡ index
 
 -- each mutator and the control have ended
 abbrev pub AreOver : Config → List Seat → Type 0
-AreOver c seats = (k : ℕ) (s : Seat) → slice_get seats k ≡ Some s → (k < c.mutators) ⊎ (k ≡ control_number c) → state_in s ≡ Ended
+AreOver config seats = (mutator : ℕ) (seat : Seat) → slice_get seats mutator ≡ Some seat → (mutator < config.mutators) ⊎ (mutator ≡ control_number config) → state_in seat ≡ Ended
 
 -- all seats of a heap are given up, by their numbers, and it is over
 pub record MayEndHeap (closing : Closing) : Type 0 where
@@ -71,19 +71,19 @@ pub record MayEndHeap (closing : Closing) : Type 0 where
 
 -- From this graph the history of these events is legal, and each allocation that it refuses was crowded out. Each of its entries is a mutator's, and
 -- the part of each mutator is the calls of its seat: each call stands there once, in the order in which the seat was answered, and no other.
-pub record IsHistoryOf (c : Config) (start : Stage Actor) (seats : List Seat) (events : List (Event Order)) (first : Graph) : Type 0 where
-  pub legal : IsLegalFrom c start events first
-  pub entries : All (IsSettled c.mutators) (past_of c start events)
-  pub parts : (k : ℕ) (s : Seat) → slice_get seats k ≡ Some s → k < c.mutators → of_thread (past_of c start events) (k + 1) ≡ calls_of s
+pub record IsHistoryOf (config : Config) (start : Stage Actor) (seats : List Seat) (events : List (Event Order)) (first : Graph) : Type 0 where
+  pub legal : IsLegalFrom config start events first
+  pub entries : All (IsSettled config.mutators) (past_of config start events)
+  pub parts : (mutator : ℕ) (seat : Seat) → slice_get seats mutator ≡ Some seat → mutator < config.mutators → of_thread (past_of config start events) (mutator + 1) ≡ calls_of seat
 
 -- Some events lead from where the heap began to just the words and machines that are left, and their history is that of the seats, from each graph
 -- with which the heap may have begun.
-pub record HaveOneHistory (c : Config) (start : Stage Actor) (seats : List Seat) (left : Left) : Type 0 where
+pub record HaveOneHistory (config : Config) (start : Stage Actor) (seats : List Seat) (left : Left) : Type 0 where
   pub events : List (Event Order)
-  pub ends : led c start events ≡ closed.stage_of left
-  pub history : OfEachBegun c start (IsHistoryOf c start seats events)
+  pub ends : led config start events ≡ closed.stage_of left
+  pub history : OfEachBegun config start (IsHistoryOf config start seats events)
 
 -- the machines that are left are those of these seats
 pub record AreMachinesLeft (seats : List Seat) (left : Left) : Type 0 where
   pub count : length (closed.machines_of left) ≡ length seats
-  pub each : (k : ℕ) (s : Seat) → slice_get seats k ≡ Some s → slice_get (closed.machines_of left) k ≡ Some (actor_in s)
+  pub each : (index : ℕ) (seat : Seat) → slice_get seats index ≡ Some seat → slice_get (closed.machines_of left) index ≡ Some (actor_in seat)

@@ -22,15 +22,15 @@ use Rattle.heap_seats.specs.Histories.{past_of, IsLegalFrom, OfEachBegun}
 use Rattle.heap_seats.specs.Seats.{config_of, number_of, start_of_seat, actor_in, machine_of_seat, order_in, steps_in, calls_of, doing_in, is_mutator, state_in, IsSameSeat}
 
 -- Calls of a thread are its part of the history of these events, which is legal from a graph.
-pub record IsThreadsPart (c : Config) (start : Stage Actor) (events : List (Event Order)) (thread : ℕ) (calls : List Entry) (first : Graph) : Type 0 where
-  pub legal : IsLegalFrom c start events first
-  pub part : of_thread (past_of c start events) thread ≡ calls
+pub record IsThreadsPart (config : Config) (start : Stage Actor) (events : List (Event Order)) (thread : ℕ) (calls : List Entry) (first : Graph) : Type 0 where
+  pub legal : IsLegalFrom config start events first
+  pub part : of_thread (past_of config start events) thread ≡ calls
 
 -- They are its part of the history of some events from where its heap began. That history is legal, and each allocation that it
 -- refuses was crowded out, from each graph with which the heap may have begun.
-pub record ArePartOfHistory (c : Config) (start : Stage Actor) (thread : ℕ) (calls : List Entry) : Type 0 where
+pub record ArePartOfHistory (config : Config) (start : Stage Actor) (thread : ℕ) (calls : List Entry) : Type 0 where
   pub events : List (Event Order)
-  pub history : OfEachBegun c start (IsThreadsPart c start events thread calls)
+  pub history : OfEachBegun config start (IsThreadsPart config start events thread calls)
 
 -- nothing has changed
 pub record IsAsItWas (old new : Seat) : Type 0 where
@@ -46,7 +46,7 @@ given_by _ machine = None
 
 -- what a machine says of a step under an order that finds this word: that it is idle, where it takes no such order
 abbrev pub said_of_step : Config → Order → Machine → ℕ → Stepped
-said_of_step c order machine got = if takes_of machine order then says c order machine got else stepped.Idle
+said_of_step config order machine got = if takes_of machine order then says config order machine got else stepped.Idle
 
 -- It has made one step, which found a word and said so. Where that ended its call, the call with its reply is the last of its calls, and
 -- else they are as they were.
@@ -63,13 +63,13 @@ pub record HasStepped (old new : Seat) (said : Stepped) : Type 0 where
 
 -- what a machine is after steps that found these words, the first under this order and the others under none
 abbrev pub machine_through : Config → Order → List ℕ → Machine → Machine
-machine_through c order [] machine = machine
-machine_through c order (got ∷ words) machine = machine_through c Nothing words (machine_after pause_image c order got machine)
+machine_through config order [] machine = machine
+machine_through config order (got ∷ words) machine = machine_through config Nothing words (machine_after pause_image config order got machine)
 
 -- what each of them says
 abbrev pub said_through : Config → Order → List ℕ → Machine → List Stepped
-said_through c order [] machine = []
-said_through c order (got ∷ words) machine = said_of_step c order machine got ∷ said_through c Nothing words (machine_after pause_image c order got machine)
+said_through config order [] machine = []
+said_through config order (got ∷ words) machine = said_of_step config order machine got ∷ said_through config Nothing words (machine_after pause_image config order got machine)
 
 -- the order that is left after them
 abbrev pub order_left : Order → List ℕ → Order

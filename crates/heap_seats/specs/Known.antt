@@ -6,8 +6,8 @@ use Rattle.table_heap.specs.Core.{heap_kind}
 use Rattle.table_heap.specs.State.{config_in, start_in, view_of, HasMachine}
 
 abbrev pub HaveRun : Bundle → Type 0
-HaveRun b = AreReached (heap_kind (config_in b)) (start_in b) (view_of b)
+HaveRun bundle = AreReached (heap_kind (config_in bundle)) (start_in bundle) (view_of bundle)
 
 -- it has no machine but the one of this number
 abbrev pub HasOnly : Bundle → ℕ → Type 0
-HasOnly b number = (k : ℕ) → HasMachine b k → k ≡ number
+HasOnly bundle number = (k : ℕ) → HasMachine bundle k → k ≡ number

@@ -30,45 +30,45 @@ pub record IsRenewedGraph (threads : ℕ) (before now : Graph) : Type 0 where
 
 -- why a graph keeps its names: an object is pinned, the objects do not fit, or memory was refused
 abbrev pub KeepsNames : Renewal → Config → Graph → Type 0
-KeepsNames Renewed c before = ⊥
-KeepsNames Pinned c before = HoldsNothing c.mutators before → ⊥
-KeepsNames TooSmall c before = DoesNotFit c before
-KeepsNames NoMemory c before = ⊤
+KeepsNames Renewed config before = ⊥
+KeepsNames Pinned config before = HoldsNothing config.mutators before → ⊥
+KeepsNames TooSmall config before = DoesNotFit config before
+KeepsNames NoMemory config before = ⊤
 
 -- what the graph has become, by what came of the renewal
 abbrev pub Becomes : Renewal → Config → Graph → Graph → Type 0
-Becomes Renewed c before now = IsRenewedGraph c.mutators before now
-Becomes why c before now = (now ≡ before) × KeepsNames why c before
+Becomes Renewed config before now = IsRenewedGraph config.mutators before now
+Becomes why config before now = (now ≡ before) × KeepsNames why config before
 
 -- a start begins what has become of a graph
-pub record BeginsAfter (c : Config) (start : Stage Actor) (said : Renewal) (before : Graph) : Type 0 where
+pub record BeginsAfter (config : Config) (start : Stage Actor) (said : Renewal) (before : Graph) : Type 0 where
   pub graph : Graph
-  pub begins : Begins c start graph
-  pub becomes : Becomes said c before graph
+  pub begins : Begins config start graph
+  pub becomes : Becomes said config before graph
 
 -- Seats before the first event of a heap of these sizes, which begins with what has become of each graph of which this is so. Its control has not
 -- ended, so its helpers have work.
-pub record BeginSeats (c : Config) (Of : Graph → Type 0) (said : Renewal) (seats : List Seat) : Type 0 where
+pub record BeginSeats (config : Config) (Of : Graph → Type 0) (said : Renewal) (seats : List Seat) : Type 0 where
   pub start : Stage Actor
-  pub fresh : AreFreshSeats c start seats
-  pub goes_on : view c start.words End ≡ 0
-  pub graphs : (before : Graph) → Of before → BeginsAfter c start said before
+  pub fresh : AreFreshSeats config start seats
+  pub goes_on : view config start.words End ≡ 0
+  pub graphs : (before : Graph) → Of before → BeginsAfter config start said before
 
 -- some run leads to a stage, and the graph after it is this one
-pub record IsGraphLeft (c : Config) (left : Stage Actor) (g : Graph) : Type 0 where
-  pub run : Run c
-  pub ends : ending pause_image c run ≡ left
-  pub graph : graph_after pause_image c run ≡ g
+pub record IsGraphLeft (config : Config) (left : Stage Actor) (g : Graph) : Type 0 where
+  pub run : Run config
+  pub ends : ending pause_image config run ≡ left
+  pub graph : graph_after pause_image config run ≡ g
 
 -- Some events from where a heap began have the history of its seats, and these seats go on with the graph of the stage to which they lead.
-pub record AreFollowed (c : Config) (old : Stage Actor) (seats : List Seat) (said : Renewal) (following : List Seat) : Type 0 where
+pub record AreFollowed (config : Config) (old : Stage Actor) (seats : List Seat) (said : Renewal) (following : List Seat) : Type 0 where
   pub events : List (Event Order)
-  pub history : OfEachBegun c old (IsHistoryOf c old seats events)
-  pub goes_on : BeginSeats c (IsGraphLeft c (led c old events)) said following
+  pub history : OfEachBegun config old (IsHistoryOf config old seats events)
+  pub goes_on : BeginSeats config (IsGraphLeft config (led config old events)) said following
 
 -- each machine has ended
 abbrev pub AllEnded : List Seat → Type 0
-AllEnded seats = (k : ℕ) (s : Seat) → slice_get seats k ≡ Some s → state_in s ≡ Ended
+AllEnded seats = (index : ℕ) (seat : Seat) → slice_get seats index ≡ Some seat → state_in seat ≡ Ended
 
 -- these seats are given up, which are all of a heap, by their numbers, and each has ended
 pub record AreToBeRenewed (seats : List Seat) (closing : Closing) : Type 0 where

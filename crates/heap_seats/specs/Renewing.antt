@@ -13,12 +13,12 @@ abbrev pub sizes_for : RenewalRoom → Config
 sizes_for room = room.config
 
 -- a stage was left with a graph whose objects can be named anew
-pub record IsLeftRenewable (c : Config) (left : Stage Actor) : Type 0 where
+pub record IsLeftRenewable (config : Config) (left : Stage Actor) : Type 0 where
   pub graph : Graph
-  pub is_left : IsGraphLeft c left graph
-  pub renewable : IsRenewable c.mutators graph
+  pub is_left : IsGraphLeft config left graph
+  pub renewable : IsRenewable config.mutators graph
 
 -- a graph was left which keeps its names
-pub record IsLeftKept (c : Config) (left : Stage Actor) (why : Renewal) (g : Graph) : Type 0 where
-  pub is_left : IsGraphLeft c left g
-  pub keeps : KeepsNames why c g
+pub record IsLeftKept (config : Config) (left : Stage Actor) (why : Renewal) (graph : Graph) : Type 0 where
+  pub is_left : IsGraphLeft config left graph
+  pub keeps : KeepsNames why config graph

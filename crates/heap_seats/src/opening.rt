@@ -32,7 +32,7 @@ pub fn open_seats(alloc: Global, config: Config) -> Result<Vec<Seat>, NoMemory>
 /// wanted, no machine is inside, and no mutator has ended. The error is that memory was refused, and then nothing is left of it.
 pub fn open_seats_from(alloc: Global, image: Image, counts: Vec<u32>) -> Result<Vec<Seat>, NoMemory>
     requires counts { length counts.items ≡ (images.config_of image).mutators }
-    requires begins { ∥ ((g : Graph) × CanBeginFrom (images.config_of image) (images.memory_of image) counts.items g × IsRenewable (images.config_of image).mutators g) ∥₁ }
+    requires begins { ∥ ((graph : Graph) × CanBeginFrom (images.config_of image) (images.memory_of image) counts.items graph × IsRenewable (images.config_of image).mutators graph) ∥₁ }
     ensures { IfOk result (λ seats. AreFreshSeats (images.config_of image) (stage_from (images.config_of image) (images.words_of image) counts.items) seats.items) }
 {
     let config = image.config();

@@ -52,7 +52,7 @@ fn renewed_seats(alloc: Global, config: Config, text: &GraphText) -> Result<Vec<
     requires whole { IsPlaceable config text.now }
     requires names { AreOfThreads config.mutators (names_of text.now) }
     ensures renewed { IfOk result (λ seats. BeginSeats config (ShowsGraph text.now config.mutators) Renewal.Renewed seats.items) }
-    ensures kept { IfErr result (λ why. (g : Graph) → ShowsGraph text.now config.mutators g → KeepsNames why config g) }
+    ensures kept { IfErr result (λ why. (graph : Graph) → ShowsGraph text.now config.mutators graph → KeepsNames why config graph) }
 {
     match renew(alloc, config, text) {
         Ok(Renewed::Heap(image, counts)) => match open_seats_from(alloc, image, counts) {
@@ -108,9 +108,9 @@ fn go_on(alloc: Global, room: RenewalRoom, mut closed: Closed) -> Option<Followi
 
 // Notes how many objects each mutator has made.
 fn count_made(together: &Bundle, counts: &mut Vec<u32>)
-    requires { (t : ℕ) → t < length counts.old.items → HasMachine together.now t }
+    requires { (index : ℕ) → index < length counts.old.items → HasMachine together.now index }
     ensures count { length counts.new.items ≡ length counts.old.items }
-    ensures each { (t : ℕ) → t < length counts.old.items → slice_index counts.new.items t ≡ made_of_machine (machine_at together.now t) }
+    ensures each { (index : ℕ) → index < length counts.old.items → slice_index counts.new.items index ≡ made_of_machine (machine_at together.now index) }
 {
     for mutator in 0..counts.len() {
         counts[mutator] = together.made(mutator);

@@ -40,8 +40,8 @@ use Rattle.shen_core.specs.Runs.{WordsShow}
 use Rattle.heap_machines.specs.FromImage.{CanBeginFrom}
 
 -- who rests is not in the heap
-resting_outside : (m : Machine) → is_resting m ≡ true → is_within (standing_of m) ≡ false
-resting_outside (mutating m) rest = by_spot m.spot rest
+resting_outside : (machine : Machine) → is_resting machine ≡ true → is_within (standing_of machine) ≡ false
+resting_outside (mutating machine) rest = by_spot machine.spot rest
   where
     by_spot : (spot : Spot) → is_between_calls spot ≡ true → is_within (standing_at spot) ≡ false
     by_spot Rest rest = refl
@@ -52,57 +52,57 @@ resting_outside _ rest = absurd cc
 
 -- the graph of words that represent one, and how many objects the first thread has made in it
 abbrev pub LeftGraph : Config → (Word → ℕ) → ℕ → Type 0
-LeftGraph c memory made = (g : Graph) × Represents c memory g (λ t. nothing) × (g.count 1 ≡ made)
+LeftGraph config memory made = (graph : Graph) × Represents config memory graph (λ t. nothing) × (graph.count 1 ≡ made)
 
-module _ (c : Config) (words : List ℕ) (machines : List Machine) (free : ℕ) (one : c.mutators ≡ 1) (alone : c.helpers ≡ 0) (rest : is_resting (slice_index_or machines 0 no_machine) ≡ true)
-    (control : slice_index_or machines 1 no_machine ≡ fresh_control free) (run : Run c) (shows : WordsShow words machines (ending pause_image c run)) where
+module _ (config : Config) (words : List ℕ) (machines : List Machine) (free : ℕ) (one : config.mutators ≡ 1) (alone : config.helpers ≡ 0) (rest : is_resting (slice_index_or machines 0 no_machine) ≡ true)
+    (control : slice_index_or machines 1 no_machine ≡ fresh_control free) (run : Run config) (shows : WordsShow words machines (ending pause_image config run)) where
   abbrev s : Stage Actor
-  s = ending pause_image c run
+  s = ending pause_image config run
 
-  abbrev sound : IsSound c run.graph s (history_in pause_image c run)
-  sound = run_sound pause_image heap_pauses c run
+  abbrev sound : IsSound config run.graph s (history_in pause_image config run)
+  sound = run_sound pause_image heap_pauses config run
 
-  rests : (t : ℕ) → t < c.mutators → is_resting (slice_index_or machines t no_machine) ≡ true
-  rests t below =
-      let first : 0 ≡ t = omega (arith, below, one) in
+  rests : (mutator : ℕ) → mutator < config.mutators → is_resting (slice_index_or machines mutator no_machine) ≡ true
+  rests mutator below =
+      let first : 0 ≡ mutator = omega (arith, below, one) in
       subst (λ (k : ℕ). is_resting (slice_index_or machines k no_machine) ≡ true) first rest
 
-  last : 1 ≡ control_number c
+  last : 1 ≡ control_number config
   last = omega (arith, one, alone)
 
-  its_control : slice_index_or machines (control_number c) no_machine ≡ fresh_control free
+  its_control : slice_index_or machines (control_number config) no_machine ≡ fresh_control free
   its_control = subst (λ (k : ℕ). slice_index_or machines k no_machine ≡ fresh_control free) last control
 
   -- the machine of an actor
-  machine_is : (number : ℕ) (a : Actor) → slice_get s.machines number ≡ Some a → a.machine ≡ slice_index_or machines number no_machine
-  machine_is number a here =
-      let there : slice_get machines number ≡ Some a.machine =
+  machine_is : (number : ℕ) (actor : Actor) → slice_get s.machines number ≡ Some actor → actor.machine ≡ slice_index_or machines number no_machine
+  machine_is number actor here =
+      let there : slice_get machines number ≡ Some actor.machine =
       ap (λ ms. slice_get ms number) (sym shows.machines_are) ∙ slice_get-map (λ b. b.machine) s.machines number ∙ ap (option_map (λ b. b.machine)) here in
-      sym (get_or_from_slice_get machines number a.machine no_machine there)
+      sym (get_or_from_slice_get machines number actor.machine no_machine there)
 
   -- the control stores no image
-  is_calm : image_of (slice_get s.machines (control_number c)) ≡ None
-  is_calm = by_actor (slice_get s.machines (control_number c)) refl
+  is_calm : image_of (slice_get s.machines (control_number config)) ≡ None
+  is_calm = by_actor (slice_get s.machines (control_number config)) refl
     where
-      by_actor : (o : Option Actor) → slice_get s.machines (control_number c) ≡ o → image_of o ≡ None
+      by_actor : (found : Option Actor) → slice_get s.machines (control_number config) ≡ found → image_of found ≡ None
       by_actor None here = refl
-      by_actor (Some a) here = ap image_read (machine_is (control_number c) a here) ∙ ap image_read its_control
+      by_actor (Some a) here = ap image_read (machine_is (control_number config) a here) ∙ ap image_read its_control
 
   -- the control is the one with which a heap begins
-  control_is : (number : ℕ) (a : Actor) (k : Controlling) → slice_get s.machines number ≡ Some a → a.machine ≡ controlling k → controlling k ≡ fresh_control free
-  control_is number a k here is =
-      let at : number ≡ c.mutators + c.helpers = subst (HasNumber c number) is (sound.of_heap.roles number a here) in
-      sym is ∙ machine_is number a here ∙ ap (λ (n : ℕ). slice_index_or machines n no_machine) at ∙ its_control
+  control_is : (number : ℕ) (actor : Actor) (control : Controlling) → slice_get s.machines number ≡ Some actor → actor.machine ≡ controlling control → controlling control ≡ fresh_control free
+  control_is number actor control here is =
+      let at : number ≡ config.mutators + config.helpers = subst (HasNumber config number) is (sound.of_heap.roles number actor here) in
+      sym is ∙ machine_is number actor here ∙ ap (λ (n : ℕ). slice_index_or machines n no_machine) at ∙ its_control
 
-  at_rest : IsAtRest c s
+  at_rest : IsAtRest config s
   at_rest = record {
     calls = λ number a m mutator. ap is_resting (sym mutator.is) ∙ ap is_resting (machine_is number a mutator.here) ∙ rests number (sound.of_heap.numbers number a m mutator).1;
     outside = λ number a here other.
         let within : number < length s.machines = slice_get_within s.machines number a here in
         let seats = sound.of_heap.machines in
-        let below : number < c.mutators = omega (arith, within, seats, other) in
+        let below : number < config.mutators = omega (arith, within, seats, other) in
         resting_outside a.machine (ap is_resting (machine_is number a here) ∙ rests number below);
-    no_unit = λ number a k here is. ap (λ (m : Machine). works_of m) (control_is number a k here is);
+    no_unit = λ number a k here is. ap (λ (machine : Machine). works_of machine) (control_is number a k here is);
     no_image = λ number a k here is. ap image_read (control_is number a k here is);
   }
     where
@@ -111,35 +111,35 @@ module _ (c : Config) (words : List ℕ) (machines : List Machine) (free : ℕ) 
       works_of _ = false
 
   -- the words of the table count
-  counts : settled c s ≡ view c s.words
-  counts = ap (settled_by c s.words) is_calm
+  counts : settled config s ≡ view config s.words
+  counts = ap (settled_by config s.words) is_calm
 
-  represents : Represents c (view c words) (graph_after pause_image c run) (λ t. nothing)
-  represents = subst (λ (ws : List ℕ). Represents c (view c ws) (graph_after pause_image c run) (λ t. nothing)) shows.words_are
-      (subst (λ (memory : Word → ℕ). Represents c memory (graph_after pause_image c run) (λ t. nothing)) counts (run_rests pause_image heap_pauses c run.start run.graph run.begins run.events at_rest))
+  represents : Represents config (view config words) (graph_after pause_image config run) (λ t. nothing)
+  represents = subst (λ (ws : List ℕ). Represents config (view config ws) (graph_after pause_image config run) (λ t. nothing)) shows.words_are
+      (subst (λ (memory : Word → ℕ). Represents config memory (graph_after pause_image config run) (λ t. nothing)) counts (run_rests pause_image heap_pauses config run.start run.graph run.begins run.events at_rest))
 
-  made : (graph_after pause_image c run).count 1 ≡ made_of_machine (slice_index_or machines 0 no_machine)
+  made : (graph_after pause_image config run).count 1 ≡ made_of_machine (slice_index_or machines 0 no_machine)
   made =
-      let below : 0 < c.mutators = omega (arith, one) in
+      let below : 0 < config.mutators = omega (arith, one) in
       let there = sound.of_heap.mutators 0 below in
       let seat : there.mutator.seat ≡ 0 = (sound.of_heap.numbers 0 there.actor there.mutator there.here).0 in
-      subst (λ (n : ℕ). (graph_after pause_image c run).count (n + 1) ≡ there.mutator.made) seat (sound.stands.mutators 0 there.actor there.mutator there.here).made
+      subst (λ (n : ℕ). (graph_after pause_image config run).count (n + 1) ≡ there.mutator.made) seat (sound.stands.mutators 0 there.actor there.mutator there.here).made
       ∙ ap made_of_machine (sym there.here.is) ∙ ap made_of_machine (machine_is 0 there.actor there.here.here)
 
-  pub left : LeftGraph c (view c words) (made_of_machine (slice_index_or machines 0 no_machine))
-  left = (graph_after pause_image c run, represents, made)
+  pub left : LeftGraph config (view config words) (made_of_machine (slice_index_or machines 0 no_machine))
+  left = (graph_after pause_image config run, represents, made)
 
 -- a full collection leaves the graph
-nothing_only : (a : Asking) → Answers nothing a → a ≡ nothing
+nothing_only : (asking : Asking) → Answers nothing asking → asking ≡ nothing
 nothing_only nothing is = refl
 nothing_only _ is = absurd is
 
-pub left_holds : (c : Config) (memory : Word → ℕ) (made : ℕ) → LeftGraph c memory made → HoldsSized c memory
-left_holds c memory made left = representing_holds c memory left.0 (λ t. nothing) left.1
+pub left_holds : (config : Config) (memory : Word → ℕ) (made : ℕ) → LeftGraph config memory made → HoldsSized config memory
+left_holds config memory made left = representing_holds config memory left.0 (λ t. nothing) left.1
 
-pub left_collected : (c : Config) (memory : Word → ℕ) (made : ℕ) → LeftGraph c memory made → LeftGraph c (full c memory) made
-left_collected c memory made left =
-    let paused = from_copies c memory left.0 (λ t. nothing) (by_copies c memory left.0 (λ t. nothing) left.1) in
+pub left_collected : (config : Config) (memory : Word → ℕ) (made : ℕ) → LeftGraph config memory made → LeftGraph config (full config memory) made
+left_collected config memory made left =
+    let paused = from_copies config memory left.0 (λ t. nothing) (by_copies config memory left.0 (λ t. nothing) left.1) in
     let stands = paused.stands in (
       left.0,
       record {
@@ -150,7 +150,7 @@ left_collected c memory made left =
         usable = stands.usable;
         none = stands.none;
         uncarved = stands.uncarved;
-        asked = λ t below. subst (IsAsked (full c memory) stands.block left.0.count t) (nothing_only (paused.asked_then t) (paused.answers t below)) (stands.asked t below);
+        asked = λ t below. subst (IsAsked (full config memory) stands.block left.0.count t) (nothing_only (paused.asked_then t) (paused.answers t below)) (stands.asked t below);
         heard = λ t refs nums below is. absurd cc;
         promised_to = stands.promised_to;
         unmarking = stands.unmarking;
@@ -166,8 +166,8 @@ abbrev pub opened : (Word → ℕ) → Word → ℕ
 opened memory = write (write (write memory Pause 0) (State 0) 0) Left 1
 
 -- a heap can begin from the words then
-pub left_can_begin : (c : Config) (memory : Word → ℕ) (made : ℕ) → c.mutators ≡ 1 → c.helpers ≡ 0 → (left : LeftGraph c memory made) → CanBeginFrom c (opened memory) (made ∷ []) left.0
-left_can_begin c memory made one alone left =
+pub left_can_begin : (config : Config) (memory : Word → ℕ) (made : ℕ) → config.mutators ≡ 1 → config.helpers ≡ 0 → (left : LeftGraph config memory made) → CanBeginFrom config (opened memory) (made ∷ []) left.0
+left_can_begin config memory made one alone left =
     let r = left.1 in
     record {
       stands = record {
@@ -195,30 +195,30 @@ left_can_begin c memory made one alone left =
     }
 
 -- a machine of a heap before the first event
-opened_machine : (c : Config) (machines : List Machine) (number : ℕ) → map (λ a. a.machine) (opening c).machines ≡ machines → number < seat_count c.mutators c.helpers
-    → slice_index_or machines number no_machine ≡ opening_machine c number
-opened_machine c machines number is below =
-    let there : slice_get machines number ≡ Some (opening_machine c number) =
-    ap (λ ms. slice_get ms number) (sym is) ∙ slice_get-map (λ b. b.machine) (opening c).machines number ∙ ap (option_map (λ b. b.machine)) (first_actor c number below) in
-    get_or_from_slice_get machines number (opening_machine c number) no_machine there
+opened_machine : (config : Config) (machines : List Machine) (number : ℕ) → map (λ a. a.machine) (opening config).machines ≡ machines → number < seat_count config.mutators config.helpers
+    → slice_index_or machines number no_machine ≡ opening_machine config number
+opened_machine config machines number is below =
+    let there : slice_get machines number ≡ Some (opening_machine config number) =
+    ap (λ ms. slice_get ms number) (sym is) ∙ slice_get-map (λ b. b.machine) (opening config).machines number ∙ ap (option_map (λ b. b.machine)) (first_actor config number below) in
+    get_or_from_slice_get machines number (opening_machine config number) no_machine there
 
-module _ (c : Config) (machines : List Machine) (is : map (λ a. a.machine) (opening c).machines ≡ machines) (one : c.mutators ≡ 1) (alone : c.helpers ≡ 0) where
-  first_is : slice_index_or machines 0 no_machine ≡ opening_machine c 0
-  first_is = opened_machine c machines 0 is (omega arith)
+module _ (config : Config) (machines : List Machine) (is : map (λ a. a.machine) (opening config).machines ≡ machines) (one : config.mutators ≡ 1) (alone : config.helpers ≡ 0) where
+  first_is : slice_index_or machines 0 no_machine ≡ opening_machine config 0
+  first_is = opened_machine config machines 0 is (omega arith)
 
   pub opened_rests : is_resting (slice_index_or machines 0 no_machine) ≡ true
-  opened_rests = ap is_resting first_is ∙ first_rests c 0 (omega (arith, one))
+  opened_rests = ap is_resting first_is ∙ first_rests config 0 (omega (arith, one))
 
   pub opened_begins : may_begin (slice_index_or machines 0 no_machine) ≡ true
-  opened_begins = ap may_begin first_is ∙ first_free_to_begin c 0 (omega (arith, one))
+  opened_begins = ap may_begin first_is ∙ first_free_to_begin config 0 (omega (arith, one))
 
   pub opened_made : made_of_machine (slice_index_or machines 0 no_machine) ≡ 0
-  opened_made = ap made_of_machine first_is ∙ first_made c 0
+  opened_made = ap made_of_machine first_is ∙ first_made config 0
 
-  pub opened_control : slice_index_or machines 1 no_machine ≡ fresh_control (first_free c.regions)
+  pub opened_control : slice_index_or machines 1 no_machine ≡ fresh_control (first_free config.regions)
   opened_control =
-      let mutator : nat_lt 1 c.mutators ≡ false = grind (arith, nat_tests, one) in
-      let helper : nat_lt 1 (c.mutators + c.helpers) ≡ false = grind (arith, nat_tests, one, alone) in
-      opened_machine c machines 1 is (omega (arith, one, alone))
-      ∙ ap (λ (b : Bool). if b then mutating (fresh_mutator 1) else (if nat_lt 1 (c.mutators + c.helpers) then fresh_helper 1 else fresh_control (first_free c.regions))) mutator
-      ∙ ap (λ (b : Bool). if b then fresh_helper 1 else fresh_control (first_free c.regions)) helper
+      let mutator : nat_lt 1 config.mutators ≡ false = grind (arith, nat_tests, one) in
+      let helper : nat_lt 1 (config.mutators + config.helpers) ≡ false = grind (arith, nat_tests, one, alone) in
+      opened_machine config machines 1 is (omega (arith, one, alone))
+      ∙ ap (λ (holds : Bool). if holds then mutating (fresh_mutator 1) else (if nat_lt 1 (config.mutators + config.helpers) then fresh_helper 1 else fresh_control (first_free config.regions))) mutator
+      ∙ ap (λ (holds : Bool). if holds then fresh_helper 1 else fresh_control (first_free config.regions)) helper

@@ -26,52 +26,52 @@ use Rattle.step_core.specs.Machines.{may_begin, made_of_machine}
 use Rattle.step_core.specs.Opening.{opening_machine, opening_actor}
 
 -- it has its machines still
-has_in_view : (b : Bundle) (number : ℕ) → is_some (machine_of (machines_of b) number) ≡ is_some (machine_of (view_of b) number)
-has_in_view b number = ap (λ v. is_some (machine_of v number)) (sym b.kept) ∙ kept_some machine_in (view_of b) number
+has_in_view : (bundle : Bundle) (number : ℕ) → is_some (machine_of (machines_of bundle) number) ≡ is_some (machine_of (view_of bundle) number)
+has_in_view bundle number = ap (λ v. is_some (machine_of v number)) (sym bundle.kept) ∙ kept_some machine_in (view_of bundle) number
 
 pub same_has : (old new : Bundle) (number : ℕ) → IsSameBundle old new → HasMachine old number → HasMachine new number
 same_has old new number same has = has_in_view new number ∙ same.numbers.here number ∙ sym (has_in_view old number) ∙ has
 
 -- a machine before the first event
-fresh_at : (c : Config) (b : Bundle) (bundles k number : ℕ) → view_of b ≡ dealt_to bundles k (whole (heap_opening c).machines) → number < seat_count c.mutators c.helpers → number % bundles ≡ k
-    → machine_of (machines_of b) number ≡ Some (opening_machine c number)
-fresh_at c b bundles k number fresh within dealt =
-    let here : machine_of (view_of b) number ≡ Some (opening_actor c number) =
-    ap (λ v. machine_of v number) fresh ∙ machine_of-picked (is_dealt_to bundles k) (whole (heap_opening c).machines) number
-    ∙ ap (λ t. if t then machine_of (whole (heap_opening c).machines) number else None) test
-    ∙ machine_of-whole (heap_opening c).machines number ∙ first_actor c number within in
-    ap (λ v. machine_of v number) (sym b.kept) ∙ machine_of-kept machine_in (view_of b) number ∙ ap (kept_one machine_in) here
+fresh_at : (config : Config) (bundle : Bundle) (bundles k number : ℕ) → view_of bundle ≡ dealt_to bundles k (whole (heap_opening config).machines) → number < seat_count config.mutators config.helpers → number % bundles ≡ k
+    → machine_of (machines_of bundle) number ≡ Some (opening_machine config number)
+fresh_at config bundle bundles k number fresh within dealt =
+    let here : machine_of (view_of bundle) number ≡ Some (opening_actor config number) =
+    ap (λ v. machine_of v number) fresh ∙ machine_of-picked (is_dealt_to bundles k) (whole (heap_opening config).machines) number
+    ∙ ap (λ t. if t then machine_of (whole (heap_opening config).machines) number else None) test
+    ∙ machine_of-whole (heap_opening config).machines number ∙ first_actor config number within in
+    ap (λ v. machine_of v number) (sym bundle.kept) ∙ machine_of-kept machine_in (view_of bundle) number ∙ ap (kept_one machine_in) here
   where
     test : (number % bundles == k) ≡ true
     test = grind (arith, nat_tests, dealt)
 
 -- a bundle of the heap whose mutator has not begun a call
-pub record CanCall (h : Heap) (b : Bundle) (number : ℕ) : Type 0 where
-  pub of : IsBundleOf b h
-  pub has : HasMachine b number
-  pub rest : may_begin (machine_at b number) ≡ true
-  pub made : made_of_machine (machine_at b number) ≡ 0
+pub record CanCall (heap : Heap) (bundle : Bundle) (number : ℕ) : Type 0 where
+  pub of : IsBundleOf bundle heap
+  pub has : HasMachine bundle number
+  pub rest : may_begin (machine_at bundle number) ≡ true
+  pub made : made_of_machine (machine_at bundle number) ≡ 0
 
-pub fresh_can_call : (c : Config) (h : Heap) (b : Bundle) (bundles k number : ℕ) → IsFresh h b (dealt_to bundles k (whole (heap_opening c).machines)) → number < c.mutators → number % bundles ≡ k → CanCall h b number
-fresh_can_call c h b bundles k number fresh within dealt =
-    let is = fresh_at c b bundles k number fresh.machines (omega (arith, within)) dealt in
+pub fresh_can_call : (config : Config) (heap : Heap) (bundle : Bundle) (bundles k number : ℕ) → IsFresh heap bundle (dealt_to bundles k (whole (heap_opening config).machines)) → number < config.mutators → number % bundles ≡ k → CanCall heap bundle number
+fresh_can_call config heap bundle bundles k number fresh within dealt =
+    let is = fresh_at config bundle bundles k number fresh.machines (omega (arith, within)) dealt in
     record {
       of = fresh.of;
       has = ap is_some is;
-      rest = ap (λ o. may_begin (unwrap_or o no_machine)) is ∙ first_free_to_begin c number within;
-      made = ap (λ o. made_of_machine (unwrap_or o no_machine)) is ∙ first_made c number;
+      rest = ap (λ o. may_begin (unwrap_or o no_machine)) is ∙ first_free_to_begin config number within;
+      made = ap (λ o. made_of_machine (unwrap_or o no_machine)) is ∙ first_made config number;
     }
 
 -- a bundle of all machines of a heap has them before the first event, and later
-pub fresh_has_all : (c : Config) (h : Heap) (b after : Bundle) → IsFresh h b (dealt_to 1 0 (whole (heap_opening c).machines)) → config_of h ≡ c → IsSameBundle b after → HasAll after
-fresh_has_all c h b after fresh config same number below =
-    let within : number < seat_count c.mutators c.helpers = subst (λ (k : Config). number < seat_count k.mutators k.helpers) (same.config ∙ fresh.of.config ∙ config) below in
-    same_has b after number same (ap is_some (fresh_at c b 1 0 number fresh.machines within (omega arith)))
+pub fresh_has_all : (other_config : Config) (heap : Heap) (bundle after : Bundle) → IsFresh heap bundle (dealt_to 1 0 (whole (heap_opening other_config).machines)) → config_of heap ≡ other_config → IsSameBundle bundle after → HasAll after
+fresh_has_all other_config heap bundle after fresh config same number below =
+    let within : number < seat_count other_config.mutators other_config.helpers = subst (λ (config : Config). number < seat_count config.mutators config.helpers) (same.config ∙ fresh.of.config ∙ config) below in
+    same_has bundle after number same (ap is_some (fresh_at other_config bundle 1 0 number fresh.machines within (omega arith)))
 
 -- it can start with scripts that a mutator can be given
-pub fresh_can_run : (c : Config) (h : Heap) (b : Bundle) (scripts : List (List Command)) (jobs : Jobs) → IsFresh h b (dealt_to 1 0 (whole (heap_opening c).machines)) → length scripts ≡ c.mutators → length scripts ≤ 8
-    → All IsRunnable scripts → jobs ≡ opened scripts → CanStart b jobs
-fresh_can_run c h b scripts jobs fresh count few runnable is = fresh_can_start h b c 1 0 jobs fresh (λ number below dealt.
+pub fresh_can_run : (config : Config) (heap : Heap) (bundle : Bundle) (scripts : List (List Command)) (jobs : Jobs) → IsFresh heap bundle (dealt_to 1 0 (whole (heap_opening config).machines)) → length scripts ≡ config.mutators → length scripts ≤ 8
+    → All IsRunnable scripts → jobs ≡ opened scripts → CanStart bundle jobs
+fresh_can_run config heap bundle scripts jobs fresh count few runnable is = fresh_can_start heap bundle config 1 0 jobs fresh (λ number below dealt.
     let within : number < length scripts = omega (arith, below, count) in
     let script = slice_index_or scripts number [] in (
       script,

@@ -38,27 +38,27 @@ use Rattle.heap_words.specs.declared.config.Config.{Config}
 use Rattle.heap_tests.specs.Ordered.{IsOrdered, MayAt, IsPlaying}
 
 -- what is put where it is
-set_same : {R : Type 0} (v : View R) (k : ℕ) (x : R) → machine_of v k ≡ Some x → slice_set v k (Some x) ≡ v
+set_same : {R : Type 0} (view : View R) (k : ℕ) (x : R) → machine_of view k ≡ Some x → slice_set view k (Some x) ≡ view
 set_same [] k x there = refl
 set_same (y ∷ ys) zero x there = ap (λ z. z ∷ ys) (sym there)
 set_same (y ∷ ys) (suc k) x there = ap (λ zs. y ∷ zs) (set_same ys k x there)
 
-set_there : {R : Type 0} (v : View R) (k : ℕ) (x y : R) → machine_of v k ≡ Some x → machine_of (slice_set v k (Some y)) k ≡ Some y
+set_there : {R : Type 0} (view : View R) (k : ℕ) (x y : R) → machine_of view k ≡ Some x → machine_of (slice_set view k (Some y)) k ≡ Some y
 set_there [] k x y there = absurd cc
 set_there (z ∷ zs) zero x y there = refl
 set_there (z ∷ zs) (suc k) x y there = set_there zs k x y there
 
 -- the order of a machine of a bundle
-pub order_there : (b : Bundle) (number : ℕ) → HasMachine b number → machine_of (orders_of b) number ≡ Some (order_at b number)
-order_there b number has =
-    let seen = in_view b number has in
-    let found = kept_here shown b.machines.items number seen.0.machine (in_memory b number seen.0 seen.1) in
-    let is = shows_here order_of b.machines.items number found.0 found.1 in
+pub order_there : (bundle : Bundle) (number : ℕ) → HasMachine bundle number → machine_of (orders_of bundle) number ≡ Some (order_at bundle number)
+order_there bundle number has =
+    let seen = in_view bundle number has in
+    let found = kept_here shown bundle.machines.items number seen.0.machine (in_memory bundle number seen.0 seen.1) in
+    let is = shows_here order_of bundle.machines.items number found.0 found.1 in
     is ∙ sym (ap (λ o. Some (unwrap_or o Nothing)) is)
 
 -- it has none between two turns
-no_order_at : (b : Bundle) (number : ℕ) → HasMachine b number → HasNoOrder b → order_at b number ≡ Nothing
-no_order_at b number has none = none number (order_at b number) (order_there b number has)
+no_order_at : (bundle : Bundle) (number : ℕ) → HasMachine bundle number → HasNoOrder bundle → order_at bundle number ≡ Nothing
+no_order_at bundle number has none = none number (order_at bundle number) (order_there bundle number has)
 
 -- its machines are those of its view
 pub same_machines : (old new : Bundle) → view_of new ≡ view_of old → machines_of new ≡ machines_of old
@@ -71,17 +71,17 @@ same_at old new number same = ap (λ v. unwrap_or (machine_of v number) no_machi
 goes_on : (machine : Machine) (next : Option Command) → takes_of machine Nothing ≡ true → order_for next machine ≡ Some Nothing
 goes_on machine next takes = by_may (may_begin machine) refl
   where
-    by_may : (b : Bool) → may_begin machine ≡ b → order_for next machine ≡ Some Nothing
+    by_may : (holds : Bool) → may_begin machine ≡ holds → order_for next machine ≡ Some Nothing
     by_may true may = absurd (false≢true (sym (rest_takes machine (begins_at_rest machine may)) ∙ takes))
-    by_may false busy = turn_in_call machine next busy ∙ ap (λ (t : Bool). if◌then◌else◌ {A = Option Order} t (Some Nothing) None) takes
+    by_may false busy = turn_in_call machine next busy ∙ ap (λ (holds : Bool). if◌then◌else◌ {A = Option Order} holds (Some Nothing) None) takes
 
-pub unordered : (b : Bundle) (next : Option Command) (number : ℕ) → HasMachine b number → HasNoOrder b → IsOrdered b b next number
-unordered b next number has none =
-    let order = no_order_at b number has none in
+pub unordered : (bundle : Bundle) (next : Option Command) (number : ℕ) → HasMachine bundle number → HasNoOrder bundle → IsOrdered bundle bundle next number
+unordered bundle next number has none =
+    let order = no_order_at bundle number has none in
     record {
-      unmoved = record { same = same_bundle b; view = refl; steps = refl; greyed = refl };
-      turn = λ turn. goes_on (machine_at b number) next (sym (ap (takes_of (machine_at b number)) order) ∙ turn) ∙ ap (λ o. Some o) (sym order);
-      orders = λ turn. sym (set_same (orders_of b) number (order_at b number) (order_there b number has));
+      unmoved = record { same = same_bundle bundle; view = refl; steps = refl; greyed = refl };
+      turn = λ turn. goes_on (machine_at bundle number) next (sym (ap (takes_of (machine_at bundle number)) order) ∙ turn) ∙ ap (λ o. Some o) (sym order);
+      orders = λ turn. sym (set_same (orders_of bundle) number (order_at bundle number) (order_there bundle number has));
       idle = λ none. refl;
     }
 
@@ -100,26 +100,26 @@ ordered old new next number has may unmoved orders takes =
     }
 
 -- a machine between two calls is a mutator, whose next command is that of its script
-pub next_between : (b : Bundle) (jobs : Jobs) (number : ℕ) → HasMachine b number → may_begin (machine_at b number) ≡ true → next_for b.config jobs number ≡ next_of jobs number
-next_between b jobs number has may =
-    let seen = in_view b number has in
-    let free : may_begin seen.0.machine ≡ true = ap may_begin (sym (at_number b number seen.0 seen.1)) ∙ may in
+pub next_between : (bundle : Bundle) (jobs : Jobs) (number : ℕ) → HasMachine bundle number → may_begin (machine_at bundle number) ≡ true → next_for bundle.config jobs number ≡ next_of jobs number
+next_between bundle jobs number has may =
+    let seen = in_view bundle number has in
+    let free : may_begin seen.0.machine ≡ true = ap may_begin (sym (at_number bundle number seen.0 seen.1)) ∙ may in
     let role : is_mutating seen.0.machine ≡ true = rest_is_mutating seen.0.machine (begins_at_rest seen.0.machine free) in
-    ap (λ t. if t then next_of jobs number else None) (sym (role_at b number seen.0 seen.1) ∙ role)
+    ap (λ t. if t then next_of jobs number else None) (sym (role_at bundle number seen.0 seen.1) ∙ role)
 
 -- and has a script
-pub script_between : (b : Bundle) (jobs : Jobs) (number : ℕ) → AreAtWork b jobs → HasMachine b number → may_begin (machine_at b number) ≡ true → HasScript jobs number
-script_between b jobs number work has may =
-    let seen = in_view b number has in
-    let free : may_begin seen.0.machine ≡ true = ap may_begin (sym (at_number b number seen.0 seen.1)) ∙ may in
+pub script_between : (bundle : Bundle) (jobs : Jobs) (number : ℕ) → AreAtWork bundle jobs → HasMachine bundle number → may_begin (machine_at bundle number) ≡ true → HasScript jobs number
+script_between bundle jobs number work has may =
+    let seen = in_view bundle number has in
+    let free : may_begin seen.0.machine ≡ true = ap may_begin (sym (at_number bundle number seen.0 seen.1)) ∙ may in
     let role : is_mutating seen.0.machine ≡ true = rest_is_mutating seen.0.machine (begins_at_rest seen.0.machine free) in
-    has_script b jobs number work has (sym (role_at b number seen.0 seen.1) ∙ role)
+    has_script bundle jobs number work has (sym (role_at bundle number seen.0 seen.1) ∙ role)
 
 -- whose next command can be given
-pub command_between : (b : Bundle) (jobs : Jobs) (number : ℕ) (command : Command) → AreAtWork b jobs → HasMachine b number → may_begin (machine_at b number) ≡ true → next_of jobs number ≡ Some command
-    → IsValid command × (made_of_machine (machine_at b number) < most_objects)
-command_between b jobs number command work has may next =
-    subst (λ o. IfSome o (λ command. IsValid command × (made_of_machine (machine_at b number) < most_objects))) (next_between b jobs number has may ∙ next) (command_fits b jobs number work has may)
+pub command_between : (bundle : Bundle) (jobs : Jobs) (number : ℕ) (command : Command) → AreAtWork bundle jobs → HasMachine bundle number → may_begin (machine_at bundle number) ≡ true → next_of jobs number ≡ Some command
+    → IsValid command × (made_of_machine (machine_at bundle number) < most_objects)
+command_between bundle jobs number command work has may next =
+    subst (λ o. IfSome o (λ command. IsValid command × (made_of_machine (machine_at bundle number) < most_objects))) (next_between bundle jobs number has may ∙ next) (command_fits bundle jobs number work has may)
 
 -- a machine whose reply is at hand stands between two calls
 pub replied_may : (machine : Machine) → reply_in machine ≢ None → may_begin machine ≡ true
@@ -142,18 +142,18 @@ others_stay old new next number said made k other =
     ap (λ v. machine_of v k) (view_is old new next number said made)
     ∙ machine_of-set (view_of old) number (was old new next number said made) (Some (then_is old new next number said made)) (here old new next number said made) k
     ∙ ap (λ t. if t then Some (then_is old new next number said made) else machine_of (view_of old) k) test in
-    let seen : (b : Bundle) → machine_of (machines_of b) k ≡ kept_one machine_in (machine_of (view_of b) k) = λ b. ap (λ v. machine_of v k) (sym b.kept) ∙ machine_of-kept machine_in (view_of b) k in
+    let seen : (bundle : Bundle) → machine_of (machines_of bundle) k ≡ kept_one machine_in (machine_of (view_of bundle) k) = λ bundle. ap (λ v. machine_of v k) (sym bundle.kept) ∙ machine_of-kept machine_in (view_of bundle) k in
     ap (λ o. unwrap_or o no_machine) (seen new ∙ ap (kept_one machine_in) put ∙ sym (seen old))
 
 -- ---- whether or not the machine made a step
 
-turn_or_not : (b : Bool) → (b ≡ true) ⊎ (b ≡ false)
+turn_or_not : (holds : Bool) → (holds ≡ true) ⊎ (holds ≡ false)
 turn_or_not true = inl refl
 turn_or_not false = inr refl
 
 -- the bundle has its machines still
-has_in_view : (b : Bundle) (number : ℕ) → is_some (machine_of (machines_of b) number) ≡ is_some (machine_of (view_of b) number)
-has_in_view b number = ap (λ v. is_some (machine_of v number)) (sym b.kept) ∙ kept_some machine_in (view_of b) number
+has_in_view : (bundle : Bundle) (number : ℕ) → is_some (machine_of (machines_of bundle) number) ≡ is_some (machine_of (view_of bundle) number)
+has_in_view bundle number = ap (λ v. is_some (machine_of v number)) (sym bundle.kept) ∙ kept_some machine_in (view_of bundle) number
 
 pub has_same : (old new : Bundle) (number : ℕ) → IsSameBundle old new → HasMachine old number → HasMachine new number
 has_same old new number same has = has_in_view new number ∙ same.numbers.here number ∙ sym (has_in_view old number) ∙ has
@@ -182,27 +182,27 @@ module _ (old mid new : Bundle) (jobs : Jobs) (number : ℕ) (said : Stepped) (o
     pub can_note : HasScript jobs number × (length (replies_of jobs number) < length (script_in jobs number))
     can_note = can_tell old new (next_for old.config jobs number) number said (turned turn) jobs refl work done
 
-    pub works_noted : (r : Reply) → reply_in (machine_at new number) ≡ Some r → AreAtWork new (with_reply jobs number r)
-    works_noted r at_hand = turned_noted old new (next_for old.config jobs number) number said (turned turn) jobs refl work r done at_hand
+    pub works_noted : (reply : Reply) → reply_in (machine_at new number) ≡ Some reply → AreAtWork new (with_reply jobs number reply)
+    works_noted reply at_hand = turned_noted old new (next_for old.config jobs number) number said (turned turn) jobs refl work reply done at_hand
 
 -- ---- which machines are known to stand between two calls
 
-pub may_set : (mutators number : ℕ) (between : List Bool) (old new : Bundle) (was set : Bool) → slice_get between number ≡ Some was → MayAt mutators between old → ((k : ℕ) → k ≢ number → machine_at new k ≡ machine_at old k)
+pub may_set : (mutators number : ℕ) (between : List Bool) (old new : Bundle) (was set : Bool) → slice_get between number ≡ Some was → MayAt mutators between old → ((index : ℕ) → index ≢ number → machine_at new index ≡ machine_at old index)
     → (set ≡ true → may_begin (machine_at new number) ≡ true) → MayAt mutators (slice_set between number set) new
-may_set mutators number between old new was set here may others done k below flag = by_test (k == number) refl
+may_set mutators number between old new was set here may others done index below flag = by_test (index == number) refl
   where
-    found : (if k == number then Some set else slice_get between k) ≡ Some true
-    found = sym (slice_get-set between number was set here k) ∙ flag
+    found : (if index == number then Some set else slice_get between index) ≡ Some true
+    found = sym (slice_get-set between number was set here index) ∙ flag
 
-    by_test : (t : Bool) → (k == number) ≡ t → may_begin (machine_at new k) ≡ true
+    by_test : (holds : Bool) → (index == number) ≡ holds → may_begin (machine_at new index) ≡ true
     by_test true is =
-        let same : k ≡ number = grind (arith, nat_tests) in
+        let same : index ≡ number = grind (arith, nat_tests) in
         let sets : Some set ≡ Some true = rw is at found in
         subst (λ j. may_begin (machine_at new j) ≡ true) (sym same) (done (cc sets))
     by_test false is =
-        let other : k ≢ number = grind (arith, nat_tests) in
-        let there : slice_get between k ≡ Some true = rw is at found in
-        ap may_begin (others k other) ∙ may k below there
+        let other : index ≢ number = grind (arith, nat_tests) in
+        let there : slice_get between index ≡ Some true = rw is at found in
+        ap may_begin (others index other) ∙ may index below there
 
 pub may_kept : (mutators number : ℕ) (between : List Bool) (old new : Bundle) → mutators ≤ number → MayAt mutators between old → ((k : ℕ) → k ≢ number → machine_at new k ≡ machine_at old k) → MayAt mutators between new
 may_kept mutators number between old new past may others k below flag =
@@ -210,10 +210,10 @@ may_kept mutators number between old new past may others k below flag =
     ap may_begin (others k other) ∙ may k below flag
 
 -- what is known of a heap before a turn is known of it behind it
-pub plays_on : (h : Heap) (old new : Bundle) (before after : Jobs) (c : Config) (between flags : List Bool) → IsPlaying h old before c between → IsSameBundle old new → AreAtWork new after → MayAt c.mutators flags new → length flags ≡ 8
-    → IsPlaying h new after c flags
-plays_on h old new before after c between flags playing same works rests long = record {
-  of = still_of old new h same playing.of;
+pub plays_on : (heap : Heap) (old new : Bundle) (before after : Jobs) (config : Config) (between flags : List Bool) → IsPlaying heap old before config between → IsSameBundle old new → AreAtWork new after → MayAt config.mutators flags new → length flags ≡ 8
+    → IsPlaying heap new after config flags
+plays_on heap old new before after config between flags playing same works rests long = record {
+  of = still_of old new heap same playing.of;
   works = works;
   same = same.config ∙ playing.same;
   here = λ k within. has_same old new k same (playing.here k within);

@@ -19,13 +19,13 @@ pub record IsOrdered (old new : Bundle) (next : Option Command) (number : ℕ) :
 
 -- of so many machines, those whose flags are set may begin a call
 abbrev pub MayAt : ℕ → List Bool → Bundle → Type 0
-MayAt mutators between b = (k : ℕ) → k < mutators → slice_get between k ≡ Some true → may_begin (machine_at b k) ≡ true
+MayAt mutators between bundle = (index : ℕ) → index < mutators → slice_get between index ≡ Some true → may_begin (machine_at bundle index) ≡ true
 
 -- a heap, its machines in one bundle, the work of its threads, and which of these are known to stand between two calls
-pub record IsPlaying (heap : Heap) (b : Bundle) (jobs : Jobs) (c : Config) (between : List Bool) : Type 0 where
-  pub of : IsBundleOf b heap
-  pub works : AreAtWork b jobs
-  pub same : config_in b ≡ c
-  pub here : (k : ℕ) → k < seat_count c.mutators c.helpers → HasMachine b k
-  pub rests : MayAt c.mutators between b
+pub record IsPlaying (heap : Heap) (bundle : Bundle) (jobs : Jobs) (config : Config) (between : List Bool) : Type 0 where
+  pub of : IsBundleOf bundle heap
+  pub works : AreAtWork bundle jobs
+  pub same : config_in bundle ≡ config
+  pub here : (seat : ℕ) → seat < seat_count config.mutators config.helpers → HasMachine bundle seat
+  pub rests : MayAt config.mutators between bundle
   pub long : length between ≡ 8

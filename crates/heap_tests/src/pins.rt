@@ -297,9 +297,9 @@ fn takes(
     reply: Reply,
 ) -> Result<bool, Fail>
     requires threads { threads_of graph.old ≡ 2 }
-    requires count { (t : ℕ) → (graph_of graph.old).count t < 2 ^ 32 - 1 }
+    requires count { (thread : ℕ) → (graph_of graph.old).count thread < 2 ^ 32 - 1 }
     ensures threads { threads_of graph.new ≡ 2 }
-    ensures made { OnOk result ((t : ℕ) → (graph_of graph.new).count t ≤ (graph_of graph.old).count t + 1) }
+    ensures made { OnOk result ((thread : ℕ) → (graph_of graph.new).count thread ≤ (graph_of graph.old).count thread + 1) }
 {
     if thread == 0 || thread > 2 || !command.is_valid() {
         return Ok(false);
@@ -321,9 +321,9 @@ const MANY: usize = 100;
 // Whether each reply of a history may be given, one after the other. The graph is the one after them then.
 fn takes_all(alloc: Global, graph: &mut PlainGraph, history: &History) -> Result<bool, Fail>
     requires threads { threads_of graph.old ≡ 2 }
-    requires count { (t : ℕ) → (graph_of graph.old).count t ≡ 0 }
+    requires count { (thread : ℕ) → (graph_of graph.old).count thread ≡ 0 }
     ensures threads { threads_of graph.new ≡ 2 }
-    ensures made { OnOk result ((t : ℕ) → (graph_of graph.new).count t ≤ 100) }
+    ensures made { OnOk result ((thread : ℕ) → (graph_of graph.new).count thread ≤ 100) }
 {
     for at in 0..history.len().min(MANY) {
         let entry = history.entry(at);

@@ -15,88 +15,88 @@ use Rattle.heap_words.specs.Place.{code_of, same_place}
 abbrev pub row_of : Place → ℕ
 row_of place = tag_of the_type place
 
-pub row_of_lt : (p : Place) → row_of p < 89
+pub row_of_lt : (place : Place) → row_of place < 89
 row_of_lt E1 = lit< tt
 row_of_lt _ = lit< tt
 
 -- each place stands in its row, with its code
-pub row-row_of : (p : Place) → get_or CODES (row_of p) (E1, []) ≡ (p, code_of p)
+pub row-row_of : (place : Place) → get_or CODES (row_of place) (E1, []) ≡ (place, code_of place)
 row-row_of E1 = refl
 row-row_of _ = refl
 
 -- the halves of a test
-first_true : (a b : Bool) → (a && b) ≡ true → a ≡ true
-first_true true b e = refl
-first_true false b e = e
+first_true : (holds other_holds : Bool) → (holds && other_holds) ≡ true → holds ≡ true
+first_true true other_holds e = refl
+first_true false other_holds e = e
 
-second_true : (a b : Bool) → (a && b) ≡ true → b ≡ true
-second_true true b e = e
-second_true false b e = cc
+second_true : (holds other_holds : Bool) → (holds && other_holds) ≡ true → other_holds ≡ true
+second_true true other_holds e = e
+second_true false other_holds e = cc
 
 -- whether each row of a table has a place with its code
 abbrev spells : List (Place × List ℕ) → Bool
 spells [] = true
 spells (row ∷ rows) = bytes_eq (code_of row.0) row.1 && spells rows
 
-code_of-row_in : (rows : List (Place × List ℕ)) (k : ℕ) → spells rows ≡ true → k < length rows
-    → code_of (get_or rows k (E1, [])).0 ≡ (get_or rows k (E1, [])).1
-code_of-row_in [] k good below = absurd (omega arith)
+code_of-row_in : (rows : List (Place × List ℕ)) (index : ℕ) → spells rows ≡ true → index < length rows
+    → code_of (get_or rows index (E1, [])).0 ≡ (get_or rows index (E1, [])).1
+code_of-row_in [] index good below = absurd (omega arith)
 code_of-row_in (row ∷ rows) zero good below = (bytes_eq-Decides (code_of row.0) row.1).0 (first_true (bytes_eq (code_of row.0) row.1) (spells rows) good)
-code_of-row_in (row ∷ rows) (suc k) good below =
-    code_of-row_in rows k (second_true (bytes_eq (code_of row.0) row.1) (spells rows) good) (omega arith)
+code_of-row_in (row ∷ rows) (suc index) good below =
+    code_of-row_in rows index (second_true (bytes_eq (code_of row.0) row.1) (spells rows) good) (omega arith)
 
 -- each row has a place with its code
-pub code_of-row : (k : ℕ) → k < 89 → code_of (get_or CODES k (E1, [])).0 ≡ (get_or CODES k (E1, [])).1
-code_of-row k below = code_of-row_in CODES k refl below
+pub code_of-row : (index : ℕ) → index < 89 → code_of (get_or CODES index (E1, [])).0 ≡ (get_or CODES index (E1, [])).1
+code_of-row index below = code_of-row_in CODES index refl below
 
 -- the first place with a code
 abbrev first_with : List (Place × List ℕ) → List ℕ → Place
 first_with [] code = E1
 first_with (row ∷ rows) code = cond (bytes_eq row.1 code) row.0 (first_with rows code)
 
-first_with-code_of : (p : Place) → first_with CODES (code_of p) ≡ p
+first_with-code_of : (place : Place) → first_with CODES (code_of place) ≡ place
 first_with-code_of E1 = refl
 first_with-code_of _ = refl
 
-pub same_code : (p q : Place) → code_of p ≡ code_of q → p ≡ q
-same_code p q e = sym (first_with-code_of p) ∙ ap (first_with CODES) e ∙ first_with-code_of q
+pub same_code : (place other_place : Place) → code_of place ≡ code_of other_place → place ≡ other_place
+same_code place other_place e = sym (first_with-code_of place) ∙ ap (first_with CODES) e ∙ first_with-code_of other_place
 
 -- a code is two letters or digits
-two_listed : (p : Place) → code_of p ≡ get_or (code_of p) 0 0 ∷ get_or (code_of p) 1 0 ∷ []
+two_listed : (place : Place) → code_of place ≡ get_or (code_of place) 0 0 ∷ get_or (code_of place) 1 0 ∷ []
 two_listed E1 = refl
 two_listed _ = refl
 
-same_place-self : (p : Place) → same_place p p ≡ true
+same_place-self : (place : Place) → same_place place place ≡ true
 same_place-self E1 = refl
 same_place-self _ = refl
 
 -- the comparison of two places is true of one place alone
-pub same_place-true : (p q : Place) → same_place p q ≡ true → p ≡ q
-same_place-true p q e =
-    let one = (Decides-eqb (get_or (code_of p) 0 0) (get_or (code_of q) 0 0)).0 (first_true (eqb (get_or (code_of p) 0 0) (get_or (code_of q) 0 0)) (eqb (get_or (code_of p) 1 0) (get_or (code_of q) 1 0)) e) in
-    let two = (Decides-eqb (get_or (code_of p) 1 0) (get_or (code_of q) 1 0)).0 (second_true (eqb (get_or (code_of p) 0 0) (get_or (code_of q) 0 0)) (eqb (get_or (code_of p) 1 0) (get_or (code_of q) 1 0)) e) in
-    same_code p q (two_listed p ∙ ap (λ a. a ∷ get_or (code_of p) 1 0 ∷ []) one ∙ ap (λ b. get_or (code_of q) 0 0 ∷ b ∷ []) two ∙ sym (two_listed q))
+pub same_place-true : (place other_place : Place) → same_place place other_place ≡ true → place ≡ other_place
+same_place-true place other_place e =
+    let one = (Decides-eqb (get_or (code_of place) 0 0) (get_or (code_of other_place) 0 0)).0 (first_true (eqb (get_or (code_of place) 0 0) (get_or (code_of other_place) 0 0)) (eqb (get_or (code_of place) 1 0) (get_or (code_of other_place) 1 0)) e) in
+    let two = (Decides-eqb (get_or (code_of place) 1 0) (get_or (code_of other_place) 1 0)).0 (second_true (eqb (get_or (code_of place) 0 0) (get_or (code_of other_place) 0 0)) (eqb (get_or (code_of place) 1 0) (get_or (code_of other_place) 1 0)) e) in
+    same_code place other_place (two_listed place ∙ ap (λ a. a ∷ get_or (code_of place) 1 0 ∷ []) one ∙ ap (λ b. get_or (code_of other_place) 0 0 ∷ b ∷ []) two ∙ sym (two_listed other_place))
 
-same_truth : (a b : Bool) → (a ≡ true → b ≡ true) → (b ≡ true → a ≡ true) → a ≡ b
-same_truth true b to from = sym (to refl)
+same_truth : (holds other_holds : Bool) → (holds ≡ true → other_holds ≡ true) → (other_holds ≡ true → holds ≡ true) → holds ≡ other_holds
+same_truth true other_holds to from = sym (to refl)
 same_truth false true to from = from refl
 same_truth false false to from = refl
 
 -- and it is the comparison that code makes
-pub sameb-same_place : (p q : Place) → sameb the_type p q ≡ same_place p q
-sameb-same_place p q =
-    same_truth (sameb the_type p q) (same_place p q)
-    (λ e. let one = same_true the_type tt p q e in subst (λ r. same_place p r ≡ true) one (same_place-self p))
-    (λ e. true_same the_type p q (same_place-true p q e))
+pub sameb-same_place : (place other_place : Place) → sameb the_type place other_place ≡ same_place place other_place
+sameb-same_place place other_place =
+    same_truth (sameb the_type place other_place) (same_place place other_place)
+    (λ e. let one = same_true the_type tt place other_place e in subst (λ r. same_place place r ≡ true) one (same_place-self place))
+    (λ e. true_same the_type place other_place (same_place-true place other_place e))
 
 -- one of the rows that was found by its code
-pub row_found : (code : List ℕ) (k : ℕ) → k < 89 → (get_or CODES k (E1, [])).1 ≡ code → code_of (get_or CODES k (E1, [])).0 ≡ code
-row_found code k below e = code_of-row k below ∙ e
+pub row_found : (code : List ℕ) (index : ℕ) → index < 89 → (get_or CODES index (E1, [])).1 ≡ code → code_of (get_or CODES index (E1, [])).0 ≡ code
+row_found code index below e = code_of-row index below ∙ e
 
 -- a place with the code is that of the row
-pub row_only : (code : List ℕ) (k : ℕ) → k < 89 → (get_or CODES k (E1, [])).1 ≡ code → (p : Place) → code_of p ≡ code → (get_or CODES k (E1, [])).0 ≡ p
-row_only code k below e p spelled = same_code (get_or CODES k (E1, [])).0 p (row_found code k below e ∙ sym spelled)
+pub row_only : (code : List ℕ) (index : ℕ) → index < 89 → (get_or CODES index (E1, [])).1 ≡ code → (place : Place) → code_of place ≡ code → (get_or CODES index (E1, [])).0 ≡ place
+row_only code index below e place spelled = same_code (get_or CODES index (E1, [])).0 place (row_found code index below e ∙ sym spelled)
 
 -- where no row has a code, no place has it
-pub row_none : (code : List ℕ) → ((k : ℕ) → k < 89 → (get_or CODES k (E1, [])).1 ≡ code → ⊥) → (p : Place) → code_of p ≡ code → ⊥
-row_none code none p spelled = none (row_of p) (row_of_lt p) (ap (λ row. row.1) (row-row_of p) ∙ spelled)
+pub row_none : (code : List ℕ) → ((index : ℕ) → index < 89 → (get_or CODES index (E1, [])).1 ≡ code → ⊥) → (place : Place) → code_of place ≡ code → ⊥
+row_none code none place spelled = none (row_of place) (row_of_lt place) (ap (λ row. row.1) (row-row_of place) ∙ spelled)

@@ -9,34 +9,34 @@ use Rattle.heap_words.proofs.Places.{slice_get-set_same, slice_get-set_other}
 
 module _ {R O : Type 0} (kind : MachineKind R O) where
   -- what holds after an access, and where nothing changes, holds after an event
-  pub act_cases : (P : Stage R → Type 0) (s : Stage R) (e : Event O) → P s → ((r : R) → slice_get s.machines e.number ≡ Some r → kind.takes r e.order ≡ true → P (moved kind s e.number r e.order)) → P (act kind s e)
+  pub act_cases : (P : Stage R → Type 0) (stage : Stage R) (event : Event O) → P stage → ((r : R) → slice_get stage.machines event.number ≡ Some r → kind.takes r event.order ≡ true → P (moved kind stage event.number r event.order)) → P (act kind stage event)
   unfolding act
-  act_cases P s e same here = by_machine (slice_get s.machines e.number) refl
+  act_cases P stage event same here = by_machine (slice_get stage.machines event.number) refl
     where
-      by_order : (r : R) (b : Bool) → slice_get s.machines e.number ≡ Some r → kind.takes r e.order ≡ b → P (if b then moved kind s e.number r e.order else s)
+      by_order : (r : R) (holds : Bool) → slice_get stage.machines event.number ≡ Some r → kind.takes r event.order ≡ holds → P (if holds then moved kind stage event.number r event.order else stage)
       by_order r true is takes = here r is takes
       by_order r false is takes = same
 
-      by_machine : (m : Option R) → slice_get s.machines e.number ≡ m → P (act_of kind s e m)
+      by_machine : (found : Option R) → slice_get stage.machines event.number ≡ found → P (act_of kind stage event found)
       by_machine None is = same
-      by_machine (Some r) is = by_order r (kind.takes r e.order) is refl
+      by_machine (Some r) is = by_order r (kind.takes r event.order) is refl
 
-  pub act-event : (s : Stage R) (e : Event O) (r : R) → IsEvent kind s e r → act kind s e ≡ moved kind s e.number r e.order
+  pub act-event : (stage : Stage R) (event : Event O) (r : R) → IsEvent kind stage event r → act kind stage event ≡ moved kind stage event.number r event.order
   unfolding act
-  act-event s e r is = rw (is.here, is.takes) refl
+  act-event stage event r is = rw (is.here, is.takes) refl
 
-  pub length-words : (s : Stage R) (e : Event O) → length (act kind s e).words ≡ length s.words
-  length-words s e = act_cases (λ x. length x.words ≡ length s.words) s e refl (λ r here takes. length-set _ _ _)
+  pub length-words : (stage : Stage R) (event : Event O) → length (act kind stage event).words ≡ length stage.words
+  length-words stage event = act_cases (λ x. length x.words ≡ length stage.words) stage event refl (λ r here takes. length-set _ _ _)
 
-  pub length-machines : (s : Stage R) (e : Event O) → length (act kind s e).machines ≡ length s.machines
-  length-machines s e = act_cases (λ x. length x.machines ≡ length s.machines) s e refl (λ r here takes. length-set _ _ _)
+  pub length-machines : (stage : Stage R) (event : Event O) → length (act kind stage event).machines ≡ length stage.machines
+  length-machines stage event = act_cases (λ x. length x.machines ≡ length stage.machines) stage event refl (λ r here takes. length-set _ _ _)
 
-  pub machines_other : (s : Stage R) (e : Event O) (k : ℕ) → k ≢ e.number → slice_get (act kind s e).machines k ≡ slice_get s.machines k
-  machines_other s e k other =
-      act_cases (λ x. slice_get x.machines k ≡ slice_get s.machines k) s e refl (λ r here takes. slice_get-set_other s.machines e.number k _ other)
+  pub machines_other : (stage : Stage R) (event : Event O) (k : ℕ) → k ≢ event.number → slice_get (act kind stage event).machines k ≡ slice_get stage.machines k
+  machines_other stage event k other =
+      act_cases (λ x. slice_get x.machines k ≡ slice_get stage.machines k) stage event refl (λ r here takes. slice_get-set_other stage.machines event.number k _ other)
 
-  pub words_other : (s : Stage R) (e : Event O) (r : R) (k : ℕ) → IsEvent kind s e r → k ≢ table_index (kind.plan r e.order) → slice_index (act kind s e).words k ≡ slice_index s.words k
-  words_other s e r k is other = ap (λ x. slice_index x.words k) (act-event s e r is) ∙ get_or-set_other s.words _ k _ 0 other
+  pub words_other : (stage : Stage R) (event : Event O) (r : R) (k : ℕ) → IsEvent kind stage event r → k ≢ table_index (kind.plan r event.order) → slice_index (act kind stage event).words k ≡ slice_index stage.words k
+  words_other stage event r k is other = ap (λ x. slice_index x.words k) (act-event stage event r is) ∙ get_or-set_other stage.words _ k _ 0 other
 
   pub runs_add : RunsAdd kind
   runs_add = record { none = go-none kind; first = go-first kind; both = go-append kind; last = go-step kind }

@@ -10,12 +10,12 @@ use Rattle.heap_words.proofs.Stores.{view_word}
 
 -- a word stands at a place
 abbrev pub StandsAt : Config → ℕ → Word → Type 0
-StandsAt c place word = IsWord c word × (word_at c word ≡ place)
+StandsAt config place word = IsWord config word × (word_at config word ≡ place)
 
 -- the words of rows stand one after another, from a place on
 abbrev pub StandFrom : Config → ℕ → List Row → Type 0
-StandFrom c start [] = Unit {0}
-StandFrom c start (row ∷ more) = ((k : ℕ) → k < row.size → StandsAt c (start + k) (row.word k)) × StandFrom c (start + row.size) more
+StandFrom config start [] = Unit {0}
+StandFrom config start (row ∷ more) = ((k : ℕ) → k < row.size → StandsAt config (start + k) (row.word k)) × StandFrom config (start + row.size) more
 
 -- how many words rows have
 abbrev pub size_of : List Row → ℕ
@@ -23,46 +23,46 @@ size_of [] = 0
 size_of (row ∷ more) = row.size + size_of more
 
 -- the word of rows that has so many words before it
-pub word_in-stands : (c : Config) (start : ℕ) (some : List Row) (before : ℕ) → StandFrom c start some → before < size_of some → StandsAt c (start + before) (word_in some before)
-word_in-stands c start [] before stand below = absurd (omega arith)
-word_in-stands c start (row ∷ more) before stand below =
+pub word_in-stands : (config : Config) (start : ℕ) (some : List Row) (before : ℕ) → StandFrom config start some → before < size_of some → StandsAt config (start + before) (word_in some before)
+word_in-stands config start [] before stand below = absurd (omega arith)
+word_in-stands config start (row ∷ more) before stand below =
     ⊎_elim
     (λ (here : ltb before row.size ≡ true).
-    subst (StandsAt c (start + before)) (sym (cond-true (ltb before row.size) _ _ here)) (stand.0 before (ltb-true _ _ here)))
+    subst (StandsAt config (start + before)) (sym (cond-true (ltb before row.size) _ _ here)) (stand.0 before (ltb-true _ _ here)))
     (λ (later : ltb before row.size ≡ false).
     let behind : row.size ≤ before = ltb-false _ _ later in
     let place : start + row.size + (before - row.size) ≡ start + before = omega arith in
-    subst (StandsAt c (start + before)) (sym (cond-false (ltb before row.size) _ _ later))
-    (subst (λ p. StandsAt c p (word_in more (before - row.size))) place
-    (word_in-stands c (start + row.size) more (before - row.size) stand.1 (omega arith))))
+    subst (StandsAt config (start + before)) (sym (cond-false (ltb before row.size) _ _ later))
+    (subst (λ p. StandsAt config p (word_in more (before - row.size))) place
+    (word_in-stands config (start + row.size) more (before - row.size) stand.1 (omega arith))))
     (cases_Bool (ltb before row.size))
 
 -- a word alone stands where its row begins
-alone : (c : Config) (start : ℕ) (word : Word) → IsWord c word → word_at c word ≡ start → (k : ℕ) → k < 1 → StandsAt c (start + k) word
-alone c start word is there k below = (is, omega arith)
+alone : (config : Config) (start : ℕ) (word : Word) → IsWord config word → word_at config word ≡ start → (k : ℕ) → k < 1 → StandsAt config (start + k) word
+alone config start word is there k below = (is, omega arith)
 
 -- the rows of the table are those of its words
-rows_stand : (c : Config) → StandFrom c 0 (rows c)
-rows_stand c = (
-  alone c _ Pause tt refl,
+rows_stand : (config : Config) → StandFrom config 0 (rows config)
+rows_stand config = (
+  alone config _ Pause tt refl,
   (
-    alone c _ Left tt refl,
+    alone config _ Left tt refl,
     (
-      alone c _ End tt refl,
+      alone config _ End tt refl,
       (
         λ k h. (h, refl),
         (
-          alone c _ Phase tt (omega arith),
+          alone config _ Phase tt (omega arith),
           (
-            alone c _ Cset tt (omega arith),
+            alone config _ Cset tt (omega arith),
             (
-              alone c _ Free tt (omega arith),
+              alone config _ Free tt (omega arith),
               (
-                alone c _ Evac tt (omega arith),
+                alone config _ Evac tt (omega arith),
                 (
-                  alone c _ Claim tt (omega arith),
+                  alone config _ Claim tt (omega arith),
                   (
-                    alone c _ Ask tt (omega arith),
+                    alone config _ Ask tt (omega arith),
                     (
                       λ k h. (h, omega arith),
                       (
@@ -85,7 +85,7 @@ rows_stand c = (
                                         λ k h. (h, omega arith),
                                         (
                                           λ k h. (h, omega arith),
-                                          (λ k h. ((omega arith, omega arith), omega arith), (alone c _ Share tt (omega arith), (λ k h. ((omega arith, omega arith), omega arith), tt))),
+                                          (λ k h. ((omega arith, omega arith), omega arith), (alone config _ Share tt (omega arith), (λ k h. ((omega arith, omega arith), omega arith), tt))),
                                         ),
                                       ),
                                     ),
@@ -108,25 +108,25 @@ rows_stand c = (
   ),
 )
 
-rows_all : (c : Config) → size_of (rows c) ≡ table_words c
-rows_all c = omega arith
+rows_all : (config : Config) → size_of (rows config) ≡ table_words config
+rows_all config = omega arith
 
 -- the word at a place stands there
-pub name_of-stands : (c : Config) (place : ℕ) → place < table_words c → StandsAt c place (name_of c place)
+pub name_of-stands : (config : Config) (place : ℕ) → place < table_words config → StandsAt config place (name_of config place)
 unfolding name_of
-name_of-stands c place below =
-    subst (λ p. StandsAt c p (word_in (rows c) place)) (zero-add place)
-    (word_in-stands c 0 (rows c) place (rows_stand c) (omega (arith, rows_all c)))
+name_of-stands config place below =
+    subst (λ p. StandsAt config p (word_in (rows config) place)) (zero-add place)
+    (word_in-stands config 0 (rows config) place (rows_stand config) (omega (arith, rows_all config)))
 
 -- a word is that of its place
-pub name_of-word_at : (c : Config) (w : Word) → IsWord c w → name_of c (word_at c w) ≡ w
-name_of-word_at c w is =
-    let stands : StandsAt c (word_at c w) (name_of c (word_at c w)) = name_of-stands c (word_at c w) (word_inside c w is) in
-    words_differ c (name_of c (word_at c w)) w stands.0 is stands.1
+pub name_of-word_at : (config : Config) (word : Word) → IsWord config word → name_of config (word_at config word) ≡ word
+name_of-word_at config word is =
+    let stands : StandsAt config (word_at config word) (name_of config (word_at config word)) = name_of-stands config (word_at config word) (word_inside config word is) in
+    words_differ config (name_of config (word_at config word)) word stands.0 is stands.1
 
 -- a word that stands at a place is the word at it
-pub stands-name_of : (c : Config) (w : Word) (place : ℕ) → IsWord c w → word_at c w ≡ place → w ≡ name_of c place
-stands-name_of c w place is there = sym (name_of-word_at c w is) ∙ ap (name_of c) there
+pub stands-name_of : (config : Config) (word : Word) (place : ℕ) → IsWord config word → word_at config word ≡ place → word ≡ name_of config place
+stands-name_of config word place is there = sym (name_of-word_at config word is) ∙ ap (name_of config) there
 
 pub are_named : AreNamed
 are_named = record {

@@ -16,34 +16,34 @@ row_total [] = 0
 row_total (n ∷ ns) = n + row_total ns
 
 -- a row ends where a later one begins, or before
-pub row_below : (sizes : List ℕ) (j k : ℕ) → j < k → row_start sizes j + get_or sizes j 0 ≤ row_start sizes k
-row_below [] j k below = omega arith
+pub row_below : (sizes : List ℕ) (index k : ℕ) → index < k → row_start sizes index + get_or sizes index 0 ≤ row_start sizes k
+row_below [] index k below = omega arith
 row_below (n ∷ ns) zero zero below = omega arith
 row_below (n ∷ ns) zero (suc k) below = omega arith
-row_below (n ∷ ns) (suc j) zero below = omega arith
-row_below (n ∷ ns) (suc j) (suc k) below = omega (arith, row_below ns j k (omega arith))
+row_below (n ∷ ns) (suc index) zero below = omega arith
+row_below (n ∷ ns) (suc index) (suc k) below = omega (arith, row_below ns index k (omega arith))
 
 -- no row ends behind all of them
-pub row_inside : (sizes : List ℕ) (k : ℕ) → row_start sizes k + get_or sizes k 0 ≤ row_total sizes
-row_inside [] k = omega arith
+pub row_inside : (sizes : List ℕ) (index : ℕ) → row_start sizes index + get_or sizes index 0 ≤ row_total sizes
+row_inside [] index = omega arith
 row_inside (n ∷ ns) zero = omega arith
-row_inside (n ∷ ns) (suc k) = omega (arith, row_inside ns k)
+row_inside (n ∷ ns) (suc index) = omega (arith, row_inside ns index)
 
 -- places in two rows are equal only where the rows are
-pub same_row : (sizes : List ℕ) (j k x y : ℕ) → x < get_or sizes j 0 → y < get_or sizes k 0 → row_start sizes j + x ≡ row_start sizes k + y → j ≡ k
-same_row sizes j k x y in_j in_k same =
+pub same_row : (sizes : List ℕ) (index other_index x y : ℕ) → x < get_or sizes index 0 → y < get_or sizes other_index 0 → row_start sizes index + x ≡ row_start sizes other_index + y → index ≡ other_index
+same_row sizes index other_index x y in_j in_k same =
     ⊎_elim (λ e. e)
     (⊎_elim
-    (λ (below : j < k). absurd (omega (arith, row_below sizes j k below)))
-    (λ (above : k < j). absurd (omega (arith, row_below sizes k j above))))
-    (cases_order j k)
+    (λ (below : index < other_index). absurd (omega (arith, row_below sizes index other_index below)))
+    (λ (above : other_index < index). absurd (omega (arith, row_below sizes other_index index above))))
+    (cases_order index other_index)
 
 -- the sizes of the rows
 abbrev pub sizes : Config → List ℕ
-sizes c =
-    1 ∷ 1 ∷ 1 ∷ (c.mutators + c.helpers) ∷ 1 ∷ 1 ∷ 1 ∷ 1 ∷ 1 ∷ 1 ∷ c.regions ∷ c.regions ∷ c.regions
-    ∷ (c.mutators + c.helpers + 1) ∷ (16 * c.mutators) ∷ c.mutators ∷ (8 * c.mutators) ∷ c.mutators ∷ c.mutators
-    ∷ bit_words c ∷ bit_words c ∷ heap_size c ∷ 1 ∷ (4 * c.mutators) ∷ []
+sizes config =
+    1 ∷ 1 ∷ 1 ∷ (config.mutators + config.helpers) ∷ 1 ∷ 1 ∷ 1 ∷ 1 ∷ 1 ∷ 1 ∷ config.regions ∷ config.regions ∷ config.regions
+    ∷ (config.mutators + config.helpers + 1) ∷ (16 * config.mutators) ∷ config.mutators ∷ (8 * config.mutators) ∷ config.mutators ∷ config.mutators
+    ∷ bit_words config ∷ bit_words config ∷ heap_size config ∷ 1 ∷ (4 * config.mutators) ∷ []
 
 -- the row of a word
 abbrev pub row : Word → ℕ
@@ -74,132 +74,132 @@ row (Pin t i) = 23
 
 -- its place in the row
 abbrev pub offset : Config → Word → ℕ
-offset c (State i) = i
-offset c (Top r) = r
-offset c (Tams r) = r
-offset c (Limit r) = r
-offset c (Current i) = i
-offset c (Root t i) = 16 * t + i
-offset c (Count t) = t
-offset c (Buffer t i) = 8 * t + i
-offset c (Wait t) = t
-offset c (Answer t) = t
-offset c (Grey k) = k
-offset c (Black k) = k
-offset c (Heap a) = a - c.region_words
-offset c (Pin t i) = 4 * t + i
-offset c _ = 0
+offset config (State i) = i
+offset config (Top r) = r
+offset config (Tams r) = r
+offset config (Limit r) = r
+offset config (Current i) = i
+offset config (Root t i) = 16 * t + i
+offset config (Count t) = t
+offset config (Buffer t i) = 8 * t + i
+offset config (Wait t) = t
+offset config (Answer t) = t
+offset config (Grey k) = k
+offset config (Black k) = k
+offset config (Heap a) = a - config.region_words
+offset config (Pin t i) = 4 * t + i
+offset config _ = 0
 
 -- the word of each row at an offset
 abbrev pub words_at : Config → ℕ → List Word
-words_at c x =
+words_at config x =
     Pause ∷ Left ∷ End ∷ State x ∷ Phase ∷ Cset ∷ Free ∷ Evac ∷ Claim ∷ Ask ∷ Top x ∷ Tams x ∷ Limit x
     ∷ Current x ∷ Root (x / 16) (x % 16) ∷ Count x ∷ Buffer (x / 8) (x % 8) ∷ Wait x ∷ Answer x
-    ∷ Grey x ∷ Black x ∷ Heap (x + c.region_words) ∷ Share ∷ Pin (x / 4) (x % 4) ∷ []
+    ∷ Grey x ∷ Black x ∷ Heap (x + config.region_words) ∷ Share ∷ Pin (x / 4) (x % 4) ∷ []
 
-pub word_at-row : (c : Config) (w : Word) → IsWord c w → word_at c w ≡ row_start (sizes c) (row w) + offset c w
-word_at-row c Pause h = refl
-word_at-row c Left h = refl
-word_at-row c End h = refl
-word_at-row c (State i) h = omega arith
-word_at-row c Phase h = omega arith
-word_at-row c Cset h = omega arith
-word_at-row c Free h = omega arith
-word_at-row c Evac h = omega arith
-word_at-row c Claim h = omega arith
-word_at-row c Ask h = omega arith
-word_at-row c (Top r) h = omega arith
-word_at-row c (Tams r) h = omega arith
-word_at-row c (Limit r) h = omega arith
-word_at-row c (Current i) h = omega arith
-word_at-row c (Root t i) h = omega arith
-word_at-row c (Count t) h = omega arith
-word_at-row c (Buffer t i) h = omega arith
-word_at-row c (Wait t) h = omega arith
-word_at-row c (Answer t) h = omega arith
-word_at-row c (Grey k) h = omega arith
-word_at-row c (Black k) h = omega arith
-word_at-row c (Heap a) h = omega arith
-word_at-row c Share h = omega arith
-word_at-row c (Pin t i) h = omega arith
+pub word_at-row : (config : Config) (word : Word) → IsWord config word → word_at config word ≡ row_start (sizes config) (row word) + offset config word
+word_at-row config Pause h = refl
+word_at-row config Left h = refl
+word_at-row config End h = refl
+word_at-row config (State i) h = omega arith
+word_at-row config Phase h = omega arith
+word_at-row config Cset h = omega arith
+word_at-row config Free h = omega arith
+word_at-row config Evac h = omega arith
+word_at-row config Claim h = omega arith
+word_at-row config Ask h = omega arith
+word_at-row config (Top r) h = omega arith
+word_at-row config (Tams r) h = omega arith
+word_at-row config (Limit r) h = omega arith
+word_at-row config (Current i) h = omega arith
+word_at-row config (Root t i) h = omega arith
+word_at-row config (Count t) h = omega arith
+word_at-row config (Buffer t i) h = omega arith
+word_at-row config (Wait t) h = omega arith
+word_at-row config (Answer t) h = omega arith
+word_at-row config (Grey k) h = omega arith
+word_at-row config (Black k) h = omega arith
+word_at-row config (Heap a) h = omega arith
+word_at-row config Share h = omega arith
+word_at-row config (Pin t i) h = omega arith
 
-pub table_words-rows : (c : Config) → table_words c ≡ row_total (sizes c)
-table_words-rows c = omega arith
+pub table_words-rows : (config : Config) → table_words config ≡ row_total (sizes config)
+table_words-rows config = omega arith
 
 -- a word stands in its row
-pub in_row : (c : Config) (w : Word) → IsWord c w → offset c w < get_or (sizes c) (row w) 0
-in_row c Pause h = omega arith
-in_row c Left h = omega arith
-in_row c End h = omega arith
-in_row c (State i) h = h
-in_row c Phase h = omega arith
-in_row c Cset h = omega arith
-in_row c Free h = omega arith
-in_row c Evac h = omega arith
-in_row c Claim h = omega arith
-in_row c Ask h = omega arith
-in_row c (Top r) h = h
-in_row c (Tams r) h = h
-in_row c (Limit r) h = h
-in_row c (Current i) h = h
-in_row c (Root t i) h = omega arith
-in_row c (Count t) h = h
-in_row c (Buffer t i) h = omega arith
-in_row c (Wait t) h = h
-in_row c (Answer t) h = h
-in_row c (Grey k) h = h
-in_row c (Black k) h = h
-in_row c (Heap a) h = omega arith
-in_row c Share h = omega arith
-in_row c (Pin t i) h = omega arith
+pub in_row : (config : Config) (word : Word) → IsWord config word → offset config word < get_or (sizes config) (row word) 0
+in_row config Pause h = omega arith
+in_row config Left h = omega arith
+in_row config End h = omega arith
+in_row config (State i) h = h
+in_row config Phase h = omega arith
+in_row config Cset h = omega arith
+in_row config Free h = omega arith
+in_row config Evac h = omega arith
+in_row config Claim h = omega arith
+in_row config Ask h = omega arith
+in_row config (Top r) h = h
+in_row config (Tams r) h = h
+in_row config (Limit r) h = h
+in_row config (Current i) h = h
+in_row config (Root t i) h = omega arith
+in_row config (Count t) h = h
+in_row config (Buffer t i) h = omega arith
+in_row config (Wait t) h = h
+in_row config (Answer t) h = h
+in_row config (Grey k) h = h
+in_row config (Black k) h = h
+in_row config (Heap a) h = omega arith
+in_row config Share h = omega arith
+in_row config (Pin t i) h = omega arith
 
 -- the row and the place in it name the word
-pub named : (c : Config) (w : Word) → IsWord c w → get_or (words_at c (offset c w)) (row w) Pause ≡ w
-named c Pause h = refl
-named c Left h = refl
-named c End h = refl
-named c (State i) h = refl
-named c Phase h = refl
-named c Cset h = refl
-named c Free h = refl
-named c Evac h = refl
-named c Claim h = refl
-named c Ask h = refl
-named c (Top r) h = refl
-named c (Tams r) h = refl
-named c (Limit r) h = refl
-named c (Current i) h = refl
-named c (Root t i) h = let q : (16 * t + i) / 16 ≡ t = omega arith in let r : (16 * t + i) % 16 ≡ i = omega arith in cc
-named c (Count t) h = refl
-named c (Buffer t i) h = let q : (8 * t + i) / 8 ≡ t = omega arith in let r : (8 * t + i) % 8 ≡ i = omega arith in cc
-named c (Wait t) h = refl
-named c (Answer t) h = refl
-named c (Grey k) h = refl
-named c (Black k) h = refl
-named c (Heap a) h = let r : a - c.region_words + c.region_words ≡ a = omega arith in cc
-named c Share h = refl
-named c (Pin t i) h = let q : (4 * t + i) / 4 ≡ t = omega arith in let r : (4 * t + i) % 4 ≡ i = omega arith in cc
+pub named : (config : Config) (word : Word) → IsWord config word → get_or (words_at config (offset config word)) (row word) Pause ≡ word
+named config Pause h = refl
+named config Left h = refl
+named config End h = refl
+named config (State i) h = refl
+named config Phase h = refl
+named config Cset h = refl
+named config Free h = refl
+named config Evac h = refl
+named config Claim h = refl
+named config Ask h = refl
+named config (Top r) h = refl
+named config (Tams r) h = refl
+named config (Limit r) h = refl
+named config (Current i) h = refl
+named config (Root t i) h = let q : (16 * t + i) / 16 ≡ t = omega arith in let r : (16 * t + i) % 16 ≡ i = omega arith in cc
+named config (Count t) h = refl
+named config (Buffer t i) h = let q : (8 * t + i) / 8 ≡ t = omega arith in let r : (8 * t + i) % 8 ≡ i = omega arith in cc
+named config (Wait t) h = refl
+named config (Answer t) h = refl
+named config (Grey k) h = refl
+named config (Black k) h = refl
+named config (Heap a) h = let r : a - config.region_words + config.region_words ≡ a = omega arith in cc
+named config Share h = refl
+named config (Pin t i) h = let q : (4 * t + i) / 4 ≡ t = omega arith in let r : (4 * t + i) % 4 ≡ i = omega arith in cc
 
 -- each word stands in the table
-pub word_inside : (c : Config) (w : Word) → IsWord c w → word_at c w < table_words c
-word_inside c w h =
-    omega (arith, word_at-row c w h, table_words-rows c, in_row c w h, row_inside (sizes c) (row w))
+pub word_inside : (config : Config) (word : Word) → IsWord config word → word_at config word < table_words config
+word_inside config word h =
+    omega (arith, word_at-row config word h, table_words-rows config, in_row config word h, row_inside (sizes config) (row word))
 
 -- two names never stand at one place
-pub words_differ : (c : Config) (v w : Word) → IsWord c v → IsWord c w → word_at c v ≡ word_at c w → v ≡ w
-words_differ c v w is_v is_w same =
-    let placed : row_start (sizes c) (row v) + offset c v ≡ row_start (sizes c) (row w) + offset c w =
-    sym (word_at-row c v is_v) ∙ same ∙ word_at-row c w is_w in
-    let rows : row v ≡ row w =
-    same_row (sizes c) (row v) (row w) (offset c v) (offset c w) (in_row c v is_v) (in_row c w is_w) placed in
-    let offsets : offset c v ≡ offset c w = omega (arith, ap (row_start (sizes c)) rows) in
-    sym (named c v is_v) ∙ ap (λ x. get_or (words_at c x) (row v) Pause) offsets
-    ∙ ap (λ k. get_or (words_at c (offset c w)) k Pause) rows ∙ named c w is_w
+pub words_differ : (config : Config) (word other_word : Word) → IsWord config word → IsWord config other_word → word_at config word ≡ word_at config other_word → word ≡ other_word
+words_differ config word other_word is_v is_w same =
+    let placed : row_start (sizes config) (row word) + offset config word ≡ row_start (sizes config) (row other_word) + offset config other_word =
+    sym (word_at-row config word is_v) ∙ same ∙ word_at-row config other_word is_w in
+    let rows : row word ≡ row other_word =
+    same_row (sizes config) (row word) (row other_word) (offset config word) (offset config other_word) (in_row config word is_v) (in_row config other_word is_w) placed in
+    let offsets : offset config word ≡ offset config other_word = omega (arith, ap (row_start (sizes config)) rows) in
+    sym (named config word is_v) ∙ ap (λ x. get_or (words_at config x) (row word) Pause) offsets
+    ∙ ap (λ k. get_or (words_at config (offset config other_word)) k Pause) rows ∙ named config other_word is_w
 
 -- the words before the image are those of the handshake
-pub is_image-word_at : (c : Config) (w : Word) → IsWord c w → is_image w ≡ leb (image_start c) (word_at c w)
-is_image-word_at c Pause h = sym (lt-leb (image_start c) 0 (omega arith))
-is_image-word_at c Left h = sym (lt-leb (image_start c) 1 (omega arith))
-is_image-word_at c End h = sym (lt-leb (image_start c) 2 (omega arith))
-is_image-word_at c (State i) h = sym (lt-leb (image_start c) (3 + i) (omega arith))
-is_image-word_at c w h = sym (le-leb (image_start c) (word_at c w) (omega arith))
+pub is_image-word_at : (config : Config) (word : Word) → IsWord config word → is_image word ≡ leb (image_start config) (word_at config word)
+is_image-word_at config Pause h = sym (lt-leb (image_start config) 0 (omega arith))
+is_image-word_at config Left h = sym (lt-leb (image_start config) 1 (omega arith))
+is_image-word_at config End h = sym (lt-leb (image_start config) 2 (omega arith))
+is_image-word_at config (State i) h = sym (lt-leb (image_start config) (3 + i) (omega arith))
+is_image-word_at config word h = sym (le-leb (image_start config) (word_at config word) (omega arith))

@@ -21,4 +21,4 @@ form_fits (exchanges expect value) = is_number expect && is_number value
 
 -- whether the access can be made: it is of a word of the table, and its numbers are words
 abbrev pub touch_fits : Config → Touch → Bool
-touch_fits c t = is_word c t.word && form_fits t.form
+touch_fits config touch = is_word config touch.word && form_fits touch.form

@@ -97,4 +97,4 @@ code_of P3 = 80 ∷ 51 ∷ []
 
 -- whether two places are one: no two have one code
 abbrev pub same_place : Place → Place → Bool
-same_place p q = (slice_index (code_of p) 0 == slice_index (code_of q) 0) && (slice_index (code_of p) 1 == slice_index (code_of q) 1)
+same_place place other_place = (slice_index (code_of place) 0 == slice_index (code_of other_place) 0) && (slice_index (code_of place) 1 == slice_index (code_of other_place) 1)

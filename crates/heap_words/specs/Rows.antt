@@ -19,17 +19,17 @@ many size word = record { size = size; word = word }
 
 -- the rows of the table, in their order
 abbrev pub rows : Config → List Row
-rows c =
-    one Pause ∷ one Left ∷ one End ∷ many (c.mutators + c.helpers) (λ k. State k)
+rows config =
+    one Pause ∷ one Left ∷ one End ∷ many (config.mutators + config.helpers) (λ k. State k)
     ∷ one Phase ∷ one Cset ∷ one Free ∷ one Evac ∷ one Claim ∷ one Ask
-    ∷ many c.regions (λ k. Top k) ∷ many c.regions (λ k. Tams k) ∷ many c.regions (λ k. Limit k)
-    ∷ many (seat_count c.mutators c.helpers) (λ k. Current k)
-    ∷ many (16 * c.mutators) (λ k. Root (k / 16) (k % 16)) ∷ many c.mutators (λ k. Count k)
-    ∷ many (8 * c.mutators) (λ k. Buffer (k / 8) (k % 8))
-    ∷ many c.mutators (λ k. Wait k) ∷ many c.mutators (λ k. Answer k)
-    ∷ many (bit_words c) (λ k. Grey k) ∷ many (bit_words c) (λ k. Black k)
-    ∷ many (heap_size c) (λ k. Heap (c.region_words + k)) ∷ one Share
-    ∷ many (4 * c.mutators) (λ k. Pin (k / 4) (k % 4)) ∷ []
+    ∷ many config.regions (λ k. Top k) ∷ many config.regions (λ k. Tams k) ∷ many config.regions (λ k. Limit k)
+    ∷ many (seat_count config.mutators config.helpers) (λ k. Current k)
+    ∷ many (16 * config.mutators) (λ k. Root (k / 16) (k % 16)) ∷ many config.mutators (λ k. Count k)
+    ∷ many (8 * config.mutators) (λ k. Buffer (k / 8) (k % 8))
+    ∷ many config.mutators (λ k. Wait k) ∷ many config.mutators (λ k. Answer k)
+    ∷ many (bit_words config) (λ k. Grey k) ∷ many (bit_words config) (λ k. Black k)
+    ∷ many (heap_size config) (λ k. Heap (config.region_words + k)) ∷ one Share
+    ∷ many (4 * config.mutators) (λ k. Pin (k / 4) (k % 4)) ∷ []
 
 -- the word in rows that has so many words before it; Pause behind all of them
 abbrev pub word_in : List Row → ℕ → Word
@@ -38,15 +38,15 @@ word_in (row ∷ more) before = if nat_lt before row.size then row.word before e
 
 -- the word at an index of the table
 unfoldable pub name_of : Config → ℕ → Word
-name_of c index = word_in (rows c) index
+name_of config index = word_in (rows config) index
 
 -- each index of the table has a word, and each word is that of its index
 pub record AreNamed : Type 0 where
-  pub is_word : (c : Config) (index : ℕ) → index < table_words c → IsWord c (name_of c index)
-  pub there : (c : Config) (index : ℕ) → index < table_words c → word_at c (name_of c index) ≡ index
-  pub back : (c : Config) (word : Word) → IsWord c word → name_of c (word_at c word) ≡ word
+  pub is_word : (config : Config) (index : ℕ) → index < table_words config → IsWord config (name_of config index)
+  pub there : (config : Config) (index : ℕ) → index < table_words config → word_at config (name_of config index) ≡ index
+  pub back : (config : Config) (word : Word) → IsWord config word → name_of config (word_at config word) ≡ word
 
 -- two tables in which all words read the same are one
 abbrev pub AreReadWhole : Type 0
-AreReadWhole = (c : Config) (xs ys : List ℕ) → length xs ≡ table_words c → length ys ≡ table_words c
-    → ((word : Word) → IsWord c word → view c xs word ≡ view c ys word) → xs ≡ ys
+AreReadWhole = (config : Config) (xs ys : List ℕ) → length xs ≡ table_words config → length ys ≡ table_words config
+    → ((word : Word) → IsWord config word → view config xs word ≡ view config ys word) → xs ≡ ys

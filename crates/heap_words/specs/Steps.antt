@@ -27,33 +27,33 @@ accessed access words = slice_set words (table_index access) (made_of access (sl
 
 -- the word that the machine finds
 abbrev pub found_by : {R O : Type 0} → MachineKind R O → Stage R → R → O → ℕ
-found_by kind s r order = slice_index s.words (table_index (kind.plan r order))
+found_by kind stage r order = slice_index stage.words (table_index (kind.plan r order))
 
 -- the access is made, and the machine is told its word
 abbrev pub moved : {R O : Type 0} → MachineKind R O → Stage R → ℕ → R → O → Stage R
-moved kind s number r order = record {
-  words = accessed (kind.plan r order) s.words;
-  machines = slice_set s.machines number (kind.took r order (got_of (kind.plan r order) (found_by kind s r order)));
+moved kind stage number r order = record {
+  words = accessed (kind.plan r order) stage.words;
+  machines = slice_set stage.machines number (kind.took r order (got_of (kind.plan r order) (found_by kind stage r order)));
 }
 
 -- what an event makes of a stage, by the machine that has its number. An order that the machine does not take changes nothing
 abbrev pub act_of : {R O : Type 0} → MachineKind R O → Stage R → Event O → Option R → Stage R
-act_of kind s e None = s
-act_of kind s e (Some r) = if kind.takes r e.order then moved kind s e.number r e.order else s
+act_of kind stage event None = stage
+act_of kind stage event (Some r) = if kind.takes r event.order then moved kind stage event.number r event.order else stage
 
 -- what an event makes of a stage
 unfoldable pub act : {R O : Type 0} → MachineKind R O → Stage R → Event O → Stage R
-act kind s e = act_of kind s e (slice_get s.machines e.number)
+act kind stage event = act_of kind stage event (slice_get stage.machines event.number)
 
 -- what these events make of it, one after the other
 unfoldable pub go : {R O : Type 0} → MachineKind R O → Stage R → List (Event O) → Stage R
-go kind s [] = s
-go kind s (e ∷ es) = go kind (act kind s e) es
+go kind stage [] = stage
+go kind stage (e ∷ es) = go kind (act kind stage e) es
 
 -- the event is one: there is the machine, and it takes the order
-pub record IsEvent {R O : Type 0} (kind : MachineKind R O) (s : Stage R) (e : Event O) (r : R) : Type 0 where
-  pub here : slice_get s.machines e.number ≡ Some r
-  pub takes : kind.takes r e.order ≡ true
+pub record IsEvent {R O : Type 0} (kind : MachineKind R O) (stage : Stage R) (event : Event O) (r : R) : Type 0 where
+  pub here : slice_get stage.machines event.number ≡ Some r
+  pub takes : kind.takes r event.order ≡ true
 
 -- some events lead from one stage to the other
 pub record IsReached {R O : Type 0} (kind : MachineKind R O) (start end : Stage R) : Type 0 where
@@ -76,15 +76,15 @@ pub record Finds {R O : Type 0} (kind : MachineKind R O) (start : Stage R) (numb
 
 -- events one after another are one run
 pub record RunsAdd {R O : Type 0} (kind : MachineKind R O) : Type 0 where
-  pub none : (s : Stage R) → go kind s [] ≡ s
-  pub first : (s : Stage R) (e : Event O) (es : List (Event O)) → go kind s (e ∷ es) ≡ go kind (act kind s e) es
-  pub both : (s : Stage R) (es fs : List (Event O)) → go kind s (es ++ fs) ≡ go kind (go kind s es) fs
-  pub last : (s : Stage R) (es : List (Event O)) (e : Event O) → go kind s (es ++ e ∷ []) ≡ act kind (go kind s es) e
+  pub none : (stage : Stage R) → go kind stage [] ≡ stage
+  pub first : (stage : Stage R) (event : Event O) (es : List (Event O)) → go kind stage (event ∷ es) ≡ go kind (act kind stage event) es
+  pub both : (stage : Stage R) (es fs : List (Event O)) → go kind stage (es ++ fs) ≡ go kind (go kind stage es) fs
+  pub last : (stage : Stage R) (es : List (Event O)) (event : Event O) → go kind stage (es ++ event ∷ []) ≡ act kind (go kind stage es) event
 
 -- an event is one access by one machine: it changes at most one word and at most one machine, and makes neither more nor fewer of them
 pub record EventsAreSmall {R O : Type 0} (kind : MachineKind R O) : Type 0 where
-  pub words : (s : Stage R) (e : Event O) → length (act kind s e).words ≡ length s.words
-  pub machines : (s : Stage R) (e : Event O) → length (act kind s e).machines ≡ length s.machines
-  pub other_machines : (s : Stage R) (e : Event O) (k : ℕ) → k ≢ e.number → slice_get (act kind s e).machines k ≡ slice_get s.machines k
-  pub other_words : (s : Stage R) (e : Event O) (r : R) (k : ℕ) → IsEvent kind s e r → k ≢ table_index (kind.plan r e.order) → slice_index (act kind s e).words k ≡ slice_index s.words k
-  pub moved : (s : Stage R) (e : Event O) (r : R) → IsEvent kind s e r → act kind s e ≡ moved kind s e.number r e.order
+  pub words : (stage : Stage R) (event : Event O) → length (act kind stage event).words ≡ length stage.words
+  pub machines : (stage : Stage R) (event : Event O) → length (act kind stage event).machines ≡ length stage.machines
+  pub other_machines : (stage : Stage R) (event : Event O) (k : ℕ) → k ≢ event.number → slice_get (act kind stage event).machines k ≡ slice_get stage.machines k
+  pub other_words : (stage : Stage R) (event : Event O) (r : R) (k : ℕ) → IsEvent kind stage event r → k ≢ table_index (kind.plan r event.order) → slice_index (act kind stage event).words k ≡ slice_index stage.words k
+  pub moved : (stage : Stage R) (event : Event O) (r : R) → IsEvent kind stage event r → act kind stage event ≡ moved kind stage event.number r event.order

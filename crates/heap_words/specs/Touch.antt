@@ -48,8 +48,8 @@ access_at at (exchanges expect value) = Exchange at expect value
 
 -- the access of the table
 abbrev pub placed : Config → Touch → Access
-placed c t = access_at (word_at c t.word) t.form
+placed config touch = access_at (word_at config touch.word) touch.form
 
 -- a memory after the access
 abbrev pub touched : (Word → ℕ) → Touch → Word → ℕ
-touched memory t = write memory t.word (formed t.form (memory t.word))
+touched memory touch = write memory touch.word (formed touch.form (memory touch.word))

@@ -10,23 +10,23 @@ use Rattle.heap_world.specs.Rows.{cell_word, cell_rows}
 
 -- each row has so many cells
 abbrev pub AreFull : (cells : ℕ) → List (List Reference) → Type 0
-AreFull cells rows = (t : ℕ) → t < length rows → length (get_or rows t []) ≡ cells
+AreFull cells rows = (index : ℕ) → index < length rows → length (get_or rows index []) ≡ cells
 
 -- the first so many cells are set
 abbrev pub AreSet : (cells : ℕ) → (ℕ → Reference) → List (List Reference) → ℕ → Type 0
-AreSet cells f rows p = (t i : ℕ) → i < cells → cells * t + i < p → get_or (get_or rows t []) i None ≡ f (cells * t + i)
+AreSet cells f rows p = (other_index index : ℕ) → index < cells → cells * other_index + index < p → get_or (get_or rows other_index []) index None ≡ f (cells * other_index + index)
 
 -- the rows with one cell set
-abbrev pub with_cell : List (List Reference) → (t i : ℕ) → Reference → List (List Reference)
-with_cell rows t i r = set rows t (set (get_or rows t []) i r)
+abbrev pub with_cell : List (List Reference) → (index i : ℕ) → Reference → List (List Reference)
+with_cell rows index i reference = set rows index (set (get_or rows index []) i reference)
 
-pub AreFull-with_cell : (cells : ℕ) (rows : List (List Reference)) (t i : ℕ) (r : Reference) → t < length rows → AreFull cells rows → AreFull cells (with_cell rows t i r)
-AreFull-with_cell cells rows t i r low full u h =
-    elim (cases_eq u t) [
-      | inl e ↦ ap (λ k. length (get_or (with_cell rows t i r) k [])) e
-          ∙ ap length (get_or-set_same rows t (set (get_or rows t []) i r) [] low)
-          ∙ length-set (get_or rows t []) i r ∙ full t low
-      | inr ne ↦ ap length (get_or-set_other rows t u (set (get_or rows t []) i r) [] ne)
+pub AreFull-with_cell : (cells : ℕ) (rows : List (List Reference)) (index i : ℕ) (reference : Reference) → index < length rows → AreFull cells rows → AreFull cells (with_cell rows index i reference)
+AreFull-with_cell cells rows index i reference low full u h =
+    elim (cases_eq u index) [
+      | inl e ↦ ap (λ k. length (get_or (with_cell rows index i reference) k [])) e
+          ∙ ap length (get_or-set_same rows index (set (get_or rows index []) i reference) [] low)
+          ∙ length-set (get_or rows index []) i reference ∙ full index low
+      | inr ne ↦ ap length (get_or-set_other rows index u (set (get_or rows index []) i reference) [] ne)
           ∙ full u (rw length-set at h)
     ]
 
@@ -38,28 +38,28 @@ earlier_row cells p t i u j at low within apart below =
       | inr behind ↦ (let rows = mul-le cells (t + 1) cells u (omega arith) (omega (arith, apart, behind)) in absurd (omega (arith, rows, at, low, below)))
     ]
 
-pub AreSet-with_cell : (cells : ℕ) (f : ℕ → Reference) (rows : List (List Reference)) (p t i : ℕ) (r : Reference) → p ≡ cells * t + i → i < cells → t < length rows
-    → AreFull cells rows → r ≡ f p → AreSet cells f rows p → AreSet cells f (with_cell rows t i r) (p + 1)
-AreSet-with_cell cells f rows p t i r at low in_rows full is before u j within below =
-    let row = get_or rows t [] in
-    let same = get_or-set_same rows t (set row i r) [] in_rows in
-    elim (cases_eq u t) [
+pub AreSet-with_cell : (cells : ℕ) (f : ℕ → Reference) (rows : List (List Reference)) (p index i : ℕ) (reference : Reference) → p ≡ cells * index + i → i < cells → index < length rows
+    → AreFull cells rows → reference ≡ f p → AreSet cells f rows p → AreSet cells f (with_cell rows index i reference) (p + 1)
+AreSet-with_cell cells f rows p index i reference at low in_rows full is before u j within below =
+    let row = get_or rows index [] in
+    let same = get_or-set_same rows index (set row i reference) [] in_rows in
+    elim (cases_eq u index) [
       | inl e ↦ elim (cases_eq j i) [
         | inl d ↦ (let place : p ≡ cells * u + j = at ∙ ap (λ k. cells * k + i) (sym e) ∙ ap (λ k. cells * u + k) (sym d) in
-            ap (λ k. get_or (get_or (with_cell rows t i r) k []) j None) e
+            ap (λ k. get_or (get_or (with_cell rows index i reference) k []) j None) e
             ∙ ap (λ xs. get_or xs j None) same
-            ∙ ap (λ k. get_or (set row i r) k None) d
-            ∙ get_or-set_same row i r None (let l : length row ≡ cells = full t in_rows in omega (arith, l, low))
+            ∙ ap (λ k. get_or (set row i reference) k None) d
+            ∙ get_or-set_same row i reference None (let l : length row ≡ cells = full index in_rows in omega (arith, l, low))
             ∙ is ∙ ap f place)
-        | inr ne ↦ (let there : cells * u ≡ cells * t = ap (λ k. cells * k) e in
+        | inr ne ↦ (let there : cells * u ≡ cells * index = ap (λ k. cells * k) e in
             let earlier : cells * u + j < p = omega (arith, ne, there, at, below) in
-            ap (λ k. get_or (get_or (with_cell rows t i r) k []) j None) e
+            ap (λ k. get_or (get_or (with_cell rows index i reference) k []) j None) e
             ∙ ap (λ xs. get_or xs j None) same
-            ∙ get_or-set_other row i j r None ne
+            ∙ get_or-set_other row i j reference None ne
             ∙ ap (λ k. get_or (get_or rows k []) j None) (sym e) ∙ before u j within earlier)
       ]
-      | inr apart ↦ ap (λ xs. get_or xs j None) (get_or-set_other rows t u (set row i r) [] apart)
-          ∙ before u j within (earlier_row cells p t i u j at low within apart below)
+      | inr apart ↦ ap (λ xs. get_or xs j None) (get_or-set_other rows index u (set row i reference) [] apart)
+          ∙ before u j within (earlier_row cells p index i u j at low within apart below)
     ]
 
 pub cell_word-at : (cells : ℕ) (words : List ℕ) (t i : ℕ) → i < cells → cell_word cells words (t + 1) i ≡ get_or words (cells * t + i) 0

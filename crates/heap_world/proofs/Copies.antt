@@ -14,37 +14,37 @@ use Rattle.heap_world.specs.Rely.{KeepsCopies, RelyCopies}
 use Rattle.heap_world.proofs.Pointing.{copy_cases}
 
 -- the empty set has no region
-pub none_is_in : (r : ℕ) → IsIn 0 r → ⊥
-none_is_in r is = omega (arith, bit_at-zero r, is)
+pub none_is_in : (region : ℕ) → IsIn 0 region → ⊥
+none_is_in region is = omega (arith, bit_at-zero region, is)
 
 -- so nothing lies in it
-pub none_in_0 : (c : Config) (a : ℕ) → IsCollected c 0 a → ⊥
-none_in_0 c a is = none_is_in (region_with c a) is
+pub none_in_0 : (config : Config) (address : ℕ) → IsCollected config 0 address → ⊥
+none_in_0 config address is = none_is_in (region_with config address) is
 
 -- where current and old copies stay, copies stay
-pub bodies_stay : (u w : Plot) → ((a refs nums : ℕ) (name : Name) → u a ≡ Some (thing name refs nums) → w a ≡ Some (thing name refs nums))
-    → ((a refs nums to : ℕ) (name : Name) → u a ≡ Some (moved name refs nums to) → w a ≡ Some (moved name refs nums to))
-    → (a : ℕ) (b : Body) → body_at (u a) ≡ Some b → body_at (w a) ≡ Some b
-bodies_stay u w things moveds a b is = ⊎_elim
-    (λ now. ap body_at (things a b.refs b.nums b.name now))
-    (λ was. ap body_at (moveds a b.refs b.nums was.0 b.name was.1))
-    (copy_cases (u a) b is)
+pub bodies_stay : (plot other_plot : Plot) → ((address refs nums : ℕ) (name : Name) → plot address ≡ Some (thing name refs nums) → other_plot address ≡ Some (thing name refs nums))
+    → ((address refs nums to : ℕ) (name : Name) → plot address ≡ Some (moved name refs nums to) → other_plot address ≡ Some (moved name refs nums to))
+    → (address : ℕ) (body : Body) → body_at (plot address) ≡ Some body → body_at (other_plot address) ≡ Some body
+bodies_stay plot other_plot things moveds address body is = ⊎_elim
+    (λ now. ap body_at (things address body.refs body.nums body.name now))
+    (λ was. ap body_at (moveds address body.refs body.nums was.0 body.name was.1))
+    (copy_cases (plot address) body is)
 
 -- What another seat relies on of evacuation, where no copy moves and the counter stays.
-pub record CopiesStay (c : Config) (u w : World) : Type 0 where
-  pub cset : w.memory Cset ≡ u.memory Cset
-  pub evac : w.memory Evac ≡ u.memory Evac
-  pub things : (a refs nums : ℕ) (name : Name) → u.block a ≡ Some (thing name refs nums) → w.block a ≡ Some (thing name refs nums)
-  pub moveds : (a refs nums to : ℕ) (name : Name) → u.block a ≡ Some (moved name refs nums to) → w.block a ≡ Some (moved name refs nums to)
-  pub spents : (a words to : ℕ) → u.block a ≡ Some (spent words to) → w.block a ≡ Some (spent words to)
-  pub pieces : (a : ℕ) (x : Block) → IsCollected c (u.memory Cset) a → u.block a ≡ Some x → (y : Block) × (w.block a ≡ Some y) × (words_of y ≡ words_of x) × (filling y ≡ filling x)
-  pub no_new : (a refs nums : ℕ) (name : Name) → IsCollected c (u.memory Cset) a → w.block a ≡ Some (thing name refs nums) → u.block a ≡ Some (thing name refs nums)
-  pub tops : (r : ℕ) → IsIn (u.memory Cset) r → w.memory (Top r) ≡ u.memory (Top r)
+pub record CopiesStay (config : Config) (world other_world : World) : Type 0 where
+  pub cset : other_world.memory Cset ≡ world.memory Cset
+  pub evac : other_world.memory Evac ≡ world.memory Evac
+  pub things : (address refs nums : ℕ) (name : Name) → world.block address ≡ Some (thing name refs nums) → other_world.block address ≡ Some (thing name refs nums)
+  pub moveds : (address refs nums to : ℕ) (name : Name) → world.block address ≡ Some (moved name refs nums to) → other_world.block address ≡ Some (moved name refs nums to)
+  pub spents : (address words to : ℕ) → world.block address ≡ Some (spent words to) → other_world.block address ≡ Some (spent words to)
+  pub pieces : (address : ℕ) (piece : Block) → IsCollected config (world.memory Cset) address → world.block address ≡ Some piece → (other_piece : Block) × (other_world.block address ≡ Some other_piece) × (words_of other_piece ≡ words_of piece) × (filling other_piece ≡ filling piece)
+  pub no_new : (address refs nums : ℕ) (name : Name) → IsCollected config (world.memory Cset) address → other_world.block address ≡ Some (thing name refs nums) → world.block address ≡ Some (thing name refs nums)
+  pub tops : (region : ℕ) → IsIn (world.memory Cset) region → other_world.memory (Top region) ≡ world.memory (Top region)
 
-pub keeps_copies : (c : Config) (u w : World) → CopiesStay c u w → KeepsCopies c u w
-keeps_copies c u w stay = record {
+pub keeps_copies : (config : Config) (world other_world : World) → CopiesStay config world other_world → KeepsCopies config world other_world
+keeps_copies config world other_world stay = record {
   cset = stay.cset;
-  bodies = bodies_stay u.block w.block stay.things stay.moveds;
+  bodies = bodies_stay world.block other_world.block stay.things stay.moveds;
   moveds = stay.moveds;
   spents = stay.spents;
   pieces = stay.pieces;
@@ -55,9 +55,9 @@ keeps_copies c u w stay = record {
 }
 
 -- where the plot is the same, copies stay
-pub same_plot : (c : Config) (u w : World) → w.block ≡ u.block → w.memory Cset ≡ u.memory Cset → w.memory Evac ≡ u.memory Evac → ((r : ℕ) → IsIn (u.memory Cset) r → w.memory (Top r) ≡ u.memory (Top r))
-    → CopiesStay c u w
-same_plot c u w block cset evac tops = record {
+pub same_plot : (config : Config) (world other_world : World) → other_world.block ≡ world.block → other_world.memory Cset ≡ world.memory Cset → other_world.memory Evac ≡ world.memory Evac → ((region : ℕ) → IsIn (world.memory Cset) region → other_world.memory (Top region) ≡ world.memory (Top region))
+    → CopiesStay config world other_world
+same_plot config world other_world block cset evac tops = record {
   cset = cset;
   evac = evac;
   things = λ a refs nums name is. ap (λ b. b a) block ∙ is;
@@ -69,15 +69,15 @@ same_plot c u w block cset evac tops = record {
 }
 
 -- what another seat relies on then, where who copies and works is the same, and words of copies in the set stay while the seat copies
-pub rely_copies : (c : Config) (u w : World) (seat : ℕ) → CopiesStay c u w → w.ghost.copying seat ≡ u.ghost.copying seat → w.ghost.working seat ≡ u.ghost.working seat
-    → ((a k : ℕ) (b : Body) → seat < seat_count c.mutators c.helpers → u.ghost.copying seat ≡ true → IsCollected c (u.memory Cset) a → body_at (u.block a) ≡ Some b
-    → 1 ≤ k → k < body_words b → w.memory (Heap (a + k)) ≡ u.memory (Heap (a + k)))
-    → RelyCopies c seat u w
-rely_copies c u w seat stay copying working words = record { keeps = keeps_copies c u w stay; copying = copying; working = working; words = words }
+pub rely_copies : (config : Config) (world other_world : World) (seat : ℕ) → CopiesStay config world other_world → other_world.ghost.copying seat ≡ world.ghost.copying seat → other_world.ghost.working seat ≡ world.ghost.working seat
+    → ((address k : ℕ) (body : Body) → seat < seat_count config.mutators config.helpers → world.ghost.copying seat ≡ true → IsCollected config (world.memory Cset) address → body_at (world.block address) ≡ Some body
+    → 1 ≤ k → k < body_words body → other_world.memory (Heap (address + k)) ≡ world.memory (Heap (address + k)))
+    → RelyCopies config seat world other_world
+rely_copies config world other_world seat stay copying working words = record { keeps = keeps_copies config world other_world stay; copying = copying; working = working; words = words }
 
 -- nothing changes where nothing is written
-pub same_copies : (c : Config) (u : World) (seat : ℕ) → RelyCopies c seat u u
-same_copies c u seat = rely_copies c u u seat (same_plot c u u refl refl refl (λ r is. refl)) refl refl (λ a k b seated counted inside is from below. refl)
+pub same_copies : (config : Config) (world : World) (seat : ℕ) → RelyCopies config seat world world
+same_copies config world seat = rely_copies config world world seat (same_plot config world world refl refl refl (λ r is. refl)) refl refl (λ a k b seated counted inside is from below. refl)
 
 -- where nobody copies there is no copier
 pub no_copiers : (copying : ℕ → Bool) (n : ℕ) → ((seat : ℕ) → seat < n → copying seat ≡ false) → copiers copying n ≡ 0
@@ -98,35 +98,35 @@ counted_one copying (suc n) seat below is = ⊎_elim
     (cases_eq seat n)
 
 -- so while a seat copies it is not so that nobody does
-pub not_quiet : (c : Config) (evac : ℕ) (copying : ℕ → Bool) (seat : ℕ) → IsCounted c evac copying → seat < seat_count c.mutators c.helpers → copying seat ≡ true → IsQuiet evac → ⊥
-not_quiet c evac copying seat counted seated is quiet =
-    let some = counted_one copying (seat_count c.mutators c.helpers) seat seated is in
+pub not_quiet : (config : Config) (evac : ℕ) (copying : ℕ → Bool) (seat : ℕ) → IsCounted config evac copying → seat < seat_count config.mutators config.helpers → copying seat ≡ true → IsQuiet evac → ⊥
+not_quiet config evac copying seat counted seated is quiet =
+    let some = counted_one copying (seat_count config.mutators config.helpers) seat seated is in
     let counts = counted.counts in
     let nobody = quiet.nobody in
     omega (arith, some, counts, nobody)
 
 -- and the counter is right that is 0
-pub counted_none : (c : Config) (copying : ℕ → Bool) → ((seat : ℕ) → seat < seat_count c.mutators c.helpers → copying seat ≡ false) → IsCounted c 0 copying
-counted_none c copying none = record { is_word = omega arith; counts = sym (no_copiers copying (seat_count c.mutators c.helpers) none) }
+pub counted_none : (config : Config) (copying : ℕ → Bool) → ((seat : ℕ) → seat < seat_count config.mutators config.helpers → copying seat ≡ false) → IsCounted config 0 copying
+counted_none config copying none = record { is_word = omega arith; counts = sym (no_copiers copying (seat_count config.mutators config.helpers) none) }
 
 -- While there is no collection set, nothing is said of evacuation but that no copy is old and nobody copies.
-pub none_evacuated : (c : Config) (phase claim free : ℕ) (top tams heap black : ℕ → ℕ) (block : Plot) (owner : ℕ → Option ℕ) (copying : ℕ → Bool) (working : ℕ → Option ℕ)
-    → (2 ≤ phase → ⊥) → ((a refs nums to : ℕ) (name : Name) → block a ≡ Some (moved name refs nums to) → ⊥) → ((a words to : ℕ) → block a ≡ Some (spent words to) → ⊥)
-    → ((seat : ℕ) → seat < seat_count c.mutators c.helpers → copying seat ≡ false)
-    → IsEvacuating c phase 0 0 claim free top tams heap black block owner copying working
-none_evacuated c phase claim free top tams heap black block owner copying working other moveds spents none = record {
+pub none_evacuated : (config : Config) (phase claim free : ℕ) (top tams heap black : ℕ → ℕ) (block : Plot) (owner : ℕ → Option ℕ) (copying : ℕ → Bool) (working : ℕ → Option ℕ)
+    → (2 ≤ phase → ⊥) → ((address refs nums to : ℕ) (name : Name) → block address ≡ Some (moved name refs nums to) → ⊥) → ((address words to : ℕ) → block address ≡ Some (spent words to) → ⊥)
+    → ((seat : ℕ) → seat < seat_count config.mutators config.helpers → copying seat ≡ false)
+    → IsEvacuating config phase 0 0 claim free top tams heap black block owner copying working
+none_evacuated config phase claim free top tams heap black block owner copying working other moveds spents none = record {
   moved = record {
-    moveds = λ a refs nums to name is. absurd (moveds a refs nums to name is);
-    spents = λ a words to is. absurd (spents a words to is);
+    moveds = λ address refs nums to name is. absurd (moveds address refs nums to name is);
+    spents = λ address words to is. absurd (spents address words to is);
   };
-  counted = counted_none c copying none;
+  counted = counted_none config copying none;
   aside = record {
     in_heap = λ r is. absurd (none_is_in r is);
     in_use = λ r is_free is. none_is_in r is;
     nobodys = λ r seat own is. none_is_in r is;
     no_new = λ r is. absurd (none_is_in r is);
-    no_promises = λ a seat words is inside. none_in_0 c a inside;
-    no_rooms = λ a seat x is room inside. none_in_0 c a inside;
+    no_promises = λ address seat words is inside. none_in_0 config address inside;
+    no_rooms = λ address seat x is room inside. none_in_0 config address inside;
   };
   kept = λ on. absurd (other on);
   units = λ on. absurd (other (omega (arith, on)));

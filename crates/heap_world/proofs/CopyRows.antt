@@ -7,14 +7,14 @@ use Rattle.heap_world.specs.Stands.{current_of}
 use Rattle.heap_world.specs.Walk.{current_at}
 
 -- what has the header of an object that has not moved is the current copy
-pub plain_current : (heap : ℕ → ℕ) (a : ℕ) → heap a ≡ plain_header → current_of heap a ≡ a
-plain_current heap a plain = cond-false (is_forwarded (heap a)) (forwardee_in (heap a)) a (ap is_forwarded plain)
+pub plain_current : (heap : ℕ → ℕ) (address : ℕ) → heap address ≡ plain_header → current_of heap address ≡ address
+plain_current heap address plain = cond-false (is_forwarded (heap address)) (forwardee_in (heap address)) address (ap is_forwarded plain)
 
 -- a header that leads to an address says that it is there
-pub moved_current : (heap : ℕ → ℕ) (a to : ℕ) → heap a ≡ header_word to → current_of heap a ≡ to
-moved_current heap a to is =
-    let moved_on : heap a % 4 ≡ 3 = omega (arith, is) in
-    cond-true (is_forwarded (heap a)) (forwardee_in (heap a)) a (eq-eqb (heap a % 4) 3 moved_on) ∙ omega (arith, is)
+pub moved_current : (heap : ℕ → ℕ) (address to : ℕ) → heap address ≡ header_word to → current_of heap address ≡ to
+moved_current heap address to is =
+    let moved_on : heap address % 4 ≡ 3 = omega (arith, is) in
+    cond-true (is_forwarded (heap address)) (forwardee_in (heap address)) address (eq-eqb (heap address % 4) 3 moved_on) ∙ omega (arith, is)
 
 -- of a word that is not null it is the same by the list of words
 pub current_same : (first : ℕ) (heap : List ℕ) (word : ℕ) → word ≢ 0 → current_at first heap word ≡ current_of (λ a. slice_index heap (a - first)) word

@@ -10,22 +10,22 @@ use Rattle.heap_world.proofs.Pointing.{named_piece}
 use Rattle.heap_world.proofs.Pieces.{behind, beside, piece_cases}
 
 -- A region has room for a piece above its top, and pieces have a word at least.
-pub record CanJoin (c : Config) (top : ℕ → ℕ) (block : Plot) (region at : ℕ) (piece : Block) : Type 0 where
-  pub plotted : IsPlotted c top block
-  pub long : (a : ℕ) (b : Block) → block a ≡ Some b → 1 ≤ words_of b
-  pub within : region < c.regions
+pub record CanJoin (config : Config) (top : ℕ → ℕ) (block : Plot) (region at : ℕ) (piece : Block) : Type 0 where
+  pub plotted : IsPlotted config top block
+  pub long : (address : ℕ) (other_piece : Block) → block address ≡ Some other_piece → 1 ≤ words_of other_piece
+  pub within : region < config.regions
   pub top_is : top region ≡ at
-  pub room : at + words_of piece ≤ c.region_words
+  pub room : at + words_of piece ≤ config.region_words
   pub some : 1 ≤ words_of piece
 
-module _ (c : Config) (top : ℕ → ℕ) (block : Plot) (region at : ℕ) (piece : Block) (joins : CanJoin c top block region at piece) where
+module _ (config : Config) (top : ℕ → ℕ) (block : Plot) (region at : ℕ) (piece : Block) (joins : CanJoin config top block region at piece) where
   -- its words
   abbrev words : ℕ
   words = words_of piece
 
   -- where the new piece lies
   abbrev address : ℕ
-  address = base_of c region + at
+  address = base_of config region + at
 
   -- the tops with it
   abbrev new_top : ℕ → ℕ
@@ -36,10 +36,10 @@ module _ (c : Config) (top : ℕ → ℕ) (block : Plot) (region at : ℕ) (piec
   new_block = updated block address (Some piece)
 
   -- nothing stood there
-  none_there : (b : Block) → block address ≡ Some b → ⊥
-  none_there b is =
-      let long = joins.long address b is in
-      let where_is = beside c top block joins.plotted region address b is in
+  none_there : (piece : Block) → block address ≡ Some piece → ⊥
+  none_there piece is =
+      let long = joins.long address piece is in
+      let where_is = beside config top block joins.plotted region address piece is in
       omega (arith, long, where_is, joins.top_is)
 
   -- what stood somewhere stands there
@@ -47,8 +47,8 @@ module _ (c : Config) (top : ℕ → ℕ) (block : Plot) (region at : ℕ) (piec
   stays a b is = updated_else block address (Some piece) a (λ same. none_there b (ap block same ∙ is)) ∙ is
 
   -- what a word stands for it still stands for
-  pub names_stay : (a : ℕ) (name : Name) → name_at (block a) ≡ Some name → name_at (new_block a) ≡ Some name
-  names_stay a name is = let old = named_piece (block a) name is in ap name_at (stays a old.0 old.1) ∙ old.2
+  pub names_stay : (address : ℕ) (name : Name) → name_at (block address) ≡ Some name → name_at (new_block address) ≡ Some name
+  names_stay address name is = let old = named_piece (block address) name is in ap name_at (stays address old.0 old.1) ∙ old.2
 
   -- no top falls
   tops_grow : (r : ℕ) → top r ≤ new_top r
@@ -58,29 +58,29 @@ module _ (c : Config) (top : ℕ → ℕ) (block : Plot) (region at : ℕ) (piec
       (cases_eq region r)
 
   -- old pieces lie in the part in use
-  in_use_again : (a : ℕ) (b : Block) → block a ≡ Some b → IsInUse c new_top a (words_of b)
-  in_use_again a b is =
-      let used = joins.plotted.in_use a b is in
+  in_use_again : (address : ℕ) (piece : Block) → block address ≡ Some piece → IsInUse config new_top address (words_of piece)
+  in_use_again address piece is =
+      let used = joins.plotted.in_use address piece is in
       let grown = tops_grow used.region in
       record { region = used.region; within = used.within; from_base = used.from_base; to_top = omega (arith, used.to_top, grown) }
 
   -- so does the new one
-  new_in_use : IsInUse c new_top address words
+  new_in_use : IsInUse config new_top address words
   new_in_use = let now = updated_there top region (at + words) in record { region = region; within = joins.within; from_base = omega arith; to_top = omega (arith, now) }
 
   -- an old piece before it ends before it
-  old_before : (a : ℕ) (b : Block) → block a ≡ Some b → a < address → a + words_of b ≤ address
-  old_before a b is before = let where_is = beside c top block joins.plotted region a b is in omega (arith, where_is, joins.top_is)
+  old_before : (a : ℕ) (piece : Block) → block a ≡ Some piece → a < address → a + words_of piece ≤ address
+  old_before a piece is before = let where_is = beside config top block joins.plotted region a piece is in omega (arith, where_is, joins.top_is)
 
   -- it ends before an old piece behind it
-  new_before : (a : ℕ) (b : Block) → block a ≡ Some b → address < a → address + words ≤ a
-  new_before a b is after =
-      let where_is = beside c top block joins.plotted region a b is in
-      let long = joins.long a b is in
+  new_before : (a : ℕ) (piece : Block) → block a ≡ Some piece → address < a → address + words ≤ a
+  new_before a piece is after =
+      let where_is = beside config top block joins.plotted region a piece is in
+      let long = joins.long a piece is in
       omega (arith, where_is, joins.top_is, long)
 
   -- pieces lie where they should
-  pub plotted_more : IsPlotted c new_top new_block
+  pub plotted_more : IsPlotted config new_top new_block
   plotted_more = record {
     tops = λ r inside. ⊎_elim
         (λ (same : region ≡ r). let now : new_top r ≡ at + words = updated_same top region (at + words) r same in omega (arith, now))
@@ -88,7 +88,7 @@ module _ (c : Config) (top : ℕ → ℕ) (block : Plot) (region at : ℕ) (piec
         (cases_eq region r);
     in_use = λ a b is. ⊎_elim
         (λ (new : (a ≡ address) × (piece ≡ b)).
-        subst (λ x. IsInUse c new_top a (words_of x)) new.1 (subst (λ k. IsInUse c new_top k words) (sym new.0) new_in_use))
+        subst (λ x. IsInUse config new_top a (words_of x)) new.1 (subst (λ k. IsInUse config new_top k words) (sym new.0) new_in_use))
         (λ (old : (a ≢ address) × (block a ≡ Some b)). in_use_again a b old.1)
         (piece_cases block address piece a b is);
     apart = λ a b x y is_x is_y before. ⊎_elim
@@ -106,13 +106,13 @@ module _ (c : Config) (top : ℕ → ℕ) (block : Plot) (region at : ℕ) (piec
   }
 
   -- where a piece stood, one stands
-  some_piece : (a : ℕ) → (b : Block) × (block a ≡ Some b) → (b : Block) × (new_block a ≡ Some b)
-  some_piece a old = (old.0, stays a old.0 old.1)
+  some_piece : (address : ℕ) → (piece : Block) × (block address ≡ Some piece) → (piece : Block) × (new_block address ≡ Some piece)
+  some_piece address old = (old.0, stays address old.0 old.1)
 
   -- after an old piece of the region
-  next_here : (a : ℕ) (x : Block) → IsFilled c top block → base_of c region ≤ a → block a ≡ Some x → a + words_of x < address + words → (b : Block) × (new_block (a + words_of x) ≡ Some b)
+  next_here : (a : ℕ) (x : Block) → IsFilled config top block → base_of config region ≤ a → block a ≡ Some x → a + words_of x < address + words → (b : Block) × (new_block (a + words_of x) ≡ Some b)
   next_here a x filled from is below =
-      let where_is = beside c top block joins.plotted region a x is in
+      let where_is = beside config top block joins.plotted region a x is in
       let long = joins.long a x is in
       ⊎_elim
       (λ (before : a + words_of x < address). some_piece (a + words_of x) (filled.next region a x joins.within from is (omega (arith, before, joins.top_is))))
@@ -121,21 +121,21 @@ module _ (c : Config) (top : ℕ → ℕ) (block : Plot) (region at : ℕ) (piec
       (cases_lt (a + words_of x) address)
 
   -- they fill the part in use
-  pub filled_more : IsFilled c top block → IsFilled c new_top new_block
+  pub filled_more : IsFilled config top block → IsFilled config new_top new_block
   filled_more filled = record {
     first = λ r inside used. ⊎_elim
         (λ (same : region ≡ r).
-        subst (λ k. (b : Block) × (new_block (base_of c k) ≡ Some b)) same
+        subst (λ k. (b : Block) × (new_block (base_of config k) ≡ Some b)) same
         (⊎_elim
-        (λ (empty : at ≡ 0). (piece, ap new_block {x = base_of c region} {y = address} (omega (arith, empty)) ∙ updated_there block address (Some piece)))
-        (λ (full : at ≢ 0). some_piece (base_of c region) (filled.first region joins.within (omega (arith, full, joins.top_is))))
+        (λ (empty : at ≡ 0). (piece, ap new_block {x = base_of config region} {y = address} (omega (arith, empty)) ∙ updated_there block address (Some piece)))
+        (λ (full : at ≢ 0). some_piece (base_of config region) (filled.first region joins.within (omega (arith, full, joins.top_is))))
         (cases_eq at 0)))
-        (λ (other : region ≢ r). let now = updated_else top region (at + words) r other in some_piece (base_of c r) (filled.first r inside (omega (arith, now, used))))
+        (λ (other : region ≢ r). let now = updated_else top region (at + words) r other in some_piece (base_of config r) (filled.first r inside (omega (arith, now, used))))
         (cases_eq region r);
     next = λ r a x inside from is below. ⊎_elim
         (λ (same : region ≡ r).
         let now : new_top r ≡ at + words = updated_same top region (at + words) r same in
-        let base : base_of c region ≡ base_of c r = ap (base_of c) same in
+        let base : base_of config region ≡ base_of config r = ap (base_of config) same in
         ⊎_elim
         (λ (new : (a ≡ address) × (piece ≡ x)). let one = new.0 in let long : words ≡ words_of x = ap words_of new.1 in absurd (omega (arith, below, now, base, one, long)))
         (λ (old : (a ≢ address) × (block a ≡ Some x)). next_here a x filled (omega (arith, from, base)) old.1 (omega (arith, below, now, base)))
@@ -147,8 +147,8 @@ module _ (c : Config) (top : ℕ → ℕ) (block : Plot) (region at : ℕ) (piec
         let one = new.0 in
         let most = joins.plotted.tops r inside in
         absurd (⊎_elim
-        (λ (before : r < region). let far = behind c r region before in omega (arith, below, now, one, most, far))
-        (λ (least : region ≤ r). let far = behind c region r (omega (arith, least, other)) in omega (arith, from, one, far, joins.room, joins.some))
+        (λ (before : r < region). let far = behind config r region before in omega (arith, below, now, one, most, far))
+        (λ (least : region ≤ r). let far = behind config region r (omega (arith, least, other)) in omega (arith, from, one, far, joins.room, joins.some))
         (cases_lt r region)))
         (λ (old : (a ≢ address) × (block a ≡ Some x)). some_piece (a + words_of x) (filled.next r a x inside from old.1 (omega (arith, below, now))))
         (piece_cases block address piece a x is))

@@ -15,9 +15,9 @@ use Rattle.heap_world.proofs.Fields.{same_fields}
 use Rattle.heap_world.specs.Rely.{Keeps, Rely}
 
 -- a word stands for what it stood for where names stay
-pub points_stay : (u w : Plot) → ((a : ℕ) (name : Name) → name_at (u a) ≡ Some name → name_at (w a) ≡ Some name) → (word : ℕ) (reference : Reference) → Points u word reference → Points w word reference
-points_stay u w names word None is = is
-points_stay u w names word (Some name) is = names word name is
+pub points_stay : (plot other_plot : Plot) → ((address : ℕ) (name : Name) → name_at (plot address) ≡ Some name → name_at (other_plot address) ≡ Some name) → (word : ℕ) (reference : Reference) → Points plot word reference → Points other_plot word reference
+points_stay plot other_plot names word None is = is
+points_stay plot other_plot names word (Some name) is = names word name is
 
 -- a load leaves the memory as it is
 pub load_keeps : (memory : Word → ℕ) (at : Word) → memory ≡ write memory at (memory at)
@@ -27,21 +27,21 @@ load_keeps memory at = fun_ext (λ w. ⊎_elim
     (cases_Bool (same_word at w)))
 
 -- a word may still be used
-pub usable_stays : (c : Config) (u w : World) → ((a refs nums : ℕ) (name : Name) → TargetIn c u a refs nums name → TargetIn c w a refs nums name) → (word : ℕ) → UsableIn c u word → UsableIn c w word
-usable_stays c u w targets word (inl null) = inl null
-usable_stays c u w targets word (inr at) = inr (at.0, at.1, at.2, targets word at.1 at.2 at.0 at.3)
+pub usable_stays : (config : Config) (world other_world : World) → ((address refs nums : ℕ) (name : Name) → TargetIn config world address refs nums name → TargetIn config other_world address refs nums name) → (word : ℕ) → UsableIn config world word → UsableIn config other_world word
+usable_stays config world other_world targets word (inl null) = inl null
+usable_stays config world other_world targets word (inr at) = inr (at.0, at.1, at.2, targets word at.1 at.2 at.0 at.3)
 
 -- as long as there is no collection set and no object has a second copy, each word that stands for a reference may be used
-pub usable_now : (c : Config) (evac : ℕ) (block : Plot) → ((a refs nums to : ℕ) (name : Name) → block a ≡ Some (moved name refs nums to) → ⊥) → (word : ℕ) (reference : Reference) → Points block word reference
-    → IsUsable c 0 evac block word
-usable_now c evac block unmoved word None points = inl points
-usable_now c evac block unmoved word (Some name) points =
+pub usable_now : (config : Config) (evac : ℕ) (block : Plot) → ((address refs nums to : ℕ) (name : Name) → block address ≡ Some (moved name refs nums to) → ⊥) → (word : ℕ) (reference : Reference) → Points block word reference
+    → IsUsable config 0 evac block word
+usable_now config evac block unmoved word None points = inl points
+usable_now config evac block unmoved word (Some name) points =
     let piece = named_thing (block word) name (λ refs nums to. unmoved word refs nums to name) points in
-    inr (name, piece.0, piece.1, record { piece = piece.2; safe = λ collected. absurd (none_in_0 c word collected) })
+    inr (name, piece.0, piece.1, record { piece = piece.2; safe = λ collected. absurd (none_in_0 config word collected) })
 
 -- where nothing changes, everything can be relied on
-pub rely_same : (c : Config) (seat : ℕ) (u : World) → Rely c seat u u
-rely_same c seat u = record {
+pub rely_same : (config : Config) (seat : ℕ) (world : World) → Rely config seat world world
+rely_same config seat world = record {
   names = λ a name is. is;
   targets = λ a refs nums name is. is;
   rooms = λ a x is room. is;
@@ -63,14 +63,14 @@ rely_same c seat u = record {
   answer = refl;
   state = refl;
   asked = λ is. is;
-  marks = same_marks c u seat;
-  copies = same_copies c u seat;
-  fields = same_fields c u;
+  marks = same_marks config world seat;
+  copies = same_copies config world seat;
+  fields = same_fields config world;
 }
 
 -- what is relied on keeps all that the facts of a seat stand on
-pub keeps_of : (c : Config) (seat : ℕ) (u w : World) → Rely c seat u w → Keeps c seat u w
-keeps_of c seat u w rely = record {
+pub keeps_of : (config : Config) (seat : ℕ) (world other_world : World) → Rely config seat world other_world → Keeps config seat world other_world
+keeps_of config seat world other_world rely = record {
   names = rely.names;
   targets = rely.targets;
   promises = rely.promises;

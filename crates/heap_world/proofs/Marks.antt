@@ -13,7 +13,7 @@ use Rattle.std.proofs.lemmas.Bool.{eqb-true, eqb-false, eq-eqb, ne_eqb, or_cases
 use Rattle.std.proofs.lemmas.Cmp.{nat_eq_equiv}
 use Rattle.heap_world.specs.Walk.{has, IsMarked, with_address, with_addresses}
 
-or_false : (b : Bool) → (b || false) ≡ b
+or_false : (holds : Bool) → (holds || false) ≡ holds
 or_false true = refl
 or_false false = refl
 
@@ -57,16 +57,16 @@ room_left first marks order a m low high unset =
     omega (arith, length-append order (a ∷ []), length-range_with_len first (length marks), few)
 
 flags_push : (first : ℕ) (marks : List Bool) (order : List ℕ) (a : ℕ) → IsMarked first marks order
-    → first ≤ a → a < first + length marks → (k : ℕ) → k < length marks
-    → get_or (set marks (a - first) true) k false ≡ has (order ++ a ∷ []) (first + k)
-flags_push first marks order a m low high k h =
-    rw has-push (elim (cases_eq k (a - first)) [
-      | inl e ↦ (let same : first + k ≡ a = omega arith in
+    → first ≤ a → a < first + length marks → (index : ℕ) → index < length marks
+    → get_or (set marks (a - first) true) index false ≡ has (order ++ a ∷ []) (first + index)
+flags_push first marks order a m low high index h =
+    rw has-push (elim (cases_eq index (a - first)) [
+      | inl e ↦ (let same : first + index ≡ a = omega arith in
           ap (λ i. get_or (set marks (a - first) true) i false) e ∙ get_or-set_same marks (a - first) true false (omega arith)
-          ∙ sym (or_right (has order (first + k)) (nat_eq (first + k) a) (eq-eqb _ _ same)))
-      | inr ne ↦ (let other : first + k ≢ a = λ e. ne (omega (arith, e)) in
-          get_or-set_other marks (a - first) k true false ne ∙ m.flags k h
-          ∙ sym (ap (λ b. has order (first + k) || b) (ne_eqb _ _ other) ∙ or_false (has order (first + k))))
+          ∙ sym (or_right (has order (first + index)) (nat_eq (first + index) a) (eq-eqb _ _ same)))
+      | inr ne ↦ (let other : first + index ≢ a = λ e. ne (omega (arith, e)) in
+          get_or-set_other marks (a - first) index true false ne ∙ m.flags index h
+          ∙ sym (ap (λ b. has order (first + index) || b) (ne_eqb _ _ other) ∙ or_false (has order (first + index))))
     ])
 
 -- the list has at most as many addresses as there are flags
@@ -109,16 +109,16 @@ last_is : (order : List ℕ) (a : ℕ) → has (order ++ a ∷ []) a ≡ true
 last_is order a = has-push order a a ∙ or_right (has order a) (nat_eq a a) (eq-eqb a a refl)
 
 flags_pop : (first : ℕ) (marks : List Bool) (order : List ℕ) (a : ℕ) → IsMarked first marks (order ++ a ∷ [])
-    → first ≤ a → a < first + length marks → (k : ℕ) → k < length marks
-    → get_or (set marks (a - first) false) k false ≡ has order (first + k)
-flags_pop first marks order a m low high k h =
-    elim (cases_eq k (a - first)) [
-      | inl e ↦ (let same : first + k ≡ a = omega (arith, e, low) in
+    → first ≤ a → a < first + length marks → (index : ℕ) → index < length marks
+    → get_or (set marks (a - first) false) index false ≡ has order (first + index)
+flags_pop first marks order a m low high index h =
+    elim (cases_eq index (a - first)) [
+      | inl e ↦ (let same : first + index ≡ a = omega (arith, e, low) in
           ap (λ i. get_or (set marks (a - first) false) i false) e ∙ get_or-set_same marks (a - first) false false (omega (arith, low, high))
           ∙ sym (ap (has order) same ∙ last_apart order a m.once))
-      | inr ne ↦ (let other : first + k ≢ a = λ e. ne (omega (arith, e)) in
-          get_or-set_other marks (a - first) k false false ne ∙ m.flags k h ∙ has-push order a (first + k)
-          ∙ ap (λ b. has order (first + k) || b) (ne_eqb _ _ other) ∙ or_false (has order (first + k)))
+      | inr ne ↦ (let other : first + index ≢ a = λ e. ne (omega (arith, e)) in
+          get_or-set_other marks (a - first) index false false ne ∙ m.flags index h ∙ has-push order a (first + index)
+          ∙ ap (λ b. has order (first + index) || b) (ne_eqb _ _ other) ∙ or_false (has order (first + index)))
     ]
 
 -- the last address of a list lies where there are flags

@@ -24,10 +24,10 @@ use Rattle.heap_world.proofs.Updated.{updated_made}
 use Rattle.heap_world.proofs.Pieces.{piece_cases, object_reads}
 
 -- the references of a new object are null, and its numbers 0
-pub all_alike : {A : Type 0} (n i : ℕ) (x y : A) → slice_get (replicate n x) i ≡ Some y → y ≡ x
-all_alike zero i x y is = cc
+pub all_alike : {A : Type 0} (n index : ℕ) (x y : A) → slice_get (replicate n x) index ≡ Some y → y ≡ x
+all_alike zero index x y is = cc
 all_alike (suc n) zero x y is = sym (same_Some x y is)
-all_alike (suc n) (suc i) x y is = all_alike n i x y is
+all_alike (suc n) (suc index) x y is = all_alike n index x y is
 
 -- the words of a new object past its name are 0
 zero_word : (seat made refs nums k : ℕ) → 3 ≤ k → fresh_word seat made refs nums k ≡ 0
@@ -55,7 +55,7 @@ new_object heap block address seat made refs nums few_refs few_nums stored = rec
       word ∙ sym (all_alike nums i 0 n there);
 }
 
-module _ (c : Config) (top : ℕ → ℕ) (block : Plot) (address refs nums : ℕ) (name : Name) (piece : Block) (unnamed : name_at (Some piece) ≡ None) (long : words_of piece ≡ 3 + refs + nums) (room : block address ≡ Some piece) where
+module _ (config : Config) (top : ℕ → ℕ) (block : Plot) (address refs nums : ℕ) (name : Name) (piece : Block) (unnamed : name_at (Some piece) ≡ None) (long : words_of piece ≡ 3 + refs + nums) (room : block address ≡ Some piece) where
   -- the new object
   abbrev new_thing : Block
   new_thing = thing name refs nums
@@ -69,24 +69,24 @@ module _ (c : Config) (top : ℕ → ℕ) (block : Plot) (address refs nums : �
   stays a b is differs = updated_else block address (Some new_thing) a (λ same. differs (same_Some _ b (sym room ∙ ap block same ∙ is))) ∙ is
 
   -- so does each object
-  pub things_stay : (a more_refs more_nums : ℕ) (n : Name) → block a ≡ Some (thing n more_refs more_nums) → new_block a ≡ Some (thing n more_refs more_nums)
-  things_stay a more_refs more_nums n is =
-      stays a (thing n more_refs more_nums) is (λ same. none-some n (sym unnamed ∙ ap (λ b. name_at (Some b)) same))
+  pub things_stay : (address more_refs more_nums : ℕ) (name : Name) → block address ≡ Some (thing name more_refs more_nums) → new_block address ≡ Some (thing name more_refs more_nums)
+  things_stay address more_refs more_nums name is =
+      stays address (thing name more_refs more_nums) is (λ same. none-some name (sym unnamed ∙ ap (λ b. name_at (Some b)) same))
 
   -- what a word stands for it still stands for
-  pub names_stay : (a : ℕ) (n : Name) → name_at (block a) ≡ Some n → name_at (new_block a) ≡ Some n
-  names_stay a n is = let old = named_piece (block a) n is in ap name_at (stays a old.0 old.1 (λ same. none-some n (sym unnamed ∙ ap (λ b. name_at (Some b)) same ∙ old.2))) ∙ old.2
+  pub names_stay : (address : ℕ) (name : Name) → name_at (block address) ≡ Some name → name_at (new_block address) ≡ Some name
+  names_stay address name is = let old = named_piece (block address) name is in ap name_at (stays address old.0 old.1 (λ same. none-some name (sym unnamed ∙ ap (λ b. name_at (Some b)) same ∙ old.2))) ∙ old.2
 
   -- a piece that is no object was there before, elsewhere
-  pub old_unnamed : (a : ℕ) (b : Block) → name_at (Some b) ≡ None → new_block a ≡ Some b → (a ≢ address) × (block a ≡ Some b)
-  old_unnamed a b none is = ⊎_elim
-      (λ (new : (a ≡ address) × (new_thing ≡ b)). absurd (none-some name (sym none ∙ ap (λ x. name_at (Some x)) (sym new.1))))
-      (λ (old : (a ≢ address) × (block a ≡ Some b)). old)
-      (piece_cases block address new_thing a b is)
+  pub old_unnamed : (a : ℕ) (piece : Block) → name_at (Some piece) ≡ None → new_block a ≡ Some piece → (a ≢ address) × (block a ≡ Some piece)
+  old_unnamed a piece none is = ⊎_elim
+      (λ (new : (a ≡ address) × (new_thing ≡ piece)). absurd (none-some name (sym none ∙ ap (λ x. name_at (Some x)) (sym new.1))))
+      (λ (old : (a ≢ address) × (block a ≡ Some piece)). old)
+      (piece_cases block address new_thing a piece is)
 
   -- so was room
-  pub old_room : (a seat : ℕ) (x : Block) → new_block a ≡ Some x → room_of x ≡ Some seat → (a ≢ address) × (block a ≡ Some x)
-  old_room a seat x is room = old_unnamed a x (room_unnamed x seat room) is
+  pub old_room : (a seat : ℕ) (piece : Block) → new_block a ≡ Some piece → room_of piece ≡ Some seat → (a ≢ address) × (block a ≡ Some piece)
+  old_room a seat piece is room = old_unnamed a piece (room_unnamed piece seat room) is
 
   -- and a promised object
   pub old_promise : (a other words : ℕ) → new_block a ≡ Some (promised other words) → (a ≢ address) × (block a ≡ Some (promised other words))
@@ -100,17 +100,17 @@ module _ (c : Config) (top : ℕ → ℕ) (block : Plot) (address refs nums : �
       (piece_cases block address new_thing a b is)
 
   -- where a piece stood, one stands
-  some_piece : (a : ℕ) → (b : Block) × (block a ≡ Some b) → (b : Block) × (new_block a ≡ Some b)
+  some_piece : (a : ℕ) → (piece : Block) × (block a ≡ Some piece) → (piece : Block) × (new_block a ≡ Some piece)
   some_piece a old = ⊎_elim
       (λ (same : a ≡ address). (new_thing, ap new_block same ∙ updated_there block address (Some new_thing)))
       (λ (other : a ≢ address). (old.0, updated_else block address (Some new_thing) a (λ e. other (sym e)) ∙ old.1))
       (cases_eq a address)
 
   -- pieces lie where they should
-  plotted_again : IsPlotted c top block → IsPlotted c top new_block
+  plotted_again : IsPlotted config top block → IsPlotted config top new_block
   plotted_again plotted = record {
     tops = plotted.tops;
-    in_use = λ a b is. let old = old_piece a b is in subst (λ w. IsInUse c top a w) old.2 (plotted.in_use a old.0 old.1);
+    in_use = λ a b is. let old = old_piece a b is in subst (λ w. IsInUse config top a w) old.2 (plotted.in_use a old.0 old.1);
     apart = λ a b x y is_x is_y before.
         let old_x = old_piece a x is_x in
         let old_y = old_piece b y is_y in
@@ -119,18 +119,18 @@ module _ (c : Config) (top : ℕ → ℕ) (block : Plot) (address refs nums : �
   }
 
   -- they fill the part in use
-  filled_again : IsFilled c top block → IsFilled c top new_block
+  filled_again : IsFilled config top block → IsFilled config top new_block
   filled_again filled = record {
-    first = λ r inside used. some_piece (base_of c r) (filled.first r inside used);
+    first = λ r inside used. some_piece (base_of config r) (filled.first r inside used);
     next = λ r a x inside from is below.
         let old = old_piece a x is in
         some_piece (a + words_of x)
-        (subst (λ w. (b : Block) × (block (a + w) ≡ Some b)) old.2
+        (subst (λ w. (piece : Block) × (block (a + w) ≡ Some piece)) old.2
         (filled.next r a old.0 inside from old.1 (omega (arith, below, old.2))));
   }
 
   -- the heap is parsable
-  pub parsable_again : IsParsable c top block → IsParsable c top new_block
+  pub parsable_again : IsParsable config top block → IsParsable config top new_block
   parsable_again parsable = record {
     plotted = plotted_again parsable.plotted;
     filled = filled_again parsable.filled;
@@ -145,8 +145,8 @@ module _ (c : Config) (top : ℕ → ℕ) (block : Plot) (address refs nums : �
   unwritten_again heap = unwritten_stays heap heap block new_block (λ a other more is. ((old_promise a other more is).1, λ k below. refl)) (λ a more is. ((old_unnamed a (dead more) refl is).1, refl, refl)) (λ a more is. ((old_unnamed a (filler more) refl is).1, refl))
 
   -- a piece elsewhere stands where it stood
-  elsewhere : (a : ℕ) (b : Block) → block a ≡ Some b → a ≢ address → new_block a ≡ Some b
-  elsewhere a b is other = updated_else block address (Some new_thing) a (λ e. other (sym e)) ∙ is
+  elsewhere : (a : ℕ) (piece : Block) → block a ≡ Some piece → a ≢ address → new_block a ≡ Some piece
+  elsewhere a piece is other = updated_else block address (Some new_thing) a (λ e. other (sym e)) ∙ is
 
   -- what can be marked still can
   pub markable_again : (a : ℕ) → IsMarkable block a → IsMarkable new_block a
@@ -156,27 +156,27 @@ module _ (c : Config) (top : ℕ → ℕ) (block : Plot) (address refs nums : �
       (cases_eq a address))
 
   -- marking goes on, where the piece is young, or was named when marking began
-  pub marking_again : (phase : ℕ) (grey black count : ℕ → ℕ) (buffer : ℕ → ℕ → ℕ) (tams heap : ℕ → ℕ) (s : Snapshot) (recording : ℕ → Option ℕ) (scanning : ℕ → Option Scan)
-      → (phase ≡ 1 → (s.starts address ≡ true) ⊎ IsYoung c s.top address)
-      → KeepsSnapshot c phase grey black count buffer top tams heap block s recording scanning → KeepsSnapshot c phase grey black count buffer top tams heap new_block s recording scanning
-  marking_again phase grey black count buffer tams heap s recording scanning known marked =
-      marked_made c phase grey black count buffer top tams heap block s recording scanning marked new_block address refs nums name (updated_there block address (Some new_thing)) known things_stay elsewhere
+  pub marking_again : (phase : ℕ) (grey black count : ℕ → ℕ) (buffer : ℕ → ℕ → ℕ) (tams heap : ℕ → ℕ) (snapshot : Snapshot) (recording : ℕ → Option ℕ) (scanning : ℕ → Option Scan)
+      → (phase ≡ 1 → (snapshot.starts address ≡ true) ⊎ IsYoung config snapshot.top address)
+      → KeepsSnapshot config phase grey black count buffer top tams heap block snapshot recording scanning → KeepsSnapshot config phase grey black count buffer top tams heap new_block snapshot recording scanning
+  marking_again phase grey black count buffer tams heap snapshot recording scanning known marked =
+      marked_made config phase grey black count buffer top tams heap block snapshot recording scanning marked new_block address refs nums name (updated_there block address (Some new_thing)) known things_stay elsewhere
       (λ a b is other. sym (updated_else block address (Some new_thing) a (λ e. other (sym e))) ∙ is)
 
   -- evacuation goes on, where the piece is not set aside, and is marked or was allocated since mark start
   pub evacuating_again : (phase cset evac claim free : ℕ) (tams heap black : ℕ → ℕ) (owner : ℕ → Option ℕ) (copying : ℕ → Bool) (working : ℕ → Option ℕ)
-      → (IsCollected c cset address → ⊥) → (2 ≤ phase → HasMark c black address ⊎ IsYoung c tams address)
-      → IsEvacuating c phase cset evac claim free top tams heap black block owner copying working → IsEvacuating c phase cset evac claim free top tams heap black new_block owner copying working
+      → (IsCollected config cset address → ⊥) → (2 ≤ phase → HasMark config black address ⊎ IsYoung config tams address)
+      → IsEvacuating config phase cset evac claim free top tams heap black block owner copying working → IsEvacuating config phase cset evac claim free top tams heap black new_block owner copying working
   evacuating_again phase cset evac claim free tams heap black owner copying working outside known e =
-      evacuated_made c phase cset evac claim free top tams heap black block owner copying working e new_block address refs nums name piece room long (updated_there block address (Some new_thing)) outside known elsewhere
+      evacuated_made config phase cset evac claim free top tams heap black block owner copying working e new_block address refs nums name piece room long (updated_there block address (Some new_thing)) outside known elsewhere
       (λ a b is other. sym (updated_else block address (Some new_thing) a (λ e. other (sym e))) ∙ is)
       unnamed
 
   -- updating goes on, where the piece is not set aside, and the references of the object are null
-  pub updating_again : (cset claim : ℕ) (limit heap : ℕ → ℕ) (scanning : ℕ → Option Scan) → (IsCollected c cset address → ⊥) → ((k : ℕ) → k < refs → heap (address + 3 + k) ≡ 0)
-      → IsUpdating c cset claim top limit heap block scanning → IsUpdating c cset claim top limit heap new_block scanning
+  pub updating_again : (cset claim : ℕ) (limit heap : ℕ → ℕ) (scanning : ℕ → Option Scan) → (IsCollected config cset address → ⊥) → ((k : ℕ) → k < refs → heap (address + 3 + k) ≡ 0)
+      → IsUpdating config cset claim top limit heap block scanning → IsUpdating config cset claim top limit heap new_block scanning
   updating_again cset claim limit heap scanning outside nulls e =
-      updated_made c cset claim top limit heap block scanning e new_block address refs nums name (updated_there block address (Some new_thing)) outside
+      updated_made config cset claim top limit heap block scanning e new_block address refs nums name (updated_there block address (Some new_thing)) outside
       (λ k below. IsCurrent.null (nulls k below)) things_stay
       (λ a b is other. sym (updated_else block address (Some new_thing) a (λ e. other (sym e))) ∙ is)
 
@@ -190,8 +190,8 @@ module _ (c : Config) (top : ℕ → ℕ) (block : Plot) (address refs nums : �
     own_object = cond-true (same_name name name) _ _ (same_name-itself name)
 
     -- no old object has the name
-    not_old : (a more_refs more_nums : ℕ) (n : Name) → block a ≡ Some (thing n more_refs more_nums) → name ≢ n
-    not_old a more_refs more_nums n is same = let old = objects.each a more_refs more_nums n is in fresh old.0 (ap object same ∙ old.1)
+    not_old : (address more_refs more_nums : ℕ) (n : Name) → block address ≡ Some (thing n more_refs more_nums) → name ≢ n
+    not_old address more_refs more_nums n is same = let old = objects.each address more_refs more_nums n is in fresh old.0 (ap object same ∙ old.1)
 
     -- the words are those of the graph's objects
     pub objects_again : IsThing heap new_block address refs nums name o → AreObjects heap new_block (where_object object name o)
@@ -230,7 +230,7 @@ module _ (c : Config) (top : ℕ → ℕ) (block : Plot) (address refs nums : �
 
   -- Regions are owned as before, where the piece was not of a buffer.
   pub owned_again : (share free cset : ℕ) (current : ℕ → ℕ) (owner : ℕ → Option ℕ) → ((other words : ℕ) → piece ≡ spare other words → ⊥) → ((other words : ℕ) → piece ≡ carved other words → ⊥)
-      → AreOwned c top share free cset current block owner → AreOwned c top share free cset current new_block owner
+      → AreOwned config top share free cset current block owner → AreOwned config top share free cset current new_block owner
   owned_again share free cset current owner unspare uncarved owned = record {
     free_word = owned.free_word;
     shared_one = owned.shared_one;
@@ -273,19 +273,19 @@ pub count_own : (count : ℕ → ℕ) (thread : ℕ) → with_count count thread
 count_own count thread = cond-true (thread == thread) _ _ (eq-eqb thread thread refl)
 
 -- each name is given, after a thread has given its next one
-pub given_again : (c : Config) (count : ℕ → ℕ) (object : Name → Option Object) (name : Name) (o : Object)
-    → ((n : Name) (p : Object) → object n ≡ Some p → IsGiven c count n)
-    → IsGiven c (with_count count name.thread) name
-    → (n : Name) (p : Object) → where_object object name o n ≡ Some p → IsGiven c (with_count count name.thread) n
-given_again c count object name o given new n p is = ⊎_elim
-    (λ (same : same_name n name ≡ true). subst (λ m. IsGiven c (with_count count name.thread) m) (sym (same_name-true n name same)) new)
-    (λ (differs : same_name n name ≡ false).
-    let was = given n p (sym (cond-false (same_name n name) _ _ differs) ∙ is) in
-    let grown = count_grows count name.thread n.thread in
+pub given_again : (config : Config) (count : ℕ → ℕ) (object : Name → Option Object) (name : Name) (o : Object)
+    → ((other_name : Name) (p : Object) → object other_name ≡ Some p → IsGiven config count other_name)
+    → IsGiven config (with_count count name.thread) name
+    → (other_name : Name) (p : Object) → where_object object name o other_name ≡ Some p → IsGiven config (with_count count name.thread) other_name
+given_again config count object name o given new other_name p is = ⊎_elim
+    (λ (same : same_name other_name name ≡ true). subst (λ m. IsGiven config (with_count count name.thread) m) (sym (same_name-true other_name name same)) new)
+    (λ (differs : same_name other_name name ≡ false).
+    let was = given other_name p (sym (cond-false (same_name other_name name) _ _ differs) ∙ is) in
+    let grown = count_grows count name.thread other_name.thread in
     record {
       thread = was.thread;
       made = (let made = was.made in omega (arith, grown));
       by_thread = λ one. (let made = was.by_thread one in omega (arith, grown));
       small = was.small;
     })
-    (cases_Bool (same_name n name))
+    (cases_Bool (same_name other_name name))

@@ -19,18 +19,18 @@ use Rattle.heap_world.proofs.Joined.{CanJoin}
 use Rattle.heap_world.proofs.Pieces.{some_words, piece_cases}
 
 -- A region has room for so many words above its top. The heap is parsable, and room is as it should be.
-pub record CanGrow (c : Config) (top : ℕ → ℕ) (block : Plot) (region at words : ℕ) : Type 0 where
-  pub parsable : IsParsable c top block
-  pub rooms : AreRooms c block
-  pub within : region < c.regions
+pub record CanGrow (config : Config) (top : ℕ → ℕ) (block : Plot) (region at words : ℕ) : Type 0 where
+  pub parsable : IsParsable config top block
+  pub rooms : AreRooms config block
+  pub within : region < config.regions
   pub top_is : top region ≡ at
-  pub room : at + words ≤ c.region_words
+  pub room : at + words ≤ config.region_words
   pub some : 3 ≤ words
 
-module _ (c : Config) (top : ℕ → ℕ) (block : Plot) (region at words seat : ℕ) (grows : CanGrow c top block region at words) where
+module _ (config : Config) (top : ℕ → ℕ) (block : Plot) (region at words seat : ℕ) (grows : CanGrow config top block region at words) where
   -- where the new piece lies
   abbrev address : ℕ
-  address = base_of c region + at
+  address = base_of config region + at
 
   -- the tops with it
   abbrev new_top : ℕ → ℕ
@@ -41,10 +41,10 @@ module _ (c : Config) (top : ℕ → ℕ) (block : Plot) (region at words seat :
   new_block = updated block address (Some (carved seat words))
 
   -- the carved words join there
-  joins : CanJoin c top block region at (carved seat words)
+  joins : CanJoin config top block region at (carved seat words)
   joins = record {
     plotted = grows.parsable.plotted;
-    long = some_words c top block grows.parsable grows.rooms;
+    long = some_words config top block grows.parsable grows.rooms;
     within = grows.within;
     top_is = grows.top_is;
     room = grows.room;
@@ -52,12 +52,12 @@ module _ (c : Config) (top : ℕ → ℕ) (block : Plot) (region at words seat :
   }
 
   -- what stood somewhere stands there
-  pub stays : (a : ℕ) (b : Block) → block a ≡ Some b → new_block a ≡ Some b
-  stays = joined.stays c top block region at (carved seat words) joins
+  pub stays : (address : ℕ) (piece : Block) → block address ≡ Some piece → new_block address ≡ Some piece
+  stays = joined.stays config top block region at (carved seat words) joins
 
   -- what a word stands for it still stands for
-  pub names_stay : (a : ℕ) (name : Name) → name_at (block a) ≡ Some name → name_at (new_block a) ≡ Some name
-  names_stay = joined.names_stay c top block region at (carved seat words) joins
+  pub names_stay : (address : ℕ) (name : Name) → name_at (block address) ≡ Some name → name_at (new_block address) ≡ Some name
+  names_stay = joined.names_stay config top block region at (carved seat words) joins
 
   -- all pieces but loose ones are the same
   pub same_but_loose : SameButLoose block new_block
@@ -70,32 +70,32 @@ module _ (c : Config) (top : ℕ → ℕ) (block : Plot) (region at words seat :
   }
 
   -- a promised object is an old one
-  pub old_promise : (a other more : ℕ) → new_block a ≡ Some (promised other more) → block a ≡ Some (promised other more)
-  old_promise a other more is = same_but_loose.came a (promised other more) refl is
+  pub old_promise : (address other more : ℕ) → new_block address ≡ Some (promised other more) → block address ≡ Some (promised other more)
+  old_promise address other more is = same_but_loose.came address (promised other more) refl is
 
   -- room of another seat is old
-  pub old_room : (a other : ℕ) (x : Block) → other ≢ seat → new_block a ≡ Some x → room_of x ≡ Some other → block a ≡ Some x
-  old_room a other x differs is room = ⊎_elim
-      (λ (new : (a ≡ address) × (carved seat words ≡ x)). absurd (differs (sym (same_Some seat other (ap room_of new.1 ∙ room)))))
-      (λ (old : (a ≢ address) × (block a ≡ Some x)). old.1)
-      (piece_cases block address (carved seat words) a x is)
+  pub old_room : (a other : ℕ) (piece : Block) → other ≢ seat → new_block a ≡ Some piece → room_of piece ≡ Some other → block a ≡ Some piece
+  old_room a other piece differs is room = ⊎_elim
+      (λ (new : (a ≡ address) × (carved seat words ≡ piece)). absurd (differs (sym (same_Some seat other (ap room_of new.1 ∙ room)))))
+      (λ (old : (a ≢ address) × (block a ≡ Some piece)). old.1)
+      (piece_cases block address (carved seat words) a piece is)
 
   -- room of the seat is the new piece, or was there
-  pub own_room : (a : ℕ) (x : Block) → new_block a ≡ Some x → ((a ≡ address) × (carved seat words ≡ x)) ⊎ (block a ≡ Some x)
-  own_room a x is = ⊎_elim (λ new. inl new) (λ (old : (a ≢ address) × (block a ≡ Some x)). inr old.1) (piece_cases block address (carved seat words) a x is)
+  pub own_room : (a : ℕ) (piece : Block) → new_block a ≡ Some piece → ((a ≡ address) × (carved seat words ≡ piece)) ⊎ (block a ≡ Some piece)
+  own_room a piece is = ⊎_elim (λ new. inl new) (λ (old : (a ≢ address) × (block a ≡ Some piece)). inr old.1) (piece_cases block address (carved seat words) a piece is)
 
   -- a piece of another kind is old
-  old_other : (a : ℕ) (x : Block) → (carved seat words ≡ x → ⊥) → new_block a ≡ Some x → block a ≡ Some x
-  old_other a x differs is = ⊎_elim
-      (λ (new : (a ≡ address) × (carved seat words ≡ x)). absurd (differs new.1))
-      (λ (old : (a ≢ address) × (block a ≡ Some x)). old.1)
-      (piece_cases block address (carved seat words) a x is)
+  old_other : (a : ℕ) (piece : Block) → (carved seat words ≡ piece → ⊥) → new_block a ≡ Some piece → block a ≡ Some piece
+  old_other a piece differs is = ⊎_elim
+      (λ (new : (a ≡ address) × (carved seat words ≡ piece)). absurd (differs new.1))
+      (λ (old : (a ≢ address) × (block a ≡ Some piece)). old.1)
+      (piece_cases block address (carved seat words) a piece is)
 
   -- the heap is parsable
-  pub parsable_more : IsParsable c new_top new_block
+  pub parsable_more : IsParsable config new_top new_block
   parsable_more = record {
-    plotted = joined.plotted_more c top block region at (carved seat words) joins;
-    filled = joined.filled_more c top block region at (carved seat words) joins grows.parsable.filled;
+    plotted = joined.plotted_more config top block region at (carved seat words) joins;
+    filled = joined.filled_more config top block region at (carved seat words) joins grows.parsable.filled;
     promises = λ a other more is. grows.parsable.promises a other more (old_promise a other more is);
     deads = λ a more is. grows.parsable.deads a more (same_but_loose.came a (dead more) refl is);
     spents = λ a more to is. grows.parsable.spents a more to (same_but_loose.came a (spent more to) refl is);
@@ -108,16 +108,16 @@ module _ (c : Config) (top : ℕ → ℕ) (block : Plot) (region at words seat :
       (λ a more is. (old_other a (filler more) (λ differ. cc) is, refl))
 
   -- what can be marked still can
-  pub markable_more : (a : ℕ) → IsMarkable block a → IsMarkable new_block a
-  markable_more = markable_loose c block new_block same_but_loose
+  pub markable_more : (address : ℕ) → IsMarkable block address → IsMarkable new_block address
+  markable_more = markable_loose config block new_block same_but_loose
 
   -- the new piece is young: the top at mark start is no higher than the one on which it stands
-  young_there : (start : ℕ → ℕ) → ((r : ℕ) → r < c.regions → start r ≤ top r) → IsYoung c start address
+  young_there : (start : ℕ → ℕ) → ((r : ℕ) → r < config.regions → start r ≤ top r) → IsYoung config start address
   young_there start floors =
-      let inside : IsOf c region address = record { from = omega arith; before = (let room = grows.room in let some = grows.some in omega (arith, room, some)) } in
+      let inside : IsOf config region address = record { from = omega arith; before = (let room = grows.room in let some = grows.some in omega (arith, room, some)) } in
       let floor = floors region grows.within in
       let top_is = grows.top_is in
-      subst (λ r. base_of c r + start r ≤ address) (sym (regions_tile.of_no_other c region address inside)) (omega (arith, floor, top_is))
+      subst (λ r. base_of config r + start r ≤ address) (sym (regions_tile.of_no_other config region address inside)) (omega (arith, floor, top_is))
 
   -- no top falls
   tops_rise : (r : ℕ) → top r ≤ new_top r
@@ -127,49 +127,49 @@ module _ (c : Config) (top : ℕ → ℕ) (block : Plot) (region at words seat :
       (cases_eq r region)
 
   -- room is young, where it was
-  young_more : (start : ℕ → ℕ) → ((r : ℕ) → r < c.regions → start r ≤ top r) → AreYoungRooms c start block → AreYoungRooms c start new_block
+  young_more : (start : ℕ → ℕ) → ((region : ℕ) → region < config.regions → start region ≤ top region) → AreYoungRooms config start block → AreYoungRooms config start new_block
   young_more start floors young a other x is room = ⊎_elim
-      (λ (new : (a ≡ address) × (carved seat words ≡ x)). subst (IsYoung c start) (sym new.0) (young_there start floors))
+      (λ (new : (a ≡ address) × (carved seat words ≡ x)). subst (IsYoung config start) (sym new.0) (young_there start floors))
       (λ (old : (a ≢ address) × (block a ≡ Some x)). young a other x old.1 room)
       (piece_cases block address (carved seat words) a x is)
 
   -- tops lie at or above what they were at or above
-  floors_more : (start : ℕ → ℕ) → ((r : ℕ) → r < c.regions → start r ≤ top r) → (r : ℕ) → r < c.regions → start r ≤ new_top r
-  floors_more start floors r inside = let floor = floors r inside in let rise = tops_rise r in omega (arith, floor, rise)
+  floors_more : (start : ℕ → ℕ) → ((region : ℕ) → region < config.regions → start region ≤ top region) → (region : ℕ) → region < config.regions → start region ≤ new_top region
+  floors_more start floors region inside = let floor = floors region inside in let rise = tops_rise region in omega (arith, floor, rise)
 
   -- marking goes on
-  pub marking_more : (phase : ℕ) (grey black count : ℕ → ℕ) (buffer : ℕ → ℕ → ℕ) (tams heap : ℕ → ℕ) (s : Snapshot) (recording : ℕ → Option ℕ) (scanning : ℕ → Option Scan)
-      → KeepsSnapshot c phase grey black count buffer top tams heap block s recording scanning → KeepsSnapshot c phase grey black count buffer new_top tams heap new_block s recording scanning
-  marking_more phase grey black count buffer tams heap s recording scanning marked =
-      marked_loose c block new_block same_but_loose phase grey black count buffer top new_top tams heap s recording scanning marked
-      (λ on. young_more s.top marked.floors (marked.marking on).young) (floors_more s.top marked.floors)
+  pub marking_more : (phase : ℕ) (grey black count : ℕ → ℕ) (buffer : ℕ → ℕ → ℕ) (tams heap : ℕ → ℕ) (snapshot : Snapshot) (recording : ℕ → Option ℕ) (scanning : ℕ → Option Scan)
+      → KeepsSnapshot config phase grey black count buffer top tams heap block snapshot recording scanning → KeepsSnapshot config phase grey black count buffer new_top tams heap new_block snapshot recording scanning
+  marking_more phase grey black count buffer tams heap snapshot recording scanning marked =
+      marked_loose config block new_block same_but_loose phase grey black count buffer top new_top tams heap snapshot recording scanning marked
+      (λ on. young_more snapshot.top marked.floors (marked.marking on).young) (floors_more snapshot.top marked.floors)
 
   -- evacuation goes on, where the region is not set aside
   pub evacuating_more : (phase cset evac claim free : ℕ) (tams heap black : ℕ → ℕ) (owner : ℕ → Option ℕ) (copying : ℕ → Bool) (working : ℕ → Option ℕ) → (IsIn cset region → ⊥)
-      → IsEvacuating c phase cset evac claim free top tams heap black block owner copying working → IsEvacuating c phase cset evac claim free new_top tams heap black new_block owner copying working
+      → IsEvacuating config phase cset evac claim free top tams heap black block owner copying working → IsEvacuating config phase cset evac claim free new_top tams heap black new_block owner copying working
   evacuating_more phase cset evac claim free tams heap black owner copying working outside e =
-      let inside : IsOf c region address = record { from = omega arith; before = (let room = grows.room in let some = grows.some in omega (arith, room, some)) } in
-      let of_region : region_with c address ≡ region = regions_tile.of_no_other c region address inside in
-      evacuated_loose c block new_block same_but_loose phase cset evac claim free top new_top tams heap black owner copying working e
+      let inside : IsOf config region address = record { from = omega arith; before = (let room = grows.room in let some = grows.some in omega (arith, room, some)) } in
+      let of_region : region_with config address ≡ region = regions_tile.of_no_other config region address inside in
+      evacuated_loose config block new_block same_but_loose phase cset evac claim free top new_top tams heap black owner copying working e
       (λ on. young_more tams (e.kept on).floors (e.kept on).young)
       (λ a other x is room collected. ⊎_elim
-      (λ (new : (a ≡ address) × (carved seat words ≡ x)). outside (subst (λ r. IsIn cset r) of_region (subst (IsCollected c cset) new.0 collected)))
+      (λ (new : (a ≡ address) × (carved seat words ≡ x)). outside (subst (λ r. IsIn cset r) of_region (subst (IsCollected config cset) new.0 collected)))
       (λ (old : (a ≢ address) × (block a ≡ Some x)). e.aside.no_rooms a other x old.1 room collected)
       (piece_cases block address (carved seat words) a x is))
       (λ on. floors_more tams (e.kept on).floors)
       (λ r is. updated_else top region (at + words) r (λ now. outside (subst (λ r. IsIn cset r) (sym now) is)))
 
   -- updating goes on
-  pub updating_more : (cset claim : ℕ) (limit heap : ℕ → ℕ) (scanning : ℕ → Option Scan) → IsUpdating c cset claim top limit heap block scanning → IsUpdating c cset claim new_top limit heap new_block scanning
+  pub updating_more : (cset claim : ℕ) (limit heap : ℕ → ℕ) (scanning : ℕ → Option Scan) → IsUpdating config cset claim top limit heap block scanning → IsUpdating config cset claim new_top limit heap new_block scanning
   updating_more cset claim limit heap scanning e =
-      updated_loose c block new_block same_but_loose cset claim top new_top limit heap scanning e (young_more limit e.limits e.young) (floors_more limit e.limits)
+      updated_loose config block new_block same_but_loose cset claim top new_top limit heap scanning e (young_more limit e.limits e.young) (floors_more limit e.limits)
 
   -- what the heap has is the graph's
-  pub contents_more : (heap : ℕ → ℕ) (object : Name → Option Object) (count : ℕ → ℕ) → HasContents c heap block object count → HasContents c heap new_block object count
-  contents_more = contents_loose c block new_block same_but_loose
+  pub contents_more : (heap : ℕ → ℕ) (object : Name → Option Object) (count : ℕ → ℕ) → HasContents config heap block object count → HasContents config heap new_block object count
+  contents_more = contents_loose config block new_block same_but_loose
 
   -- a region with a new top is not free
-  free_more : (free : ℕ) (owner : ℕ → Option ℕ) → (IsIn free region → ⊥) → IsFreeWord c free top owner → IsFreeWord c free new_top owner
+  free_more : (free : ℕ) (owner : ℕ → Option ℕ) → (IsIn free region → ⊥) → IsFreeWord config free top owner → IsFreeWord config free new_top owner
   free_more free owner in_use free_word = record {
     no_more = free_word.no_more;
     empty = λ r inside bit. updated_else top region (at + words) r (λ same. in_use (subst (IsIn free) (sym same) bit)) ∙ free_word.empty r inside bit;
@@ -177,10 +177,10 @@ module _ (c : Config) (top : ℕ → ℕ) (block : Plot) (region at words seat :
   }
 
   -- room is as it should be
-  rooms_more : seat < seat_count c.mutators c.helpers → AreRooms c new_block
+  rooms_more : seat < seat_count config.mutators config.helpers → AreRooms config new_block
   rooms_more seated = record {
     seated = λ a other x is is_room. ⊎_elim
-        (λ (new : (a ≡ address) × (carved seat words ≡ x)). subst (λ s. s < seat_count c.mutators c.helpers) (same_Some seat other (ap room_of new.1 ∙ is_room)) seated)
+        (λ (new : (a ≡ address) × (carved seat words ≡ x)). subst (λ s. s < seat_count config.mutators config.helpers) (same_Some seat other (ap room_of new.1 ∙ is_room)) seated)
         (λ old. grows.rooms.seated a other x old is_room)
         (own_room a x is);
     hands = λ a other more is. grows.rooms.hands a other more (old_other a (hand other more) (λ differ. cc) is);
@@ -192,7 +192,7 @@ module _ (c : Config) (top : ℕ → ℕ) (block : Plot) (region at words seat :
   }
 
   -- buffers stay
-  buffers_more : (current : ℕ → ℕ) → AreBuffers c top current block → AreBuffers c new_top current new_block
+  buffers_more : (current : ℕ → ℕ) → AreBuffers config top current block → AreBuffers config new_top current new_block
   buffers_more current buffers = record {
     each = λ other some.
         let was = buffers.each other some in
@@ -212,8 +212,8 @@ module _ (c : Config) (top : ℕ → ℕ) (block : Plot) (region at words seat :
   }
 
   -- and regions are owned
-  pub owned_more : (share free cset : ℕ) (current : ℕ → ℕ) (owner : ℕ → Option ℕ) → seat < seat_count c.mutators c.helpers → (IsIn free region → ⊥)
-      → AreOwned c top share free cset current block owner → AreOwned c new_top share free cset current new_block owner
+  pub owned_more : (share free cset : ℕ) (current : ℕ → ℕ) (owner : ℕ → Option ℕ) → seat < seat_count config.mutators config.helpers → (IsIn free region → ⊥)
+      → AreOwned config top share free cset current block owner → AreOwned config new_top share free cset current new_block owner
   owned_more share free cset current owner seated in_use owned = record {
     free_word = free_more free owner in_use owned.free_word;
     shared_one = owned.shared_one;

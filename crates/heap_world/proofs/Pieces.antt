@@ -12,54 +12,54 @@ use Rattle.heap_world.proofs.Updates.{updated, updated_same, updated_else}
 use Rattle.heap_world.proofs.Keeping.{points_stay}
 
 -- one region lies behind another
-pub behind : (c : Config) (r s : ℕ) → r < s → base_of c r + c.region_words ≤ base_of c s
-behind c r s before =
-    let more : (r + 1 + 1) * c.region_words ≤ (s + 1) * c.region_words = mul-le-mul_right c.region_words (omega (arith, before)) in
+pub behind : (config : Config) (region other_region : ℕ) → region < other_region → base_of config region + config.region_words ≤ base_of config other_region
+behind config region other_region before =
+    let more : (region + 1 + 1) * config.region_words ≤ (other_region + 1) * config.region_words = mul-le-mul_right config.region_words (omega (arith, before)) in
     omega (arith, more)
 
 -- a piece has a word at least
-pub some_words : (c : Config) (top : ℕ → ℕ) (block : Plot) → IsParsable c top block → AreRooms c block → (a : ℕ) (b : Block) → block a ≡ Some b → 1 ≤ words_of b
-some_words c top block parsable rooms a (thing name refs nums) is = omega arith
-some_words c top block parsable rooms a (moved name refs nums to) is = omega arith
-some_words c top block parsable rooms a (spent words to) is = let long = parsable.spents a words to is in omega (arith, long)
-some_words c top block parsable rooms a (hand seat words) is = let some = rooms.hands a seat words is in omega (arith, some)
-some_words c top block parsable rooms a (promised seat words) is = let long = parsable.promises a seat words is in omega (arith, long)
-some_words c top block parsable rooms a (dead words) is = let long = parsable.deads a words is in omega (arith, long)
-some_words c top block parsable rooms a (filler words) is = parsable.fillers a words is
-some_words c top block parsable rooms a (spare seat words) is = rooms.spares a seat words is
-some_words c top block parsable rooms a (carved seat words) is = let some = rooms.carveds a seat words is in omega (arith, some)
+pub some_words : (config : Config) (top : ℕ → ℕ) (block : Plot) → IsParsable config top block → AreRooms config block → (address : ℕ) (piece : Block) → block address ≡ Some piece → 1 ≤ words_of piece
+some_words config top block parsable rooms address (thing name refs nums) is = omega arith
+some_words config top block parsable rooms address (moved name refs nums to) is = omega arith
+some_words config top block parsable rooms address (spent words to) is = let long = parsable.spents address words to is in omega (arith, long)
+some_words config top block parsable rooms address (hand seat words) is = let some = rooms.hands address seat words is in omega (arith, some)
+some_words config top block parsable rooms address (promised seat words) is = let long = parsable.promises address seat words is in omega (arith, long)
+some_words config top block parsable rooms address (dead words) is = let long = parsable.deads address words is in omega (arith, long)
+some_words config top block parsable rooms address (filler words) is = parsable.fillers address words is
+some_words config top block parsable rooms address (spare seat words) is = rooms.spares address seat words is
+some_words config top block parsable rooms address (carved seat words) is = let some = rooms.carveds address seat words is in omega (arith, some)
 
 -- A piece ends before a region, or lies in its part in use, or begins behind it.
 abbrev Beside : Config → (ℕ → ℕ) → ℕ → ℕ → Block → Type 0
-Beside c top r a b =
-    (a + words_of b ≤ base_of c r) ⊎ (((base_of c r ≤ a) × (a + words_of b ≤ base_of c r + top r)) ⊎ (base_of c r + c.region_words ≤ a))
+Beside config top region a piece =
+    (a + words_of piece ≤ base_of config region) ⊎ (((base_of config region ≤ a) × (a + words_of piece ≤ base_of config region + top region)) ⊎ (base_of config region + config.region_words ≤ a))
 
 -- a piece lies beside a region so, or in it
-pub beside : (c : Config) (top : ℕ → ℕ) (block : Plot) → IsPlotted c top block → (r a : ℕ) (b : Block) → block a ≡ Some b → Beside c top r a b
-beside c top block plotted r a b is =
-    let used = plotted.in_use a b is in
-    let most : top used.region ≤ c.region_words = plotted.tops used.region used.within in
+pub beside : (config : Config) (top : ℕ → ℕ) (block : Plot) → IsPlotted config top block → (r address : ℕ) (piece : Block) → block address ≡ Some piece → Beside config top r address piece
+beside config top block plotted r address piece is =
+    let used = plotted.in_use address piece is in
+    let most : top used.region ≤ config.region_words = plotted.tops used.region used.within in
     ⊎_elim
-    (λ (before : used.region < r). let far = behind c used.region r before in inl (omega (arith, used.to_top, most, far)))
+    (λ (before : used.region < r). let far = behind config used.region r before in inl (omega (arith, used.to_top, most, far)))
     (λ (least : r ≤ used.region). ⊎_elim
-    (λ (same : r ≡ used.region). inr (inl (subst (λ k. (base_of c k ≤ a) × (a + words_of b ≤ base_of c k + top k)) (sym same) (used.from_base, used.to_top))))
-    (λ (differs : r ≢ used.region). let far = behind c r used.region (omega (arith, least, differs)) in inr (inr (omega (arith, used.from_base, far))))
+    (λ (same : r ≡ used.region). inr (inl (subst (λ k. (base_of config k ≤ address) × (address + words_of piece ≤ base_of config k + top k)) (sym same) (used.from_base, used.to_top))))
+    (λ (differs : r ≢ used.region). let far = behind config r used.region (omega (arith, least, differs)) in inr (inr (omega (arith, used.from_base, far))))
     (cases_eq r used.region))
     (cases_lt used.region r)
 
 -- with a new piece at an address, a piece is the new one or an old one
-pub piece_cases : (block : Plot) (at : ℕ) (new : Block) (a : ℕ) (b : Block) → updated block at (Some new) a ≡ Some b → ((a ≡ at) × (new ≡ b)) ⊎ ((a ≢ at) × (block a ≡ Some b))
-piece_cases block at new a b is = ⊎_elim
-    (λ (same : a ≡ at). inl (same, same_Some new b (sym (updated_same block at (Some new) a (sym same)) ∙ is)))
-    (λ (other : a ≢ at). inr (other, sym (updated_else block at (Some new) a (λ e. other (sym e))) ∙ is))
-    (cases_eq a at)
+pub piece_cases : (block : Plot) (at : ℕ) (new : Block) (address : ℕ) (piece : Block) → updated block at (Some new) address ≡ Some piece → ((address ≡ at) × (new ≡ piece)) ⊎ ((address ≢ at) × (block address ≡ Some piece))
+piece_cases block at new address piece is = ⊎_elim
+    (λ (same : address ≡ at). inl (same, same_Some new piece (sym (updated_same block at (Some new) address (sym same)) ∙ is)))
+    (λ (other : address ≢ at). inr (other, sym (updated_else block at (Some new) address (λ e. other (sym e))) ∙ is))
+    (cases_eq address at)
 
 -- an object reads as before where its words are as before and objects stand where they stood
-pub object_reads : (heap after : ℕ → ℕ) (block more : Plot) (a refs nums : ℕ) (name : Name) (o : Object)
-    → ((k : ℕ) → k < 3 + refs + nums → after (a + k) ≡ heap (a + k))
-    → ((b : ℕ) (n : Name) → name_at (block b) ≡ Some n → name_at (more b) ≡ Some n)
-    → IsThing heap block a refs nums name o → IsThing after more a refs nums name o
-object_reads heap after block more a refs nums name o kept names is = record {
+pub object_reads : (heap after : ℕ → ℕ) (block more : Plot) (address refs nums : ℕ) (name : Name) (object : Object)
+    → ((k : ℕ) → k < 3 + refs + nums → after (address + k) ≡ heap (address + k))
+    → ((other_address : ℕ) (other_name : Name) → name_at (block other_address) ≡ Some other_name → name_at (more other_address) ≡ Some other_name)
+    → IsThing heap block address refs nums name object → IsThing after more address refs nums name object
+object_reads heap after block more address refs nums name object kept names is = record {
   header = ap after (omega arith) ∙ kept 0 (omega arith) ∙ ap heap (omega arith) ∙ is.header;
   shape = kept 1 (omega arith) ∙ is.shape;
   name_word = kept 2 (omega arith) ∙ is.name_word;
@@ -68,12 +68,12 @@ object_reads heap after block more a refs nums name o kept names is = record {
   refs_are = is.refs_are;
   nums_are = is.nums_are;
   references = λ i reference there.
-      let within : i < length o.refs = slice_get_within o.refs i reference there in
-      let long : length o.refs ≡ refs = is.refs_are in
-      let word : after (a + 3 + i) ≡ heap (a + 3 + i) = ap after (omega arith) ∙ kept (3 + i) (omega arith) ∙ ap heap (omega arith) in
-      subst (λ w. Points more w reference) (sym word) (points_stay block more names (heap (a + 3 + i)) reference (is.references i reference there));
-  numbers = λ i n there.
-      let within : i < length o.nums = slice_get_within o.nums i n there in
-      let long : length o.nums ≡ nums = is.nums_are in
-      ap after (omega arith) ∙ kept (3 + refs + i) (omega arith) ∙ ap heap (omega arith) ∙ is.numbers i n there;
+      let within : i < length object.refs = slice_get_within object.refs i reference there in
+      let long : length object.refs ≡ refs = is.refs_are in
+      let word : after (address + 3 + i) ≡ heap (address + 3 + i) = ap after (omega arith) ∙ kept (3 + i) (omega arith) ∙ ap heap (omega arith) in
+      subst (λ w. Points more w reference) (sym word) (points_stay block more names (heap (address + 3 + i)) reference (is.references i reference there));
+  numbers = λ i other_name there.
+      let within : i < length object.nums = slice_get_within object.nums i other_name there in
+      let long : length object.nums ≡ nums = is.nums_are in
+      ap after (omega arith) ∙ kept (3 + refs + i) (omega arith) ∙ ap heap (omega arith) ∙ is.numbers i other_name there;
 }

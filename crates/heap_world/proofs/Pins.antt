@@ -5,15 +5,15 @@ use Rattle.shen_graph.specs.declared.name.Name.{Name}
 use Rattle.shen_graph.specs.declared.pin.Pinned.{Pinned}
 use Rattle.heap_world.specs.World.{Plot, Target, PinStands, ArePinned}
 
-module _ (c : Config) (cset evac now_cset now_evac : ℕ) (block now : Plot) where
+module _ (config : Config) (cset evac now_cset now_evac : ℕ) (block now : Plot) where
   -- so does one of them
-  pub pin_stays : ((a refs nums : ℕ) (name : Name) → Target c cset evac block a refs nums name → Target c now_cset now_evac now a refs nums name)
-      → (word : ℕ) (held : Option Pinned) → PinStands c cset evac block word held → PinStands c now_cset now_evac now word held
+  pub pin_stays : ((address refs nums : ℕ) (name : Name) → Target config cset evac block address refs nums name → Target config now_cset now_evac now address refs nums name)
+      → (word : ℕ) (held : Option Pinned) → PinStands config cset evac block word held → PinStands config now_cset now_evac now word held
   pin_stays targets word None is = is
   pin_stays targets word (Some p) is = (is.0, is.1, is.2, targets word is.1 is.2 p.name is.3)
 
   -- and those of all mutators
   pub pins_stay : (words : ℕ → ℕ → ℕ) (pin : ℕ → ℕ → Option Pinned)
-      → ((a refs nums : ℕ) (name : Name) → Target c cset evac block a refs nums name → Target c now_cset now_evac now a refs nums name)
-      → ArePinned c cset evac block words pin → ArePinned c now_cset now_evac now words pin
+      → ((address refs nums : ℕ) (name : Name) → Target config cset evac block address refs nums name → Target config now_cset now_evac now address refs nums name)
+      → ArePinned config cset evac block words pin → ArePinned config now_cset now_evac now words pin
   pins_stay words pin targets pinned t i seated inside = pin_stays targets (words t i) (pin (t + 1) i) (pinned t i seated inside)

@@ -14,7 +14,7 @@ use Rattle.heap_world.proofs.Loose.{SameButLoose}
 use Rattle.heap_world.proofs.Retiled.{IsTiling, IsStretch, retiled, retiled_cases, retiled_else, plotted_again, filled_again, young_behind}
 
 -- room is loose
-pub room_loose : (x : Block) (seat : ℕ) → room_of x ≡ Some seat → is_loose x ≡ true
+pub room_loose : (piece : Block) (seat : ℕ) → room_of piece ≡ Some seat → is_loose piece ≡ true
 room_loose (thing name refs nums) seat is = cc
 room_loose (moved name refs nums to) seat is = cc
 room_loose (spent words to) seat is = cc
@@ -26,44 +26,44 @@ room_loose (spare other words) seat is = refl
 room_loose (carved other words) seat is = refl
 
 -- The stretch is one seat's room, and the new pieces are its room or fillers, with the least sizes.
-pub record CanRecut (c : Config) (top : ℕ → ℕ) (block new : Plot) (seat a words : ℕ) : Type 0 where
-  pub parsable : IsParsable c top block
-  pub rooms : AreRooms c block
-  pub stretch : IsStretch c top block a words
-  pub tiling : IsTiling new a words
-  pub olds : (x : ℕ) (b : Block) → a ≤ x → x < a + words → block x ≡ Some b → room_of b ≡ Some seat
-  pub loose : (x : ℕ) (b : Block) → new x ≡ Some b → is_loose b ≡ true
-  pub own : (x other : ℕ) (b : Block) → new x ≡ Some b → room_of b ≡ Some other → other ≡ seat
-  pub hands : (x other more : ℕ) → new x ≡ Some (hand other more) → 3 ≤ more
-  pub carveds : (x other more : ℕ) → new x ≡ Some (carved other more) → 3 ≤ more
+pub record CanRecut (config : Config) (top : ℕ → ℕ) (block new : Plot) (seat address words : ℕ) : Type 0 where
+  pub parsable : IsParsable config top block
+  pub rooms : AreRooms config block
+  pub stretch : IsStretch config top block address words
+  pub tiling : IsTiling new address words
+  pub olds : (other_address : ℕ) (piece : Block) → address ≤ other_address → other_address < address + words → block other_address ≡ Some piece → room_of piece ≡ Some seat
+  pub loose : (other_address : ℕ) (piece : Block) → new other_address ≡ Some piece → is_loose piece ≡ true
+  pub own : (other_address other : ℕ) (piece : Block) → new other_address ≡ Some piece → room_of piece ≡ Some other → other ≡ seat
+  pub hands : (other_address other more : ℕ) → new other_address ≡ Some (hand other more) → 3 ≤ more
+  pub carveds : (other_address other more : ℕ) → new other_address ≡ Some (carved other more) → 3 ≤ more
 
-module _ (c : Config) (top : ℕ → ℕ) (block new : Plot) (seat a words : ℕ) (can : CanRecut c top block new seat a words) where
+module _ (config : Config) (top : ℕ → ℕ) (block new : Plot) (seat address words : ℕ) (can : CanRecut config top block new seat address words) where
   -- the plot with the new pieces
   abbrev after : Plot
-  after = retiled block new a words
+  after = retiled block new address words
 
   -- the first old piece is the seat's room
   first_room : room_of can.stretch.first ≡ Some seat
-  first_room = let some = can.stretch.some in can.olds a can.stretch.first (omega arith) (omega (arith, some)) can.stretch.begins
+  first_room = let some = can.stretch.some in can.olds address can.stretch.first (omega arith) (omega (arith, some)) can.stretch.begins
 
   -- pieces that are not loose are the same
   pub same_but_loose : SameButLoose block after
   same_but_loose = record {
     stays = λ x b fixed is. ⊎_elim
-        (λ (before : x < a). retiled_else block new a words x (inl before) ∙ is)
-        (λ (from : a ≤ x). ⊎_elim
-        (λ (to : x < a + words). absurd (true≢false (sym (room_loose b seat (can.olds x b from to is)) ∙ fixed)))
-        (λ (behind : a + words ≤ x). retiled_else block new a words x (inr behind) ∙ is)
-        (cases_lt x (a + words)))
-        (cases_lt x a);
+        (λ (before : x < address). retiled_else block new address words x (inl before) ∙ is)
+        (λ (from : address ≤ x). ⊎_elim
+        (λ (to : x < address + words). absurd (true≢false (sym (room_loose b seat (can.olds x b from to is)) ∙ fixed)))
+        (λ (behind : address + words ≤ x). retiled_else block new address words x (inr behind) ∙ is)
+        (cases_lt x (address + words)))
+        (cases_lt x address);
     came = λ x b fixed is. ⊎_elim
-        (λ (old : ((x < a) ⊎ (a + words ≤ x)) × (block x ≡ Some b)). old.1)
-        (λ (now : (a ≤ x) × (x < a + words) × (new x ≡ Some b)). absurd (true≢false (sym (can.loose x b now.2) ∙ fixed)))
-        (retiled_cases block new a words x b is);
+        (λ (old : ((x < address) ⊎ (address + words ≤ x)) × (block x ≡ Some b)). old.1)
+        (λ (now : (address ≤ x) × (x < address + words) × (new x ≡ Some b)). absurd (true≢false (sym (can.loose x b now.2) ∙ fixed)))
+        (retiled_cases block new address words x b is);
   }
 
   -- an address of the stretch is of its region
-  of_region : (x : ℕ) → a ≤ x → x < a + words → IsOf c can.stretch.region x
+  of_region : (x : ℕ) → address ≤ x → x < address + words → IsOf config can.stretch.region x
   of_region x from to =
       let base = can.stretch.from_base in
       let high = can.stretch.to_top in
@@ -71,83 +71,83 @@ module _ (c : Config) (top : ℕ → ℕ) (block new : Plot) (seat a words : ℕ
       record { from = omega (arith, base, from); before = omega (arith, high, most, to) }
 
   -- and so of the region of its first word
-  same_region : (x : ℕ) → a ≤ x → x < a + words → region_with c x ≡ region_with c a
+  same_region : (x : ℕ) → address ≤ x → x < address + words → region_with config x ≡ region_with config address
   same_region x from to =
       let some = can.stretch.some in
-      regions_tile.of_no_other c can.stretch.region x (of_region x from to) ∙ sym (regions_tile.of_no_other c can.stretch.region a (of_region a (omega arith) (omega (arith, some))))
+      regions_tile.of_no_other config can.stretch.region x (of_region x from to) ∙ sym (regions_tile.of_no_other config can.stretch.region address (of_region address (omega arith) (omega (arith, some))))
 
   -- room stays young
-  pub rooms_young : (start : ℕ → ℕ) → AreYoungRooms c start block → AreYoungRooms c start after
+  pub rooms_young : (start : ℕ → ℕ) → AreYoungRooms config start block → AreYoungRooms config start after
   rooms_young start young x other b is room = ⊎_elim
-      (λ (old : ((x < a) ⊎ (a + words ≤ x)) × (block x ≡ Some b)). young x other b old.1 room)
-      (λ (now : (a ≤ x) × (x < a + words) × (new x ≡ Some b)).
+      (λ (old : ((x < address) ⊎ (address + words ≤ x)) × (block x ≡ Some b)). young x other b old.1 room)
+      (λ (now : (address ≤ x) × (x < address + words) × (new x ≡ Some b)).
       let some = can.stretch.some in
-      young_behind c start can.stretch.region a x (of_region a (omega arith) (omega (arith, some))) (of_region x now.0 now.1) now.0 (young a seat can.stretch.first can.stretch.begins first_room))
-      (retiled_cases block new a words x b is)
+      young_behind config start can.stretch.region address x (of_region address (omega arith) (omega (arith, some))) (of_region x now.0 now.1) now.0 (young address seat can.stretch.first can.stretch.begins first_room))
+      (retiled_cases block new address words x b is)
 
   -- and outside the set
-  pub rooms_outside : (cset : ℕ) → AreRoomsOutside c cset block → AreRoomsOutside c cset after
+  pub rooms_outside : (cset : ℕ) → AreRoomsOutside config cset block → AreRoomsOutside config cset after
   rooms_outside cset outside x other b is room = ⊎_elim
-      (λ (old : ((x < a) ⊎ (a + words ≤ x)) × (block x ≡ Some b)). outside x other b old.1 room)
-      (λ (now : (a ≤ x) × (x < a + words) × (new x ≡ Some b)).
-      λ inside. outside a seat can.stretch.first can.stretch.begins first_room (subst (λ r. IsIn cset r) (same_region x now.0 now.1) inside))
-      (retiled_cases block new a words x b is)
+      (λ (old : ((x < address) ⊎ (address + words ≤ x)) × (block x ≡ Some b)). outside x other b old.1 room)
+      (λ (now : (address ≤ x) × (x < address + words) × (new x ≡ Some b)).
+      λ inside. outside address seat can.stretch.first can.stretch.begins first_room (subst (λ r. IsIn cset r) (same_region x now.0 now.1) inside))
+      (retiled_cases block new address words x b is)
 
   -- room of another seat was there
-  pub others_room : (x other : ℕ) (b : Block) → other ≢ seat → after x ≡ Some b → room_of b ≡ Some other → block x ≡ Some b
-  others_room x other b differ is room = ⊎_elim
-      (λ (old : ((x < a) ⊎ (a + words ≤ x)) × (block x ≡ Some b)). old.1)
-      (λ (now : (a ≤ x) × (x < a + words) × (new x ≡ Some b)). absurd (differ (can.own x other b now.2 room)))
-      (retiled_cases block new a words x b is)
+  pub others_room : (x other : ℕ) (piece : Block) → other ≢ seat → after x ≡ Some piece → room_of piece ≡ Some other → block x ≡ Some piece
+  others_room x other piece differ is room = ⊎_elim
+      (λ (old : ((x < address) ⊎ (address + words ≤ x)) × (block x ≡ Some piece)). old.1)
+      (λ (now : (address ≤ x) × (x < address + words) × (new x ≡ Some piece)). absurd (differ (can.own x other piece now.2 room)))
+      (retiled_cases block new address words x piece is)
 
   -- and stays
-  pub others_stay : (x other : ℕ) (b : Block) → other ≢ seat → block x ≡ Some b → room_of b ≡ Some other → after x ≡ Some b
-  others_stay x other b differ is room = ⊎_elim
-      (λ (before : x < a). retiled_else block new a words x (inl before) ∙ is)
-      (λ (from : a ≤ x). ⊎_elim
-      (λ (to : x < a + words). absurd (differ (same_Some other seat (sym room ∙ can.olds x b from to is))))
-      (λ (behind : a + words ≤ x). retiled_else block new a words x (inr behind) ∙ is)
-      (cases_lt x (a + words)))
-      (cases_lt x a)
+  pub others_stay : (x other : ℕ) (piece : Block) → other ≢ seat → block x ≡ Some piece → room_of piece ≡ Some other → after x ≡ Some piece
+  others_stay x other piece differ is room = ⊎_elim
+      (λ (before : x < address). retiled_else block new address words x (inl before) ∙ is)
+      (λ (from : address ≤ x). ⊎_elim
+      (λ (to : x < address + words). absurd (differ (same_Some other seat (sym room ∙ can.olds x piece from to is))))
+      (λ (behind : address + words ≤ x). retiled_else block new address words x (inr behind) ∙ is)
+      (cases_lt x (address + words)))
+      (cases_lt x address)
 
   -- the heap is parsable
-  pub parsable_again : IsParsable c top after
+  pub parsable_again : IsParsable config top after
   parsable_again = record {
-    plotted = plotted_again c top block new a words can.parsable.plotted can.stretch can.tiling;
-    filled = filled_again c top block new a words can.parsable.plotted can.stretch can.tiling can.parsable.filled;
+    plotted = plotted_again config top block new address words can.parsable.plotted can.stretch can.tiling;
+    filled = filled_again config top block new address words can.parsable.plotted can.stretch can.tiling can.parsable.filled;
     promises = λ x other more is. can.parsable.promises x other more (same_but_loose.came x (promised other more) refl is);
     deads = λ x more is. can.parsable.deads x more (same_but_loose.came x (dead more) refl is);
     fillers = λ x more is. ⊎_elim
-        (λ (old : ((x < a) ⊎ (a + words ≤ x)) × (block x ≡ Some (filler more))). can.parsable.fillers x more old.1)
-        (λ (now : (a ≤ x) × (x < a + words) × (new x ≡ Some (filler more))). can.tiling.some x (filler more) now.2)
-        (retiled_cases block new a words x (filler more) is);
+        (λ (old : ((x < address) ⊎ (address + words ≤ x)) × (block x ≡ Some (filler more))). can.parsable.fillers x more old.1)
+        (λ (now : (address ≤ x) × (x < address + words) × (new x ≡ Some (filler more))). can.tiling.some x (filler more) now.2)
+        (retiled_cases block new address words x (filler more) is);
     spents = λ x more to is. can.parsable.spents x more to (same_but_loose.came x (spent more to) refl is);
   }
 
   -- room is as it should be
-  pub rooms_again : AreRooms c after
+  pub rooms_again : AreRooms config after
   rooms_again = record {
     seated = λ x other b is room. ⊎_elim
-        (λ (old : ((x < a) ⊎ (a + words ≤ x)) × (block x ≡ Some b)). can.rooms.seated x other b old.1 room)
-        (λ (now : (a ≤ x) × (x < a + words) × (new x ≡ Some b)).
-        subst (λ s. s < seat_count c.mutators c.helpers) (sym (can.own x other b now.2 room)) (can.rooms.seated a seat can.stretch.first can.stretch.begins first_room))
-        (retiled_cases block new a words x b is);
+        (λ (old : ((x < address) ⊎ (address + words ≤ x)) × (block x ≡ Some b)). can.rooms.seated x other b old.1 room)
+        (λ (now : (address ≤ x) × (x < address + words) × (new x ≡ Some b)).
+        subst (λ s. s < seat_count config.mutators config.helpers) (sym (can.own x other b now.2 room)) (can.rooms.seated address seat can.stretch.first can.stretch.begins first_room))
+        (retiled_cases block new address words x b is);
     hands = λ x other more is. ⊎_elim
-        (λ (old : ((x < a) ⊎ (a + words ≤ x)) × (block x ≡ Some (hand other more))). can.rooms.hands x other more old.1)
-        (λ (now : (a ≤ x) × (x < a + words) × (new x ≡ Some (hand other more))). can.hands x other more now.2)
-        (retiled_cases block new a words x (hand other more) is);
+        (λ (old : ((x < address) ⊎ (address + words ≤ x)) × (block x ≡ Some (hand other more))). can.rooms.hands x other more old.1)
+        (λ (now : (address ≤ x) × (x < address + words) × (new x ≡ Some (hand other more))). can.hands x other more now.2)
+        (retiled_cases block new address words x (hand other more) is);
     spares = λ x other more is. ⊎_elim
-        (λ (old : ((x < a) ⊎ (a + words ≤ x)) × (block x ≡ Some (spare other more))). can.rooms.spares x other more old.1)
-        (λ (now : (a ≤ x) × (x < a + words) × (new x ≡ Some (spare other more))). can.tiling.some x (spare other more) now.2)
-        (retiled_cases block new a words x (spare other more) is);
+        (λ (old : ((x < address) ⊎ (address + words ≤ x)) × (block x ≡ Some (spare other more))). can.rooms.spares x other more old.1)
+        (λ (now : (address ≤ x) × (x < address + words) × (new x ≡ Some (spare other more))). can.tiling.some x (spare other more) now.2)
+        (retiled_cases block new address words x (spare other more) is);
     carveds = λ x other more is. ⊎_elim
-        (λ (old : ((x < a) ⊎ (a + words ≤ x)) × (block x ≡ Some (carved other more))). can.rooms.carveds x other more old.1)
-        (λ (now : (a ≤ x) × (x < a + words) × (new x ≡ Some (carved other more))). can.carveds x other more now.2)
-        (retiled_cases block new a words x (carved other more) is);
+        (λ (old : ((x < address) ⊎ (address + words ≤ x)) × (block x ≡ Some (carved other more))). can.rooms.carveds x other more old.1)
+        (λ (now : (address ≤ x) × (x < address + words) × (new x ≡ Some (carved other more))). can.carveds x other more now.2)
+        (retiled_cases block new address words x (carved other more) is);
   }
 
   -- the buffer of another seat stays
-  other_buffer : (other word : ℕ) → other ≢ seat → IsBuffer c top block other word → IsBuffer c top after other word
+  other_buffer : (other word : ℕ) → other ≢ seat → IsBuffer config top block other word → IsBuffer config top after other word
   other_buffer other word differ was = record {
     region = was.region;
     within = was.within;
@@ -162,15 +162,15 @@ module _ (c : Config) (top : ℕ → ℕ) (block new : Plot) (seat a words : ℕ
   }
 
   -- Each seat has its buffer still, where the seat's own has another word, and that one's free words are the pieces that there are now.
-  pub buffers_again : (current then_current : ℕ → ℕ) → ((other : ℕ) → other ≢ seat → then_current other ≡ current other) → (then_current seat ≢ 0 → IsBuffer c top after seat (then_current seat))
+  pub buffers_again : (current then_current : ℕ → ℕ) → ((other : ℕ) → other ≢ seat → then_current other ≡ current other) → (then_current seat ≢ 0 → IsBuffer config top after seat (then_current seat))
       → ((x more : ℕ) → after x ≡ Some (spare seat more) → (next_in (then_current seat) ≡ x) × (end_in (then_current seat) ≡ x + more))
-      → AreBuffers c top current block → AreBuffers c top then_current after
+      → AreBuffers config top current block → AreBuffers config top then_current after
   buffers_again current then_current others own spares buffers = record {
     each = λ other some. ⊎_elim
-        (λ (same : other ≡ seat). subst (λ s. IsBuffer c top after s (then_current s)) (sym same) (own (λ none. some (ap then_current same ∙ none))))
+        (λ (same : other ≡ seat). subst (λ s. IsBuffer config top after s (then_current s)) (sym same) (own (λ none. some (ap then_current same ∙ none))))
         (λ (differ : other ≢ seat).
         let is = others other differ in
-        subst (IsBuffer c top after other) (sym is) (other_buffer other (current other) differ (buffers.each other (λ none. some (is ∙ none)))))
+        subst (IsBuffer config top after other) (sym is) (other_buffer other (current other) differ (buffers.each other (λ none. some (is ∙ none)))))
         (cases_eq other seat);
     spares = λ x other more is. ⊎_elim
         (λ (same : other ≡ seat). subst (λ s. (next_in (then_current s) ≡ x) × (end_in (then_current s) ≡ x + more)) (sym same) (spares x more (subst (λ s. after x ≡ Some (spare s more)) same is)))
@@ -180,16 +180,16 @@ module _ (c : Config) (top : ℕ → ℕ) (block new : Plot) (seat a words : ℕ
   }
 
   -- No buffer lies in the collection set, where the seat's own has another word that ends with the stretch.
-  pub buffers_outside : (cset : ℕ) (current then_current : ℕ → ℕ) → ((other : ℕ) → other ≢ seat → then_current other ≡ current other) → (then_current seat ≢ 0 → end_in (then_current seat) ≡ a + words)
-      → AreRoomsOutside c cset block → AreBuffersOutside c cset current → AreBuffersOutside c cset then_current
+  pub buffers_outside : (cset : ℕ) (current then_current : ℕ → ℕ) → ((other : ℕ) → other ≢ seat → then_current other ≡ current other) → (then_current seat ≢ 0 → end_in (then_current seat) ≡ address + words)
+      → AreRoomsOutside config cset block → AreBuffersOutside config cset current → AreBuffersOutside config cset then_current
   buffers_outside cset current then_current others own rooms buffers other some inside = ⊎_elim
       (λ (same : other ≡ seat).
       let long = can.stretch.some in
       let end = own (λ none. some (ap then_current same ∙ none)) in
-      let last : end_in (then_current other) - 1 ≡ a + words - 1 = ap (λ s. end_in (then_current s) - 1) same ∙ ap (λ e. e - 1) end in
-      rooms a seat can.stretch.first can.stretch.begins first_room
-      (subst (λ r. IsIn cset r) (ap (region_with c) last ∙ same_region (a + words - 1) (omega (arith, long)) (omega (arith, long))) inside))
+      let last : end_in (then_current other) - 1 ≡ address + words - 1 = ap (λ s. end_in (then_current s) - 1) same ∙ ap (λ e. e - 1) end in
+      rooms address seat can.stretch.first can.stretch.begins first_room
+      (subst (λ r. IsIn cset r) (ap (region_with config) last ∙ same_region (address + words - 1) (omega (arith, long)) (omega (arith, long))) inside))
       (λ (differ : other ≢ seat).
       let is = others other differ in
-      buffers other (λ none. some (is ∙ none)) (subst (λ word. IsIn cset (region_with c (end_in word - 1))) is inside))
+      buffers other (λ none. some (is ∙ none)) (subst (λ word. IsIn cset (region_with config (end_in word - 1))) is inside))
       (cases_eq other seat)

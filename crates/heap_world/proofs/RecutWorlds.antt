@@ -31,178 +31,178 @@ is_of_room (Heap a) = true
 is_of_room (Current seat) = true
 is_of_room _ = false
 
-module _ (c : Config) (u : World) (new : Plot) (seat a words : ℕ) (shared : Shared c u) (can : CanRecut c (λ r. u.memory (Top r)) u.block new seat a words) where
+module _ (config : Config) (world : World) (new : Plot) (seat a words : ℕ) (shared : Shared config world) (can : CanRecut config (λ r. world.memory (Top r)) world.block new seat a words) where
   abbrev tops : ℕ → ℕ
-  tops r = u.memory (Top r)
+  tops region = world.memory (Top region)
 
   -- the plot with the new pieces
   abbrev after : Plot
-  after = retiled u.block new a words
+  after = retiled world.block new a words
 
   -- the words of a piece that is not loose lie outside the stretch
-  pub fixed_words : (x k : ℕ) (b : Block) → is_loose b ≡ false → u.block x ≡ Some b → k < words_of b → (x + k < a) ⊎ (a + words ≤ x + k)
-  fixed_words x k b fixed is below = ⊎_elim
-      (λ (before : x < a). let far = can.parsable.plotted.apart x a b can.stretch.first is can.stretch.begins before in inl (omega (arith, far, below)))
-      (λ (from : a ≤ x). ⊎_elim
-      (λ (to : x < a + words). absurd (true≢false (sym (room_loose b seat (can.olds x b from to is)) ∙ fixed)))
-      (λ (behind : a + words ≤ x). inr (omega (arith, behind)))
-      (cases_lt x (a + words)))
-      (cases_lt x a)
+  pub fixed_words : (address k : ℕ) (piece : Block) → is_loose piece ≡ false → world.block address ≡ Some piece → k < words_of piece → (address + k < a) ⊎ (a + words ≤ address + k)
+  fixed_words address k piece fixed is below = ⊎_elim
+      (λ (before : address < a). let far = can.parsable.plotted.apart address a piece can.stretch.first is can.stretch.begins before in inl (omega (arith, far, below)))
+      (λ (from : a ≤ address). ⊎_elim
+      (λ (to : address < a + words). absurd (true≢false (sym (room_loose piece seat (can.olds address piece from to is)) ∙ fixed)))
+      (λ (behind : a + words ≤ address). inr (omega (arith, behind)))
+      (cases_lt address (a + words)))
+      (cases_lt address a)
 
-  module _ (heap : ℕ → ℕ) (same_heap : (x : ℕ) → (x < a) ⊎ (a + words ≤ x) → heap x ≡ u.memory (Heap x)) where
+  module _ (heap : ℕ → ℕ) (same_heap : (x : ℕ) → (x < a) ⊎ (a + words ≤ x) → heap x ≡ world.memory (Heap x)) where
     -- so they stay
-    pub fixed_stay : (x k : ℕ) (b : Block) → is_loose b ≡ false → u.block x ≡ Some b → k < words_of b → heap (x + k) ≡ u.memory (Heap (x + k))
-    fixed_stay x k b fixed is below = same_heap (x + k) (fixed_words x k b fixed is below)
+    pub fixed_stay : (address k : ℕ) (piece : Block) → is_loose piece ≡ false → world.block address ≡ Some piece → k < words_of piece → heap (address + k) ≡ world.memory (Heap (address + k))
+    fixed_stay address k piece fixed is below = same_heap (address + k) (fixed_words address k piece fixed is below)
 
     -- the first of them
-    head_stays : (x : ℕ) (b : Block) → is_loose b ≡ false → u.block x ≡ Some b → 1 ≤ words_of b → heap x ≡ u.memory (Heap x)
-    head_stays x b fixed is some =
-        let there : x ≡ x + 0 = omega arith in
-        ap heap there ∙ fixed_stay x 0 b fixed is (omega (arith, some)) ∙ ap (λ k. u.memory (Heap k)) (sym there)
+    head_stays : (address : ℕ) (piece : Block) → is_loose piece ≡ false → world.block address ≡ Some piece → 1 ≤ words_of piece → heap address ≡ world.memory (Heap address)
+    head_stays address piece fixed is some =
+        let there : address ≡ address + 0 = omega arith in
+        ap heap there ∙ fixed_stay address 0 piece fixed is (omega (arith, some)) ∙ ap (λ k. world.memory (Heap k)) (sym there)
 
     -- a field of an object
-    field_stays : (x refs nums k : ℕ) (name : Name) → u.block x ≡ Some (thing name refs nums) → k < refs → heap (x + 3 + k) ≡ u.memory (Heap (x + 3 + k))
-    field_stays x refs nums k name is below =
-        let there : x + 3 + k ≡ x + (3 + k) = omega arith in
-        ap heap there ∙ fixed_stay x (3 + k) (thing name refs nums) refl is (omega (arith, below)) ∙ ap (λ j. u.memory (Heap j)) (sym there)
+    field_stays : (address refs nums k : ℕ) (name : Name) → world.block address ≡ Some (thing name refs nums) → k < refs → heap (address + 3 + k) ≡ world.memory (Heap (address + 3 + k))
+    field_stays address refs nums k name is below =
+        let there : address + 3 + k ≡ address + (3 + k) = omega arith in
+        ap heap there ∙ fixed_stay address (3 + k) (thing name refs nums) refl is (omega (arith, below)) ∙ ap (λ j. world.memory (Heap j)) (sym there)
 
     -- Machines share what they should, where new fillers have their headers, and the free words of the seat's buffer are as its word tells, which
     -- lies outside the collection set.
-    pub shared_recut : (current : ℕ → ℕ) → ((x more : ℕ) → new x ≡ Some (filler more) → heap x ≡ filler_header more) → AreBuffers c tops current after → AreBuffersOutside c (u.memory Cset) current
-        → SharedFacts c tops heap after u.ghost u.graph.object u.graph.count (u.memory Phase) (u.memory Cset) (u.memory Evac) (u.memory Free) current (λ n. u.memory (Grey n)) (λ n. u.memory (Black n)) (λ t. u.memory (Count t))
-        (λ t k. u.memory (Buffer t k)) (λ r. u.memory (Tams r)) (u.memory Claim) (λ r. u.memory (Limit r)) (u.memory Share) (λ t i. u.memory (Pin t i)) u.graph.pin
+    pub shared_recut : (current : ℕ → ℕ) → ((address more : ℕ) → new address ≡ Some (filler more) → heap address ≡ filler_header more) → AreBuffers config tops current after → AreBuffersOutside config (world.memory Cset) current
+        → SharedFacts config tops heap after world.ghost world.graph.object world.graph.count (world.memory Phase) (world.memory Cset) (world.memory Evac) (world.memory Free) current (λ n. world.memory (Grey n)) (λ n. world.memory (Black n)) (λ t. world.memory (Count t))
+        (λ t k. world.memory (Buffer t k)) (λ r. world.memory (Tams r)) (world.memory Claim) (λ r. world.memory (Limit r)) (world.memory Share) (λ t i. world.memory (Pin t i)) world.graph.pin
     shared_recut current headers buffers outside =
-        let same = same_but_loose c tops u.block new seat a words can in
+        let same = same_but_loose config tops world.block new seat a words can in
         record {
-          parsable = parsable_again c tops u.block new seat a words can;
+          parsable = parsable_again config tops world.block new seat a words can;
           contents = record {
             objects = record {
-              each = λ x refs nums name is.
-                  let was = same.came x (thing name refs nums) refl is in
-                  let o = shared.contents.objects.each x refs nums name was in
-                  (o.0, o.1, object_reads (λ b. u.memory (Heap b)) heap u.block after x refs nums name o.0 (λ k below. fixed_stay x k (thing name refs nums) refl was below) (names_stay c u.block after same) o.2);
-              once = λ x y refs nums more_refs more_nums name is_x is_y.
-                  shared.contents.objects.once x y refs nums more_refs more_nums name (same.came x (thing name refs nums) refl is_x) (same.came y (thing name more_refs more_nums) refl is_y);
+              each = λ address refs nums name is.
+                  let was = same.came address (thing name refs nums) refl is in
+                  let o = shared.contents.objects.each address refs nums name was in
+                  (o.0, o.1, object_reads (λ b. world.memory (Heap b)) heap world.block after address refs nums name o.0 (λ k below. fixed_stay address k (thing name refs nums) refl was below) (names_stay config world.block after same) o.2);
+              once = λ address y refs nums more_refs more_nums name is_x is_y.
+                  shared.contents.objects.once address y refs nums more_refs more_nums name (same.came address (thing name refs nums) refl is_x) (same.came y (thing name more_refs more_nums) refl is_y);
             };
             given = shared.contents.given;
           };
           owned = record {
             free_word = shared.owned.free_word;
             shared_one = shared.owned.shared_one;
-            rooms = rooms_again c tops u.block new seat a words can;
+            rooms = rooms_again config tops world.block new seat a words can;
             buffers = buffers;
             outside = outside;
           };
           phased = shared.phased;
           unwritten = record {
-            blanks = λ x other more is.
-                let was = same.came x (promised other more) refl is in
-                blank_stays (λ b. u.memory (Heap b)) heap x more (λ k below. fixed_stay x k (promised other more) refl was below) (shared.unwritten.blanks x other more was);
-            headers = λ x more is.
-                let was = same.came x (dead more) refl is in
-                let long = shared.parsable.deads x more was in
-                head_stays x (dead more) refl was (omega (arith, long)) ∙ shared.unwritten.headers x more was;
-            lengths = λ x more is.
-                let was = same.came x (dead more) refl is in
-                let long = shared.parsable.deads x more was in
-                ap object_words (fixed_stay x 1 (dead more) refl was (omega (arith, long))) ∙ shared.unwritten.lengths x more was;
-            fillers = λ x more is. ⊎_elim
-                (λ (old : ((x < a) ⊎ (a + words ≤ x)) × (u.block x ≡ Some (filler more))). same_heap x old.0 ∙ shared.unwritten.fillers x more old.1)
-                (λ (now : (a ≤ x) × (x < a + words) × (new x ≡ Some (filler more))). headers x more now.2)
-                (retiled_cases u.block new a words x (filler more) is);
+            blanks = λ address other more is.
+                let was = same.came address (promised other more) refl is in
+                blank_stays (λ b. world.memory (Heap b)) heap address more (λ k below. fixed_stay address k (promised other more) refl was below) (shared.unwritten.blanks address other more was);
+            headers = λ address more is.
+                let was = same.came address (dead more) refl is in
+                let long = shared.parsable.deads address more was in
+                head_stays address (dead more) refl was (omega (arith, long)) ∙ shared.unwritten.headers address more was;
+            lengths = λ address more is.
+                let was = same.came address (dead more) refl is in
+                let long = shared.parsable.deads address more was in
+                ap object_words (fixed_stay address 1 (dead more) refl was (omega (arith, long))) ∙ shared.unwritten.lengths address more was;
+            fillers = λ address more is. ⊎_elim
+                (λ (old : ((address < a) ⊎ (a + words ≤ address)) × (world.block address ≡ Some (filler more))). same_heap address old.0 ∙ shared.unwritten.fillers address more old.1)
+                (λ (now : (a ≤ address) × (address < a + words) × (new address ≡ Some (filler more))). headers address more now.2)
+                (retiled_cases world.block new a words address (filler more) is);
           };
-          marked = marked_elsewhere c (u.memory Phase) (λ n. u.memory (Grey n)) (λ n. u.memory (Black n)) (λ t. u.memory (Count t)) (λ t k. u.memory (Buffer t k)) tops (λ r. u.memory (Tams r)) (λ b. u.memory (Heap b))
-              after u.ghost.snapshot u.ghost.recording u.ghost.scanning
-              (marked_loose c u.block after same (u.memory Phase) (λ n. u.memory (Grey n)) (λ n. u.memory (Black n)) (λ t. u.memory (Count t)) (λ t k. u.memory (Buffer t k)) tops tops (λ r. u.memory (Tams r))
-              (λ b. u.memory (Heap b)) u.ghost.snapshot u.ghost.recording u.ghost.scanning shared.marked
-              (λ on. rooms_young c tops u.block new seat a words can u.ghost.snapshot.top (shared.marked.marking on).young) shared.marked.floors)
+          marked = marked_elsewhere config (world.memory Phase) (λ n. world.memory (Grey n)) (λ n. world.memory (Black n)) (λ t. world.memory (Count t)) (λ t k. world.memory (Buffer t k)) tops (λ r. world.memory (Tams r)) (λ b. world.memory (Heap b))
+              after world.ghost.snapshot world.ghost.recording world.ghost.scanning
+              (marked_loose config world.block after same (world.memory Phase) (λ n. world.memory (Grey n)) (λ n. world.memory (Black n)) (λ t. world.memory (Count t)) (λ t k. world.memory (Buffer t k)) tops tops (λ r. world.memory (Tams r))
+              (λ b. world.memory (Heap b)) world.ghost.snapshot world.ghost.recording world.ghost.scanning shared.marked
+              (λ on. rooms_young config tops world.block new seat a words can world.ghost.snapshot.top (shared.marked.marking on).young) shared.marked.floors)
               heap
-              (λ x refs nums k name is below. field_stays x refs nums k name (same.came x (thing name refs nums) refl is) below);
-          evacuated = evacuated_words c (u.memory Phase) (u.memory Cset) (u.memory Evac) (u.memory Claim) (u.memory Free) tops (λ r. u.memory (Tams r)) (λ b. u.memory (Heap b)) (λ n. u.memory (Black n)) after
-              u.ghost.owner u.ghost.copying u.ghost.working
-              (evacuated_loose c u.block after same (u.memory Phase) (u.memory Cset) (u.memory Evac) (u.memory Claim) (u.memory Free) tops tops (λ r. u.memory (Tams r)) (λ b. u.memory (Heap b)) (λ n. u.memory (Black n))
-              u.ghost.owner u.ghost.copying u.ghost.working shared.evacuated
-              (λ on. rooms_young c tops u.block new seat a words can (λ r. u.memory (Tams r)) (shared.evacuated.kept on).young)
-              (rooms_outside c tops u.block new seat a words can (u.memory Cset) shared.evacuated.aside.no_rooms)
+              (λ address refs nums k name is below. field_stays address refs nums k name (same.came address (thing name refs nums) refl is) below);
+          evacuated = evacuated_words config (world.memory Phase) (world.memory Cset) (world.memory Evac) (world.memory Claim) (world.memory Free) tops (λ r. world.memory (Tams r)) (λ b. world.memory (Heap b)) (λ n. world.memory (Black n)) after
+              world.ghost.owner world.ghost.copying world.ghost.working
+              (evacuated_loose config world.block after same (world.memory Phase) (world.memory Cset) (world.memory Evac) (world.memory Claim) (world.memory Free) tops tops (λ r. world.memory (Tams r)) (λ b. world.memory (Heap b)) (λ n. world.memory (Black n))
+              world.ghost.owner world.ghost.copying world.ghost.working shared.evacuated
+              (λ on. rooms_young config tops world.block new seat a words can (λ r. world.memory (Tams r)) (shared.evacuated.kept on).young)
+              (rooms_outside config tops world.block new seat a words can (world.memory Cset) shared.evacuated.aside.no_rooms)
               (λ on. (shared.evacuated.kept on).floors) (λ r is. refl))
               heap
-              (λ x refs nums to name is.
-              let was = same.came x (moved name refs nums to) refl is in (
-                head_stays x (moved name refs nums to) refl was (omega arith),
-                fixed_stay x 1 (moved name refs nums to) refl was (omega arith),
-                fixed_stay x 2 (moved name refs nums to) refl was (omega arith),
-                λ k less. subst (λ d. heap d ≡ u.memory (Heap d)) (let there : x + (3 + k) ≡ x + 3 + k = omega arith in there) (fixed_stay x (3 + k) (moved name refs nums to) refl was (omega (arith, less))),
+              (λ address refs nums to name is.
+              let was = same.came address (moved name refs nums to) refl is in (
+                head_stays address (moved name refs nums to) refl was (omega arith),
+                fixed_stay address 1 (moved name refs nums to) refl was (omega arith),
+                fixed_stay address 2 (moved name refs nums to) refl was (omega arith),
+                λ k less. subst (λ d. heap d ≡ world.memory (Heap d)) (let there : address + (3 + k) ≡ address + 3 + k = omega arith in there) (fixed_stay address (3 + k) (moved name refs nums to) refl was (omega (arith, less))),
               ))
-              (λ x more to is.
-              let was = same.came x (spent more to) refl is in
-              let long = shared.parsable.spents x more to was in
-              (head_stays x (spent more to) refl was (omega (arith, long)), fixed_stay x 1 (spent more to) refl was (omega (arith, long))));
-          updated = λ on. updated_elsewhere c (u.memory Cset) (u.memory Claim) tops (λ r. u.memory (Limit r)) (λ b. u.memory (Heap b)) after u.ghost.scanning
-              (updated_loose c u.block after same (u.memory Cset) (u.memory Claim) tops tops (λ r. u.memory (Limit r)) (λ b. u.memory (Heap b)) u.ghost.scanning (shared.updated on)
-              (rooms_young c tops u.block new seat a words can (λ r. u.memory (Limit r)) (shared.updated on).young) (shared.updated on).limits)
+              (λ address more to is.
+              let was = same.came address (spent more to) refl is in
+              let long = shared.parsable.spents address more to was in
+              (head_stays address (spent more to) refl was (omega (arith, long)), fixed_stay address 1 (spent more to) refl was (omega (arith, long))));
+          updated = λ on. updated_elsewhere config (world.memory Cset) (world.memory Claim) tops (λ r. world.memory (Limit r)) (λ b. world.memory (Heap b)) after world.ghost.scanning
+              (updated_loose config world.block after same (world.memory Cset) (world.memory Claim) tops tops (λ r. world.memory (Limit r)) (λ b. world.memory (Heap b)) world.ghost.scanning (shared.updated on)
+              (rooms_young config tops world.block new seat a words can (λ r. world.memory (Limit r)) (shared.updated on).young) (shared.updated on).limits)
               heap
-              (λ x refs nums k name is below. field_stays x refs nums k name (same.came x (thing name refs nums) refl is) below);
-          pinned = pins_stay c (u.memory Cset) (u.memory Evac) (u.memory Cset) (u.memory Evac) u.block after (λ t i. u.memory (Pin t i)) u.graph.pin
-              (λ x refs nums name has. record { piece = same.stays x (thing name refs nums) refl has.piece; safe = has.safe }) shared.pinned;
+              (λ address refs nums k name is below. field_stays address refs nums k name (same.came address (thing name refs nums) refl is) below);
+          pinned = pins_stay config (world.memory Cset) (world.memory Evac) (world.memory Cset) (world.memory Evac) world.block after (λ t i. world.memory (Pin t i)) world.graph.pin
+              (λ address refs nums name has. record { piece = same.stays address (thing name refs nums) refl has.piece; safe = has.safe }) shared.pinned;
         }
 
-  module _ (m : Word → ℕ) (others : (at : Word) → is_of_room at ≡ false → m at ≡ u.memory at) (heap : (x : ℕ) → (x < a) ⊎ (a + words ≤ x) → m (Heap x) ≡ u.memory (Heap x)) where
+  module _ (memory : Word → ℕ) (others : (at : Word) → is_of_room at ≡ false → memory at ≡ world.memory at) (heap : (x : ℕ) → (x < a) ⊎ (a + words ≤ x) → memory (Heap x) ≡ world.memory (Heap x)) where
     -- the world after the step
     abbrev pub recut_world : World
-    recut_world = record { memory = m; block = after; ghost = u.ghost; graph = u.graph }
+    recut_world = record { memory = memory; block = after; ghost = world.ghost; graph = world.graph }
 
     -- the shape of what can be marked stays
-    shapes_stay : (x : ℕ) → IsMarkable u.block x → m (Heap (x + 1)) ≡ u.memory (Heap (x + 1))
-    shapes_stay x (IsMarkable.object name refs nums is) = fixed_stay (λ b. m (Heap b)) heap x 1 (thing name refs nums) refl is (omega arith)
-    shapes_stay x (IsMarkable.to_come other more is) =
-        fixed_stay (λ b. m (Heap b)) heap x 1 (promised other more) refl is (let long = shared.parsable.promises x other more is in omega (arith, long))
+    shapes_stay : (address : ℕ) → IsMarkable world.block address → memory (Heap (address + 1)) ≡ world.memory (Heap (address + 1))
+    shapes_stay address (IsMarkable.object name refs nums is) = fixed_stay (λ b. memory (Heap b)) heap address 1 (thing name refs nums) refl is (omega arith)
+    shapes_stay address (IsMarkable.to_come other more is) =
+        fixed_stay (λ b. memory (Heap b)) heap address 1 (promised other more) refl is (let long = shared.parsable.promises address other more is in omega (arith, long))
 
     -- marking goes on
-    marks_recut : (j : ℕ) → RelyMarks c j u recut_world
-    marks_recut j = rely_marks c u recut_world j (others Phase refl) (λ n. others (Grey n) refl) (λ t. others (Count t) refl) (λ t k. others (Buffer t k) refl) refl (λ t. refl) refl
-        (markable_loose c u.block after (same_but_loose c tops u.block new seat a words can)) shapes_stay
+    marks_recut : (j : ℕ) → RelyMarks config j world recut_world
+    marks_recut j = rely_marks config world recut_world j (others Phase refl) (λ n. others (Grey n) refl) (λ t. others (Count t) refl) (λ t k. others (Buffer t k) refl) refl (λ t. refl) refl
+        (markable_loose config world.block after (same_but_loose config tops world.block new seat a words can)) shapes_stay
 
     -- copies stay
-    copies_recut : CopiesStay c u recut_world
+    copies_recut : CopiesStay config world recut_world
     copies_recut =
-        let same = same_but_loose c tops u.block new seat a words can in
+        let same = same_but_loose config tops world.block new seat a words can in
         record {
           cset = others Cset refl;
           evac = others Evac refl;
-          things = λ x refs nums name is. same.stays x (thing name refs nums) refl is;
-          moveds = λ x refs nums to name is. same.stays x (moved name refs nums to) refl is;
-          spents = λ x more to is. same.stays x (spent more to) refl is;
-          pieces = λ x b inside is. ⊎_elim
-              (λ (before : x < a). (b, piece_stays x b (inl before) is, refl, refl))
-              (λ (from : a ≤ x). ⊎_elim
-              (λ (to : x < a + words). absurd (shared.evacuated.aside.no_rooms x seat b is (can.olds x b from to is) inside))
-              (λ (behind : a + words ≤ x). (b, piece_stays x b (inr behind) is, refl, refl))
-              (cases_lt x (a + words)))
-              (cases_lt x a);
-          no_new = λ x refs nums name inside is. same.came x (thing name refs nums) refl is;
+          things = λ address refs nums name is. same.stays address (thing name refs nums) refl is;
+          moveds = λ address refs nums to name is. same.stays address (moved name refs nums to) refl is;
+          spents = λ address more to is. same.stays address (spent more to) refl is;
+          pieces = λ address piece inside is. ⊎_elim
+              (λ (before : address < a). (piece, piece_stays address piece (inl before) is, refl, refl))
+              (λ (from : a ≤ address). ⊎_elim
+              (λ (to : address < a + words). absurd (shared.evacuated.aside.no_rooms address seat piece is (can.olds address piece from to is) inside))
+              (λ (behind : a + words ≤ address). (piece, piece_stays address piece (inr behind) is, refl, refl))
+              (cases_lt address (a + words)))
+              (cases_lt address a);
+          no_new = λ address refs nums name inside is. same.came address (thing name refs nums) refl is;
           tops = λ r is. others (Top r) refl;
         }
       where
-        piece_stays : (x : ℕ) (b : Block) → (x < a) ⊎ (a + words ≤ x) → u.block x ≡ Some b → after x ≡ Some b
-        piece_stays x b away is = retiled_else u.block new a words x away ∙ is
+        piece_stays : (address : ℕ) (piece : Block) → (address < a) ⊎ (a + words ≤ address) → world.block address ≡ Some piece → after address ≡ Some piece
+        piece_stays address piece away is = retiled_else world.block new a words address away ∙ is
 
     -- an object may be used still
-    targets_recut : (x refs nums : ℕ) (name : Name) → TargetIn c u x refs nums name → TargetIn c recut_world x refs nums name
-    targets_recut x refs nums name has = record {
-      piece = (same_but_loose c tops u.block new seat a words can).stays x (thing name refs nums) refl has.piece;
-      safe = λ inside. subst IsQuiet (sym (others Evac refl)) (has.safe (subst (λ s. IsCollected c s x) (others Cset refl) inside));
+    targets_recut : (address refs nums : ℕ) (name : Name) → TargetIn config world address refs nums name → TargetIn config recut_world address refs nums name
+    targets_recut address refs nums name has = record {
+      piece = (same_but_loose config tops world.block new seat a words can).stays address (thing name refs nums) refl has.piece;
+      safe = λ inside. subst IsQuiet (sym (others Evac refl)) (has.safe (subst (λ s. IsCollected config s address) (others Cset refl) inside));
     }
 
     -- the facts of the seat's machine stand
-    pub keeps_recut : Keeps c seat u recut_world
+    pub keeps_recut : Keeps config seat world recut_world
     keeps_recut =
-        let same = same_but_loose c tops u.block new seat a words can in
+        let same = same_but_loose config tops world.block new seat a words can in
         record {
-          names = names_stay c u.block after same;
+          names = names_stay config world.block after same;
           targets = targets_recut;
           promises = λ x more is. same.stays x (promised seat more) refl is;
           no_promises = λ x more is. same.came x (promised seat more) refl is;
-          promise_words = λ x more k is below. fixed_stay (λ b. m (Heap b)) heap x k (promised seat more) refl is below;
+          promise_words = λ x more k is below. fixed_stay (λ b. memory (Heap b)) heap x k (promised seat more) refl is below;
           root_words = λ i. others (Root seat i) refl;
           roots = λ i. refl;
           pin_words = λ i. others (Pin seat i) refl;
@@ -211,49 +211,49 @@ module _ (c : Config) (u : World) (new : Plot) (seat a words : ℕ) (shared : Sh
           wait = others (Wait seat) refl;
           answer = others (Answer seat) refl;
           marks = (marks_recut seat).keeps;
-          copies = keeps_copies c u recut_world copies_recut;
+          copies = keeps_copies config world recut_world copies_recut;
         }
 
     -- the words of a copy stay
-    copy_words : (x k : ℕ) (b : Body) → body_at (u.block x) ≡ Some b → k < body_words b → m (Heap (x + k)) ≡ u.memory (Heap (x + k))
-    copy_words x k b is below = ⊎_elim
-        (λ now. fixed_stay (λ y. m (Heap y)) heap x k (thing b.name b.refs b.nums) refl now below)
-        (λ was. fixed_stay (λ y. m (Heap y)) heap x k (moved b.name b.refs b.nums was.0) refl was.1 below)
-        (copy_cases (u.block x) b is)
+    copy_words : (address k : ℕ) (body : Body) → body_at (world.block address) ≡ Some body → k < body_words body → memory (Heap (address + k)) ≡ world.memory (Heap (address + k))
+    copy_words address k body is below = ⊎_elim
+        (λ now. fixed_stay (λ y. memory (Heap y)) heap address k (thing body.name body.refs body.nums) refl now below)
+        (λ was. fixed_stay (λ y. memory (Heap y)) heap address k (moved body.name body.refs body.nums was.0) refl was.1 below)
+        (copy_cases (world.block address) body is)
 
     -- room of another seat has no word of the stretch
-    room_words : (j x k : ℕ) (b : Block) → j ≢ seat → u.block x ≡ Some b → room_of b ≡ Some j → k < words_of b → m (Heap (x + k)) ≡ u.memory (Heap (x + k))
-    room_words j x k b differ is room below = heap (x + k) (⊎_elim
-        (λ (before : x < a). let far = can.parsable.plotted.apart x a b can.stretch.first is can.stretch.begins before in inl (omega (arith, far, below)))
-        (λ (from : a ≤ x). ⊎_elim
-        (λ (to : x < a + words). absurd (differ (same_Some j seat (sym room ∙ can.olds x b from to is))))
-        (λ (behind : a + words ≤ x). inr (omega (arith, behind)))
-        (cases_lt x (a + words)))
-        (cases_lt x a))
+    room_words : (j address k : ℕ) (piece : Block) → j ≢ seat → world.block address ≡ Some piece → room_of piece ≡ Some j → k < words_of piece → memory (Heap (address + k)) ≡ world.memory (Heap (address + k))
+    room_words j address k piece differ is room below = heap (address + k) (⊎_elim
+        (λ (before : address < a). let far = can.parsable.plotted.apart address a piece can.stretch.first is can.stretch.begins before in inl (omega (arith, far, below)))
+        (λ (from : a ≤ address). ⊎_elim
+        (λ (to : address < a + words). absurd (differ (same_Some j seat (sym room ∙ can.olds address piece from to is))))
+        (λ (behind : a + words ≤ address). inr (omega (arith, behind)))
+        (cases_lt address (a + words)))
+        (cases_lt address a))
 
     -- words that only fill lie outside the stretch, and stay
-    filler_stays : (x more : ℕ) → u.block x ≡ Some (filler more) → after x ≡ Some (filler more)
-    filler_stays x more is = ⊎_elim
-        (λ (before : x < a). retiled_else u.block new a words x (inl before) ∙ is)
-        (λ (from : a ≤ x). ⊎_elim
-        (λ (to : x < a + words). absurd (none-some seat (can.olds x (filler more) from to is)))
-        (λ (behind : a + words ≤ x). retiled_else u.block new a words x (inr behind) ∙ is)
-        (cases_lt x (a + words)))
-        (cases_lt x a)
+    filler_stays : (address more : ℕ) → world.block address ≡ Some (filler more) → after address ≡ Some (filler more)
+    filler_stays address more is = ⊎_elim
+        (λ (before : address < a). retiled_else world.block new a words address (inl before) ∙ is)
+        (λ (from : a ≤ address). ⊎_elim
+        (λ (to : address < a + words). absurd (none-some seat (can.olds address (filler more) from to is)))
+        (λ (behind : a + words ≤ address). retiled_else world.block new a words address (inr behind) ∙ is)
+        (cases_lt address (a + words)))
+        (cases_lt address a)
 
     -- others can rely on what they knew
-    pub others_recut : ((s : ℕ) → s ≢ seat → m (Current s) ≡ u.memory (Current s)) → (j : ℕ) → j ≢ seat → Rely c j u recut_world
+    pub others_recut : ((s : ℕ) → s ≢ seat → memory (Current s) ≡ world.memory (Current s)) → (j : ℕ) → j ≢ seat → Rely config j world recut_world
     others_recut currents j differ =
-        let same = same_but_loose c tops u.block new seat a words can in
+        let same = same_but_loose config tops world.block new seat a words can in
         record {
-          names = names_stay c u.block after same;
+          names = names_stay config world.block after same;
           targets = targets_recut;
-          rooms = λ x b is room. others_stay c tops u.block new seat a words can x j b differ is room;
-          no_rooms = λ x b is room. others_room c tops u.block new seat a words can x j b differ is room;
+          rooms = λ x b is room. others_stay config tops world.block new seat a words can x j b differ is room;
+          no_rooms = λ x b is room. others_room config tops world.block new seat a words can x j b differ is room;
           room_words = λ x k b is room below. room_words j x k b differ is room below;
           promises = λ x more is. same.stays x (promised j more) refl is;
           no_promises = λ x more is. same.came x (promised j more) refl is;
-          promise_words = λ x more k is below. fixed_stay (λ b. m (Heap b)) heap x k (promised j more) refl is below;
+          promise_words = λ x more k is below. fixed_stay (λ b. memory (Heap b)) heap x k (promised j more) refl is below;
           current = currents j differ;
           opens = λ r is. record {
             within = is.within;
@@ -273,7 +273,7 @@ module _ (c : Config) (u : World) (new : Plot) (seat a words : ℕ) (shared : Sh
           state = others (State j) refl;
           asked = λ is. ap (λ n. bit_at n 1) (others Ask refl) ∙ is;
           marks = marks_recut j;
-          copies = rely_copies c u recut_world j copies_recut refl refl (λ x k b seated counted inside is from below. copy_words x k b is below);
-          fields = fields_stored c u recut_world (λ r. others (Tams r) refl) (λ r. others (Limit r) refl) (others Claim refl) (λ x more is. same.stays x (dead more) refl is) (λ x more is. filler_stays x more is)
-              (λ on x refs nums k name is below. inl (field_stays (λ b. m (Heap b)) heap x refs nums k name is below));
+          copies = rely_copies config world recut_world j copies_recut refl refl (λ x k b seated counted inside is from below. copy_words x k b is below);
+          fields = fields_stored config world recut_world (λ r. others (Tams r) refl) (λ r. others (Limit r) refl) (others Claim refl) (λ x more is. same.stays x (dead more) refl is) (λ x more is. filler_stays x more is)
+              (λ on x refs nums k name is below. inl (field_stays (λ b. memory (Heap b)) heap x refs nums k name is below));
         }

@@ -18,28 +18,28 @@ is_of_regions Free = true
 is_of_regions Share = true
 is_of_regions _ = false
 
-module _ (c : Config) (u : World) (m : Word → ℕ) (owner : ℕ → Option ℕ) (others : (at : Word) → is_of_regions at ≡ false → m at ≡ u.memory at) where
+module _ (config : Config) (world : World) (memory : Word → ℕ) (owner : ℕ → Option ℕ) (others : (at : Word) → is_of_regions at ≡ false → memory at ≡ world.memory at) where
   -- the world after the step
   abbrev pub region_world : World
-  region_world = record { memory = m; block = u.block; ghost = with_owner u.ghost owner; graph = u.graph }
+  region_world = record { memory = memory; block = world.block; ghost = with_owner world.ghost owner; graph = world.graph }
 
   -- marking goes on
-  marks_kept : (j : ℕ) → RelyMarks c j u region_world
-  marks_kept j = rely_marks c u region_world j (others Phase refl) (λ n. others (Grey n) refl) (λ t. others (Count t) refl) (λ t k. others (Buffer t k) refl) refl (λ t. refl) refl (λ a is. is) (λ a is. others (Heap (a + 1)) refl)
+  marks_kept : (j : ℕ) → RelyMarks config j world region_world
+  marks_kept j = rely_marks config world region_world j (others Phase refl) (λ n. others (Grey n) refl) (λ t. others (Count t) refl) (λ t k. others (Buffer t k) refl) refl (λ t. refl) refl (λ a is. is) (λ a is. others (Heap (a + 1)) refl)
 
   -- copies stay
-  copies_kept : CopiesStay c u region_world
-  copies_kept = same_plot c u region_world refl (others Cset refl) (others Evac refl) (λ r is. others (Top r) refl)
+  copies_kept : CopiesStay config world region_world
+  copies_kept = same_plot config world region_world refl (others Cset refl) (others Evac refl) (λ r is. others (Top r) refl)
 
   -- an object may be used still
-  targets_kept : (a refs nums : ℕ) (name : Name) → TargetIn c u a refs nums name → TargetIn c region_world a refs nums name
-  targets_kept a refs nums name has = record {
+  targets_kept : (address refs nums : ℕ) (name : Name) → TargetIn config world address refs nums name → TargetIn config region_world address refs nums name
+  targets_kept address refs nums name has = record {
     piece = has.piece;
-    safe = λ inside. subst IsQuiet (sym (others Evac refl)) (has.safe (subst (λ s. IsCollected c s a) (others Cset refl) inside));
+    safe = λ inside. subst IsQuiet (sym (others Evac refl)) (has.safe (subst (λ s. IsCollected config s address) (others Cset refl) inside));
   }
 
   -- the facts of the seat's machine stand
-  pub keeps_regions : (seat : ℕ) → Keeps c seat u region_world
+  pub keeps_regions : (seat : ℕ) → Keeps config seat world region_world
   keeps_regions seat = record {
     names = λ a name is. is;
     targets = targets_kept;
@@ -54,11 +54,11 @@ module _ (c : Config) (u : World) (m : Word → ℕ) (owner : ℕ → Option ℕ
     wait = others (Wait seat) refl;
     answer = others (Answer seat) refl;
     marks = (marks_kept seat).keeps;
-    copies = keeps_copies c u region_world copies_kept;
+    copies = keeps_copies config world region_world copies_kept;
   }
 
   -- others can rely on what they knew, where they keep their regions, and regions that may be carved may be so still
-  pub others_regions : (j : ℕ) → ((r : ℕ) → u.ghost.owner r ≡ Some j → owner r ≡ Some j) → ((r : ℕ) → IsOpenIn c u r → IsOpenIn c region_world r) → Rely c j u region_world
+  pub others_regions : (j : ℕ) → ((region : ℕ) → world.ghost.owner region ≡ Some j → owner region ≡ Some j) → ((region : ℕ) → IsOpenIn config world region → IsOpenIn config region_world region) → Rely config j world region_world
   others_regions j owners opens = record {
     names = λ a name is. is;
     targets = targets_kept;
@@ -71,7 +71,7 @@ module _ (c : Config) (u : World) (m : Word → ℕ) (owner : ℕ → Option ℕ
     current = others (Current j) refl;
     opens = opens;
     owners = owners;
-    tops = λ r is. others (Top r) refl;
+    tops = λ region is. others (Top region) refl;
     root_words = λ i. others (Root j i) refl;
     roots = λ i. refl;
     pin_words = λ i. others (Pin j i) refl;
@@ -82,6 +82,6 @@ module _ (c : Config) (u : World) (m : Word → ℕ) (owner : ℕ → Option ℕ
     state = others (State j) refl;
     asked = λ is. ap (λ n. bit_at n 1) (others Ask refl) ∙ is;
     marks = marks_kept j;
-    copies = rely_copies c u region_world j copies_kept refl refl (λ a k b seated counted inside is from below. others (Heap (a + k)) refl);
-    fields = fields_kept c u region_world refl (λ r. others (Tams r) refl) (λ r. others (Limit r) refl) (others Claim refl) (λ a. others (Heap a) refl);
+    copies = rely_copies config world region_world j copies_kept refl refl (λ a k b seated counted inside is from below. others (Heap (a + k)) refl);
+    fields = fields_kept config world region_world refl (λ region. others (Tams region) refl) (λ region. others (Limit region) refl) (others Claim refl) (λ a. others (Heap a) refl);
   }

@@ -9,22 +9,22 @@ use Rattle.heap_world.specs.World.{World, Block, room_of, Shared}
 use Rattle.heap_world.specs.Regions.{AreSharedOut}
 use Rattle.heap_world.proofs.Pieces.{some_words, beside}
 
-module _ (c : Config) (w : World) (shared : Shared c w) where
+module _ (config : Config) (world : World) (shared : Shared config world) where
   -- a region of top 0 has no piece
-  none_in_empty : (r a : ℕ) (x : Block) → r < c.regions → IsOf c r a → w.memory (Top r) ≡ 0 → w.block a ≡ Some x → ⊥
-  none_in_empty r a x within of empty is =
-      let long = some_words c (λ k. w.memory (Top k)) w.block shared.parsable shared.owned.rooms a x is in
-      let where_is = beside c (λ k. w.memory (Top k)) w.block shared.parsable.plotted r a x is in
+  none_in_empty : (region address : ℕ) (piece : Block) → region < config.regions → IsOf config region address → world.memory (Top region) ≡ 0 → world.block address ≡ Some piece → ⊥
+  none_in_empty region address piece within of empty is =
+      let long = some_words config (λ k. world.memory (Top k)) world.block shared.parsable shared.owned.rooms address piece is in
+      let where_is = beside config (λ k. world.memory (Top k)) world.block shared.parsable.plotted region address piece is in
       let from = of.from in
       let before = of.before in
       omega (arith, long, where_is, from, before, empty)
 
   -- so is the room shared out
-  pub shared_out : AreSharedOut c w
+  pub shared_out : AreSharedOut config world
   shared_out = record {
     apart = λ a b seat other x y is_x is_y of_x of_y differ. ⊎_elim
         (λ (same : a ≡ b).
-        let one : x ≡ y = same_Some x y (sym is_x ∙ ap w.block same ∙ is_y) in
+        let one : x ≡ y = same_Some x y (sym is_x ∙ ap world.block same ∙ is_y) in
         absurd (differ (same_Some seat other (sym of_x ∙ ap room_of one ∙ of_y))))
         (λ order. ⊎_elim
         (λ less. inl (shared.parsable.plotted.apart a b x y is_x is_y less))

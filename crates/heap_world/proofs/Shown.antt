@@ -28,8 +28,8 @@ all_from-has : (P : ℕ → Type 0) (xs : List ℕ) → ((a : ℕ) → has xs a 
 all_from-has P xs h = All-from_any nat_eq_equiv P xs h
 
 -- each element that is read is in its list
-has-element : (xs : List ℕ) (i : ℕ) → i < length xs → has xs (get_or xs i 0) ≡ true
-has-element xs i h = list_any_at (nat_eq (get_or xs i 0)) xs i 0 h (eq-eqb (get_or xs i 0) (get_or xs i 0) refl)
+has-element : (xs : List ℕ) (index : ℕ) → index < length xs → has xs (get_or xs index 0) ≡ true
+has-element xs index h = list_any_at (nat_eq (get_or xs index 0)) xs index 0 h (eq-eqb (get_or xs index 0) (get_or xs index 0) refl)
 
 module _ (first : ℕ) (heap roots pins : List ℕ) (sound : IsWalkable first heap (roots ++ pins)) where
   pub roots_named : All (IsNamed first heap) roots
@@ -64,99 +64,99 @@ Contains-map : {A B : Type 0} (f : A → B) (xs : List A) (x : A) → Contains x
 Contains-map f xs x c =
     (c.0, rw length-map c.1, get_or-map f xs c.0 x (f x) c.1 ∙ ap f c.2)
 
-module _ (first : ℕ) (heap roots pins order : List ℕ) (at : ℕ → Option Name) (g : Graph) (one : 1 ≤ first)
-    (s : WordsStand first heap roots pins at g) (walk : IsWalk first heap (roots ++ pins) order) where
+module _ (first : ℕ) (heap roots pins order : List ℕ) (at : ℕ → Option Name) (graph : Graph) (one : 1 ≤ first)
+    (s : WordsStand first heap roots pins at graph) (walk : IsWalk first heap (roots ++ pins) order) where
   pub names_differ : IsDistinct same_name (map (λ r. r.name) (map (row_in_heap first heap) order))
   names_differ =
       IsDistinct-from_apart same_name (map (λ r. r.name) (map (row_in_heap first heap) order))
-      (λ i j d before h.
-      let many : length (map (λ (r : Row). r.name) (map (row_in_heap first heap) order)) ≡ length order =
-      length-map (map (row_in_heap first heap) order) (λ (r : Row). r.name) ∙ length-map order (row_in_heap first heap) in
-      let low : j < length order = omega (arith, many, h) in
-      apart i j d before low)
+      (λ index other_index name before h.
+      let many : length (map (λ (row : Row). row.name) (map (row_in_heap first heap) order)) ≡ length order =
+      length-map (map (row_in_heap first heap) order) (λ (row : Row). row.name) ∙ length-map order (row_in_heap first heap) in
+      let low : other_index < length order = omega (arith, many, h) in
+      apart index other_index name before low)
     where
-      read : (i : ℕ) (d : Name) → i < length order
-          → get_or (map (λ (r : Row). r.name) (map (row_in_heap first heap) order)) i d ≡ name_in_heap heap (get_or order i 0 - first)
-      read i d low =
-          get_or-map (λ (r : Row). r.name) (map (row_in_heap first heap) order) i (row_in_heap first heap 0) d (rw length-map low)
-          ∙ ap (λ (r : Row). r.name) (get_or-map (row_in_heap first heap) order i 0 (row_in_heap first heap 0) low)
+      read : (index : ℕ) (name : Name) → index < length order
+          → get_or (map (λ (row : Row). row.name) (map (row_in_heap first heap) order)) index name ≡ name_in_heap heap (get_or order index 0 - first)
+      read index name low =
+          get_or-map (λ (row : Row). row.name) (map (row_in_heap first heap) order) index (row_in_heap first heap 0) name (rw length-map low)
+          ∙ ap (λ (row : Row). row.name) (get_or-map (row_in_heap first heap) order index 0 (row_in_heap first heap 0) low)
 
-      apart : (i j : ℕ) (d : Name) → i < j → j < length order
-          → same_name (get_or (map (λ (r : Row). r.name) (map (row_in_heap first heap) order)) i d)
-          (get_or (map (λ (r : Row). r.name) (map (row_in_heap first heap) order)) j d) ≡ false
-      apart i j d before low =
+      apart : (index other_index : ℕ) (name : Name) → index < other_index → other_index < length order
+          → same_name (get_or (map (λ (row : Row). row.name) (map (row_in_heap first heap) order)) index name)
+          (get_or (map (λ (row : Row). row.name) (map (row_in_heap first heap) order)) other_index name) ≡ false
+      apart index other_index name before low =
           false_from_ne_true _ (λ is.
-          let earlier : i < length order = omega arith in
-          let a = get_or order i 0 in
-          let b = get_or order j 0 in
-          let u = led_name first heap roots pins at g one s a (walk.led a (has-element order i earlier)) in
-          let v = led_name first heap roots pins at g one s b (walk.led b (has-element order j low)) in
+          let earlier : index < length order = omega arith in
+          let a = get_or order index 0 in
+          let b = get_or order other_index 0 in
+          let u = led_name first heap roots pins at graph one s a (walk.led a (has-element order index earlier)) in
+          let v = led_name first heap roots pins at graph one s b (walk.led b (has-element order other_index low)) in
           let e : u.0 ≡ v.0 =
-          sym (facts first heap roots pins at g one s a u.0 u.1).name ∙ sym (read i d earlier)
-          ∙ same_name-true _ _ is ∙ read j d low ∙ (facts first heap roots pins at g one s b v.0 v.1).name in
+          sym (facts first heap roots pins at graph one s a u.0 u.1).name ∙ sym (read index name earlier)
+          ∙ same_name-true _ _ is ∙ read other_index name low ∙ (facts first heap roots pins at graph one s b v.0 v.1).name in
           let same : a ≡ b = sym u.1.1 ∙ s.once a b v.0 (u.1.0 ∙ ap (λ n. Some n) e) v.1.0 ∙ v.1.1 in
-          eqb-false a b (apart_from_distinct nat_eq order i j 0 walk.once before low) same)
+          eqb-false a b (apart_from_distinct nat_eq order index other_index 0 walk.once before low) same)
 
   -- a row is that of an object of the walk
   abbrev IsFound : Row → Type 0
-  IsFound r = (a : ℕ) × (n : Name) × (has order a ≡ true) × (at a ≡ Some n) × IsReachable g n × (r ≡ row_in g n)
+  IsFound row = (a : ℕ) × (name : Name) × (has order a ≡ true) × (at a ≡ Some name) × IsReachable graph name × (row ≡ row_in graph name)
 
   found : All IsFound (map (row_in_heap first heap) order)
   found =
       All-map IsFound (row_in_heap first heap) order
       (All-from_any nat_eq_equiv (λ a. IsFound (row_in_heap first heap a)) order
-      (λ a h. let u = led_name first heap roots pins at g one s a (walk.led a h) in
-      (a, u.0, h, u.1.0, u.2, row_same first heap roots pins at g one s a u.0 u.1)))
+      (λ a h. let u = led_name first heap roots pins at graph one s a (walk.led a h) in
+      (a, u.0, h, u.1.0, u.2, row_same first heap roots pins at graph one s a u.0 u.1)))
 
   module _ (text : Text) (moved : IsPermutation (map (row_in_heap first heap) order) text.rows) where
     found_rows : All IsFound text.rows
     found_rows = All-permutation IsFound (map (row_in_heap first heap) order) text.rows moved found
 
-    every : (n : Name) → IsReachable g n → Contains (names_of text) n
-    every n reach =
-        let u = name_led first heap roots pins at g one s n reach in
+    every : (name : Name) → IsReachable graph name → Contains (names_of text) name
+    every name reach =
+        let u = name_led first heap roots pins at graph one s name reach in
         let row = row_in_heap first heap u.0 in
         let c = Contains-from_any exact_unsigned_eq u.0 order (walk.all u.0 u.2) in
         let there : Contains text.rows row =
         Contains-permutation (map (row_in_heap first heap) order) text.rows row moved (Contains-map (row_in_heap first heap) order u.0 c) in
-        subst (λ (m : Name). Contains (names_of text) m) (facts first heap roots pins at g one s u.0 n u.1).name
-        (Contains-map (λ (r : Row). r.name) text.rows row there)
+        subst (λ (name : Name). Contains (names_of text) name) (facts first heap roots pins at graph one s u.0 name u.1).name
+        (Contains-map (λ (row : Row). row.name) text.rows row there)
 
-    only : (n : Name) → Contains (names_of text) n → IsReachable g n
-    only n c =
+    only : (name : Name) → Contains (names_of text) name → IsReachable graph name
+    only name c =
         let d = row_in_heap first heap 0 in
-        let low : c.0 < length text.rows = omega (arith, length-map text.rows (λ (r : Row). r.name), c.1) in
+        let low : c.0 < length text.rows = omega (arith, length-map text.rows (λ (row : Row). row.name), c.1) in
         let f = found_rows c.0 d low in
-        let e : f.1 ≡ n =
-        sym (ap (λ (r : Row). r.name) f.5) ∙ sym (get_or-map (λ (r : Row). r.name) text.rows c.0 d n low) ∙ c.2 in
-        subst (λ (m : Name). IsReachable g m) e f.4
+        let e : f.1 ≡ name =
+        sym (ap (λ (row : Row). row.name) f.5) ∙ sym (get_or-map (λ (row : Row). row.name) text.rows c.0 d name low) ∙ c.2 in
+        subst (λ (name : Name). IsReachable graph name) e f.4
 
-    rows_same : text.rows ≡ map (row_in g) (names_of text)
+    rows_same : text.rows ≡ map (row_in graph) (names_of text)
     rows_same =
         let d = row_in_heap first heap 0 in
         let names = names_of text in
-        let many : length names ≡ length text.rows = length-map text.rows (λ (r : Row). r.name) in
-        ext_get_or d text.rows (map (row_in g) names) (sym (length-map names (row_in g) ∙ many))
+        let many : length names ≡ length text.rows = length-map text.rows (λ (row : Row). row.name) in
+        ext_get_or d text.rows (map (row_in graph) names) (sym (length-map names (row_in graph) ∙ many))
         (λ i h.
         let f = found_rows i d h in
         let low : i < length names = omega (arith, many, h) in
-        f.5 ∙ ap (row_in g) (sym (ap (λ (r : Row). r.name) f.5) ∙ sym (get_or-map (λ (r : Row). r.name) text.rows i d d.name h))
-        ∙ sym (get_or-map (row_in g) names i d.name d low))
+        f.5 ∙ ap (row_in graph) (sym (ap (λ (row : Row). row.name) f.5) ∙ sym (get_or-map (λ (row : Row). row.name) text.rows i d d.name h))
+        ∙ sym (get_or-map (row_in graph) names i d.name d low))
 
     pub shows : (threads : ℕ) → InOrder (names_of text)
         → text.roots ≡ root_rows (λ t i. reference_in first heap (root_word roots t i)) threads
-        → text.pins ≡ pin_rows (λ t i. reference_in first heap (pin_word pins t i)) threads → ShowsGraph text threads g
+        → text.pins ≡ pin_rows (λ t i. reference_in first heap (pin_word pins t i)) threads → ShowsGraph text threads graph
     shows threads ordered rooted pinned = record {
       reach = record { in_order = ordered; all = every; only = only };
       rows = rows_same;
       roots = (rooted
           ∙ ap (λ (f : ℕ → ℕ → Reference). root_rows f threads)
-          (same_functions (λ t i. reference_in first heap (root_word roots t i)) g.root
-          (λ t. same_functions (λ i. reference_in first heap (root_word roots t i)) (g.root t)
-          (λ i. reference_same first heap roots pins at g one s (root_word roots t i) (g.root t i) (s.roots t i)))));
+          (same_functions (λ t i. reference_in first heap (root_word roots t i)) graph.root
+          (λ t. same_functions (λ i. reference_in first heap (root_word roots t i)) (graph.root t)
+          (λ i. reference_same first heap roots pins at graph one s (root_word roots t i) (graph.root t i) (s.roots t i)))));
       pins = (pinned
           ∙ ap (λ (f : ℕ → ℕ → Reference). pin_rows f threads)
-          (same_functions (λ t i. reference_in first heap (pin_word pins t i)) (λ t i. name_in (g.pin t i))
-          (λ t. same_functions (λ i. reference_in first heap (pin_word pins t i)) (λ i. name_in (g.pin t i))
-          (λ i. pin_same first heap roots pins at g one s (pin_word pins t i) (g.pin t i) (s.pins t i)))));
+          (same_functions (λ t i. reference_in first heap (pin_word pins t i)) (λ t i. name_in (graph.pin t i))
+          (λ t. same_functions (λ i. reference_in first heap (pin_word pins t i)) (λ i. name_in (graph.pin t i))
+          (λ i. pin_same first heap roots pins at graph one s (pin_word pins t i) (graph.pin t i) (s.pins t i)))));
     }

@@ -24,13 +24,13 @@ use Rattle.heap_world.proofs.Marks.{has-left, has-right}
 use Rattle.heap_world.proofs.CellRows.{cell_word-at}
 
 -- what is known of the current copy at an address
-pub record Facts (first : ℕ) (heap : List ℕ) (g : Graph) (a : ℕ) (n : Name) (o : Object) : Type 0 where
+pub record Facts (first : ℕ) (heap : List ℕ) (graph : Graph) (a : ℕ) (n : Name) (o : Object) : Type 0 where
   pub refs : refs_in (shape_at heap (a - first)) ≡ length o.refs
   pub nums : nums_in (shape_at heap (a - first)) ≡ length o.nums
   pub words : size_at heap (a - first) ≡ size o
   pub within : a - first + size_at heap (a - first) ≤ length heap
   pub name : name_in_heap heap (a - first) ≡ n
-  pub object : named g (Some n) ≡ o
+  pub object : named graph (Some n) ≡ o
 
 code_thread : (t k : ℕ) → k < 2 ^ 32 → thread_in (name_code t k) ≡ t
 code_thread t k h = omega arith
@@ -38,11 +38,11 @@ code_thread t k h = omega arith
 code_count : (t k : ℕ) → k < 2 ^ 32 → count_in (name_code t k) ≡ k
 code_count t k h = omega arith
 
-name_back : (n : Name) (code : ℕ) → n.count < 2 ^ 32 → code ≡ name_code n.thread n.count
-    → record { thread = thread_in code; count = count_in code } ≡ n
-name_back n code h e =
-    ap (λ t. record { thread = t; count = count_in code }) (ap thread_in e ∙ code_thread n.thread n.count h)
-    ∙ ap (λ k. record { thread = n.thread; count = k }) (ap count_in e ∙ code_count n.thread n.count h)
+name_back : (name : Name) (code : ℕ) → name.count < 2 ^ 32 → code ≡ name_code name.thread name.count
+    → record { thread = thread_in code; count = count_in code } ≡ name
+name_back name code h e =
+    ap (λ t. record { thread = t; count = count_in code }) (ap thread_in e ∙ code_thread name.thread name.count h)
+    ∙ ap (λ k. record { thread = name.thread; count = k }) (ap count_in e ∙ code_count name.thread name.count h)
 
 -- the word of a cell that is not null is one of the cells' words
 has-cell_word : (cells : ℕ) (words : List ℕ) (t i : ℕ) → cell_word cells words t i ≢ 0 → has words (cell_word cells words t i) ≡ true
@@ -58,7 +58,7 @@ has-cell_word cells words t i ne =
     ]
 
 -- where a word that a list has stands in it
-place_from-has : (xs : List ℕ) (a : ℕ) → has xs a ≡ true → (k : ℕ) × (k < length xs) × (get_or xs k 0 ≡ a)
+place_from-has : (xs : List ℕ) (a : ℕ) → has xs a ≡ true → (index : ℕ) × (index < length xs) × (get_or xs index 0 ≡ a)
 place_from-has xs a h =
     let c = Contains-from_any exact_unsigned_eq a xs h in
     (c.0, c.1, get_or_default xs c.0 0 a c.1 ∙ c.2)
@@ -73,39 +73,39 @@ shift_field first a i h = omega arith
 shift_number : (first a n r i : ℕ) → first ≤ a → r ≡ n → a - first + 3 + r + i ≡ a + 3 + n + i - first
 shift_number first a n r i h e = omega arith
 
-module _ (first : ℕ) (heap roots pins : List ℕ) (at : ℕ → Option Name) (g : Graph) (one : 1 ≤ first) (s : WordsStand first heap roots pins at g) where
+module _ (first : ℕ) (heap roots pins : List ℕ) (at : ℕ → Option Name) (graph : Graph) (one : 1 ≤ first) (s : WordsStand first heap roots pins at graph) where
   -- no object stands at 0
-  never_null : (w : ℕ) (n : Name) → at w ≡ Some n → w ≢ 0
-  never_null w n here is_zero = omega (arith, (s.each w n here).above)
+  never_null : (w : ℕ) (name : Name) → at w ≡ Some name → w ≢ 0
+  never_null w name here is_zero = omega (arith, (s.each w name here).above)
 
   abbrev pub words : ℕ → ℕ
   words a = get_or heap (a - first) 0
 
   -- the current copy of an object is at an address
   abbrev pub IsHere : ℕ → Name → Type 0
-  IsHere a n = (at a ≡ Some n) × (current_of words a ≡ a)
+  IsHere a name = (at a ≡ Some name) × (current_of words a ≡ a)
 
-  pub object_at : (a : ℕ) (n : Name) → IsHere a n → (o : Object) × IsAt first (first + length heap) words at g a n o
-  object_at a n here =
-      let o = s.object a n here.0 in
-      (o.0, subst (λ k. IsAt first (first + length heap) words at g k n o.0) here.1 o.1)
+  pub object_at : (a : ℕ) (name : Name) → IsHere a name → (o : Object) × IsAt first (first + length heap) words at graph a name o
+  object_at a name here =
+      let o = s.object a name here.0 in
+      (o.0, subst (λ k. IsAt first (first + length heap) words at graph k name o.0) here.1 o.1)
 
   -- so it is of each word that names an object
-  current_here : (w : ℕ) (n : Name) → at w ≡ Some n → IsHere (current_of words w) n
-  current_here w n is = ((s.each w n is).current, plain_current words (current_of words w) (s.object w n is).1.words.header)
+  current_here : (w : ℕ) (name : Name) → at w ≡ Some name → IsHere (current_of words w) name
+  current_here w name is = ((s.each w name is).current, plain_current words (current_of words w) (s.object w name is).1.words.header)
 
-  current_is : (w : ℕ) (n : Name) → at w ≡ Some n → IsHere (current_at first heap w) n
-  current_is w n is = subst (λ k. IsHere k n) (sym (current_same first heap w (never_null w n is))) (current_here w n is)
+  current_is : (address : ℕ) (name : Name) → at address ≡ Some name → IsHere (current_at first heap address) name
+  current_is address name is = subst (λ k. IsHere k name) (sym (current_same first heap address (never_null address name is))) (current_here address name is)
 
   -- a word that is not null and stands for a reference is where the object of a name stands
-  refers-some : (w : ℕ) (r : Reference) → Refers at w r → w ≢ 0 → (n : Name) × (r ≡ Some n) × (at w ≡ Some n)
+  refers-some : (w : ℕ) (reference : Reference) → Refers at w reference → w ≢ 0 → (name : Name) × (reference ≡ Some name) × (at w ≡ Some name)
   refers-some w None h ne = absurd (ne h)
-  refers-some w (Some n) h ne = (n, refl, h)
+  refers-some w (Some name) h ne = (name, refl, h)
 
-  pub facts : (a : ℕ) (n : Name) (here : IsHere a n) → Facts first heap g a n (object_at a n here).0
-  facts a n here =
-      let o = (object_at a n here).0 in
-      let i = (object_at a n here).1 in
+  pub facts : (a : ℕ) (name : Name) (here : IsHere a name) → Facts first heap graph a name (object_at a name here).0
+  facts a name here =
+      let o = (object_at a name here).0 in
+      let i = (object_at a name here).1 in
       let w = i.words in
       let above = i.above in
       let next = sym (shift first a 1 above) in
@@ -121,18 +121,18 @@ module _ (first : ℕ) (heap roots pins : List ℕ) (at : ℕ → Option Name) (
         nums = nums;
         words = words;
         within = omega (arith, i.below, words);
-        name = name_back n (get_or heap (a - first + 2) 0) i.short_count (ap (λ k. get_or heap k 0) second ∙ w.name_word);
+        name = name_back name (get_or heap (a - first + 2) 0) i.short_count (ap (λ k. get_or heap k 0) second ∙ w.name_word);
         object = ap (λ q. unwrap_or q (record { refs = []; nums = [] })) i.object;
       }
 
   -- where a root's word is not null, an object stands that can be reached
-  root_name : (k a : ℕ) → get_or roots k 0 ≡ a → a ≢ 0 → (n : Name) × (at a ≡ Some n) × IsReachable g n
-  root_name k a is ne =
-      let t = k / 16 + 1 in
-      let i = k % 16 in
-      let place : 16 * (k / 16) + k % 16 ≡ k = omega arith in
-      let word : root_word roots t i ≡ a = cell_word-at 16 roots (k / 16) i (omega arith) ∙ ap (λ j. get_or roots j 0) place ∙ is in
-      let r = refers-some a (g.root t i) (subst (λ (w : ℕ). Refers at w (g.root t i)) word (s.roots t i)) ne in
+  root_name : (index a : ℕ) → get_or roots index 0 ≡ a → a ≢ 0 → (name : Name) × (at a ≡ Some name) × IsReachable graph name
+  root_name index a is ne =
+      let t = index / 16 + 1 in
+      let i = index % 16 in
+      let place : 16 * (index / 16) + index % 16 ≡ index = omega arith in
+      let word : root_word roots t i ≡ a = cell_word-at 16 roots (index / 16) i (omega arith) ∙ ap (λ j. get_or roots j 0) place ∙ is in
+      let r = refers-some a (graph.root t i) (subst (λ (w : ℕ). Refers at w (graph.root t i)) word (s.roots t i)) ne in
       (r.0, r.2, reach_root t i r.0 r.1)
 
   -- a pin word refers to what its slot holds
@@ -141,47 +141,47 @@ module _ (first : ℕ) (heap roots pins : List ℕ) (at : ℕ → Option Name) (
   pin_refers w (Some p) h = h.1
 
   -- and one that is not null is where the object stands that its slot holds
-  pin_holds : (w : ℕ) (held : Option Pinned) → HoldsPin words at w held → w ≢ 0 → (p : Pinned) × (held ≡ Some p) × (at w ≡ Some p.name)
+  pin_holds : (w : ℕ) (held : Option Pinned) → HoldsPin words at w held → w ≢ 0 → (pinned : Pinned) × (held ≡ Some pinned) × (at w ≡ Some pinned.name)
   pin_holds w None h ne = absurd (ne h)
-  pin_holds w (Some p) h ne = (p, refl, h.1)
+  pin_holds w (Some pinned) h ne = (pinned, refl, h.1)
 
-  pin_name : (k a : ℕ) → get_or pins k 0 ≡ a → a ≢ 0 → (n : Name) × (at a ≡ Some n) × IsReachable g n
-  pin_name k a is ne =
-      let t = k / 4 + 1 in
-      let i = k % 4 in
-      let place : 4 * (k / 4) + k % 4 ≡ k = omega arith in
-      let word : pin_word pins t i ≡ a = cell_word-at 4 pins (k / 4) i (omega arith) ∙ ap (λ j. get_or pins j 0) place ∙ is in
-      let held = pin_holds a (g.pin t i) (subst (λ (w : ℕ). HoldsPin words at w (g.pin t i)) word (s.pins t i)) ne in
+  pin_name : (index a : ℕ) → get_or pins index 0 ≡ a → a ≢ 0 → (name : Name) × (at a ≡ Some name) × IsReachable graph name
+  pin_name index a is ne =
+      let t = index / 4 + 1 in
+      let i = index % 4 in
+      let place : 4 * (index / 4) + index % 4 ≡ index = omega arith in
+      let word : pin_word pins t i ≡ a = cell_word-at 4 pins (index / 4) i (omega arith) ∙ ap (λ j. get_or pins j 0) place ∙ is in
+      let held = pin_holds a (graph.pin t i) (subst (λ (w : ℕ). HoldsPin words at w (graph.pin t i)) word (s.pins t i)) ne in
       (held.0.name, held.2, reach_pin t i held.0 held.1)
 
   -- so it is of each word of roots and pin slots
-  start_name : (k a : ℕ) → get_or (roots ++ pins) k 0 ≡ a → a ≢ 0 → (n : Name) × (at a ≡ Some n) × IsReachable g n
-  start_name k a is ne =
-      elim (cases_lt k (length roots)) [
-        | inl low ↦ root_name k a (sym (get_or_append_left roots pins 0 k low) ∙ is) ne
-        | inr past ↦ pin_name (k - length roots) a (sym (get_or-append_right roots pins (length roots) k 0 refl past) ∙ is) ne
+  start_name : (index a : ℕ) → get_or (roots ++ pins) index 0 ≡ a → a ≢ 0 → (name : Name) × (at a ≡ Some name) × IsReachable graph name
+  start_name index a is ne =
+      elim (cases_lt index (length roots)) [
+        | inl low ↦ root_name index a (sym (get_or_append_left roots pins 0 index low) ∙ is) ne
+        | inr past ↦ pin_name (index - length roots) a (sym (get_or-append_right roots pins (length roots) index 0 refl past) ∙ is) ne
       ]
 
   -- and so where a field's word of such an object is not null
-  field_name : (m a k : ℕ) (n : Name) (here : IsHere m n) → IsReachable g n
-      → k < length (refs_at heap (m - first)) → get_or (refs_at heap (m - first)) k 0 ≡ a → a ≢ 0
-      → (q : Name) × (at a ≡ Some q) × IsReachable g q
-  field_name m a k n here reach h is ne =
-      let o = (object_at m n here).0 in
-      let f = facts m n here in
-      let field : k < refs_in (shape_at heap (m - first)) = omega (arith, length-refs_at heap (m - first) f.within, h) in
-      let low : k < length o.refs = omega (arith, f.refs, field) in
-      let above = (object_at m n here).1.above in
-      let place = shift_field first m k above in
-      let word : get_or heap (m + 3 + k - first) 0 ≡ a =
-      ap (λ j. get_or heap j 0) place ∙ sym (get_or-refs_at heap (m - first) k field) ∙ is in
-      let q = get_or o.refs k None in
-      let got : slice_get o.refs k ≡ Some q = slice_get-get_or o.refs k None low in
-      let r = refers-some a q (subst (λ (w : ℕ). Refers at w q) word ((object_at m n here).1.words.references k q got)) ne in
-      (r.0, r.2, reach_field n r.0 k reach (ap (λ b. slice_get b.refs k) f.object ∙ got ∙ ap (λ b. Some b) r.1))
+  field_name : (address a index : ℕ) (name : Name) (here : IsHere address name) → IsReachable graph name
+      → index < length (refs_at heap (address - first)) → get_or (refs_at heap (address - first)) index 0 ≡ a → a ≢ 0
+      → (q : Name) × (at a ≡ Some q) × IsReachable graph q
+  field_name address a index name here reach h is ne =
+      let o = (object_at address name here).0 in
+      let f = facts address name here in
+      let field : index < refs_in (shape_at heap (address - first)) = omega (arith, length-refs_at heap (address - first) f.within, h) in
+      let low : index < length o.refs = omega (arith, f.refs, field) in
+      let above = (object_at address name here).1.above in
+      let place = shift_field first address index above in
+      let word : get_or heap (address + 3 + index - first) 0 ≡ a =
+      ap (λ j. get_or heap j 0) place ∙ sym (get_or-refs_at heap (address - first) index field) ∙ is in
+      let q = get_or o.refs index None in
+      let got : slice_get o.refs index ≡ Some q = slice_get-get_or o.refs index None low in
+      let r = refers-some a q (subst (λ (w : ℕ). Refers at w q) word ((object_at address name here).1.words.references index q got)) ne in
+      (r.0, r.2, reach_field name r.0 index reach (ap (λ b. slice_get b.refs index) f.object ∙ got ∙ ap (λ b. Some b) r.1))
 
   -- a current copy that is among those of some words is that of one of them
-  copied_from : (xs : List ℕ) (a : ℕ) → a ≢ 0 → has (currents first heap xs) a ≡ true → (k : ℕ) × (k < length xs) × (get_or xs k 0 ≢ 0) × (current_at first heap (get_or xs k 0) ≡ a)
+  copied_from : (xs : List ℕ) (a : ℕ) → a ≢ 0 → has (currents first heap xs) a ≡ true → (index : ℕ) × (index < length xs) × (get_or xs index 0 ≢ 0) × (current_at first heap (get_or xs index 0) ≡ a)
   copied_from xs a ne h =
       let c = place_from-has (currents first heap xs) a h in
       let low : c.0 < length xs = omega (arith, length-map xs (current_at first heap), c.1) in
@@ -189,14 +189,14 @@ module _ (first : ℕ) (heap roots pins : List ℕ) (at : ℕ → Option Name) (
       (c.0, low, (λ none. ne (sym is ∙ current_null first heap (get_or xs c.0 0) none)), is)
 
   -- and the other way round
-  has_current : (xs : List ℕ) (w : ℕ) → has xs w ≡ true → has (currents first heap xs) (current_at first heap w) ≡ true
-  has_current xs w h =
-      let c = place_from-has xs w h in
-      list_any_at (nat_eq (current_at first heap w)) (currents first heap xs) c.0 0 (omega (arith, length-map xs (current_at first heap), c.1))
-      (eq-eqb (current_at first heap w) (get_or (currents first heap xs) c.0 0) (ap (current_at first heap) (sym c.2) ∙ sym (get_or-map (current_at first heap) xs c.0 0 0 c.1)))
+  has_current : (xs : List ℕ) (address : ℕ) → has xs address ≡ true → has (currents first heap xs) (current_at first heap address) ≡ true
+  has_current xs address h =
+      let c = place_from-has xs address h in
+      list_any_at (nat_eq (current_at first heap address)) (currents first heap xs) c.0 0 (omega (arith, length-map xs (current_at first heap), c.1))
+      (eq-eqb (current_at first heap address) (get_or (currents first heap xs) c.0 0) (ap (current_at first heap) (sym c.2) ∙ sym (get_or-map (current_at first heap) xs c.0 0 0 c.1)))
 
   -- an address that roots lead to is where the current copy of an object is that can be reached
-  pub led_name : (a : ℕ) → Leads first heap (roots ++ pins) a → (n : Name) × IsHere a n × IsReachable g n
+  pub led_name : (a : ℕ) → Leads first heap (roots ++ pins) a → (name : Name) × IsHere a name × IsReachable graph name
   led_name a (from_root from ne h) =
       let c = copied_from (roots ++ pins) a ne h in
       let r = start_name c.0 (get_or (roots ++ pins) c.0 0) refl c.2 in
@@ -208,44 +208,44 @@ module _ (first : ℕ) (heap roots pins : List ℕ) (at : ℕ → Option Name) (
       (r.0, subst (λ k. IsHere k r.0) c.3 (current_is (get_or (refs_at heap (m - first)) c.0 0) r.0 r.1), r.2)
 
   -- a word of roots and pin slots that names an object leads to its current copy
-  start_led : (w : ℕ) (n : Name) → at w ≡ Some n → has (roots ++ pins) w ≡ true → (a : ℕ) × IsHere a n × Leads first heap (roots ++ pins) a
-  start_led w n here there =
-      let now = current_is w n here in
-      (current_at first heap w, now, from_root (current_at first heap w) (never_null (current_at first heap w) n now.0) (has_current (roots ++ pins) w there))
+  start_led : (address : ℕ) (name : Name) → at address ≡ Some name → has (roots ++ pins) address ≡ true → (a : ℕ) × IsHere a name × Leads first heap (roots ++ pins) a
+  start_led address name here there =
+      let now = current_is address name here in
+      (current_at first heap address, now, from_root (current_at first heap address) (never_null (current_at first heap address) name now.0) (has_current (roots ++ pins) address there))
 
   -- and each object that can be reached has its current copy at such an address
-  pub name_led : (n : Name) → IsReachable g n → (a : ℕ) × IsHere a n × Leads first heap (roots ++ pins) a
-  name_led n (reach_root t i its_name e) =
+  pub name_led : (name : Name) → IsReachable graph name → (a : ℕ) × IsHere a name × Leads first heap (roots ++ pins) a
+  name_led name (reach_root t i its_name e) =
       let w = root_word roots t i in
-      let here : at w ≡ Some n = subst (λ (r : Reference). Refers at w r) e (s.roots t i) in
-      start_led w n here (has-left roots pins w (has-cell_word 16 roots t i (never_null w n here)))
+      let here : at w ≡ Some name = subst (λ (reference : Reference). Refers at w reference) e (s.roots t i) in
+      start_led w name here (has-left roots pins w (has-cell_word 16 roots t i (never_null w name here)))
   name_led _ (reach_pin t i held e) =
       let w = pin_word pins t i in
-      let here : at w ≡ Some held.name = (subst (λ (o : Option Pinned). HoldsPin words at w o) e (s.pins t i)).1 in
+      let here : at w ≡ Some held.name = (subst (λ (found : Option Pinned). HoldsPin words at w found) e (s.pins t i)).1 in
       start_led w held.name here (has-right roots pins w (has-cell_word 4 pins t i (never_null w held.name here)))
-  name_led n (reach_field m its_name f r e) =
+  name_led name (reach_field m its_name f r e) =
       let u = name_led m r in
       let o = (object_at u.0 m u.1).0 in
       let fa = facts u.0 m u.1 in
       let k = u.0 - first in
-      let got : slice_get o.refs f ≡ Some (Some n) = ap (λ b. slice_get b.refs f) (sym fa.object) ∙ e in
-      let low : f < length o.refs = slice_get_within o.refs f (Some n) got in
+      let got : slice_get o.refs f ≡ Some (Some name) = ap (λ b. slice_get b.refs f) (sym fa.object) ∙ e in
+      let low : f < length o.refs = slice_get_within o.refs f (Some name) got in
       let field : f < refs_in (shape_at heap k) = omega (arith, fa.refs, low) in
       let w = get_or heap (u.0 + 3 + f - first) 0 in
-      let here : at w ≡ Some n = (object_at u.0 m u.1).1.words.references f (Some n) got in
+      let here : at w ≡ Some name = (object_at u.0 m u.1).1.words.references f (Some name) got in
       let above = (object_at u.0 m u.1).1.above in
       let place = shift_field first u.0 f above in
       let inside : has (refs_at heap k) w ≡ true =
       list_any_at (nat_eq w) (refs_at heap k) f 0 (omega (arith, length-refs_at heap k fa.within, field))
       (eq-eqb w (get_or (refs_at heap k) f 0) (ap (λ j. get_or heap j 0) place ∙ sym (get_or-refs_at heap k f field))) in
-      let now = current_is w n here in
-      (current_at first heap w, now, from_field u.0 (current_at first heap w) u.2 (never_null (current_at first heap w) n now.0) (has_current (refs_at heap k) w inside))
+      let now = current_is w name here in
+      (current_at first heap w, now, from_field u.0 (current_at first heap w) u.2 (never_null (current_at first heap w) name now.0) (has_current (refs_at heap k) w inside))
 
   -- a word that names an object leads to words of the heap
-  is_named : (a : ℕ) (n : Name) → at a ≡ Some n → ((first ≤ a) × (a < first + length heap)) × ((first ≤ current_at first heap a) × (current_at first heap a + 3 ≤ first + length heap))
-  is_named a n is =
-      let copy = s.each a n is in
-      let now = object_at (current_at first heap a) n (current_is a n is) in
+  is_named : (address : ℕ) (name : Name) → at address ≡ Some name → ((first ≤ address) × (address < first + length heap)) × ((first ≤ current_at first heap address) × (current_at first heap address + 3 ≤ first + length heap))
+  is_named address name is =
+      let copy = s.each address name is in
+      let now = object_at (current_at first heap address) name (current_is address name is) in
       ((copy.above, copy.below), (now.1.above, omega (arith, now.1.below)))
 
   pub sound : IsWalkable first heap (roots ++ pins)
@@ -269,23 +269,23 @@ module _ (first : ℕ) (heap roots pins : List ℕ) (at : ℕ → Option Name) (
   }
 
   -- the reference that a word stands for is the one that is read from it
-  pub reference_same : (w : ℕ) (r : Reference) → Refers at w r → reference_in first heap w ≡ r
-  reference_same w None h = cond-true (w == 0) None (Some (name_in_heap heap (current_at first heap w - first))) (eq-eqb w 0 h)
-  reference_same w (Some n) h =
-      cond-false (w == 0) None (Some (name_in_heap heap (current_at first heap w - first))) (ne_eqb w 0 (never_null w n h))
-      ∙ ap (λ b. Some b) (facts (current_at first heap w) n (current_is w n h)).name
+  pub reference_same : (address : ℕ) (reference : Reference) → Refers at address reference → reference_in first heap address ≡ reference
+  reference_same address None h = cond-true (address == 0) None (Some (name_in_heap heap (current_at first heap address - first))) (eq-eqb address 0 h)
+  reference_same address (Some n) h =
+      cond-false (address == 0) None (Some (name_in_heap heap (current_at first heap address - first))) (ne_eqb address 0 (never_null address n h))
+      ∙ ap (λ b. Some b) (facts (current_at first heap address) n (current_is address n h)).name
 
   -- so it is of a pin word
-  pub pin_same : (w : ℕ) (held : Option Pinned) → HoldsPin words at w held → reference_in first heap w ≡ name_in held
-  pin_same w held h = reference_same w (name_in held) (pin_refers w held h)
+  pub pin_same : (address : ℕ) (held : Option Pinned) → HoldsPin words at address held → reference_in first heap address ≡ name_in held
+  pin_same address held h = reference_same address (name_in held) (pin_refers address held h)
 
-  refs_same : (a : ℕ) (n : Name) (here : IsHere a n)
-      → map (reference_in first heap) (refs_at heap (a - first)) ≡ (object_at a n here).0.refs
-  refs_same a n here =
-      let o = (object_at a n here).0 in
-      let f = facts a n here in
-      let k = a - first in
-      let above = (object_at a n here).1.above in
+  refs_same : (address : ℕ) (name : Name) (here : IsHere address name)
+      → map (reference_in first heap) (refs_at heap (address - first)) ≡ (object_at address name here).0.refs
+  refs_same address name here =
+      let o = (object_at address name here).0 in
+      let f = facts address name here in
+      let k = address - first in
+      let above = (object_at address name here).1.above in
       let count : length (refs_at heap k) ≡ length o.refs = length-refs_at heap k f.within ∙ f.refs in
       let shown = reference_in first heap in
       let many : length (map shown (refs_at heap k)) ≡ length o.refs = length-map (refs_at heap k) shown ∙ count in
@@ -294,19 +294,19 @@ module _ (first : ℕ) (heap roots pins : List ℕ) (at : ℕ → Option Name) (
       let low : i < length o.refs = omega (arith, many, h) in
       let within : i < length (refs_at heap k) = omega (arith, count, low) in
       let field : i < refs_in (shape_at heap k) = omega (arith, f.refs, low) in
-      let place = sym (shift_field first a i above) in
+      let place = sym (shift_field first address i above) in
       let q = get_or o.refs i None in
       get_or-map shown (refs_at heap k) i 0 None within
       ∙ ap shown (get_or-refs_at heap k i field ∙ ap (λ j. get_or heap j 0) place)
-      ∙ reference_same (get_or heap (a + 3 + i - first) 0) q
-      ((object_at a n here).1.words.references i q (slice_get-get_or o.refs i None low)))
+      ∙ reference_same (get_or heap (address + 3 + i - first) 0) q
+      ((object_at address name here).1.words.references i q (slice_get-get_or o.refs i None low)))
 
-  nums_same : (a : ℕ) (n : Name) (here : IsHere a n) → nums_at heap (a - first) ≡ (object_at a n here).0.nums
-  nums_same a n here =
-      let o = (object_at a n here).0 in
-      let f = facts a n here in
+  nums_same : (a : ℕ) (name : Name) (here : IsHere a name) → nums_at heap (a - first) ≡ (object_at a name here).0.nums
+  nums_same a name here =
+      let o = (object_at a name here).0 in
+      let f = facts a name here in
       let k = a - first in
-      let above = (object_at a n here).1.above in
+      let above = (object_at a name here).1.above in
       let count : length (nums_at heap k) ≡ length o.nums = length-nums_at heap k f.within ∙ f.nums in
       ext_get_or 0 (nums_at heap k) o.nums count
       (λ i h.
@@ -314,12 +314,12 @@ module _ (first : ℕ) (heap roots pins : List ℕ) (at : ℕ → Option Name) (
       let field : i < nums_in (shape_at heap k) = omega (arith, f.nums, low) in
       let place = shift_number first a (length o.refs) (refs_in (shape_at heap k)) i above f.refs in
       get_or-nums_at heap k i field ∙ ap (λ j. get_or heap j 0) place
-      ∙ (object_at a n here).1.words.numbers i (get_or o.nums i 0) (slice_get-get_or o.nums i 0 low))
+      ∙ (object_at a name here).1.words.numbers i (get_or o.nums i 0) (slice_get-get_or o.nums i 0 low))
 
   -- the row by the words of an object is its row in the graph
-  pub row_same : (a : ℕ) (n : Name) → IsHere a n → row_in_heap first heap a ≡ row_in g n
-  row_same a n here =
-      let f = facts a n here in
-      ap (λ m. record { name = m; refs = map (reference_in first heap) (refs_at heap (a - first)); nums = nums_at heap (a - first) }) f.name
-      ∙ ap (λ rs. record { name = n; refs = rs; nums = nums_at heap (a - first) }) (refs_same a n here ∙ ap (λ b. b.refs) (sym f.object))
-      ∙ ap (λ ns. record { name = n; refs = (named g (Some n)).refs; nums = ns }) (nums_same a n here ∙ ap (λ b. b.nums) (sym f.object))
+  pub row_same : (address : ℕ) (name : Name) → IsHere address name → row_in_heap first heap address ≡ row_in graph name
+  row_same address name here =
+      let f = facts address name here in
+      ap (λ m. record { name = m; refs = map (reference_in first heap) (refs_at heap (address - first)); nums = nums_at heap (address - first) }) f.name
+      ∙ ap (λ rs. record { name = name; refs = rs; nums = nums_at heap (address - first) }) (refs_same address name here ∙ ap (λ b. b.refs) (sym f.object))
+      ∙ ap (λ ns. record { name = name; refs = (named graph (Some name)).refs; nums = ns }) (nums_same address name here ∙ ap (λ b. b.nums) (sym f.object))

@@ -23,8 +23,8 @@ use Rattle.heap_world.specs.Rows.{root_word, pin_word}
 use Rattle.heap_world.specs.Shows.{WordsStand}
 
 -- a word of a part of a list
-get_or-part : (xs : List ℕ) (a b i : ℕ) → i < b - a → get_or (slice_range xs a b) i 0 ≡ get_or xs (a + i) 0
-get_or-part xs a b i within = get_or-take (b - a) (drop a xs) i 0 within ∙ get_or-drop a xs i 0
+get_or-part : (xs : List ℕ) (a b index : ℕ) → index < b - a → get_or (slice_range xs a b) index 0 ≡ get_or xs (a + index) 0
+get_or-part xs a b index within = get_or-take (b - a) (drop a xs) index 0 within ∙ get_or-drop a xs index 0
 
 -- its length
 length-part : (xs : List ℕ) (a b : ℕ) → b ≤ length xs → length (slice_range xs a b) ≡ b - a
@@ -32,72 +32,72 @@ length-part xs a b within = length-take-le (b - a) (drop a xs) (omega (arith, le
 
 -- Pieces lie where they should. Where a copy of an object stands for its name there is a piece, and the current copy, by the header
 -- there, stands for the name too and is the object as the graph has it; it is the only one. Names are short. Other objects need no piece.
-pub record AreCopies (c : Config) (words : List ℕ) (block : Plot) (at : ℕ → Option Name) (g : Graph) : Type 0 where
-  pub plotted : IsPlotted c (λ r. view c words (Top r)) block
-  pub piece : (a : ℕ) (n : Name) → at a ≡ Some n → (x : Block) × (block a ≡ Some x) × (1 ≤ words_of x)
-  pub current : (a : ℕ) (n : Name) → at a ≡ Some n → at (current_of (λ x. view c words (Heap x)) a) ≡ Some n
-  pub object : (a : ℕ) (n : Name) → at a ≡ Some n
-      → (refs : ℕ) × (nums : ℕ) × (o : Object) × (block (current_of (λ x. view c words (Heap x)) a) ≡ Some (thing n refs nums)) × (g.object n ≡ Some o)
-      × IsObject (λ x. view c words (Heap x)) at (current_of (λ x. view c words (Heap x)) a) refs nums n o
-  pub once : (a b : ℕ) (n : Name) → at a ≡ Some n → at b ≡ Some n → current_of (λ x. view c words (Heap x)) a ≡ current_of (λ x. view c words (Heap x)) b
-  pub small : (n : Name) (o : Object) → g.object n ≡ Some o → n.count < 2 ^ 32
+pub record AreCopies (config : Config) (words : List ℕ) (block : Plot) (at : ℕ → Option Name) (graph : Graph) : Type 0 where
+  pub plotted : IsPlotted config (λ r. view config words (Top r)) block
+  pub piece : (address : ℕ) (name : Name) → at address ≡ Some name → (x : Block) × (block address ≡ Some x) × (1 ≤ words_of x)
+  pub current : (address : ℕ) (name : Name) → at address ≡ Some name → at (current_of (λ x. view config words (Heap x)) address) ≡ Some name
+  pub object : (address : ℕ) (name : Name) → at address ≡ Some name
+      → (refs : ℕ) × (nums : ℕ) × (o : Object) × (block (current_of (λ x. view config words (Heap x)) address) ≡ Some (thing name refs nums)) × (graph.object name ≡ Some o)
+      × IsObject (λ x. view config words (Heap x)) at (current_of (λ x. view config words (Heap x)) address) refs nums name o
+  pub once : (address b : ℕ) (name : Name) → at address ≡ Some name → at b ≡ Some name → current_of (λ x. view config words (Heap x)) address ≡ current_of (λ x. view config words (Heap x)) b
+  pub small : (name : Name) (o : Object) → graph.object name ≡ Some o → name.count < 2 ^ 32
 
-module _ (c : Config) (words : List ℕ) (block : Plot) (at : ℕ → Option Name) (g : Graph) (long : length words ≡ table_words c) (pieces : AreCopies c words block at g) where
+module _ (config : Config) (words : List ℕ) (block : Plot) (at : ℕ → Option Name) (graph : Graph) (long : length words ≡ table_words config) (pieces : AreCopies config words block at graph) where
   abbrev heap : List ℕ
-  heap = heap_in c words
+  heap = heap_in config words
 
   abbrev roots : List ℕ
-  roots = roots_in c words
+  roots = roots_in config words
 
   abbrev pins : List ℕ
-  pins = pins_in c words
+  pins = pins_in config words
 
   abbrev first : ℕ
-  first = c.region_words
+  first = config.region_words
 
   abbrev mem : ℕ → ℕ
-  mem a = view c words (Heap a)
+  mem address = view config words (Heap address)
 
   -- the length of the heap
-  length-heap : length heap ≡ c.regions * c.region_words
-  length-heap = let e : length heap ≡ heap_start c + heap_size c - heap_start c = length-part words (heap_start c) (heap_start c + heap_size c) (omega (arith, long)) in omega (arith, e)
+  length-heap : length heap ≡ config.regions * config.region_words
+  length-heap = let e : length heap ≡ heap_start config + heap_size config - heap_start config = length-part words (heap_start config) (heap_start config + heap_size config) (omega (arith, long)) in omega (arith, e)
 
   -- the words of a piece lie in the heap
-  piece_inside : (a : ℕ) (b : Block) → block a ≡ Some b → (first ≤ a) × (a + words_of b ≤ first + length heap)
-  piece_inside a b is =
-      let inside = words_inside c (λ r. view c words (Top r)) block pieces.plotted a b is in
-      let size : (c.regions + 1) * c.region_words ≡ c.regions * c.region_words + c.region_words = omega arith in
+  piece_inside : (address : ℕ) (piece : Block) → block address ≡ Some piece → (first ≤ address) × (address + words_of piece ≤ first + length heap)
+  piece_inside address piece is =
+      let inside = words_inside config (λ r. view config words (Top r)) block pieces.plotted address piece is in
+      let size : (config.regions + 1) * config.region_words ≡ config.regions * config.region_words + config.region_words = omega arith in
       (inside.0, omega (arith, inside.1, size, length-heap))
 
   -- a word of the heap by its name
-  heap_word : (a : ℕ) → first ≤ a → a < first + length heap → slice_index heap (a - first) ≡ view c words (Heap a)
-  heap_word a low high =
-      get_or-part words (heap_start c) (heap_start c + heap_size c) (a - first) (omega (arith, low, high, length-heap))
-      ∙ ap (λ k. get_or words k 0) (let e : heap_start c + (a - first) ≡ heap_start c + a - first = omega (arith, low) in e)
-      ∙ sym (view_word c words (Heap a) (low, let e : (c.regions + 1) * c.region_words ≡ c.regions * c.region_words + c.region_words = omega arith in omega (arith, e, high, length-heap)))
+  heap_word : (address : ℕ) → first ≤ address → address < first + length heap → slice_index heap (address - first) ≡ view config words (Heap address)
+  heap_word address low high =
+      get_or-part words (heap_start config) (heap_start config + heap_size config) (address - first) (omega (arith, low, high, length-heap))
+      ∙ ap (λ k. get_or words k 0) (let e : heap_start config + (address - first) ≡ heap_start config + address - first = omega (arith, low) in e)
+      ∙ sym (view_word config words (Heap address) (low, let e : (config.regions + 1) * config.region_words ≡ config.regions * config.region_words + config.region_words = omega arith in omega (arith, e, high, length-heap)))
 
   -- an object has the words that its piece has
-  object_stands : (a refs nums : ℕ) (n : Name) (o : Object) → block a ≡ Some (thing n refs nums) → g.object n ≡ Some o
-      → IsObject mem at a refs nums n o → n.count < 2 ^ 32
-      → IsAt first (first + length heap) (λ k. slice_index heap (k - first)) at g a n o
-  object_stands a refs nums n o is object facts small =
-      let inside : (first ≤ a) × (a + (3 + refs + nums) ≤ first + length heap) = piece_inside a (thing n refs nums) is in
+  object_stands : (address refs nums : ℕ) (name : Name) (o : Object) → block address ≡ Some (thing name refs nums) → graph.object name ≡ Some o
+      → IsObject mem at address refs nums name o → name.count < 2 ^ 32
+      → IsAt first (first + length heap) (λ k. slice_index heap (k - first)) at graph address name o
+  object_stands address refs nums name o is object facts small =
+      let inside : (first ≤ address) × (address + (3 + refs + nums) ≤ first + length heap) = piece_inside address (thing name refs nums) is in
       record {
         object = object;
         words = record {
-          header = heap_word a inside.0 (omega (arith, inside.1)) ∙ facts.header;
-          shape = heap_word (a + 1) (omega (arith, inside.0)) (omega (arith, inside.1)) ∙ (rw (facts.refs_are, facts.nums_are) facts.shape);
-          name_word = heap_word (a + 2) (omega (arith, inside.0)) (omega (arith, inside.1)) ∙ facts.name_word;
+          header = heap_word address inside.0 (omega (arith, inside.1)) ∙ facts.header;
+          shape = heap_word (address + 1) (omega (arith, inside.0)) (omega (arith, inside.1)) ∙ (rw (facts.refs_are, facts.nums_are) facts.shape);
+          name_word = heap_word (address + 2) (omega (arith, inside.0)) (omega (arith, inside.1)) ∙ facts.name_word;
           refs_are = refl;
           nums_are = refl;
           references = λ i r there.
               let below : i < length o.refs = slice_get_within o.refs i r there in
-              subst (λ word. Refers at word r) (sym (heap_word (a + 3 + i) (omega (arith, inside.0)) (omega (arith, inside.1, below, facts.refs_are))))
+              subst (λ word. Refers at word r) (sym (heap_word (address + 3 + i) (omega (arith, inside.0)) (omega (arith, inside.1, below, facts.refs_are))))
               (facts.references i r there);
           numbers = λ i x there.
               let below : i < length o.nums = slice_get_within o.nums i x there in
-              heap_word (a + 3 + length o.refs + i) (omega (arith, inside.0)) (omega (arith, inside.1, below, facts.refs_are, facts.nums_are))
-              ∙ ap (λ k. view c words (Heap (a + 3 + k + i))) facts.refs_are ∙ facts.numbers i x there;
+              heap_word (address + 3 + length o.refs + i) (omega (arith, inside.0)) (omega (arith, inside.1, below, facts.refs_are, facts.nums_are))
+              ∙ ap (λ k. view config words (Heap (address + 3 + k + i))) facts.refs_are ∙ facts.numbers i x there;
           few_refs = omega (arith, facts.refs_are, facts.few_refs);
           few_nums = omega (arith, facts.nums_are, facts.few_nums);
         };
@@ -111,163 +111,163 @@ module _ (c : Config) (words : List ℕ) (block : Plot) (at : ℕ → Option Nam
   here a = slice_index heap (a - first)
 
   -- the current copy by the words of the heap
-  now_same : (a : ℕ) (n : Name) → at a ≡ Some n → current_of here a ≡ current_of mem a
-  now_same a n is =
-      let x = pieces.piece a n is in
+  now_same : (a : ℕ) (name : Name) → at a ≡ Some name → current_of here a ≡ current_of mem a
+  now_same a name is =
+      let x = pieces.piece a name is in
       let inside = piece_inside a x.0 x.1 in
       ap (λ word. if is_forwarded word then forwardee_in word else a) (heap_word a inside.0 (omega (arith, inside.1, x.2)))
 
-  each : (a : ℕ) (n : Name) → at a ≡ Some n → IsCopyAt first (first + length heap) here at a n
-  each a n is =
-      let x = pieces.piece a n is in
+  each : (a : ℕ) (name : Name) → at a ≡ Some name → IsCopyAt first (first + length heap) here at a name
+  each a name is =
+      let x = pieces.piece a name is in
       let inside = piece_inside a x.0 x.1 in
-      record { above = inside.0; below = omega (arith, inside.1, x.2); current = ap at (now_same a n is) ∙ pieces.current a n is }
+      record { above = inside.0; below = omega (arith, inside.1, x.2); current = ap at (now_same a name is) ∙ pieces.current a name is }
 
   -- so the object of each name stands somewhere
-  object : (a : ℕ) (n : Name) → at a ≡ Some n → (o : Object) × IsAt first (first + length heap) here at g (current_of here a) n o
-  object a n is =
-      let x = pieces.object a n is in
-      (x.2, subst (λ k. IsAt first (first + length heap) here at g k n x.2) (sym (now_same a n is)) (object_stands (current_of mem a) x.0 x.1 n x.2 x.3 x.4 x.5 (pieces.small n x.2 x.4)))
+  object : (a : ℕ) (name : Name) → at a ≡ Some name → (o : Object) × IsAt first (first + length heap) here at graph (current_of here a) name o
+  object a name is =
+      let x = pieces.object a name is in
+      (x.2, subst (λ k. IsAt first (first + length heap) here at graph k name x.2) (sym (now_same a name is)) (object_stands (current_of mem a) x.0 x.1 name x.2 x.3 x.4 x.5 (pieces.small name x.2 x.4)))
 
   -- objects lie apart
-  apart : (a b : ℕ) (n m : Name) (o : Object) → at a ≡ Some n → at b ≡ Some m → g.object n ≡ Some o → current_of here a < current_of here b → current_of here a + size o ≤ current_of here b
-  apart a b n m o is_a is_b known before =
-      let one = pieces.object a n is_a in
-      let other = pieces.object b m is_b in
-      let now_a = now_same a n is_a in
-      let now_b = now_same b m is_b in
-      let same : one.2 ≡ o = same_Some one.2 o (sym one.4 ∙ known) in
-      let behind = pieces.plotted.apart (current_of mem a) (current_of mem b) (thing n one.0 one.1) (thing m other.0 other.1) one.3 other.3 (omega (arith, before, now_a, now_b)) in
-      let refs : length o.refs ≡ one.0 = ap (λ x. length x.refs) (sym same) ∙ one.5.refs_are in
-      let nums : length o.nums ≡ one.1 = ap (λ x. length x.nums) (sym same) ∙ one.5.nums_are in
+  apart : (a b : ℕ) (name other_name : Name) (object : Object) → at a ≡ Some name → at b ≡ Some other_name → graph.object name ≡ Some object → current_of here a < current_of here b → current_of here a + size object ≤ current_of here b
+  apart a b name other_name object is_a is_b known before =
+      let one = pieces.object a name is_a in
+      let other = pieces.object b other_name is_b in
+      let now_a = now_same a name is_a in
+      let now_b = now_same b other_name is_b in
+      let same : one.2 ≡ object = same_Some one.2 object (sym one.4 ∙ known) in
+      let behind = pieces.plotted.apart (current_of mem a) (current_of mem b) (thing name one.0 one.1) (thing other_name other.0 other.1) one.3 other.3 (omega (arith, before, now_a, now_b)) in
+      let refs : length object.refs ≡ one.0 = ap (λ x. length x.refs) (sym same) ∙ one.5.refs_are in
+      let nums : length object.nums ≡ one.1 = ap (λ x. length x.nums) (sym same) ∙ one.5.nums_are in
       omega (arith, behind, refs, nums, now_a, now_b)
 
   -- a name has one current copy
-  once : (a b : ℕ) (n : Name) → at a ≡ Some n → at b ≡ Some n → current_of here a ≡ current_of here b
-  once a b n is_a is_b = now_same a n is_a ∙ pieces.once a b n is_a is_b ∙ sym (now_same b n is_b)
+  once : (a b : ℕ) (name : Name) → at a ≡ Some name → at b ≡ Some name → current_of here a ≡ current_of here b
+  once a b name is_a is_b = now_same a name is_a ∙ pieces.once a b name is_a is_b ∙ sym (now_same b name is_b)
 
   -- there are 16 roots for each mutator
-  length-roots : length roots ≡ 16 * c.mutators
-  length-roots = let e : length roots ≡ roots_start c + 16 * c.mutators - roots_start c = length-part words (roots_start c) (roots_start c + 16 * c.mutators) (omega (arith, long)) in omega (arith, e)
+  length-roots : length roots ≡ 16 * config.mutators
+  length-roots = let e : length roots ≡ roots_start config + 16 * config.mutators - roots_start config = length-part words (roots_start config) (roots_start config + 16 * config.mutators) (omega (arith, long)) in omega (arith, e)
 
-  module _ (own : (t i : ℕ) → t < c.mutators → i < 16 → Refers at (view c words (Root t i)) (g.root (t + 1) i)) (no_more : HasNoMore c.mutators g) where
+  module _ (own : (t i : ℕ) → t < config.mutators → i < 16 → Refers at (view config words (Root t i)) (graph.root (t + 1) i)) (no_more : HasNoMore config.mutators graph) where
     -- a root of a mutator
-    own_root : (seat index : ℕ) → seat < c.mutators → index < 16 → Refers at (slice_index roots (16 * seat + index)) (g.root (seat + 1) index)
+    own_root : (seat index : ℕ) → seat < config.mutators → index < 16 → Refers at (slice_index roots (16 * seat + index)) (graph.root (seat + 1) index)
     own_root seat index below small =
-        let counts : view c words (Root seat index) ≡ slice_index roots (16 * seat + index) =
-        view_word c words (Root seat index) (below, small)
-        ∙ ap (λ k. get_or words k 0) (let e : roots_start c + 16 * seat + index ≡ roots_start c + (16 * seat + index) = omega arith in e)
-        ∙ sym (get_or-part words (roots_start c) (roots_start c + 16 * c.mutators) (16 * seat + index) (omega (arith, below, small))) in
-        subst (λ word. Refers at word (g.root (seat + 1) index)) counts (own seat index below small)
+        let counts : view config words (Root seat index) ≡ slice_index roots (16 * seat + index) =
+        view_word config words (Root seat index) (below, small)
+        ∙ ap (λ k. get_or words k 0) (let e : roots_start config + 16 * seat + index ≡ roots_start config + (16 * seat + index) = omega arith in e)
+        ∙ sym (get_or-part words (roots_start config) (roots_start config + 16 * config.mutators) (16 * seat + index) (omega (arith, below, small))) in
+        subst (λ word. Refers at word (graph.root (seat + 1) index)) counts (own seat index below small)
 
     -- a root that no mutator has
-    no_root : (t i : ℕ) → is_root_of c.mutators t i ≡ false → root_word roots t i ≡ 0
+    no_root : (t i : ℕ) → is_root_of config.mutators t i ≡ false → root_word roots t i ≡ 0
     no_root t i none = ⊎_elim
         (λ (yes : (nat_le 1 t && nat_lt i 16) ≡ true).
-        cond-true (nat_le 1 t && nat_lt i 16) _ _ yes ∙ get_or_past roots (16 * (t - 1) + i) 0 (let far : c.mutators < t = grind (arith, nat_tests) in omega (arith, far, length-roots)))
+        cond-true (nat_le 1 t && nat_lt i 16) _ _ yes ∙ get_or_past roots (16 * (t - 1) + i) 0 (let far : config.mutators < t = grind (arith, nat_tests) in omega (arith, far, length-roots)))
         (λ (is : (nat_le 1 t && nat_lt i 16) ≡ false). cond-false (nat_le 1 t && nat_lt i 16) _ _ is)
         (cases_Bool (nat_le 1 t && nat_lt i 16))
 
     -- each root's word refers to it
-    root_stands : (t i : ℕ) → Refers at (root_word roots t i) (g.root t i)
-    root_stands t i = ⊎_elim
-        (λ (yes : is_root_of c.mutators t i ≡ true).
-        let one : 1 ≤ t = leb-true 1 t (and_parts _ _ yes).0 in
-        let rest : (nat_le t c.mutators ≡ true) × (nat_lt i 16 ≡ true) = and_parts _ _ (and_parts (nat_le 1 t) (nat_le t c.mutators && nat_lt i 16) yes).1 in
-        let most : t ≤ c.mutators = leb-true t c.mutators rest.0 in
-        let small : i < 16 = ltb-true i 16 rest.1 in
-        let seat : t - 1 + 1 ≡ t = omega (arith, one) in
-        let word : root_word roots t i ≡ slice_index roots (16 * (t - 1) + i) = cond-true (nat_le 1 t && nat_lt i 16) _ _ (and_from _ _ (and_parts _ _ yes).0 rest.1) in
-        subst (λ w. Refers at w (g.root t i)) (sym word)
-        (subst (λ k. Refers at (slice_index roots (16 * (t - 1) + i)) (g.root k i)) seat (own_root (t - 1) i (omega (arith, one, most)) small)))
-        (λ (none : is_root_of c.mutators t i ≡ false).
-        subst (λ r. Refers at (root_word roots t i) r) (sym (no_more t i none)) (no_root t i none))
-        (cases_Bool (is_root_of c.mutators t i))
+    root_stands : (thread index : ℕ) → Refers at (root_word roots thread index) (graph.root thread index)
+    root_stands thread index = ⊎_elim
+        (λ (yes : is_root_of config.mutators thread index ≡ true).
+        let one : 1 ≤ thread = leb-true 1 thread (and_parts _ _ yes).0 in
+        let rest : (nat_le thread config.mutators ≡ true) × (nat_lt index 16 ≡ true) = and_parts _ _ (and_parts (nat_le 1 thread) (nat_le thread config.mutators && nat_lt index 16) yes).1 in
+        let most : thread ≤ config.mutators = leb-true thread config.mutators rest.0 in
+        let small : index < 16 = ltb-true index 16 rest.1 in
+        let seat : thread - 1 + 1 ≡ thread = omega (arith, one) in
+        let word : root_word roots thread index ≡ slice_index roots (16 * (thread - 1) + index) = cond-true (nat_le 1 thread && nat_lt index 16) _ _ (and_from _ _ (and_parts _ _ yes).0 rest.1) in
+        subst (λ w. Refers at w (graph.root thread index)) (sym word)
+        (subst (λ k. Refers at (slice_index roots (16 * (thread - 1) + index)) (graph.root k index)) seat (own_root (thread - 1) index (omega (arith, one, most)) small)))
+        (λ (none : is_root_of config.mutators thread index ≡ false).
+        subst (λ r. Refers at (root_word roots thread index) r) (sym (no_more thread index none)) (no_root thread index none))
+        (cases_Bool (is_root_of config.mutators thread index))
 
   -- there are 4 pin slots for each mutator
-  length-pins : length pins ≡ 4 * c.mutators
-  length-pins = let e : length pins ≡ pins_start c + 4 * c.mutators - pins_start c = length-part words (pins_start c) (pins_start c + 4 * c.mutators) (omega (arith, long)) in omega (arith, e)
+  length-pins : length pins ≡ 4 * config.mutators
+  length-pins = let e : length pins ≡ pins_start config + 4 * config.mutators - pins_start config = length-part words (pins_start config) (pins_start config + 4 * config.mutators) (omega (arith, long)) in omega (arith, e)
 
   -- a pin word stands by the words of the heap as it does by the table
   pin_here : (word : ℕ) (held : Option Pinned) → HoldsPin mem at word held → HoldsPin here at word held
   pin_here word None h = h
   pin_here word (Some p) h = (h.0, h.1, now_same word p.name h.1 ∙ h.2)
 
-  module _ (own : (t i : ℕ) → t < c.mutators → i < 4 → HoldsPin mem at (view c words (Pin t i)) (g.pin (t + 1) i)) (no_more : HasNoMorePins c.mutators g) where
+  module _ (own : (t i : ℕ) → t < config.mutators → i < 4 → HoldsPin mem at (view config words (Pin t i)) (graph.pin (t + 1) i)) (no_more : HasNoMorePins config.mutators graph) where
     -- a pin slot of a mutator
-    own_pin : (seat slot : ℕ) → seat < c.mutators → slot < 4 → HoldsPin here at (slice_index pins (4 * seat + slot)) (g.pin (seat + 1) slot)
+    own_pin : (seat slot : ℕ) → seat < config.mutators → slot < 4 → HoldsPin here at (slice_index pins (4 * seat + slot)) (graph.pin (seat + 1) slot)
     own_pin seat slot below small =
-        let counts : view c words (Pin seat slot) ≡ slice_index pins (4 * seat + slot) =
-        view_word c words (Pin seat slot) (below, small)
-        ∙ ap (λ k. get_or words k 0) (let e : pins_start c + 4 * seat + slot ≡ pins_start c + (4 * seat + slot) = omega arith in e)
-        ∙ sym (get_or-part words (pins_start c) (pins_start c + 4 * c.mutators) (4 * seat + slot) (omega (arith, below, small))) in
-        subst (λ word. HoldsPin here at word (g.pin (seat + 1) slot)) counts (pin_here (view c words (Pin seat slot)) (g.pin (seat + 1) slot) (own seat slot below small))
+        let counts : view config words (Pin seat slot) ≡ slice_index pins (4 * seat + slot) =
+        view_word config words (Pin seat slot) (below, small)
+        ∙ ap (λ k. get_or words k 0) (let e : pins_start config + 4 * seat + slot ≡ pins_start config + (4 * seat + slot) = omega arith in e)
+        ∙ sym (get_or-part words (pins_start config) (pins_start config + 4 * config.mutators) (4 * seat + slot) (omega (arith, below, small))) in
+        subst (λ word. HoldsPin here at word (graph.pin (seat + 1) slot)) counts (pin_here (view config words (Pin seat slot)) (graph.pin (seat + 1) slot) (own seat slot below small))
 
     -- a slot that no mutator has
-    no_pin : (t i : ℕ) → is_slot_of c.mutators t i ≡ false → pin_word pins t i ≡ 0
+    no_pin : (t i : ℕ) → is_slot_of config.mutators t i ≡ false → pin_word pins t i ≡ 0
     no_pin t i none = ⊎_elim
         (λ (yes : (nat_le 1 t && nat_lt i 4) ≡ true).
-        cond-true (nat_le 1 t && nat_lt i 4) _ _ yes ∙ get_or_past pins (4 * (t - 1) + i) 0 (let far : c.mutators < t = grind (arith, nat_tests) in omega (arith, far, length-pins)))
+        cond-true (nat_le 1 t && nat_lt i 4) _ _ yes ∙ get_or_past pins (4 * (t - 1) + i) 0 (let far : config.mutators < t = grind (arith, nat_tests) in omega (arith, far, length-pins)))
         (λ (is : (nat_le 1 t && nat_lt i 4) ≡ false). cond-false (nat_le 1 t && nat_lt i 4) _ _ is)
         (cases_Bool (nat_le 1 t && nat_lt i 4))
 
     -- each pin word stands for what its slot holds
-    pin_stands : (t i : ℕ) → HoldsPin here at (pin_word pins t i) (g.pin t i)
-    pin_stands t i = ⊎_elim
-        (λ (yes : is_slot_of c.mutators t i ≡ true).
-        let one : 1 ≤ t = leb-true 1 t (and_parts _ _ yes).0 in
-        let rest : (nat_le t c.mutators ≡ true) × (nat_lt i 4 ≡ true) = and_parts _ _ (and_parts (nat_le 1 t) (nat_le t c.mutators && nat_lt i 4) yes).1 in
-        let most : t ≤ c.mutators = leb-true t c.mutators rest.0 in
+    pin_stands : (thread i : ℕ) → HoldsPin here at (pin_word pins thread i) (graph.pin thread i)
+    pin_stands thread i = ⊎_elim
+        (λ (yes : is_slot_of config.mutators thread i ≡ true).
+        let one : 1 ≤ thread = leb-true 1 thread (and_parts _ _ yes).0 in
+        let rest : (nat_le thread config.mutators ≡ true) × (nat_lt i 4 ≡ true) = and_parts _ _ (and_parts (nat_le 1 thread) (nat_le thread config.mutators && nat_lt i 4) yes).1 in
+        let most : thread ≤ config.mutators = leb-true thread config.mutators rest.0 in
         let small : i < 4 = ltb-true i 4 rest.1 in
-        let seat : t - 1 + 1 ≡ t = omega (arith, one) in
-        let word : pin_word pins t i ≡ slice_index pins (4 * (t - 1) + i) = cond-true (nat_le 1 t && nat_lt i 4) _ _ (and_from _ _ (and_parts _ _ yes).0 rest.1) in
-        subst (λ w. HoldsPin here at w (g.pin t i)) (sym word)
-        (subst (λ k. HoldsPin here at (slice_index pins (4 * (t - 1) + i)) (g.pin k i)) seat (own_pin (t - 1) i (omega (arith, one, most)) small)))
-        (λ (none : is_slot_of c.mutators t i ≡ false).
-        subst (λ held. HoldsPin here at (pin_word pins t i) held) (sym (no_more t i none)) (no_pin t i none))
-        (cases_Bool (is_slot_of c.mutators t i))
+        let seat : thread - 1 + 1 ≡ thread = omega (arith, one) in
+        let word : pin_word pins thread i ≡ slice_index pins (4 * (thread - 1) + i) = cond-true (nat_le 1 thread && nat_lt i 4) _ _ (and_from _ _ (and_parts _ _ yes).0 rest.1) in
+        subst (λ w. HoldsPin here at w (graph.pin thread i)) (sym word)
+        (subst (λ k. HoldsPin here at (slice_index pins (4 * (thread - 1) + i)) (graph.pin k i)) seat (own_pin (thread - 1) i (omega (arith, one, most)) small)))
+        (λ (none : is_slot_of config.mutators thread i ≡ false).
+        subst (λ held. HoldsPin here at (pin_word pins thread i) held) (sym (no_more thread i none)) (no_pin thread i none))
+        (cases_Bool (is_slot_of config.mutators thread i))
 
 -- the words stand for the graph
-pub copies_stand : (c : Config) (words : List ℕ) (block : Plot) (at : ℕ → Option Name) (g : Graph) → length words ≡ table_words c → AreCopies c words block at g
-    → ((t i : ℕ) → t < c.mutators → i < 16 → Refers at (view c words (Root t i)) (g.root (t + 1) i)) → HasNoMore c.mutators g
-    → ((t i : ℕ) → t < c.mutators → i < 4 → HoldsPin (λ x. view c words (Heap x)) at (view c words (Pin t i)) (g.pin (t + 1) i)) → HasNoMorePins c.mutators g
-    → WordsStand c.region_words (heap_in c words) (roots_in c words) (pins_in c words) at g
-copies_stand c words block at g long pieces own no_more own_pins no_more_pins = record {
-  each = each c words block at g long pieces;
-  object = object c words block at g long pieces;
-  once = once c words block at g long pieces;
-  apart = apart c words block at g long pieces;
-  roots = root_stands c words block at g long pieces own no_more;
-  pins = pin_stands c words block at g long pieces own_pins no_more_pins;
+pub copies_stand : (config : Config) (words : List ℕ) (block : Plot) (at : ℕ → Option Name) (graph : Graph) → length words ≡ table_words config → AreCopies config words block at graph
+    → ((mutator index : ℕ) → mutator < config.mutators → index < 16 → Refers at (view config words (Root mutator index)) (graph.root (mutator + 1) index)) → HasNoMore config.mutators graph
+    → ((mutator index : ℕ) → mutator < config.mutators → index < 4 → HoldsPin (λ x. view config words (Heap x)) at (view config words (Pin mutator index)) (graph.pin (mutator + 1) index)) → HasNoMorePins config.mutators graph
+    → WordsStand config.region_words (heap_in config words) (roots_in config words) (pins_in config words) at graph
+copies_stand config words block at graph long pieces own no_more own_pins no_more_pins = record {
+  each = each config words block at graph long pieces;
+  object = object config words block at graph long pieces;
+  once = once config words block at graph long pieces;
+  apart = apart config words block at graph long pieces;
+  roots = root_stands config words block at graph long pieces own no_more;
+  pins = pin_stands config words block at graph long pieces own_pins no_more_pins;
 }
 
 -- so do those of a running heap: each copy that is no old one is the current one
-module _ (c : Config) (words : List ℕ) (block : Plot) (ghost : Ghost) (g : Graph) (shared : Shared c (record { memory = view c words; block = block; ghost = ghost; graph = g })) where
+module _ (config : Config) (words : List ℕ) (block : Plot) (ghost : Ghost) (graph : Graph) (shared : Shared config (record { memory = view config words; block = block; ghost = ghost; graph = graph })) where
   abbrev memory : ℕ → ℕ
-  memory a = view c words (Heap a)
+  memory address = view config words (Heap address)
 
   -- what a copy of an object is: so long a piece, whose current copy is the object
-  pub record IsCopied (a : ℕ) (n : Name) : Type 0 where
+  pub record IsCopied (address : ℕ) (name : Name) : Type 0 where
     pub refs : ℕ
     pub nums : ℕ
     pub piece : Block
-    pub there : block a ≡ Some piece
+    pub there : block address ≡ Some piece
     pub some : 1 ≤ words_of piece
-    pub copy : block (current_of memory a) ≡ Some (thing n refs nums)
+    pub copy : block (current_of memory address) ≡ Some (thing name refs nums)
 
-  copied : (a : ℕ) (n : Name) → name_at (block a) ≡ Some n → IsCopied a n
-  copied a n is =
-      let body = named_body (block a) n is in
+  copied : (address : ℕ) (name : Name) → name_at (block address) ≡ Some name → IsCopied address name
+  copied address name is =
+      let body = named_body (block address) name is in
       ⊎_elim
-      (λ (now : block a ≡ Some (thing n body.0 body.1)).
-      let o = shared.contents.objects.each a body.0 body.1 n now in
-      record { refs = body.0; nums = body.1; piece = thing n body.0 body.1; there = now; some = omega arith; copy = ap block (plain_current memory a o.2.header) ∙ now })
-      (λ (was : (to : ℕ) × (block a ≡ Some (moved n body.0 body.1 to))).
-      let old = shared.evacuated.moved.moveds a body.0 body.1 was.0 n was.1 in
-      record { refs = body.0; nums = body.1; piece = moved n body.0 body.1 was.0; there = was.1; some = omega arith; copy = ap block (moved_current memory a was.0 old.header) ∙ old.copy })
-      (copy_cases (block a) (body_of n body.0 body.1) body.2)
+      (λ (now : block address ≡ Some (thing name body.0 body.1)).
+      let o = shared.contents.objects.each address body.0 body.1 name now in
+      record { refs = body.0; nums = body.1; piece = thing name body.0 body.1; there = now; some = omega arith; copy = ap block (plain_current memory address o.2.header) ∙ now })
+      (λ (was : (to : ℕ) × (block address ≡ Some (moved name body.0 body.1 to))).
+      let old = shared.evacuated.moved.moveds address body.0 body.1 was.0 name was.1 in
+      record { refs = body.0; nums = body.1; piece = moved name body.0 body.1 was.0; there = was.1; some = omega arith; copy = ap block (moved_current memory address was.0 old.header) ∙ old.copy })
+      (copy_cases (block address) (body_of name body.0 body.1) body.2)
 
-  pub are_copies : AreCopies c words block (λ a. name_at (block a)) g
+  pub are_copies : AreCopies config words block (λ a. name_at (block a)) graph
   are_copies = record {
     plotted = shared.parsable.plotted;
     piece = λ a n is. (let x = copied a n is in (x.piece, x.there, x.some));
@@ -284,16 +284,16 @@ module _ (c : Config) (words : List ℕ) (block : Plot) (ghost : Ghost) (g : Gra
   }
 
   -- and a pin slot holds the current copy of an object
-  pub pin_held : (word : ℕ) (held : Option Pinned) → PinStands c (view c words Cset) (view c words Evac) block word held → HoldsPin memory (λ a. name_at (block a)) word held
+  pub pin_held : (word : ℕ) (held : Option Pinned) → PinStands config (view config words Cset) (view config words Evac) block word held → HoldsPin memory (λ a. name_at (block a)) word held
   pin_held word None is = is
   pin_held word (Some p) is =
       let o = shared.contents.objects.each word is.1 is.2 p.name is.3.piece in
       (is.0, ap name_at is.3.piece, plain_current memory word o.2.header)
 
-pub table_stands : (c : Config) (words : List ℕ) (block : Plot) (ghost : Ghost) (g : Graph) → length words ≡ table_words c
-    → Shared c (record { memory = view c words; block = block; ghost = ghost; graph = g })
-    → ((t i : ℕ) → t < c.mutators → i < 16 → Points block (view c words (Root t i)) (g.root (t + 1) i)) → HasNoMore c.mutators g → HasNoMorePins c.mutators g
-    → WordsStand c.region_words (heap_in c words) (roots_in c words) (pins_in c words) (λ a. name_at (block a)) g
-table_stands c words block ghost g long shared own no_more no_more_pins =
-    copies_stand c words block (λ a. name_at (block a)) g long (are_copies c words block ghost g shared) own no_more
-    (λ t i seated inside. pin_held c words block ghost g shared (view c words (Pin t i)) (g.pin (t + 1) i) (shared.pinned t i seated inside)) no_more_pins
+pub table_stands : (config : Config) (words : List ℕ) (block : Plot) (ghost : Ghost) (graph : Graph) → length words ≡ table_words config
+    → Shared config (record { memory = view config words; block = block; ghost = ghost; graph = graph })
+    → ((mutator index : ℕ) → mutator < config.mutators → index < 16 → Points block (view config words (Root mutator index)) (graph.root (mutator + 1) index)) → HasNoMore config.mutators graph → HasNoMorePins config.mutators graph
+    → WordsStand config.region_words (heap_in config words) (roots_in config words) (pins_in config words) (λ a. name_at (block a)) graph
+table_stands config words block ghost graph long shared own no_more no_more_pins =
+    copies_stand config words block (λ a. name_at (block a)) graph long (are_copies config words block ghost graph shared) own no_more
+    (λ mutator index seated inside. pin_held config words block ghost graph shared (view config words (Pin mutator index)) (graph.pin (mutator + 1) index) (shared.pinned mutator index seated inside)) no_more_pins

@@ -5,9 +5,9 @@ use Rattle.std.proofs.lemmas.Option.{none-some}
 use Rattle.heap_words.specs.declared.config.Config.{Config}
 use Rattle.heap_world.specs.World.{Plot, Scan, no_snapshot, KeepsSnapshot}
 
-pub none_marked_in : (c : Config) (phase : ℕ) (grey black count : ℕ → ℕ) (buffer : ℕ → ℕ → ℕ) (top tams heap : ℕ → ℕ) (block : Plot) (recording : ℕ → Option ℕ) (scanning : ℕ → Option Scan)
-    → phase ≢ 1 → KeepsSnapshot c phase grey black count buffer top tams heap block no_snapshot recording scanning
-none_marked_in c phase grey black count buffer top tams heap block recording scanning is = record {
+pub none_marked_in : (config : Config) (phase : ℕ) (grey black count : ℕ → ℕ) (buffer : ℕ → ℕ → ℕ) (top tams heap : ℕ → ℕ) (block : Plot) (recording : ℕ → Option ℕ) (scanning : ℕ → Option Scan)
+    → phase ≢ 1 → KeepsSnapshot config phase grey black count buffer top tams heap block no_snapshot recording scanning
+none_marked_in config phase grey black count buffer top tams heap block recording scanning is = record {
   empty = λ other. refl;
   traced = record {
     edges = λ a refs nums k name there. absurd (none-some _ there);
@@ -21,7 +21,7 @@ none_marked_in c phase grey black count buffer top tams heap block recording sca
 }
 
 -- so it is in phase 0
-pub none_marked : (c : Config) (phase : ℕ) (grey black count : ℕ → ℕ) (buffer : ℕ → ℕ → ℕ) (top tams heap : ℕ → ℕ) (block : Plot) (recording : ℕ → Option ℕ) (scanning : ℕ → Option Scan)
-    → phase ≡ 0 → KeepsSnapshot c phase grey black count buffer top tams heap block no_snapshot recording scanning
-none_marked c phase grey black count buffer top tams heap block recording scanning is =
-    none_marked_in c phase grey black count buffer top tams heap block recording scanning (λ on. omega (arith, is, on))
+pub none_marked : (config : Config) (phase : ℕ) (grey black count : ℕ → ℕ) (buffer : ℕ → ℕ → ℕ) (top tams heap : ℕ → ℕ) (block : Plot) (recording : ℕ → Option ℕ) (scanning : ℕ → Option Scan)
+    → phase ≡ 0 → KeepsSnapshot config phase grey black count buffer top tams heap block no_snapshot recording scanning
+none_marked config phase grey black count buffer top tams heap block recording scanning is =
+    none_marked_in config phase grey black count buffer top tams heap block recording scanning (λ on. omega (arith, is, on))

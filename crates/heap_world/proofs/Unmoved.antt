@@ -8,18 +8,18 @@ use Rattle.heap_world.specs.World.{World, moved, spent, IsCollected, Points, Usa
 use Rattle.heap_world.proofs.Copies.{none_in_0}
 use Rattle.heap_world.proofs.Keeping.{usable_now}
 
-module _ (c : Config) (w : World) (shared : Shared c w) (early : w.memory Phase < 2) where
+module _ (config : Config) (world : World) (shared : Shared config world) (early : world.memory Phase < 2) where
   -- nothing lies in the collection set
-  pub none_collected : (a : ℕ) → IsCollected c (w.memory Cset) a → ⊥
-  none_collected a is = none_in_0 c a (subst (λ set. IsCollected c set a) (shared.phased.cset_is early) is)
+  pub none_collected : (address : ℕ) → IsCollected config (world.memory Cset) address → ⊥
+  none_collected address is = none_in_0 config address (subst (λ set. IsCollected config set address) (shared.phased.cset_is early) is)
 
   -- so no copy is old
-  pub unmoved : (a refs nums to : ℕ) (name : Name) → w.block a ≡ Some (moved name refs nums to) → ⊥
-  unmoved a refs nums to name is = none_collected a (shared.evacuated.moved.moveds a refs nums to name is).inside
+  pub unmoved : (address refs nums to : ℕ) (name : Name) → world.block address ≡ Some (moved name refs nums to) → ⊥
+  unmoved address refs nums to name is = none_collected address (shared.evacuated.moved.moveds address refs nums to name is).inside
 
-  pub unspent : (a words to : ℕ) → w.block a ≡ Some (spent words to) → ⊥
-  unspent a words to is = none_collected a (shared.evacuated.moved.spents a words to is).inside
+  pub unspent : (address words to : ℕ) → world.block address ≡ Some (spent words to) → ⊥
+  unspent address words to is = none_collected address (shared.evacuated.moved.spents address words to is).inside
 
   -- and each word that stands for a reference may be used
-  pub usable_unmoved : (word : ℕ) (reference : Reference) → Points w.block word reference → UsableIn c w word
-  usable_unmoved word reference points = subst (λ set. IsUsable c set (w.memory Evac) w.block word) (sym (shared.phased.cset_is early)) (usable_now c (w.memory Evac) w.block unmoved word reference points)
+  pub usable_unmoved : (word : ℕ) (reference : Reference) → Points world.block word reference → UsableIn config world word
+  usable_unmoved word reference points = subst (λ set. IsUsable config set (world.memory Evac) world.block word) (sym (shared.phased.cset_is early)) (usable_now config (world.memory Evac) world.block unmoved word reference points)

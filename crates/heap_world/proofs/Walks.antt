@@ -44,13 +44,13 @@ led_step first heap roots order words before more a h =
 -- each reference of the first so many objects of the list is null or in the list
 abbrev pub IsClosed : ℕ → List ℕ → List ℕ → ℕ → Type 0
 IsClosed first heap order next =
-    (j a : ℕ) → j < next → a ≢ 0 → has (currents first heap (refs_at heap (get_or order j 0 - first))) a ≡ true → has order a ≡ true
+    (index a : ℕ) → index < next → a ≢ 0 → has (currents first heap (refs_at heap (get_or order index 0 - first))) a ≡ true → has order a ≡ true
 
 -- an element of the list stands where it stood
-stays : (order words : List ℕ) (j : ℕ) → j < length order → get_or (with_addresses order words) j 0 ≡ get_or order j 0
-stays order words j h =
+stays : (order words : List ℕ) (index : ℕ) → index < length order → get_or (with_addresses order words) index 0 ≡ get_or order index 0
+stays order words index h =
     let p = prefix order words in
-    ap (λ xs. get_or xs j 0) p.1 ∙ get_or_append_left order p.0 0 j h
+    ap (λ xs. get_or xs index 0) p.1 ∙ get_or_append_left order p.0 0 index h
 
 pub closed_step : (first : ℕ) (heap order words : List ℕ) (next : ℕ) → next < length order
     → words ≡ currents first heap (refs_at heap (get_or order next 0 - first)) → IsClosed first heap order next
@@ -66,8 +66,8 @@ closed_step first heap order words next low e closed j a h ne refers =
     ]
 
 -- what is read from a list is in it
-pub has-read : (order : List ℕ) (i x : ℕ) → i < length order → x ≡ get_or order i x → has order x ≡ true
-has-read order i x h is = list_any_at (nat_eq x) order i x h (eq-eqb x (get_or order i x) is)
+pub has-read : (order : List ℕ) (index x : ℕ) → index < length order → x ≡ get_or order index x → has order x ≡ true
+has-read order index x h is = list_any_at (nat_eq x) order index x h (eq-eqb x (get_or order index x) is)
 
 -- a list that has the roots, and with each object its references, has each address that the roots lead to
 pub all_found : (first : ℕ) (heap roots order : List ℕ)

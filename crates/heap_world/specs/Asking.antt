@@ -16,27 +16,27 @@ pub data Asking : Type 0 where
 
 -- no object is promised to the mutator of a seat
 abbrev pub HasNoPromise : Plot → ℕ → Type 0
-HasNoPromise block seat = (a words : ℕ) → block a ≡ Some (promised seat words) → ⊥
+HasNoPromise block seat = (address words : ℕ) → block address ≡ Some (promised seat words) → ⊥
 
 -- what is promised is promised to mutators
 abbrev pub PromisedToMutators : Config → Plot → Type 0
-PromisedToMutators c block = (a seat words : ℕ) → block a ≡ Some (promised seat words) → seat < c.mutators
+PromisedToMutators config block = (address seat words : ℕ) → block address ≡ Some (promised seat words) → seat < config.mutators
 
 -- its word asks for its next object, of so many references and numbers
-pub record IsRequest (memory : Word → ℕ) (count : ℕ → ℕ) (t refs nums : ℕ) : Type 0 where
-  pub wait_is : memory (Wait t) ≡ request_code (count (t + 1) + 1) (shape_word refs nums)
+pub record IsRequest (memory : Word → ℕ) (count : ℕ → ℕ) (mutator refs nums : ℕ) : Type 0 where
+  pub wait_is : memory (Wait mutator) ≡ request_code (count (mutator + 1) + 1) (shape_word refs nums)
   pub few_refs : refs ≤ 16
   pub few_nums : nums ≤ 16
-  pub few : count (t + 1) < most_objects
+  pub few : count (mutator + 1) < most_objects
 
 -- its next object stands at an address, with the words of a new one, and no other is promised to it
-pub record IsPromise (memory : Word → ℕ) (block : Plot) (count : ℕ → ℕ) (t refs nums address : ℕ) : Type 0 where
-  pub here : block address ≡ Some (promised t (3 + refs + nums))
-  pub words : (k : ℕ) → k < 3 + refs + nums → memory (Heap (address + k)) ≡ fresh_word t (count (t + 1)) refs nums k
-  pub only : (b more : ℕ) → block b ≡ Some (promised t more) → b ≡ address
+pub record IsPromise (memory : Word → ℕ) (block : Plot) (count : ℕ → ℕ) (seat refs nums address : ℕ) : Type 0 where
+  pub here : block address ≡ Some (promised seat (3 + refs + nums))
+  pub words : (k : ℕ) → k < 3 + refs + nums → memory (Heap (address + k)) ≡ fresh_word seat (count (seat + 1)) refs nums k
+  pub only : (other_address more : ℕ) → block other_address ≡ Some (promised seat more) → other_address ≡ address
   pub few_refs : refs ≤ 16
   pub few_nums : nums ≤ 16
-  pub few : count (t + 1) < most_objects
+  pub few : count (seat + 1) < most_objects
 
 -- what words, pieces and counts say of a mutator that has asked so
 abbrev pub IsAsked : (Word → ℕ) → Plot → (ℕ → ℕ) → ℕ → Asking → Type 0

@@ -18,11 +18,11 @@ Change = Config → List ℕ → List ℕ
 
 -- how many words the image has
 abbrev pub image_words : Config → ℕ
-image_words c = table_words c - image_start c
+image_words config = table_words config - image_start config
 
 -- the words of an image as a memory, which reads 0 at all other words
 abbrev pub image_view : Config → List ℕ → Word → ℕ
-image_view c image = view c (replicate (image_start c) 0 ++ image)
+image_view config image = view config (replicate (image_start config) 0 ++ image)
 
 -- how a pause answers: it leaves what is answered, and who asks is given the object or refused
 abbrev pub Answers : Asking → Asking → Type 0
@@ -41,24 +41,24 @@ words_given _ = 0
 -- Live objects that are not pinned and objects made for other mutators crowd the regions without a pinned object: were each of these short of
 -- so many words, so many would be in use there.
 abbrev pub IsCrowded : Config → Graph → (ℕ → Asking) → ℕ → ℕ → Type 0
-IsCrowded c g asking t words =
-    (names : List Name) × (held : ℕ) × (pinned : ℕ) × IsReach g names × Held g held × PinnedRegions c.region_words g pinned
-    × ((c.regions - pinned) * (c.region_words - words + 1) ≤ sum_by (λ n. size (named g (Some n))) names - held + sum_below (λ u. if u == t then 0 else words_given (asking u)) c.mutators)
+IsCrowded config graph asking t words =
+    (names : List Name) × (held : ℕ) × (pinned : ℕ) × IsReach graph names × Held graph held × PinnedRegions config.region_words graph pinned
+    × ((config.regions - pinned) * (config.region_words - words + 1) ≤ sum_by (λ n. size (named graph (Some n))) names - held + sum_below (λ u. if u == t then 0 else words_given (asking u)) config.mutators)
 
 -- What a pause owes whose words before it stand for a graph: those after it stand for the same graph, each mutator that asks is
 -- answered, and it is refused an object only where the heap is crowded.
-pub record IsPaused (c : Config) (before after : Word → ℕ) (g : Graph) (asking : ℕ → Asking) : Type 0 where
+pub record IsPaused (config : Config) (before after : Word → ℕ) (graph : Graph) (asking : ℕ → Asking) : Type 0 where
   pub asked_then : ℕ → Asking
-  pub stands : Represents c after g asked_then
-  pub answers : (t : ℕ) → t < c.mutators → Answers (asking t) (asked_then t)
-  pub crowded : (t refs nums : ℕ) → t < c.mutators → asking t ≡ asks refs nums → asked_then t ≡ refused → IsCrowded c g asked_then t (3 + refs + nums)
+  pub stands : Represents config after graph asked_then
+  pub answers : (mutator : ℕ) → mutator < config.mutators → Answers (asking mutator) (asked_then mutator)
+  pub crowded : (mutator refs nums : ℕ) → mutator < config.mutators → asking mutator ≡ asks refs nums → asked_then mutator ≡ refused → IsCrowded config graph asked_then mutator (3 + refs + nums)
 
 -- A pause is due: in phases 2 and 3 all regions are claimed, or an allocation waits.
 abbrev pub IsDue : Config → (Word → ℕ) → Type 0
-IsDue c memory = evacuation_phase ≤ memory Phase → bit_at (memory Ask) 1 ≡ 0 → c.regions ≤ memory Claim
+IsDue config memory = evacuation_phase ≤ memory Phase → bit_at (memory Ask) 1 ≡ 0 → config.regions ≤ memory Claim
 
 -- the law of a pause: it keeps the image's length, and it owes what a pause owes wherever the image stands for a graph and the pause is due
 pub record IsPause (change : Change) : Type 0 where
-  pub long : (c : Config) (image : List ℕ) → length image ≡ image_words c → length (change c image) ≡ image_words c
-  pub pauses : (c : Config) (image : List ℕ) (g : Graph) (asking : ℕ → Asking) → length image ≡ image_words c
-      → Represents c (image_view c image) g asking → IsDue c (image_view c image) → IsPaused c (image_view c image) (image_view c (change c image)) g asking
+  pub long : (config : Config) (image : List ℕ) → length image ≡ image_words config → length (change config image) ≡ image_words config
+  pub pauses : (config : Config) (image : List ℕ) (graph : Graph) (asking : ℕ → Asking) → length image ≡ image_words config
+      → Represents config (image_view config image) graph asking → IsDue config (image_view config image) → IsPaused config (image_view config image) (image_view config (change config image)) graph asking

@@ -7,8 +7,8 @@ use Rattle.regions.specs.Sets.{IsIn}
 use Rattle.heap_world.specs.World.{World, Block, room_of, words_of, IsCollected}
 
 -- Room of two seats is apart, also where both lie in one region; and no room lies in a free region, or in the collection set.
-pub record AreSharedOut (c : Config) (w : World) : Type 0 where
-  pub apart : (a b seat other : ℕ) (x y : Block) → w.block a ≡ Some x → w.block b ≡ Some y → room_of x ≡ Some seat → room_of y ≡ Some other → seat ≢ other
-      → (a + words_of x ≤ b) ⊎ (b + words_of y ≤ a)
-  pub none_in_free : (r a seat : ℕ) (x : Block) → r < c.regions → IsOf c r a → IsIn (w.memory Free) r → w.block a ≡ Some x → room_of x ≡ Some seat → ⊥
-  pub none_in_set : (a seat : ℕ) (x : Block) → w.block a ≡ Some x → room_of x ≡ Some seat → IsCollected c (w.memory Cset) a → ⊥
+pub record AreSharedOut (config : Config) (world : World) : Type 0 where
+  pub apart : (address other_address seat other : ℕ) (piece other_piece : Block) → world.block address ≡ Some piece → world.block other_address ≡ Some other_piece → room_of piece ≡ Some seat → room_of other_piece ≡ Some other → seat ≢ other
+      → (address + words_of piece ≤ other_address) ⊎ (other_address + words_of other_piece ≤ address)
+  pub none_in_free : (region address seat : ℕ) (piece : Block) → region < config.regions → IsOf config region address → IsIn (world.memory Free) region → world.block address ≡ Some piece → room_of piece ≡ Some seat → ⊥
+  pub none_in_set : (address seat : ℕ) (piece : Block) → world.block address ≡ Some piece → room_of piece ≡ Some seat → IsCollected config (world.memory Cset) address → ⊥

@@ -10,38 +10,38 @@ use Rattle.heap_world.specs.Asking.{Asking, asks, IsAsked, PromisedToMutators}
 use Rattle.heap_world.specs.Roots.{HasNoMore, HasNoMorePins}
 
 -- no machine is about to record an address, or scans an object
-pub record NobodyMarks (c : Config) (ghost : Ghost) : Type 0 where
-  pub records_none : (seat : ℕ) → seat < seat_count c.mutators c.helpers → ghost.recording seat ≡ None
-  pub scans_none : (seat : ℕ) → seat < seat_count c.mutators c.helpers → ghost.scanning seat ≡ None
+pub record NobodyMarks (config : Config) (ghost : Ghost) : Type 0 where
+  pub records_none : (seat : ℕ) → seat < seat_count config.mutators config.helpers → ghost.recording seat ≡ None
+  pub scans_none : (seat : ℕ) → seat < seat_count config.mutators config.helpers → ghost.scanning seat ≡ None
 
 -- no machine copies an object, or works on a unit of evacuation
-pub record NobodyCopies (c : Config) (ghost : Ghost) : Type 0 where
-  pub copies_none : (seat : ℕ) → seat < seat_count c.mutators c.helpers → ghost.copying seat ≡ false
-  pub works_none : (seat : ℕ) → seat < seat_count c.mutators c.helpers → ghost.working seat ≡ None
+pub record NobodyCopies (config : Config) (ghost : Ghost) : Type 0 where
+  pub copies_none : (seat : ℕ) → seat < seat_count config.mutators config.helpers → ghost.copying seat ≡ false
+  pub works_none : (seat : ℕ) → seat < seat_count config.mutators config.helpers → ghost.working seat ≡ None
 
 -- There is a way to divide the regions into objects of the graph and objects promised to mutators, with no room but that of buffers, and
 -- nobody marks or copies; each mutator's roots stand for its thread's roots, and it has asked for what is said; the word of what is asked has
 -- the bit that a mutator waits, where one does; and the graph has no other roots and pin slots. What is asked of the root words besides is a variable, of
 -- the division.
-pub record RepresentsWith (AsksOfRoots : Plot → Type 0) (c : Config) (memory : Word → ℕ) (g : Graph) (asking : ℕ → Asking) : Type 0 where
+pub record RepresentsWith (AsksOfRoots : Plot → Type 0) (config : Config) (memory : Word → ℕ) (graph : Graph) (asking : ℕ → Asking) : Type 0 where
   pub block : Plot
   pub ghost : Ghost
-  pub shared : Shared c (record { memory = memory; block = block; ghost = ghost; graph = g })
-  pub roots : (t i : ℕ) → t < c.mutators → i < 16 → Points block (memory (Root t i)) (g.root (t + 1) i)
+  pub shared : Shared config (record { memory = memory; block = block; ghost = ghost; graph = graph })
+  pub roots : (mutator index : ℕ) → mutator < config.mutators → index < 16 → Points block (memory (Root mutator index)) (graph.root (mutator + 1) index)
   pub usable : AsksOfRoots block
-  pub none : (a seat words : ℕ) → block a ≡ Some (hand seat words) → ⊥
-  pub uncarved : (a seat words : ℕ) → block a ≡ Some (carved seat words) → ⊥
-  pub asked : (t : ℕ) → t < c.mutators → IsAsked memory block g.count t (asking t)
-  pub heard : (t refs nums : ℕ) → t < c.mutators → asking t ≡ asks refs nums → bit_at (memory Ask) 1 ≡ 1
-  pub promised_to : PromisedToMutators c block
-  pub unmarking : NobodyMarks c ghost
-  pub uncopying : NobodyCopies c ghost
-  pub no_more : HasNoMore c.mutators g
-  pub no_more_pins : HasNoMorePins c.mutators g
+  pub none : (address seat words : ℕ) → block address ≡ Some (hand seat words) → ⊥
+  pub uncarved : (address seat words : ℕ) → block address ≡ Some (carved seat words) → ⊥
+  pub asked : (mutator : ℕ) → mutator < config.mutators → IsAsked memory block graph.count mutator (asking mutator)
+  pub heard : (mutator refs nums : ℕ) → mutator < config.mutators → asking mutator ≡ asks refs nums → bit_at (memory Ask) 1 ≡ 1
+  pub promised_to : PromisedToMutators config block
+  pub unmarking : NobodyMarks config ghost
+  pub uncopying : NobodyCopies config ghost
+  pub no_more : HasNoMore config.mutators graph
+  pub no_more_pins : HasNoMorePins config.mutators graph
 
 -- words represent a graph: each root word may be used besides
 abbrev pub Represents : Config → (Word → ℕ) → Graph → (ℕ → Asking) → Type 0
-Represents c memory = RepresentsWith (λ block. AreUsable c (memory Cset) (memory Evac) block (λ t i. memory (Root t i))) c memory
+Represents config memory = RepresentsWith (λ block. AreUsable config (memory Cset) (memory Evac) block (λ t i. memory (Root t i))) config memory
 
 -- They do so by copies: a root word need not be usable. It names an object by a copy that may not be the current one, or that may be about
 -- to be copied.

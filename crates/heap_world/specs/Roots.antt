@@ -12,8 +12,8 @@ is_slot_of threads thread slot = nat_le 1 thread && (nat_le thread threads && na
 
 -- where there is no such root, the graph has null
 abbrev pub HasNoMore : ℕ → Graph → Type 0
-HasNoMore threads g = (thread index : ℕ) → is_root_of threads thread index ≡ false → g.root thread index ≡ None
+HasNoMore threads graph = (thread index : ℕ) → is_root_of threads thread index ≡ false → graph.root thread index ≡ None
 
 -- and where there is no such slot, it is empty
 abbrev pub HasNoMorePins : ℕ → Graph → Type 0
-HasNoMorePins threads g = (thread slot : ℕ) → is_slot_of threads thread slot ≡ false → g.pin thread slot ≡ None
+HasNoMorePins threads graph = (thread slot : ℕ) → is_slot_of threads thread slot ≡ false → graph.pin thread slot ≡ None

@@ -9,7 +9,7 @@ use Rattle.heap_world.specs.Walk.{refs_at, nums_at, current_at}
 
 -- the name of the object whose header is the word at an index of the heap
 abbrev pub name_in_heap : List ℕ → ℕ → Name
-name_in_heap heap k = record { thread = thread_in (slice_index heap (k + 2)); count = count_in (slice_index heap (k + 2)) }
+name_in_heap heap address = record { thread = thread_in (slice_index heap (address + 2)); count = count_in (slice_index heap (address + 2)) }
 
 -- the reference that a word stands for, by the name of the current copy there
 abbrev pub reference_in : ℕ → List ℕ → ℕ → Reference
@@ -17,25 +17,25 @@ reference_in first heap word = if word == 0 then None else Some (name_in_heap he
 
 -- the row of the object at an address
 abbrev pub row_in_heap : ℕ → List ℕ → ℕ → Row
-row_in_heap first heap a = record {
-  name = name_in_heap heap (a - first);
-  refs = map (reference_in first heap) (refs_at heap (a - first));
-  nums = nums_at heap (a - first);
+row_in_heap first heap address = record {
+  name = name_in_heap heap (address - first);
+  refs = map (reference_in first heap) (refs_at heap (address - first));
+  nums = nums_at heap (address - first);
 }
 
 -- the text with these references in its last row too
 abbrev pub with_references : Text → List Reference → Text
-with_references t [] = t
-with_references t (r ∷ rs) = with_references (with_reference t r) rs
+with_references text [] = text
+with_references text (r ∷ rs) = with_references (with_reference text r) rs
 
 -- the text with these numbers in its last row too
 abbrev pub with_numbers : Text → List ℕ → Text
-with_numbers t [] = t
-with_numbers t (x ∷ xs) = with_numbers (with_number t x) xs
+with_numbers text [] = text
+with_numbers text (x ∷ xs) = with_numbers (with_number text x) xs
 
 -- the text with a row more, which takes as many words as the object
 abbrev pub with_whole_row : Text → Row → Text
-with_whole_row t r = record t { rows = t.rows ++ r ∷ []; spare = t.spare - (3 + length r.refs + length r.nums) }
+with_whole_row text row = record text { rows = text.rows ++ row ∷ []; spare = text.spare - (3 + length row.refs + length row.nums) }
 
 -- the word of a cell of a thread, counted from 1, among the words of all threads, so many a thread; 0 where there is no such cell
 abbrev pub cell_word : (cells : ℕ) → List ℕ → ℕ → ℕ → ℕ

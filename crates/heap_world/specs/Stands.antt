@@ -9,19 +9,19 @@ use Rattle.heap_world.specs.Objects.{Refers, IsObject}
 
 -- the address of the current copy of what begins at an address, by its header
 abbrev pub current_of : (heap : ℕ → ℕ) → ℕ → ℕ
-current_of heap a = if is_forwarded (heap a) then forwardee_in (heap a) else a
+current_of heap address = if is_forwarded (heap address) then forwardee_in (heap address) else address
 
 -- a copy of an object, current or old, begins at the address, and the current copy is one of it too
-pub record IsCopyAt (first end : ℕ) (heap : ℕ → ℕ) (at : ℕ → Option Name) (a : ℕ) (n : Name) : Type 0 where
-  pub above : first ≤ a
-  pub below : a < end
-  pub current : at (current_of heap a) ≡ Some n
+pub record IsCopyAt (first end : ℕ) (heap : ℕ → ℕ) (at : ℕ → Option Name) (address : ℕ) (name : Name) : Type 0 where
+  pub above : first ≤ address
+  pub below : address < end
+  pub current : at (current_of heap address) ≡ Some name
 
 -- an object of the graph stands at the address, and all of it among the words from `first` to before `end`
-pub record IsAt (first end : ℕ) (heap : ℕ → ℕ) (at : ℕ → Option Name) (g : Graph) (a : ℕ) (n : Name) (o : Object) : Type 0 where
-  pub object : g.object n ≡ Some o
-  pub words : IsObject heap at a (length o.refs) (length o.nums) n o
-  pub short_count : n.count < 2 ^ 32
+pub record IsAt (first end : ℕ) (heap : ℕ → ℕ) (at : ℕ → Option Name) (graph : Graph) (a : ℕ) (name : Name) (o : Object) : Type 0 where
+  pub object : graph.object name ≡ Some o
+  pub words : IsObject heap at a (length o.refs) (length o.nums) name o
+  pub short_count : name.count < 2 ^ 32
   pub above : first ≤ a
   pub below : a + size o ≤ end
 
@@ -33,11 +33,11 @@ HoldsPin heap at word (Some p) = (word ≡ p.place) × (at word ≡ Some p.name)
 -- The words of the addresses from `first` to before `end`, and the words of roots and pin slots, stand for the graph. For an address,
 -- `at` gives the name of the object of which a copy begins there, if one does. Its current copy stands as the graph has it. No
 -- object has two current copies, and no two of these share a word.
-pub record Stands (first end : ℕ) (heap : ℕ → ℕ) (root pin : ℕ → ℕ → ℕ) (at : ℕ → Option Name) (g : Graph) : Type 0 where
-  pub each : (a : ℕ) (n : Name) → at a ≡ Some n → IsCopyAt first end heap at a n
-  pub object : (a : ℕ) (n : Name) → at a ≡ Some n → (o : Object) × IsAt first end heap at g (current_of heap a) n o
-  pub once : (a b : ℕ) (n : Name) → at a ≡ Some n → at b ≡ Some n → current_of heap a ≡ current_of heap b
-  pub apart : (a b : ℕ) (n m : Name) (o : Object) → at a ≡ Some n → at b ≡ Some m → g.object n ≡ Some o → current_of heap a < current_of heap b
-      → current_of heap a + size o ≤ current_of heap b
-  pub roots : (thread index : ℕ) → Refers at (root thread index) (g.root thread index)
-  pub pins : (thread slot : ℕ) → HoldsPin heap at (pin thread slot) (g.pin thread slot)
+pub record Stands (first end : ℕ) (heap : ℕ → ℕ) (root pin : ℕ → ℕ → ℕ) (at : ℕ → Option Name) (graph : Graph) : Type 0 where
+  pub each : (address : ℕ) (name : Name) → at address ≡ Some name → IsCopyAt first end heap at address name
+  pub object : (address : ℕ) (name : Name) → at address ≡ Some name → (o : Object) × IsAt first end heap at graph (current_of heap address) name o
+  pub once : (address other_address : ℕ) (name : Name) → at address ≡ Some name → at other_address ≡ Some name → current_of heap address ≡ current_of heap other_address
+  pub apart : (address other_address : ℕ) (name other_name : Name) (o : Object) → at address ≡ Some name → at other_address ≡ Some other_name → graph.object name ≡ Some o → current_of heap address < current_of heap other_address
+      → current_of heap address + size o ≤ current_of heap other_address
+  pub roots : (thread index : ℕ) → Refers at (root thread index) (graph.root thread index)
+  pub pins : (thread slot : ℕ) → HoldsPin heap at (pin thread slot) (graph.pin thread slot)

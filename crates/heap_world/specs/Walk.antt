@@ -11,20 +11,20 @@ has words word = list_any (nat_eq word) words
 
 -- its shape word
 abbrev pub shape_at : List ℕ → ℕ → ℕ
-shape_at heap k = slice_index heap (k + 1)
+shape_at heap address = slice_index heap (address + 1)
 
 -- the words of its references
 abbrev pub refs_at : List ℕ → ℕ → List ℕ
-refs_at heap k = slice_range heap (k + 3) (k + 3 + refs_in (shape_at heap k))
+refs_at heap address = slice_range heap (address + 3) (address + 3 + refs_in (shape_at heap address))
 
 -- its numbers
 abbrev pub nums_at : List ℕ → ℕ → List ℕ
-nums_at heap k =
-    slice_range heap (k + 3 + refs_in (shape_at heap k)) (k + 3 + refs_in (shape_at heap k) + nums_in (shape_at heap k))
+nums_at heap address =
+    slice_range heap (address + 3 + refs_in (shape_at heap address)) (address + 3 + refs_in (shape_at heap address) + nums_in (shape_at heap address))
 
 -- how many words it has
 abbrev pub size_at : List ℕ → ℕ → ℕ
-size_at heap k = object_words (shape_at heap k)
+size_at heap address = object_words (shape_at heap address)
 
 -- the address of the current copy of what a word names, by the header there; null stays null
 abbrev pub current_at : (first : ℕ) (heap : List ℕ) → ℕ → ℕ
@@ -41,17 +41,17 @@ pub data Leads (first : ℕ) (heap roots : List ℕ) : ℕ → Type 0 where
 
 -- a word is null, or an address of the heap, and header, shape and name of the current copy there are words of the heap
 abbrev pub IsNamed : (first : ℕ) (heap : List ℕ) → ℕ → Type 0
-IsNamed first heap a =
-    a ≢ 0 → ((first ≤ a) × (a < first + length heap)) × ((first ≤ current_at first heap a) × (current_at first heap a + 3 ≤ first + length heap))
+IsNamed first heap address =
+    address ≢ 0 → ((first ≤ address) × (address < first + length heap)) × ((first ≤ current_at first heap address) × (current_at first heap address + 3 ≤ first + length heap))
 
 -- Roots, and references of objects that these lead to, name objects among the words. Each object that the roots lead to lies among the
 -- words, and no two of them share a word.
 pub record IsWalkable (first : ℕ) (heap roots : List ℕ) : Type 0 where
-  pub roots_named : (a : ℕ) → has roots a ≡ true → IsNamed first heap a
-  pub fields_named : (m a : ℕ) → Leads first heap roots m → has (refs_at heap (m - first)) a ≡ true → IsNamed first heap a
-  pub above : (a : ℕ) → Leads first heap roots a → first ≤ a
-  pub below : (a : ℕ) → Leads first heap roots a → a + size_at heap (a - first) ≤ first + length heap
-  pub apart : (a b : ℕ) → Leads first heap roots a → Leads first heap roots b → a < b → a + size_at heap (a - first) ≤ b
+  pub roots_named : (address : ℕ) → has roots address ≡ true → IsNamed first heap address
+  pub fields_named : (m address : ℕ) → Leads first heap roots m → has (refs_at heap (m - first)) address ≡ true → IsNamed first heap address
+  pub above : (address : ℕ) → Leads first heap roots address → first ≤ address
+  pub below : (address : ℕ) → Leads first heap roots address → address + size_at heap (address - first) ≤ first + length heap
+  pub apart : (address b : ℕ) → Leads first heap roots address → Leads first heap roots b → address < b → address + size_at heap (address - first) ≤ b
 
 -- a word is null, or the address of one of so many words
 abbrev pub IsNullOrAmong : (first words : ℕ) → ℕ → Type 0
@@ -61,7 +61,7 @@ IsNullOrAmong first words a = a ≢ 0 → (first ≤ a) × (a < first + words)
 pub record IsMarked (first : ℕ) (marks : List Bool) (order : List ℕ) : Type 0 where
   pub once : IsDistinct nat_eq order
   pub among : (a : ℕ) → has order a ≡ true → (first ≤ a) × (a < first + length marks)
-  pub flags : (k : ℕ) → k < length marks → slice_index_or marks k false ≡ has order (first + k)
+  pub flags : (index : ℕ) → index < length marks → slice_index_or marks index false ≡ has order (first + index)
 
 -- the list with an address at its end, unless that is null or is there already
 abbrev pub with_address : List ℕ → ℕ → List ℕ

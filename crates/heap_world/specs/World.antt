@@ -161,7 +161,7 @@ abbrev pub body_of : Name → ℕ → ℕ → Body
 body_of name refs nums = record { name = name; refs = refs; nums = nums }
 
 abbrev pub body_words : Body → ℕ
-body_words b = 3 + b.refs + b.nums
+body_words body = 3 + body.refs + body.nums
 
 abbrev pub body_at : Option Block → Option Body
 body_at (Some (thing name refs nums)) = Some (body_of name refs nums)
@@ -181,155 +181,155 @@ Points block word reference = Refers (λ a. name_at (block a)) word reference
 
 -- an address lies in a region of the collection set
 abbrev pub IsCollected : Config → (cset : ℕ) → ℕ → Type 0
-IsCollected c cset a = IsIn cset (region_with c a)
+IsCollected config cset address = IsIn cset (region_with config address)
 
 -- The object's current copy, with so many references and numbers, is at the address, and may be used: if it lies in the collection set
 -- nobody copies any more, so that it stays the current one.
-pub record Target (c : Config) (cset evac : ℕ) (block : Plot) (address refs nums : ℕ) (name : Name) : Type 0 where
+pub record Target (config : Config) (cset evac : ℕ) (block : Plot) (address refs nums : ℕ) (name : Name) : Type 0 where
   pub piece : block address ≡ Some (thing name refs nums)
-  pub safe : IsCollected c cset address → IsQuiet evac
+  pub safe : IsCollected config cset address → IsQuiet evac
 
 -- a word may be used as a reference: it is null, or the object's current copy is there, and may be used
 abbrev pub IsUsable : Config → (cset evac : ℕ) → Plot → ℕ → Type 0
-IsUsable c cset evac block word = (word ≡ 0) ⊎ ((name : Name) × (refs : ℕ) × (nums : ℕ) × Target c cset evac block word refs nums name)
+IsUsable config cset evac block word = (word ≡ 0) ⊎ ((name : Name) × (refs : ℕ) × (nums : ℕ) × Target config cset evac block word refs nums name)
 
 -- A pin word stands for what its slot holds: 0 for nothing, and else it is the object's place, where its current copy is, and may be used.
 abbrev pub PinStands : Config → (cset evac : ℕ) → Plot → ℕ → Option Pinned → Type 0
-PinStands c cset evac block word None = word ≡ 0
-PinStands c cset evac block word (Some p) = (word ≡ p.place) × (refs : ℕ) × (nums : ℕ) × Target c cset evac block word refs nums p.name
+PinStands config cset evac block word None = word ≡ 0
+PinStands config cset evac block word (Some p) = (word ≡ p.place) × (refs : ℕ) × (nums : ℕ) × Target config cset evac block word refs nums p.name
 
 -- so do the pin words of all mutators
 abbrev pub ArePinned : Config → (cset evac : ℕ) → Plot → (words : ℕ → ℕ → ℕ) → (pin : ℕ → ℕ → Option Pinned) → Type 0
-ArePinned c cset evac block words pin = (t i : ℕ) → t < c.mutators → i < 4 → PinStands c cset evac block (words t i) (pin (t + 1) i)
+ArePinned config cset evac block words pin = (mutator i : ℕ) → mutator < config.mutators → i < 4 → PinStands config cset evac block (words mutator i) (pin (mutator + 1) i)
 
 -- so many words from an address on lie in the part of a region that is in use
-pub record IsInUse (c : Config) (top : ℕ → ℕ) (address words : ℕ) : Type 0 where
+pub record IsInUse (config : Config) (top : ℕ → ℕ) (address words : ℕ) : Type 0 where
   pub region : ℕ
-  pub within : region < c.regions
-  pub from_base : base_of c region ≤ address
-  pub to_top : address + words ≤ base_of c region + top region
+  pub within : region < config.regions
+  pub from_base : base_of config region ≤ address
+  pub to_top : address + words ≤ base_of config region + top region
 
 -- pieces lie in the parts in use and apart from each other, and no part in use is longer than its region
-pub record IsPlotted (c : Config) (top : ℕ → ℕ) (block : Plot) : Type 0 where
-  pub tops : (r : ℕ) → r < c.regions → top r ≤ c.region_words
-  pub in_use : (a : ℕ) (b : Block) → block a ≡ Some b → IsInUse c top a (words_of b)
-  pub apart : (a b : ℕ) (x y : Block) → block a ≡ Some x → block b ≡ Some y → a < b → a + words_of x ≤ b
+pub record IsPlotted (config : Config) (top : ℕ → ℕ) (block : Plot) : Type 0 where
+  pub tops : (region : ℕ) → region < config.regions → top region ≤ config.region_words
+  pub in_use : (address : ℕ) (b : Block) → block address ≡ Some b → IsInUse config top address (words_of b)
+  pub apart : (address b : ℕ) (x y : Block) → block address ≡ Some x → block b ≡ Some y → address < b → address + words_of x ≤ b
 
 -- pieces fill the parts in use: there is one at the base, and one after each that does not end at the top
-pub record IsFilled (c : Config) (top : ℕ → ℕ) (block : Plot) : Type 0 where
-  pub first : (r : ℕ) → r < c.regions → 0 < top r → (b : Block) × (block (base_of c r) ≡ Some b)
-  pub next : (r a : ℕ) (x : Block) → r < c.regions → base_of c r ≤ a → block a ≡ Some x → a + words_of x < base_of c r + top r
-      → (b : Block) × (block (a + words_of x) ≡ Some b)
+pub record IsFilled (config : Config) (top : ℕ → ℕ) (block : Plot) : Type 0 where
+  pub first : (region : ℕ) → region < config.regions → 0 < top region → (piece : Block) × (block (base_of config region) ≡ Some piece)
+  pub next : (region address : ℕ) (piece : Block) → region < config.regions → base_of config region ≤ address → block address ≡ Some piece → address + words_of piece < base_of config region + top region
+      → (other_piece : Block) × (block (address + words_of piece) ≡ Some other_piece)
 
 -- the words from an address on are the object of the graph, where objects stand so
 abbrev pub IsThing : (ℕ → ℕ) → Plot → ℕ → ℕ → ℕ → Name → Object → Type 0
 IsThing heap block address refs nums name object = IsObject heap (λ a. name_at (block a)) address refs nums name object
 
 -- a name is one that a thread has given: the hub's, or of a mutator and of a count that it has reached
-pub record IsGiven (c : Config) (count : ℕ → ℕ) (name : Name) : Type 0 where
-  pub thread : name.thread ≤ c.mutators
+pub record IsGiven (config : Config) (count : ℕ → ℕ) (name : Name) : Type 0 where
+  pub thread : name.thread ≤ config.mutators
   pub made : name.count ≤ count name.thread + 1
   pub by_thread : 1 ≤ name.thread → name.count ≤ count name.thread
   pub small : name.count < 2 ^ 32
 
 -- each piece that is a current copy is an object of the graph, and no two have one name
 pub record AreObjects (heap : ℕ → ℕ) (block : Plot) (object : Name → Option Object) : Type 0 where
-  pub each : (a refs nums : ℕ) (name : Name) → block a ≡ Some (thing name refs nums)
-      → (o : Object) × (object name ≡ Some o) × IsThing heap block a refs nums name o
-  pub once : (a b refs nums more_refs more_nums : ℕ) (name : Name) → block a ≡ Some (thing name refs nums)
-      → block b ≡ Some (thing name more_refs more_nums) → a ≡ b
+  pub each : (address refs nums : ℕ) (name : Name) → block address ≡ Some (thing name refs nums)
+      → (o : Object) × (object name ≡ Some o) × IsThing heap block address refs nums name o
+  pub once : (address other_address refs nums more_refs more_nums : ℕ) (name : Name) → block address ≡ Some (thing name refs nums)
+      → block other_address ≡ Some (thing name more_refs more_nums) → address ≡ other_address
 
 -- the free word has no bit at or above the number of regions, and a region whose bit is set has top 0 and is nobody's
-pub record IsFreeWord (c : Config) (free : ℕ) (top : ℕ → ℕ) (owner : ℕ → Option ℕ) : Type 0 where
-  pub no_more : free < 2 ^ c.regions
-  pub empty : (r : ℕ) → r < c.regions → IsIn free r → top r ≡ 0
-  pub nobodys : (r : ℕ) → r < c.regions → IsIn free r → owner r ≡ None
+pub record IsFreeWord (config : Config) (free : ℕ) (top : ℕ → ℕ) (owner : ℕ → Option ℕ) : Type 0 where
+  pub no_more : free < 2 ^ config.regions
+  pub empty : (region : ℕ) → region < config.regions → IsIn free region → top region ≡ 0
+  pub nobodys : (region : ℕ) → region < config.regions → IsIn free region → owner region ≡ None
 
 -- room is a seat's; what is in hand or carved is room for an object at least, and free words of a buffer are a word at least
-pub record AreRooms (c : Config) (block : Plot) : Type 0 where
-  pub seated : (a seat : ℕ) (x : Block) → block a ≡ Some x → room_of x ≡ Some seat → seat < seat_count c.mutators c.helpers
-  pub hands : (a seat words : ℕ) → block a ≡ Some (hand seat words) → 3 ≤ words
-  pub spares : (a seat words : ℕ) → block a ≡ Some (spare seat words) → 1 ≤ words
-  pub carveds : (a seat words : ℕ) → block a ≡ Some (carved seat words) → 3 ≤ words
+pub record AreRooms (config : Config) (block : Plot) : Type 0 where
+  pub seated : (address seat : ℕ) (piece : Block) → block address ≡ Some piece → room_of piece ≡ Some seat → seat < seat_count config.mutators config.helpers
+  pub hands : (address seat words : ℕ) → block address ≡ Some (hand seat words) → 3 ≤ words
+  pub spares : (address seat words : ℕ) → block address ≡ Some (spare seat words) → 1 ≤ words
+  pub carveds : (address seat words : ℕ) → block address ≡ Some (carved seat words) → 3 ≤ words
 
 -- a seat has words that it has carved and that are not its buffer yet
 abbrev pub HasCarved : Plot → ℕ → Type 0
-HasCarved block seat = (a : ℕ) × (words : ℕ) × (block a ≡ Some (carved seat words))
+HasCarved block seat = (address : ℕ) × (words : ℕ) × (block address ≡ Some (carved seat words))
 
 -- The word of a seat's buffer, which is not 0: its free words lie in the part in use of one region, and are a piece of the plot; or the seat
 -- has carved words for another buffer, and only fills what is left of this one.
-pub record IsBuffer (c : Config) (top : ℕ → ℕ) (block : Plot) (seat word : ℕ) : Type 0 where
+pub record IsBuffer (config : Config) (top : ℕ → ℕ) (block : Plot) (seat word : ℕ) : Type 0 where
   pub region : ℕ
-  pub within : region < c.regions
-  pub from_base : base_of c region ≤ next_in word
-  pub some : base_of c region < end_in word
+  pub within : region < config.regions
+  pub from_base : base_of config region ≤ next_in word
+  pub some : base_of config region < end_in word
   pub ordered : next_in word ≤ end_in word
-  pub to_top : end_in word ≤ base_of c region + top region
+  pub to_top : end_in word ≤ base_of config region + top region
   pub free : next_in word < end_in word → (block (next_in word) ≡ Some (spare seat (end_in word - next_in word))) ⊎ HasCarved block seat
 
 -- each seat has no buffer or one, and the free words of buffers are those that their words tell
-pub record AreBuffers (c : Config) (top current : ℕ → ℕ) (block : Plot) : Type 0 where
-  pub each : (seat : ℕ) → current seat ≢ 0 → IsBuffer c top block seat (current seat)
-  pub spares : (a seat words : ℕ) → block a ≡ Some (spare seat words) → (next_in (current seat) ≡ a) × (end_in (current seat) ≡ a + words)
+pub record AreBuffers (config : Config) (top current : ℕ → ℕ) (block : Plot) : Type 0 where
+  pub each : (seat : ℕ) → current seat ≢ 0 → IsBuffer config top block seat (current seat)
+  pub spares : (address seat words : ℕ) → block address ≡ Some (spare seat words) → (next_in (current seat) ≡ address) × (end_in (current seat) ≡ address + words)
 
 -- A region may be carved: it is one of the heap, not free, no seat's own, and not in the collection set. It stays so until a pause, also
 -- when another region is shared.
-pub record IsOpen (c : Config) (free cset : ℕ) (owner : ℕ → Option ℕ) (r : ℕ) : Type 0 where
-  pub within : r < c.regions
-  pub in_use : IsIn free r → ⊥
-  pub nobodys : owner r ≡ None
-  pub outside : IsIn cset r → ⊥
+pub record IsOpen (config : Config) (free cset : ℕ) (owner : ℕ → Option ℕ) (region : ℕ) : Type 0 where
+  pub within : region < config.regions
+  pub in_use : IsIn free region → ⊥
+  pub nobodys : owner region ≡ None
+  pub outside : IsIn cset region → ⊥
 
 -- the region that is shared, if one is, may be carved
 abbrev pub ShareIsOpen : Config → (share free cset : ℕ) → (ℕ → Option ℕ) → Type 0
-ShareIsOpen c share free cset owner = (r : ℕ) → share ≡ r + 1 → IsOpen c free cset owner r
+ShareIsOpen config share free cset owner = (region : ℕ) → share ≡ region + 1 → IsOpen config free cset owner region
 
 -- No buffer lies in the collection set, not even one without free words: it lies where its last word does.
 abbrev pub AreBuffersOutside : Config → (cset : ℕ) → (current : ℕ → ℕ) → Type 0
-AreBuffersOutside c cset current = (seat : ℕ) → current seat ≢ 0 → IsCollected c cset (end_in (current seat) - 1) → ⊥
+AreBuffersOutside config cset current = (seat : ℕ) → current seat ≢ 0 → IsCollected config cset (end_in (current seat) - 1) → ⊥
 
 -- no piece is room
 abbrev pub HasNoRoom : Plot → Type 0
-HasNoRoom block = (a seat : ℕ) (x : Block) → block a ≡ Some x → room_of x ≡ Some seat → ⊥
+HasNoRoom block = (address seat : ℕ) (piece : Block) → block address ≡ Some piece → room_of piece ≡ Some seat → ⊥
 
 -- an object that is promised has a header, a shape and a name at least
 abbrev pub ArePromises : Plot → Type 0
-ArePromises block = (a seat words : ℕ) → block a ≡ Some (promised seat words) → 3 ≤ words
+ArePromises block = (address seat words : ℕ) → block address ≡ Some (promised seat words) → 3 ≤ words
 
 -- a dead object has three words at least, as each object
 abbrev pub AreDeads : Plot → Type 0
-AreDeads block = (a words : ℕ) → block a ≡ Some (dead words) → 3 ≤ words
+AreDeads block = (address words : ℕ) → block address ≡ Some (dead words) → 3 ≤ words
 
 -- so has the old copy of an object that was promised
 abbrev pub AreSpents : Plot → Type 0
-AreSpents block = (a words to : ℕ) → block a ≡ Some (spent words to) → 3 ≤ words
+AreSpents block = (address words to : ℕ) → block address ≡ Some (spent words to) → 3 ≤ words
 
 -- words that only fill are one at least
 abbrev pub AreFillers : Plot → Type 0
-AreFillers block = (a words : ℕ) → block a ≡ Some (filler words) → 1 ≤ words
+AreFillers block = (address words : ℕ) → block address ≡ Some (filler words) → 1 ≤ words
 
 -- The heap is parsable: pieces fill the parts in use, one after another, and each has the least size of its kind.
-pub record IsParsable (c : Config) (top : ℕ → ℕ) (block : Plot) : Type 0 where
-  pub plotted : IsPlotted c top block
-  pub filled : IsFilled c top block
+pub record IsParsable (config : Config) (top : ℕ → ℕ) (block : Plot) : Type 0 where
+  pub plotted : IsPlotted config top block
+  pub filled : IsFilled config top block
   pub promises : ArePromises block
   pub deads : AreDeads block
   pub spents : AreSpents block
   pub fillers : AreFillers block
 
 -- The pieces that are objects are the graph's, and its names are given.
-pub record HasContents (c : Config) (heap : ℕ → ℕ) (block : Plot) (object : Name → Option Object) (count : ℕ → ℕ) : Type 0 where
+pub record HasContents (config : Config) (heap : ℕ → ℕ) (block : Plot) (object : Name → Option Object) (count : ℕ → ℕ) : Type 0 where
   pub objects : AreObjects heap block object
-  pub given : (name : Name) (o : Object) → object name ≡ Some o → IsGiven c count name
+  pub given : (name : Name) (o : Object) → object name ≡ Some o → IsGiven config count name
 
 -- Ownership: a region is free, or one seat's that is about to share it, or may be carved; room is a seat's, and its free words are those of
 -- its buffer, which lies outside the collection set.
-pub record AreOwned (c : Config) (top : ℕ → ℕ) (share free cset : ℕ) (current : ℕ → ℕ) (block : Plot) (owner : ℕ → Option ℕ) : Type 0 where
-  pub free_word : IsFreeWord c free top owner
-  pub shared_one : ShareIsOpen c share free cset owner
-  pub rooms : AreRooms c block
-  pub buffers : AreBuffers c top current block
-  pub outside : AreBuffersOutside c cset current
+pub record AreOwned (config : Config) (top : ℕ → ℕ) (share free cset : ℕ) (current : ℕ → ℕ) (block : Plot) (owner : ℕ → Option ℕ) : Type 0 where
+  pub free_word : IsFreeWord config free top owner
+  pub shared_one : ShareIsOpen config share free cset owner
+  pub rooms : AreRooms config block
+  pub buffers : AreBuffers config top current block
+  pub outside : AreBuffersOutside config cset current
 
 -- The phase is 0 to 3. Only in phases 2 and 3, while objects are evacuated and references to them updated, is a region in the collection
 -- set, and only in phase 2 is a copier counted.
@@ -339,132 +339,132 @@ pub record IsPhased (phase cset evac : ℕ) : Type 0 where
   pub evac_is : phase ≢ evacuation_phase → evac ≡ 0
 
 -- so many words are a new object: its shape word says so, and its references are null
-pub record IsBlank (heap : ℕ → ℕ) (a words : ℕ) : Type 0 where
+pub record IsBlank (heap : ℕ → ℕ) (address words : ℕ) : Type 0 where
   pub refs : ℕ
   pub nums : ℕ
   pub long : words ≡ 3 + refs + nums
   pub few_refs : refs ≤ 16
   pub few_nums : nums ≤ 16
-  pub header : heap a ≡ plain_header
-  pub shape : heap (a + 1) ≡ shape_word refs nums
-  pub nulls : (i : ℕ) → i < refs → heap (a + 3 + i) ≡ 0
+  pub header : heap address ≡ plain_header
+  pub shape : heap (address + 1) ≡ shape_word refs nums
+  pub nulls : (i : ℕ) → i < refs → heap (address + 3 + i) ≡ 0
 
 -- Pieces that nobody writes to: an object that was promised is a new one, and a dead object begins with the header of an object that has not
 -- moved, and a shape word that says how many words it has. Words that only fill begin with a header that says how many they are.
 pub record AreUnwritten (heap : ℕ → ℕ) (block : Plot) : Type 0 where
-  pub blanks : (a seat words : ℕ) → block a ≡ Some (promised seat words) → IsBlank heap a words
-  pub headers : (a words : ℕ) → block a ≡ Some (dead words) → heap a ≡ plain_header
-  pub lengths : (a words : ℕ) → block a ≡ Some (dead words) → object_words (heap (a + 1)) ≡ words
-  pub fillers : (a words : ℕ) → block a ≡ Some (filler words) → heap a ≡ filler_header words
+  pub blanks : (address seat words : ℕ) → block address ≡ Some (promised seat words) → IsBlank heap address words
+  pub headers : (address words : ℕ) → block address ≡ Some (dead words) → heap address ≡ plain_header
+  pub lengths : (address words : ℕ) → block address ≡ Some (dead words) → object_words (heap (address + 1)) ≡ words
+  pub fillers : (address words : ℕ) → block address ≡ Some (filler words) → heap address ≡ filler_header words
 
 -- Marking from a snapshot at the beginning: what is marked is an object: one of the graph, or one that is promised.
-pub data IsMarkable (block : Plot) (a : ℕ) : Type 0 where
-  object : (name : Name) (refs nums : ℕ) → block a ≡ Some (thing name refs nums) → IsMarkable block a
-  to_come : (seat words : ℕ) → block a ≡ Some (promised seat words) → IsMarkable block a
+pub data IsMarkable (block : Plot) (address : ℕ) : Type 0 where
+  object : (name : Name) (refs nums : ℕ) → block address ≡ Some (thing name refs nums) → IsMarkable block address
+  to_come : (seat words : ℕ) → block address ≡ Some (promised seat words) → IsMarkable block address
 
 -- an address is at or above a top of its region, and so, where that is the top at mark start, was allocated since
 abbrev pub IsYoung : Config → (ℕ → ℕ) → ℕ → Type 0
-IsYoung c top a = base_of c (region_with c a) + top (region_with c a) ≤ a
+IsYoung config top address = base_of config (region_with config address) + top (region_with config address) ≤ address
 
 -- all room is young so
 abbrev pub AreYoungRooms : Config → (ℕ → ℕ) → Plot → Type 0
-AreYoungRooms c top block = (a seat : ℕ) (x : Block) → block a ≡ Some x → room_of x ≡ Some seat → IsYoung c top a
+AreYoungRooms config top block = (address seat : ℕ) (piece : Block) → block address ≡ Some piece → room_of piece ≡ Some seat → IsYoung config top address
 
 -- An address is noted: it will be marked, for it is grey, an entry of a mutator's buffer below its count, or about to be recorded
 -- by a mutator. What is noted stays so until the pause that ends marking.
-pub data IsNoted (c : Config) (grey count : ℕ → ℕ) (buffer : ℕ → ℕ → ℕ) (recording : ℕ → Option ℕ) (v : ℕ) : Type 0 where
-  by_mark : HasMark c grey v → IsNoted c grey count buffer recording v
-  by_entry : (t k : ℕ) → t < c.mutators → k < count t → buffer t k ≡ v → IsNoted c grey count buffer recording v
-  by_hand : (t : ℕ) → t < c.mutators → recording t ≡ Some v → IsNoted c grey count buffer recording v
+pub data IsNoted (config : Config) (grey count : ℕ → ℕ) (buffer : ℕ → ℕ → ℕ) (recording : ℕ → Option ℕ) (address : ℕ) : Type 0 where
+  by_mark : HasMark config grey address → IsNoted config grey count buffer recording address
+  by_entry : (mutator k : ℕ) → mutator < config.mutators → k < count mutator → buffer mutator k ≡ address → IsNoted config grey count buffer recording address
+  by_hand : (mutator : ℕ) → mutator < config.mutators → recording mutator ≡ Some address → IsNoted config grey count buffer recording address
 
 -- A field has still to be loaded by a scan: its object is not black, or a machine scans it and has not come past the field.
-pub data IsToScan (c : Config) (black : ℕ → ℕ) (scanning : ℕ → Option Scan) (a k : ℕ) : Type 0 where
-  is_white : mark_at c black a ≡ 0 → IsToScan c black scanning a k
-  in_scan : (seat at : ℕ) → seat < seat_count c.mutators c.helpers → scanning seat ≡ Some (record { object = a; field = at }) → at ≤ k → IsToScan c black scanning a k
+pub data IsToScan (config : Config) (black : ℕ → ℕ) (scanning : ℕ → Option Scan) (address k : ℕ) : Type 0 where
+  is_white : mark_at config black address ≡ 0 → IsToScan config black scanning address k
+  in_scan : (seat at : ℕ) → seat < seat_count config.mutators config.helpers → scanning seat ≡ Some (record { object = address; field = at }) → at ≤ k → IsToScan config black scanning address k
 
 -- the reference that a field of the snapshot had
 abbrev pub was_at : Snapshot → ℕ → ℕ → ℕ
-was_at s a k = s.heap (a + 3 + k)
+was_at snapshot address k = snapshot.heap (address + 3 + k)
 
 -- marking needs that field no more: it was null, or its object is noted
 abbrev pub NeedsNoMarking : Snapshot → (ℕ → Type 0) → ℕ → ℕ → Type 0
-NeedsNoMarking s Noted a k = (was_at s a k ≡ 0) ⊎ Noted (was_at s a k)
+NeedsNoMarking snapshot Noted a k = (was_at snapshot a k ≡ 0) ⊎ Noted (was_at snapshot a k)
 
 -- A reference of the snapshot is not lost: marking needs it no more, or the field still holds it and a scan has still to come to it.
-pub data IsTracedAt (c : Config) (s : Snapshot) (heap black : ℕ → ℕ) (scanning : ℕ → Option Scan) (Noted : ℕ → Type 0) (a k : ℕ) : Type 0 where
-  done : NeedsNoMarking s Noted a k → IsTracedAt c s heap black scanning Noted a k
-  stands : heap (a + 3 + k) ≡ was_at s a k → IsToScan c black scanning a k → IsTracedAt c s heap black scanning Noted a k
+pub data IsTracedAt (config : Config) (snapshot : Snapshot) (heap black : ℕ → ℕ) (scanning : ℕ → Option Scan) (Noted : ℕ → Type 0) (address k : ℕ) : Type 0 where
+  done : NeedsNoMarking snapshot Noted address k → IsTracedAt config snapshot heap black scanning Noted address k
+  stands : heap (address + 3 + k) ≡ was_at snapshot address k → IsToScan config black scanning address k → IsTracedAt config snapshot heap black scanning Noted address k
 
 -- no reference of the snapshot is lost, and what roots and answers named then is noted
-pub record AreTraced (c : Config) (s : Snapshot) (heap black : ℕ → ℕ) (scanning : ℕ → Option Scan) (Noted : ℕ → Type 0) : Type 0 where
-  pub edges : (a refs nums k : ℕ) (name : Name) → s.block a ≡ Some (thing name refs nums) → k < refs → IsTracedAt c s heap black scanning Noted a k
-  pub starts : (a : ℕ) → s.starts a ≡ true → Noted a
+pub record AreTraced (config : Config) (snapshot : Snapshot) (heap black : ℕ → ℕ) (scanning : ℕ → Option Scan) (Noted : ℕ → Type 0) : Type 0 where
+  pub edges : (address refs nums k : ℕ) (name : Name) → snapshot.block address ≡ Some (thing name refs nums) → k < refs → IsTracedAt config snapshot heap black scanning Noted address k
+  pub starts : (address : ℕ) → snapshot.starts address ≡ true → Noted address
 
 -- what roots and answers of the snapshot lead to, by its fields
-pub data IsLed (s : Snapshot) : ℕ → Type 0 where
-  by_start : (a : ℕ) → s.starts a ≡ true → IsLed s a
-  by_field : (a refs nums k : ℕ) (name : Name) → IsLed s a → s.block a ≡ Some (thing name refs nums) → k < refs → was_at s a k ≢ 0 → IsLed s (was_at s a k)
+pub data IsLed (snapshot : Snapshot) : ℕ → Type 0 where
+  by_start : (address : ℕ) → snapshot.starts address ≡ true → IsLed snapshot address
+  by_field : (address refs nums k : ℕ) (name : Name) → IsLed snapshot address → snapshot.block address ≡ Some (thing name refs nums) → k < refs → was_at snapshot address k ≢ 0 → IsLed snapshot (was_at snapshot address k)
 
 -- words of marks are words of 64 bits, and what they mark are objects
-pub record AreMarks (c : Config) (marks : ℕ → ℕ) (block : Plot) : Type 0 where
+pub record AreMarks (config : Config) (marks : ℕ → ℕ) (block : Plot) : Type 0 where
   pub small : (n : ℕ) → marks n < 2 ^ 64
-  pub of_objects : (n k : ℕ) → k < 64 → bit_at (marks n) k ≡ 1 → IsMarkable block (address_at c n k)
+  pub of_objects : (n k : ℕ) → k < 64 → bit_at (marks n) k ≡ 1 → IsMarkable block (address_at config n k)
 
 -- each mutator has at most 8 entries in its buffer, and they are objects
-pub record AreEntries (c : Config) (count : ℕ → ℕ) (buffer : ℕ → ℕ → ℕ) (block : Plot) : Type 0 where
-  pub few : (t : ℕ) → t < c.mutators → count t ≤ 8
-  pub of_objects : (t k : ℕ) → t < c.mutators → k < count t → IsMarkable block (buffer t k)
+pub record AreEntries (config : Config) (count : ℕ → ℕ) (buffer : ℕ → ℕ → ℕ) (block : Plot) : Type 0 where
+  pub few : (mutator : ℕ) → mutator < config.mutators → count mutator ≤ 8
+  pub of_objects : (mutator k : ℕ) → mutator < config.mutators → k < count mutator → IsMarkable block (buffer mutator k)
 
 -- While objects are marked, each object is one of the snapshot, or was named by a root or an answer then, or was allocated since, as all
 -- room was; a promised object was named so, and no dead one was allocated since. Marks and buffers have objects alone.
-pub record KeepsMarking (c : Config) (grey black count : ℕ → ℕ) (buffer : ℕ → ℕ → ℕ) (tams : ℕ → ℕ) (block : Plot) (s : Snapshot) : Type 0 where
-  pub older : (a refs nums : ℕ) (name : Name) → block a ≡ Some (thing name refs nums) → (s.block a ≡ Some (thing name refs nums)) ⊎ ((s.starts a ≡ true) ⊎ IsYoung c s.top a)
-  pub promises : (a seat words : ℕ) → block a ≡ Some (promised seat words) → s.starts a ≡ true
-  pub deads : (a words : ℕ) → block a ≡ Some (dead words) → IsYoung c s.top a → ⊥
-  pub young : AreYoungRooms c s.top block
-  pub tams_are : (r : ℕ) → r < c.regions → tams r ≡ s.top r
-  pub greys : AreMarks c grey block
-  pub blacks : AreMarks c black block
-  pub entries : AreEntries c count buffer block
+pub record KeepsMarking (config : Config) (grey black count : ℕ → ℕ) (buffer : ℕ → ℕ → ℕ) (tams : ℕ → ℕ) (block : Plot) (snapshot : Snapshot) : Type 0 where
+  pub older : (address refs nums : ℕ) (name : Name) → block address ≡ Some (thing name refs nums) → (snapshot.block address ≡ Some (thing name refs nums)) ⊎ ((snapshot.starts address ≡ true) ⊎ IsYoung config snapshot.top address)
+  pub promises : (address seat words : ℕ) → block address ≡ Some (promised seat words) → snapshot.starts address ≡ true
+  pub deads : (address words : ℕ) → block address ≡ Some (dead words) → IsYoung config snapshot.top address → ⊥
+  pub young : AreYoungRooms config snapshot.top block
+  pub tams_are : (region : ℕ) → region < config.regions → tams region ≡ snapshot.top region
+  pub greys : AreMarks config grey block
+  pub blacks : AreMarks config black block
+  pub entries : AreEntries config count buffer block
 
 -- Objects are marked from a snapshot: no reference of it is lost, its objects are where they were, and no top falls below that of mark
 -- start. While the phase is 1, the rest of marking holds. In other phases there is no snapshot.
-pub record KeepsSnapshot (c : Config) (phase : ℕ) (grey black count : ℕ → ℕ) (buffer : ℕ → ℕ → ℕ) (top tams heap : ℕ → ℕ) (block : Plot) (s : Snapshot) (recording : ℕ → Option ℕ) (scanning : ℕ → Option Scan) : Type 0 where
-  pub empty : phase ≢ marking_phase → s ≡ no_snapshot
-  pub traced : AreTraced c s heap black scanning (IsNoted c grey count buffer recording)
-  pub led : (a refs nums : ℕ) (name : Name) → s.block a ≡ Some (thing name refs nums) → IsLed s a
-  pub old : (a refs nums : ℕ) (name : Name) → s.block a ≡ Some (thing name refs nums) → IsYoung c s.top a → ⊥
-  pub kept : (a refs nums : ℕ) (name : Name) → s.block a ≡ Some (thing name refs nums) → block a ≡ Some (thing name refs nums)
-  pub floors : (r : ℕ) → r < c.regions → s.top r ≤ top r
-  pub marking : phase ≡ marking_phase → KeepsMarking c grey black count buffer tams block s
+pub record KeepsSnapshot (config : Config) (phase : ℕ) (grey black count : ℕ → ℕ) (buffer : ℕ → ℕ → ℕ) (top tams heap : ℕ → ℕ) (block : Plot) (snapshot : Snapshot) (recording : ℕ → Option ℕ) (scanning : ℕ → Option Scan) : Type 0 where
+  pub empty : phase ≢ marking_phase → snapshot ≡ no_snapshot
+  pub traced : AreTraced config snapshot heap black scanning (IsNoted config grey count buffer recording)
+  pub led : (address refs nums : ℕ) (name : Name) → snapshot.block address ≡ Some (thing name refs nums) → IsLed snapshot address
+  pub old : (address refs nums : ℕ) (name : Name) → snapshot.block address ≡ Some (thing name refs nums) → IsYoung config snapshot.top address → ⊥
+  pub kept : (address refs nums : ℕ) (name : Name) → snapshot.block address ≡ Some (thing name refs nums) → block address ≡ Some (thing name refs nums)
+  pub floors : (region : ℕ) → region < config.regions → snapshot.top region ≤ top region
+  pub marking : phase ≡ marking_phase → KeepsMarking config grey black count buffer tams block snapshot
 
 -- An old copy lies in the collection set. Its header leads to the current copy, which lies outside, its shape and its name are as they
 -- were, and its references stand for references still.
-pub record IsMoved (c : Config) (cset : ℕ) (heap : ℕ → ℕ) (block : Plot) (a refs nums to : ℕ) (name : Name) : Type 0 where
-  pub header : heap a ≡ header_word to
-  pub shape : heap (a + 1) ≡ shape_word refs nums
-  pub name_word : heap (a + 2) ≡ name_code name.thread name.count
+pub record IsMoved (config : Config) (cset : ℕ) (heap : ℕ → ℕ) (block : Plot) (address refs nums to : ℕ) (name : Name) : Type 0 where
+  pub header : heap address ≡ header_word to
+  pub shape : heap (address + 1) ≡ shape_word refs nums
+  pub name_word : heap (address + 2) ≡ name_code name.thread name.count
   pub few_refs : refs ≤ 16
   pub few_nums : nums ≤ 16
-  pub inside : IsCollected c cset a
+  pub inside : IsCollected config cset address
   pub copy : block to ≡ Some (thing name refs nums)
-  pub outside : IsCollected c cset to → ⊥
-  pub references : (k : ℕ) → k < refs → (reference : Reference) × Points block (heap (a + 3 + k)) reference
+  pub outside : IsCollected config cset to → ⊥
+  pub references : (k : ℕ) → k < refs → (reference : Reference) × Points block (heap (address + 3 + k)) reference
 
 -- So it is with an old copy of an object that was promised then. Its current copy still is, or is an object of the graph.
-pub record IsSpent (c : Config) (cset : ℕ) (heap : ℕ → ℕ) (block : Plot) (a words to : ℕ) : Type 0 where
-  pub header : heap a ≡ header_word to
-  pub shape : object_words (heap (a + 1)) ≡ words
-  pub inside : IsCollected c cset a
+pub record IsSpent (config : Config) (cset : ℕ) (heap : ℕ → ℕ) (block : Plot) (address words to : ℕ) : Type 0 where
+  pub header : heap address ≡ header_word to
+  pub shape : object_words (heap (address + 1)) ≡ words
+  pub inside : IsCollected config cset address
   pub copy : IsMarkable block to
   pub piece : Block
   pub there : block to ≡ Some piece
   pub long : words_of piece ≡ words
-  pub outside : IsCollected c cset to → ⊥
+  pub outside : IsCollected config cset to → ⊥
 
-pub record HaveMoved (c : Config) (cset : ℕ) (heap : ℕ → ℕ) (block : Plot) : Type 0 where
-  pub moveds : (a refs nums to : ℕ) (name : Name) → block a ≡ Some (moved name refs nums to) → IsMoved c cset heap block a refs nums to name
-  pub spents : (a words to : ℕ) → block a ≡ Some (spent words to) → IsSpent c cset heap block a words to
+pub record HaveMoved (config : Config) (cset : ℕ) (heap : ℕ → ℕ) (block : Plot) : Type 0 where
+  pub moveds : (address refs nums to : ℕ) (name : Name) → block address ≡ Some (moved name refs nums to) → IsMoved config cset heap block address refs nums to name
+  pub spents : (address words to : ℕ) → block address ≡ Some (spent words to) → IsSpent config cset heap block address words to
 
 -- how many of so many seats copy
 unfoldable pub copiers : (ℕ → Bool) → ℕ → ℕ
@@ -472,64 +472,64 @@ copiers copying zero = 0
 copiers copying (suc n) = copiers copying n + (if copying n then 1 else 0)
 
 -- the counter counts the seats that copy
-pub record IsCounted (c : Config) (evac : ℕ) (copying : ℕ → Bool) : Type 0 where
+pub record IsCounted (config : Config) (evac : ℕ) (copying : ℕ → Bool) : Type 0 where
   pub is_word : evac < 2 ^ 64
-  pub counts : count_of evac ≡ copiers copying (seat_count c.mutators c.helpers)
+  pub counts : count_of evac ≡ copiers copying (seat_count config.mutators config.helpers)
 
 -- no room lies in the collection set
 abbrev pub AreRoomsOutside : Config → (cset : ℕ) → Plot → Type 0
-AreRoomsOutside c cset block = (a seat : ℕ) (x : Block) → block a ≡ Some x → room_of x ≡ Some seat → IsCollected c cset a → ⊥
+AreRoomsOutside config cset block = (address seat : ℕ) (piece : Block) → block address ≡ Some piece → room_of piece ≡ Some seat → IsCollected config cset address → ⊥
 
 -- The regions of the collection set are set aside: each is one of the heap, in use and nobody's, nothing was allocated in it since mark
 -- start, and no room and no object that is promised lies there.
-pub record AreSetAside (c : Config) (cset free : ℕ) (top tams : ℕ → ℕ) (block : Plot) (owner : ℕ → Option ℕ) : Type 0 where
-  pub in_heap : (r : ℕ) → IsIn cset r → r < c.regions
-  pub in_use : (r : ℕ) → IsIn free r → IsIn cset r → ⊥
-  pub nobodys : (r seat : ℕ) → owner r ≡ Some seat → IsIn cset r → ⊥
-  pub no_new : (r : ℕ) → IsIn cset r → top r ≡ tams r
-  pub no_promises : (a seat words : ℕ) → block a ≡ Some (promised seat words) → IsCollected c cset a → ⊥
-  pub no_rooms : AreRoomsOutside c cset block
+pub record AreSetAside (config : Config) (cset free : ℕ) (top tams : ℕ → ℕ) (block : Plot) (owner : ℕ → Option ℕ) : Type 0 where
+  pub in_heap : (region : ℕ) → IsIn cset region → region < config.regions
+  pub in_use : (region : ℕ) → IsIn free region → IsIn cset region → ⊥
+  pub nobodys : (region seat : ℕ) → owner region ≡ Some seat → IsIn cset region → ⊥
+  pub no_new : (region : ℕ) → IsIn cset region → top region ≡ tams region
+  pub no_promises : (address seat words : ℕ) → block address ≡ Some (promised seat words) → IsCollected config cset address → ⊥
+  pub no_rooms : AreRoomsOutside config cset block
 
 -- what is marked in the collection set: a current copy of an object, or an old one
-pub data HasCopy (block : Plot) (a : ℕ) : Type 0 where
-  copy : (b : Body) → body_at (block a) ≡ Some b → HasCopy block a
-  spent_copy : (words to : ℕ) → block a ≡ Some (spent words to) → HasCopy block a
+pub data HasCopy (block : Plot) (address : ℕ) : Type 0 where
+  copy : (body : Body) → body_at (block address) ≡ Some body → HasCopy block address
+  spent_copy : (words to : ℕ) → block address ≡ Some (spent words to) → HasCopy block address
 
 -- While objects are evacuated and references to them updated, each object is marked or was allocated since mark start, as all room was,
 -- and a dead object is neither; and what is marked in the collection set is an object.
-pub record AreKept (c : Config) (cset : ℕ) (black top tams : ℕ → ℕ) (block : Plot) : Type 0 where
-  pub objects : (a : ℕ) → IsMarkable block a → HasMark c black a ⊎ IsYoung c tams a
-  pub young : AreYoungRooms c tams block
-  pub floors : (r : ℕ) → r < c.regions → tams r ≤ top r
-  pub unmarked : (a words : ℕ) → block a ≡ Some (dead words) → HasMark c black a → ⊥
-  pub deads : (a words : ℕ) → block a ≡ Some (dead words) → IsYoung c tams a → ⊥
-  pub only : (a : ℕ) → c.region_words ≤ a → HasMark c black a → IsCollected c cset a → HasCopy block a
+pub record AreKept (config : Config) (cset : ℕ) (black top tams : ℕ → ℕ) (block : Plot) : Type 0 where
+  pub objects : (address : ℕ) → IsMarkable block address → HasMark config black address ⊎ IsYoung config tams address
+  pub young : AreYoungRooms config tams block
+  pub floors : (region : ℕ) → region < config.regions → tams region ≤ top region
+  pub unmarked : (address words : ℕ) → block address ≡ Some (dead words) → HasMark config black address → ⊥
+  pub deads : (address words : ℕ) → block address ≡ Some (dead words) → IsYoung config tams address → ⊥
+  pub only : (address : ℕ) → config.region_words ≤ address → HasMark config black address → IsCollected config cset address → HasCopy block address
 
 -- A region of the collection set is swept up to an address: no object has its current copy below it; or there was no room.
 abbrev pub IsSweptTo : Config → (evac : ℕ) → Plot → (region end : ℕ) → Type 0
-IsSweptTo c evac block region end =
-    (is_out_of_room evac ≡ true) ⊎ ((a refs nums : ℕ) (name : Name) → base_of c region ≤ a → a < end → block a ≡ Some (thing name refs nums) → ⊥)
+IsSweptTo config evac block region end =
+    (is_out_of_room evac ≡ true) ⊎ ((address refs nums : ℕ) (name : Name) → base_of config region ≤ address → address < end → block address ≡ Some (thing name refs nums) → ⊥)
 
 -- a unit that was claimed is swept, or some machine works on it
 abbrev pub IsCaredFor : Config → (evac : ℕ) → Plot → (working : ℕ → Option ℕ) → (region : ℕ) → Type 0
-IsCaredFor c evac block working region =
-    IsSweptTo c evac block region (base_of c (region + 1)) ⊎ ((seat : ℕ) × (seat < seat_count c.mutators c.helpers) × (working seat ≡ Some region))
+IsCaredFor config evac block working region =
+    IsSweptTo config evac block region (base_of config (region + 1)) ⊎ ((seat : ℕ) × (seat < seat_count config.mutators config.helpers) × (working seat ≡ Some region))
 
 abbrev pub AreCaredFor : Config → (phase cset evac claim : ℕ) → Plot → (working : ℕ → Option ℕ) → Type 0
-AreCaredFor c phase cset evac claim block working = phase ≡ evacuation_phase → (r : ℕ) → r < claim → IsIn cset r → IsCaredFor c evac block working r
+AreCaredFor config phase cset evac claim block working = phase ≡ evacuation_phase → (region : ℕ) → region < claim → IsIn cset region → IsCaredFor config evac block working region
 
 -- each root may be used as a reference
 abbrev pub AreUsable : Config → (cset evac : ℕ) → Plot → (root : ℕ → ℕ → ℕ) → Type 0
-AreUsable c cset evac block root = (t i : ℕ) → t < c.mutators → i < 16 → IsUsable c cset evac block (root t i)
+AreUsable config cset evac block root = (mutator index : ℕ) → mutator < config.mutators → index < 16 → IsUsable config cset evac block (root mutator index)
 
 -- Evacuation: objects are copied out of the collection set beside the threads, and lead to their copies while references to them are updated.
 -- In phases 0 and 1 the set is empty and no copier is counted, so that nothing is said.
-pub record IsEvacuating (c : Config) (phase cset evac claim free : ℕ) (top tams heap black : ℕ → ℕ) (block : Plot) (owner : ℕ → Option ℕ) (copying : ℕ → Bool) (working : ℕ → Option ℕ) : Type 0 where
-  pub moved : HaveMoved c cset heap block
-  pub counted : IsCounted c evac copying
-  pub aside : AreSetAside c cset free top tams block owner
-  pub kept : evacuation_phase ≤ phase → AreKept c cset black top tams block
-  pub units : AreCaredFor c phase cset evac claim block working
+pub record IsEvacuating (config : Config) (phase cset evac claim free : ℕ) (top tams heap black : ℕ → ℕ) (block : Plot) (owner : ℕ → Option ℕ) (copying : ℕ → Bool) (working : ℕ → Option ℕ) : Type 0 where
+  pub moved : HaveMoved config cset heap block
+  pub counted : IsCounted config evac copying
+  pub aside : AreSetAside config cset free top tams block owner
+  pub kept : evacuation_phase ≤ phase → AreKept config cset black top tams block
+  pub units : AreCaredFor config phase cset evac claim block working
 
 -- A word is current: it names no old copy, for it is null or the address of an object's current copy.
 pub data IsCurrent (block : Plot) (word : ℕ) : Type 0 where
@@ -542,55 +542,55 @@ IsAhead at a k = (at.object < a) ⊎ ((at.object ≡ a) × (at.field ≤ k))
 
 -- A field is still to be updated: its object lies below the limit of its region, and the region's unit is not claimed, or a machine is in
 -- the unit that has not come past the field.
-pub data IsToUpdate (c : Config) (claim : ℕ) (limit : ℕ → ℕ) (scanning : ℕ → Option Scan) (a k : ℕ) : Type 0 where
-  unclaimed : (IsYoung c limit a → ⊥) → claim ≤ region_with c a → IsToUpdate c claim limit scanning a k
-  in_unit : (IsYoung c limit a → ⊥) → (seat : ℕ) (at : Scan) → seat < seat_count c.mutators c.helpers → scanning seat ≡ Some at
-      → region_with c at.object ≡ region_with c a → IsAhead at a k → IsToUpdate c claim limit scanning a k
+pub data IsToUpdate (config : Config) (claim : ℕ) (limit : ℕ → ℕ) (scanning : ℕ → Option Scan) (address k : ℕ) : Type 0 where
+  unclaimed : (IsYoung config limit address → ⊥) → claim ≤ region_with config address → IsToUpdate config claim limit scanning address k
+  in_unit : (IsYoung config limit address → ⊥) → (seat : ℕ) (at : Scan) → seat < seat_count config.mutators config.helpers → scanning seat ≡ Some at
+      → region_with config at.object ≡ region_with config address → IsAhead at address k → IsToUpdate config claim limit scanning address k
 
 -- Updating of references: no object has its current copy in the collection set any more, and each field of a current copy is current or
 -- still to be updated. Limits are tops when updating began: room lies at or above them.
-pub record IsUpdating (c : Config) (cset claim : ℕ) (top limit heap : ℕ → ℕ) (block : Plot) (scanning : ℕ → Option Scan) : Type 0 where
-  pub outside : (a refs nums : ℕ) (name : Name) → block a ≡ Some (thing name refs nums) → IsCollected c cset a → ⊥
-  pub renewed : (a refs nums k : ℕ) (name : Name) → block a ≡ Some (thing name refs nums) → k < refs
-      → IsCurrent block (heap (a + 3 + k)) ⊎ IsToUpdate c claim limit scanning a k
-  pub young : AreYoungRooms c limit block
-  pub limits : (r : ℕ) → r < c.regions → limit r ≤ top r
+pub record IsUpdating (config : Config) (cset claim : ℕ) (top limit heap : ℕ → ℕ) (block : Plot) (scanning : ℕ → Option Scan) : Type 0 where
+  pub outside : (address refs nums : ℕ) (name : Name) → block address ≡ Some (thing name refs nums) → IsCollected config cset address → ⊥
+  pub renewed : (address refs nums k : ℕ) (name : Name) → block address ≡ Some (thing name refs nums) → k < refs
+      → IsCurrent block (heap (address + 3 + k)) ⊎ IsToUpdate config claim limit scanning address k
+  pub young : AreYoungRooms config limit block
+  pub limits : (region : ℕ) → region < config.regions → limit region ≤ top region
 
 -- The facts that all machines share, in groups, each over the words that it speaks of: a step that changes none of these words
 -- hands the group on as it is.
-pub record SharedFacts (c : Config) (top heap : ℕ → ℕ) (block : Plot) (ghost : Ghost) (object : Name → Option Object) (count : ℕ → ℕ) (phase cset evac free : ℕ) (current : ℕ → ℕ)
+pub record SharedFacts (config : Config) (top heap : ℕ → ℕ) (block : Plot) (ghost : Ghost) (object : Name → Option Object) (count : ℕ → ℕ) (phase cset evac free : ℕ) (current : ℕ → ℕ)
     (grey black entries : ℕ → ℕ) (buffer : ℕ → ℕ → ℕ) (tams : ℕ → ℕ) (claim : ℕ) (limit : ℕ → ℕ) (share : ℕ) (pin_words : ℕ → ℕ → ℕ) (pin : ℕ → ℕ → Option Pinned) : Type 0 where
-  pub parsable : IsParsable c top block
-  pub contents : HasContents c heap block object count
-  pub owned : AreOwned c top share free cset current block ghost.owner
+  pub parsable : IsParsable config top block
+  pub contents : HasContents config heap block object count
+  pub owned : AreOwned config top share free cset current block ghost.owner
   pub phased : IsPhased phase cset evac
   pub unwritten : AreUnwritten heap block
-  pub marked : KeepsSnapshot c phase grey black entries buffer top tams heap block ghost.snapshot ghost.recording ghost.scanning
-  pub evacuated : IsEvacuating c phase cset evac claim free top tams heap black block ghost.owner ghost.copying ghost.working
-  pub updated : phase ≡ updating_phase → IsUpdating c cset claim top limit heap block ghost.scanning
-  pub pinned : ArePinned c cset evac block pin_words pin
+  pub marked : KeepsSnapshot config phase grey black entries buffer top tams heap block ghost.snapshot ghost.recording ghost.scanning
+  pub evacuated : IsEvacuating config phase cset evac claim free top tams heap black block ghost.owner ghost.copying ghost.working
+  pub updated : phase ≡ updating_phase → IsUpdating config cset claim top limit heap block ghost.scanning
+  pub pinned : ArePinned config cset evac block pin_words pin
 
 abbrev pub Shared : Config → World → Type 0
-Shared c w = SharedFacts c (λ r. w.memory (Top r)) (λ a. w.memory (Heap a)) w.block w.ghost w.graph.object w.graph.count (w.memory Phase) (w.memory Cset) (w.memory Evac)
-    (w.memory Free) (λ s. w.memory (Current s)) (λ n. w.memory (Grey n)) (λ n. w.memory (Black n)) (λ t. w.memory (Count t)) (λ t k. w.memory (Buffer t k)) (λ r. w.memory (Tams r))
-    (w.memory Claim) (λ r. w.memory (Limit r)) (w.memory Share) (λ t i. w.memory (Pin t i)) w.graph.pin
+Shared config world = SharedFacts config (λ r. world.memory (Top r)) (λ a. world.memory (Heap a)) world.block world.ghost world.graph.object world.graph.count (world.memory Phase) (world.memory Cset) (world.memory Evac)
+    (world.memory Free) (λ s. world.memory (Current s)) (λ n. world.memory (Grey n)) (λ n. world.memory (Black n)) (λ t. world.memory (Count t)) (λ t k. world.memory (Buffer t k)) (λ r. world.memory (Tams r))
+    (world.memory Claim) (λ r. world.memory (Limit r)) (world.memory Share) (λ t i. world.memory (Pin t i)) world.graph.pin
 
 -- a region of a world may be carved
 abbrev pub IsOpenIn : Config → World → ℕ → Type 0
-IsOpenIn c w = IsOpen c (w.memory Free) (w.memory Cset) w.ghost.owner
+IsOpenIn config world = IsOpen config (world.memory Free) (world.memory Cset) world.ghost.owner
 
 -- the object's current copy is at an address of a world, and may be used
 abbrev pub TargetIn : Config → World → (address refs nums : ℕ) → Name → Type 0
-TargetIn c w = Target c (w.memory Cset) (w.memory Evac) w.block
+TargetIn config world = Target config (world.memory Cset) (world.memory Evac) world.block
 
 -- a word may be used as a reference in a world
 abbrev pub UsableIn : Config → World → ℕ → Type 0
-UsableIn c w = IsUsable c (w.memory Cset) (w.memory Evac) w.block
+UsableIn config world = IsUsable config (world.memory Cset) (world.memory Evac) world.block
 
 -- what is noted in a world
 abbrev pub NotedIn : Config → World → ℕ → Type 0
-NotedIn c w v = IsNoted c (λ n. w.memory (Grey n)) (λ t. w.memory (Count t)) (λ t k. w.memory (Buffer t k)) w.ghost.recording v
+NotedIn config world seat = IsNoted config (λ n. world.memory (Grey n)) (λ t. world.memory (Count t)) (λ t k. world.memory (Buffer t k)) world.ghost.recording seat
 
 -- marking needs a field of the snapshot no more, if an object of it has that field
 abbrev pub IsCovered : Config → World → ℕ → ℕ → Type 0
-IsCovered c w a k = (refs nums : ℕ) (name : Name) → w.ghost.snapshot.block a ≡ Some (thing name refs nums) → k < refs → NeedsNoMarking w.ghost.snapshot (NotedIn c w) a k
+IsCovered config world address k = (refs nums : ℕ) (name : Name) → world.ghost.snapshot.block address ≡ Some (thing name refs nums) → k < refs → NeedsNoMarking world.ghost.snapshot (NotedIn config world) address k

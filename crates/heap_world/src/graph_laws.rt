@@ -11,5 +11,5 @@ ghost use Rattle.heap_world.specs.Shows.{WordsStand};
 /// A law: where the words of a table stand for a graph, and the words of the roots for the roots of its threads, the words of
 /// heap, roots and pin slots alone stand for it. No other thread has roots or pins.
 pub fn table_words_stand()
-    ensures { (c : Config) (words : List ℕ) (block : Plot) (ghost : Ghost) (g : Graph) → length words ≡ table_words c → Shared c (record { memory = view c words; block = block; ghost = ghost; graph = g }) → ((t i : ℕ) → t < c.mutators → i < 16 → Points block (view c words (Root t i)) (g.root (t + 1) i)) → HasNoMore c.mutators g → HasNoMorePins c.mutators g → WordsStand c.region_words (heap_in c words) (roots_in c words) (pins_in c words) (λ a. name_at (block a)) g }
+    ensures { (config : Config) (words : List ℕ) (block : Plot) (ghost : Ghost) (graph : Graph) → length words ≡ table_words config → Shared config (record { memory = view config words; block = block; ghost = ghost; graph = graph }) → ((mutator index : ℕ) → mutator < config.mutators → index < 16 → Points block (view config words (Root mutator index)) (graph.root (mutator + 1) index)) → HasNoMore config.mutators graph → HasNoMorePins config.mutators graph → WordsStand config.region_words (heap_in config words) (roots_in config words) (pins_in config words) (λ a. name_at (block a)) graph }
 {}

@@ -36,7 +36,7 @@ pub fn write_graph(
     requires slots { length pins.now ≡ 4 * length text.old.roots }
     requires few { length text.old.roots < 2 ^ 32 }
     requires stand { StandForSome first heap.now roots.now pins.now }
-    ensures shows { (at : ℕ → Option Name) (g : Graph) → WordsStand first heap.now roots.now pins.now at g → ShowsGraph text.new (length text.old.roots) g }
+    ensures shows { (at : ℕ → Option Name) (graph : Graph) → WordsStand first heap.now roots.now pins.now at graph → ShowsGraph text.new (length text.old.roots) graph }
 
     // The same memory serves again.
     ensures marks { IsMarked first marks.new order.new.items }

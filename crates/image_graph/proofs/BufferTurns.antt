@@ -17,82 +17,82 @@ use Rattle.image_graph.proofs.Settling as settling
 use Rattle.image_graph.proofs.LettingGo as letting
 
 -- a table has no more seats than the heap
-pub no_more_seats : (c : Config) (words : List ℕ) → HasNoMoreSeats c (view c words)
-no_more_seats c words seat past = view_none c words (Current seat) (grind (arith, nat_tests))
+pub no_more_seats : (config : Config) (words : List ℕ) → HasNoMoreSeats config (view config words)
+no_more_seats config words seat past = view_none config words (Current seat) (grind (arith, nat_tests))
 
-module _ (c : Config) (m : Word → ℕ) where
+module _ (config : Config) (memory : Word → ℕ) where
   -- What a turn makes: nothing, where the seat has no buffer, or settling finds that it ends at the top; and else the word is 0.
-  pub settled_none : (seat : ℕ) → m (Current seat) ≡ 0 → m ≡ settled_at c m seat
+  pub settled_none : (seat : ℕ) → memory (Current seat) ≡ 0 → memory ≡ settled_at config memory seat
   settled_none seat none =
-      sym (cond-true ((m (Current seat) == 0) || is_last c m (m (Current seat))) m (write (filled_over m (m (Current seat))) (Current seat) 0)
-      (ap (λ b. b || is_last c m (m (Current seat))) (eq-eqb (m (Current seat)) 0 none)))
+      sym (cond-true ((memory (Current seat) == 0) || is_last config memory (memory (Current seat))) memory (write (filled_over memory (memory (Current seat))) (Current seat) 0)
+      (ap (λ b. b || is_last config memory (memory (Current seat))) (eq-eqb (memory (Current seat)) 0 none)))
 
-  pub settled_stays : (seat : ℕ) → m (Current seat) ≢ 0 → is_last c m (m (Current seat)) ≡ true → m ≡ settled_at c m seat
+  pub settled_stays : (seat : ℕ) → memory (Current seat) ≢ 0 → is_last config memory (memory (Current seat)) ≡ true → memory ≡ settled_at config memory seat
   settled_stays seat some last =
-      sym (cond-true ((m (Current seat) == 0) || is_last c m (m (Current seat))) m (write (filled_over m (m (Current seat))) (Current seat) 0)
-      (ap (λ b. b || is_last c m (m (Current seat))) (ne_eqb (m (Current seat)) 0 some) ∙ last))
+      sym (cond-true ((memory (Current seat) == 0) || is_last config memory (memory (Current seat))) memory (write (filled_over memory (memory (Current seat))) (Current seat) 0)
+      (ap (λ b. b || is_last config memory (memory (Current seat))) (ne_eqb (memory (Current seat)) 0 some) ∙ last))
 
-  pub settled_gone : (seat : ℕ) → m (Current seat) ≢ 0 → is_last c m (m (Current seat)) ≡ false
-      → write (filled_over m (m (Current seat))) (Current seat) 0 ≡ settled_at c m seat
+  pub settled_gone : (seat : ℕ) → memory (Current seat) ≢ 0 → is_last config memory (memory (Current seat)) ≡ false
+      → write (filled_over memory (memory (Current seat))) (Current seat) 0 ≡ settled_at config memory seat
   settled_gone seat some inner =
-      sym (cond-false ((m (Current seat) == 0) || is_last c m (m (Current seat))) m (write (filled_over m (m (Current seat))) (Current seat) 0)
-      (ap (λ b. b || is_last c m (m (Current seat))) (ne_eqb (m (Current seat)) 0 some) ∙ inner))
+      sym (cond-false ((memory (Current seat) == 0) || is_last config memory (memory (Current seat))) memory (write (filled_over memory (memory (Current seat))) (Current seat) 0)
+      (ap (λ b. b || is_last config memory (memory (Current seat))) (ne_eqb (memory (Current seat)) 0 some) ∙ inner))
 
   abbrev without : ℕ → Word → ℕ
-  without seat = write (if is_last c m (m (Current seat)) then given_back c m (m (Current seat)) else filled_over m (m (Current seat))) (Current seat) 0
+  without seat = write (if is_last config memory (memory (Current seat)) then given_back config memory (memory (Current seat)) else filled_over memory (memory (Current seat))) (Current seat) 0
 
-  pub let_go_none : (seat : ℕ) → m (Current seat) ≡ 0 → m ≡ let_go_at c m seat
-  let_go_none seat none = sym (cond-true (m (Current seat) == 0) m (without seat) (eq-eqb (m (Current seat)) 0 none))
+  pub let_go_none : (seat : ℕ) → memory (Current seat) ≡ 0 → memory ≡ let_go_at config memory seat
+  let_go_none seat none = sym (cond-true (memory (Current seat) == 0) memory (without seat) (eq-eqb (memory (Current seat)) 0 none))
 
-  pub let_go_back : (seat : ℕ) → m (Current seat) ≢ 0 → is_last c m (m (Current seat)) ≡ true
-      → write (given_back c m (m (Current seat))) (Current seat) 0 ≡ let_go_at c m seat
+  pub let_go_back : (seat : ℕ) → memory (Current seat) ≢ 0 → is_last config memory (memory (Current seat)) ≡ true
+      → write (given_back config memory (memory (Current seat))) (Current seat) 0 ≡ let_go_at config memory seat
   let_go_back seat some last =
-      sym (ap (λ (k : Word → ℕ). write k (Current seat) 0) (cond-true (is_last c m (m (Current seat))) (given_back c m (m (Current seat))) (filled_over m (m (Current seat))) last))
-      ∙ sym (cond-false (m (Current seat) == 0) m (without seat) (ne_eqb (m (Current seat)) 0 some))
+      sym (ap (λ (memory : Word → ℕ). write memory (Current seat) 0) (cond-true (is_last config memory (memory (Current seat))) (given_back config memory (memory (Current seat))) (filled_over memory (memory (Current seat))) last))
+      ∙ sym (cond-false (memory (Current seat) == 0) memory (without seat) (ne_eqb (memory (Current seat)) 0 some))
 
-  pub let_go_filled : (seat : ℕ) → m (Current seat) ≢ 0 → is_last c m (m (Current seat)) ≡ false
-      → write (filled_over m (m (Current seat))) (Current seat) 0 ≡ let_go_at c m seat
+  pub let_go_filled : (seat : ℕ) → memory (Current seat) ≢ 0 → is_last config memory (memory (Current seat)) ≡ false
+      → write (filled_over memory (memory (Current seat))) (Current seat) 0 ≡ let_go_at config memory seat
   let_go_filled seat some inner =
-      sym (ap (λ (k : Word → ℕ). write k (Current seat) 0) (cond-false (is_last c m (m (Current seat))) (given_back c m (m (Current seat))) (filled_over m (m (Current seat))) inner))
-      ∙ sym (cond-false (m (Current seat) == 0) m (without seat) (ne_eqb (m (Current seat)) 0 some))
+      sym (ap (λ (memory : Word → ℕ). write memory (Current seat) 0) (cond-false (is_last config memory (memory (Current seat))) (given_back config memory (memory (Current seat))) (filled_over memory (memory (Current seat))) inner))
+      ∙ sym (cond-false (memory (Current seat) == 0) memory (without seat) (ne_eqb (memory (Current seat)) 0 some))
 
   -- All turns: none yet, and one more.
-  pub settled_first : m ≡ settled_below c m 0
+  pub settled_first : memory ≡ settled_below config memory 0
   unfolding settled_below
   settled_first = refl
 
-  pub settled_next : (n : ℕ) → settled_at c (settled_below c m n) n ≡ settled_below c m (n + 1)
+  pub settled_next : (n : ℕ) → settled_at config (settled_below config memory n) n ≡ settled_below config memory (n + 1)
   unfolding settled_below
-  settled_next n = let one : suc n ≡ n + 1 = omega arith in ap (settled_below c m) one
+  settled_next n = let one : suc n ≡ n + 1 = omega arith in ap (settled_below config memory) one
 
-  pub let_go_first : m ≡ let_go_below c m 0
+  pub let_go_first : memory ≡ let_go_below config memory 0
   unfolding let_go_below
   let_go_first = refl
 
-  pub let_go_next : (n : ℕ) → let_go_at c (let_go_below c m n) n ≡ let_go_below c m (n + 1)
+  pub let_go_next : (n : ℕ) → let_go_at config (let_go_below config memory n) n ≡ let_go_below config memory (n + 1)
   unfolding let_go_below
-  let_go_next n = let one : suc n ≡ n + 1 = omega arith in ap (let_go_below c m) one
+  let_go_next n = let one : suc n ≡ n + 1 = omega arith in ap (let_go_below config memory) one
 
   -- who had no turn yet has the buffer of before
-  pub settled_later : (n seat : ℕ) → n ≤ seat → settled_below c m n (Current seat) ≡ m (Current seat)
+  pub settled_later : (n seat : ℕ) → n ≤ seat → settled_below config memory n (Current seat) ≡ memory (Current seat)
   unfolding settled_below
   settled_later zero seat later = refl
   settled_later (suc n) seat later =
-      settling.turn_other c (settled_below c m n) n seat (λ same. omega (arith, same, later)) ∙ settled_later n seat (omega (arith, later))
+      settling.turn_other config (settled_below config memory n) n seat (λ same. omega (arith, same, later)) ∙ settled_later n seat (omega (arith, later))
 
-  pub let_go_later : (n seat : ℕ) → n ≤ seat → let_go_below c m n (Current seat) ≡ m (Current seat)
+  pub let_go_later : (n seat : ℕ) → n ≤ seat → let_go_below config memory n (Current seat) ≡ memory (Current seat)
   unfolding let_go_below
   let_go_later zero seat later = refl
   let_go_later (suc n) seat later =
-      letting.turn_other c (let_go_below c m n) n seat (λ same. omega (arith, same, later)) ∙ let_go_later n seat (omega (arith, later))
+      letting.turn_other config (let_go_below config memory n) n seat (λ same. omega (arith, same, later)) ∙ let_go_later n seat (omega (arith, later))
 
   -- the edge that seats leave
-  pub edge_first : (r : ℕ) → m (Top r) ≡ edge_below c m r 0
+  pub edge_first : (region : ℕ) → memory (Top region) ≡ edge_below config memory region 0
   unfolding edge_below
-  edge_first r = refl
+  edge_first region = refl
 
-  pub edge_next : (r seat : ℕ)
-      → (if is_last_in c m r seat && nat_lt (next_in (m (Current seat)) - base_of c r) (edge_below c m r seat) then next_in (m (Current seat)) - base_of c r else edge_below c m r seat)
-      ≡ edge_below c m r (seat + 1)
+  pub edge_next : (region seat : ℕ)
+      → (if is_last_in config memory region seat && nat_lt (next_in (memory (Current seat)) - base_of config region) (edge_below config memory region seat) then next_in (memory (Current seat)) - base_of config region else edge_below config memory region seat)
+      ≡ edge_below config memory region (seat + 1)
   unfolding edge_below
-  edge_next r seat = let one : suc seat ≡ seat + 1 = omega arith in ap (edge_below c m r) one
+  edge_next region seat = let one : suc seat ≡ seat + 1 = omega arith in ap (edge_below config memory region) one

@@ -22,43 +22,43 @@ use Rattle.image_graph.proofs.Emptied.{rebuffered}
 use Rattle.image_graph.proofs.Filled.{filled_stands}
 use Rattle.image_graph.proofs.GivenBack.{back_stands}
 
-module _ (Asks : (Word → ℕ) → Plot → Type 0) (of_roots : IsOfRoots Asks) (c : Config) (g : Graph) (asking : ℕ → Asking) where
+module _ (Asks : (Word → ℕ) → Plot → Type 0) (of_roots : IsOfRoots Asks) (config : Config) (graph : Graph) (asking : ℕ → Asking) where
   -- what words represent
   abbrev Stand : (Word → ℕ) → Type 0
-  Stand m = RepresentsWith (Asks m) c m g asking
+  Stand memory = RepresentsWith (Asks memory) config memory graph asking
 
-  module _ (m : Word → ℕ) (r : Stand m) (seat word : ℕ) (is : m (Current seat) ≡ word) (some : word ≢ 0) where
-    its : IsBuffer c (tops_of m) r.block seat word
-    its = subst (IsBuffer c (tops_of m) r.block seat) is (r.shared.owned.buffers.each seat (λ none. some (sym is ∙ none)))
+  module _ (memory : Word → ℕ) (r : Stand memory) (seat word : ℕ) (is : memory (Current seat) ≡ word) (some : word ≢ 0) where
+    its : IsBuffer config (tops_of memory) r.block seat word
+    its = subst (IsBuffer config (tops_of memory) r.block seat) is (r.shared.owned.buffers.each seat (λ none. some (sym is ∙ none)))
 
-    lies : IsInside c word
-    lies = buffer_inside c (tops_of m) r.block seat word its (r.shared.parsable.plotted.tops its.region its.within)
+    lies : IsInside config word
+    lies = buffer_inside config (tops_of memory) r.block seat word its (r.shared.parsable.plotted.tops its.region its.within)
 
     -- its free words are a piece
     free_piece : next_in word < end_in word → r.block (next_in word) ≡ Some (spare seat (end_in word - next_in word))
     free_piece more = ⊎_elim (λ there. there) (λ has. absurd (r.uncarved has.0 seat has.1 has.2)) (its.free more)
 
-  keeps_filling : KeepsFilling c Stand
+  keeps_filling : KeepsFilling config Stand
   keeps_filling = record {
-    drops = λ m r. rebuffered Asks of_roots c m g asking r;
-    fills = λ m r seat word is some more other. filled_stands Asks of_roots c m g asking r seat (next_in word) (end_in word - next_in word) (free_piece m r seat word is some more);
+    drops = λ memory r. rebuffered Asks of_roots config memory graph asking r;
+    fills = λ memory r seat word is some more other. filled_stands Asks of_roots config memory graph asking r seat (next_in word) (end_in word - next_in word) (free_piece memory r seat word is some more);
   }
 
-  keeps_turns : KeepsTurns c Stand
+  keeps_turns : KeepsTurns config Stand
   keeps_turns = record {
     filling = keeps_filling;
     lies = lies;
-    gives = λ m r seat word is some more last full.
-        let end : end_in word ≡ base_of c (buffer_region c word) + m (Top (buffer_region c word)) = eqb-true (end_in word) (base_of c (buffer_region c word) + m (Top (buffer_region c word))) last in
-        back_stands Asks of_roots c m g asking r seat (next_in word) (end_in word - next_in word) (buffer_region c word) (free_piece m r seat word is some more)
-        (lies m r seat word is some).region (lies m r seat word is some).from_base (omega (arith, more, end)) full;
+    gives = λ memory r seat word is some more last full.
+        let end : end_in word ≡ base_of config (buffer_region config word) + memory (Top (buffer_region config word)) = eqb-true (end_in word) (base_of config (buffer_region config word) + memory (Top (buffer_region config word))) last in
+        back_stands Asks of_roots config memory graph asking r seat (next_in word) (end_in word - next_in word) (buffer_region config word) (free_piece memory r seat word is some more)
+        (lies memory r seat word is some).region (lies memory r seat word is some).from_base (omega (arith, more, end)) full;
   }
 
-  pub settled_stands : (m : Word → ℕ) → Stand m → Stand (buffers_settled c m)
-  settled_stands m r = settled_by_turns c Stand keeps_filling m r (seat_count c.mutators c.helpers)
+  pub settled_stands : (memory : Word → ℕ) → Stand memory → Stand (buffers_settled config memory)
+  settled_stands memory r = settled_by_turns config Stand keeps_filling memory r (seat_count config.mutators config.helpers)
 
-  pub let_go_stands : (m : Word → ℕ) → ((seat : ℕ) → seat_count c.mutators c.helpers ≤ seat → m (Current seat) ≡ 0) → Stand m → Stand (let_go c m)
-  let_go_stands m beyond = let_go_by_turns c Stand keeps_turns m beyond
+  pub let_go_stands : (memory : Word → ℕ) → ((seat : ℕ) → seat_count config.mutators config.helpers ≤ seat → memory (Current seat) ≡ 0) → Stand memory → Stand (let_go config memory)
+  let_go_stands memory beyond = let_go_by_turns config Stand keeps_turns memory beyond
 
-  pub let_go_trims : (m : Word → ℕ) → Stand m → Stand (trim (let_go c m))
-  let_go_trims m r = trimmed_by_turns c Stand keeps_turns m r
+  pub let_go_trims : (memory : Word → ℕ) → Stand memory → Stand (trim (let_go config memory))
+  let_go_trims memory r = trimmed_by_turns config Stand keeps_turns memory r

@@ -10,12 +10,12 @@ use Rattle.heap_world.proofs.FreeRegions.{free_before}
 
 -- what is room in one is in the other
 pub record SameRoom (block plot : Plot) : Type 0 where
-  pub stays : (a seat : ℕ) (b : Block) → room_of b ≡ Some seat → block a ≡ Some b → plot a ≡ Some b
-  pub came : (a seat : ℕ) (b : Block) → room_of b ≡ Some seat → plot a ≡ Some b → block a ≡ Some b
+  pub stays : (address seat : ℕ) (piece : Block) → room_of piece ≡ Some seat → block address ≡ Some piece → plot address ≡ Some piece
+  pub came : (address seat : ℕ) (piece : Block) → room_of piece ≡ Some seat → plot address ≡ Some piece → block address ≡ Some piece
 
 -- all room is as it should be
-pub rooms_stay : (c : Config) (block plot : Plot) → SameRoom block plot → AreRooms c block → AreRooms c plot
-rooms_stay c block plot same rooms = record {
+pub rooms_stay : (config : Config) (block plot : Plot) → SameRoom block plot → AreRooms config block → AreRooms config plot
+rooms_stay config block plot same rooms = record {
   seated = λ a seat b is room. rooms.seated a seat b (same.came a seat b room is) room;
   hands = λ a seat words is. rooms.hands a seat words (same.came a seat (hand seat words) refl is);
   spares = λ a seat words is. rooms.spares a seat words (same.came a seat (spare seat words) refl is);
@@ -23,9 +23,9 @@ rooms_stay c block plot same rooms = record {
 }
 
 -- and buffers are as their words tell
-pub buffers_stay : (c : Config) (top new_top current : ℕ → ℕ) (block plot : Plot) → SameRoom block plot → (buffers : AreBuffers c top current block)
-    → ((seat : ℕ) (some : current seat ≢ 0) → top (buffers.each seat some).region ≤ new_top (buffers.each seat some).region) → AreBuffers c new_top current plot
-buffers_stay c top new_top current block plot same buffers rises = record {
+pub buffers_stay : (config : Config) (top new_top current : ℕ → ℕ) (block plot : Plot) → SameRoom block plot → (buffers : AreBuffers config top current block)
+    → ((seat : ℕ) (some : current seat ≢ 0) → top (buffers.each seat some).region ≤ new_top (buffers.each seat some).region) → AreBuffers config new_top current plot
+buffers_stay config top new_top current block plot same buffers rises = record {
   each = λ seat some.
       let was = buffers.each seat some in
       let high = was.to_top in
@@ -46,12 +46,12 @@ buffers_stay c top new_top current block plot same buffers rises = record {
 }
 
 -- a region is taken out of the free ones
-pub share_stays : (c : Config) (share free cset region : ℕ) (owner : ℕ → Option ℕ) → region < c.regions → ShareIsOpen c share free cset owner → ShareIsOpen c share (bit_and free (all_but region)) cset owner
-share_stays c share free cset region owner within open_one q is =
+pub share_stays : (config : Config) (share free cset region : ℕ) (owner : ℕ → Option ℕ) → region < config.regions → ShareIsOpen config share free cset owner → ShareIsOpen config share (bit_and free (all_but region)) cset owner
+share_stays config share free cset region owner within open_one q is =
     let was = open_one q is in
     record {
       within = was.within;
-      in_use = λ inside. was.in_use (free_before c free region within q was.within inside);
+      in_use = λ inside. was.in_use (free_before config free region within q was.within inside);
       nobodys = was.nobodys;
       outside = was.outside;
     }

@@ -49,48 +49,48 @@ all_counted test n =
     (cases_Bool (test r))) in
     omega (arith, sum_both fails passes n, same, ones n)
 
-module _ (c : Config) (m : Word → ℕ) (block : Plot) (g : Graph) (p : Promises)
-    (holds : HoldsGraph c (λ r. m (Top r)) (λ a. m (Heap a)) block (now_in m) (IsAmong (held_words c m)) (with_promised g p)) (rooted : RootsStand c m block g p) where
+module _ (config : Config) (memory : Word → ℕ) (block : Plot) (graph : Graph) (promises : Promises)
+    (holds : HoldsGraph config (λ r. memory (Top r)) (λ a. memory (Heap a)) block (now_in memory) (IsAmong (held_words config memory)) (with_promised graph promises)) (rooted : RootsStand config memory block graph promises) where
   abbrev shut : ℕ → Bool
-  shut = is_row_pinned c m
+  shut = is_row_pinned config memory
 
   abbrev kept : ℕ → ℕ
-  kept = kept_in c m
+  kept = kept_in config memory
 
   -- what a slot holds is kept at its place, in a region that is pinned
-  pub pinned_there : ArePinnedThere c.region_words shut block kept g
+  pub pinned_there : ArePinnedThere config.region_words shut block kept graph
   pinned_there t i pinned is =
       let at = rooted.no_more_pins t i pinned is in
-      let same : g.pin (at.0 + 1) i ≡ Some pinned = ap (λ u. g.pin u i) (sym at.2) ∙ is in
-      let word = m (Pin at.0 i) in
-      let copy = pin_copy m block word (g.pin (at.0 + 1) i) pinned (rooted.pins at.0 i at.1 at.3) same in
+      let same : graph.pin (at.0 + 1) i ≡ Some pinned = ap (λ u. graph.pin u i) (sym at.2) ∙ is in
+      let word = memory (Pin at.0 i) in
+      let copy = pin_copy memory block word (graph.pin (at.0 + 1) i) pinned (rooted.pins at.0 i at.1 at.3) same in
       let piece = copy.1 in
-      let lies = piece_inside c (λ r. m (Top r)) block holds.plotted word (thing pinned.name piece.0 piece.1) piece.2 in
-      let other = none_at_0 c (λ r. m (Top r)) block holds.plotted word pinned.name (ap name_at piece.2) in
-      let closed = word_pinned c m at.0 i at.1 at.3 lies.0 (omega (arith, lies.1)) in
-      let own : now_in m word ≡ word = cond-false (is_forwarded (m (Heap word))) (forwardee_in (m (Heap word))) word copy.2 in
-      let led = (walk_keeps c m block (with_promised g p) holds).words (now_in m word)
-      (from_root word (pin_among c (λ r. m (Top r)) m block g p holds.plotted rooted at.0 i at.1 at.3) other) in
-      let size : kept (now_in m word) ≡ kept word = ap kept own in
+      let lies = piece_inside config (λ r. memory (Top r)) block holds.plotted word (thing pinned.name piece.0 piece.1) piece.2 in
+      let other = none_at_0 config (λ r. memory (Top r)) block holds.plotted word pinned.name (ap name_at piece.2) in
+      let closed = word_pinned config memory at.0 i at.1 at.3 lies.0 (omega (arith, lies.1)) in
+      let own : now_in memory word ≡ word = cond-false (is_forwarded (memory (Heap word))) (forwardee_in (memory (Heap word))) word copy.2 in
+      let led = (walk_keeps config memory block (with_promised graph promises) holds).words (now_in memory word)
+      (from_root word (pin_among config (λ r. memory (Top r)) memory block graph promises holds.plotted rooted at.0 i at.1 at.3) other) in
+      let size : kept (now_in memory word) ≡ kept word = ap kept own in
       let some : 0 < kept word = omega (arith, led, size) in
-      (subst (λ a. 0 < kept a) copy.0 some, ap (λ a. shut (a / c.region_words)) (sym copy.0) ∙ closed, subst (λ a. IsCopy block a pinned.name) copy.0 piece)
+      (subst (λ a. 0 < kept a) copy.0 some, ap (λ a. shut (a / config.region_words)) (sym copy.0) ∙ closed, subst (λ a. IsCopy block a pinned.name) copy.0 piece)
 
-  module _ (rows : List ℕ) (regions : ArePinnedRegions c.region_words g rows) where
+  module _ (rows : List ℕ) (regions : ArePinnedRegions config.region_words graph rows) where
     -- the row of a pinned region is that of a slot's object
     abbrev HasRow : ℕ → Type 0
-    HasRow r = (k : ℕ) × (k < length rows) × (get_or rows k 0 ≡ r + 1)
+    HasRow r = (index : ℕ) × (index < length rows) × (get_or rows index 0 ≡ r + 1)
 
-    row_listed : (r : ℕ) → r < c.regions → shut (r + 1) ≡ true → HasRow r
-    row_listed r inside closed =
-        let at = has_slot c m r inside closed in
-        let word = m (Pin at.0 at.1) in
+    row_listed : (region : ℕ) → region < config.regions → shut (region + 1) ≡ true → HasRow region
+    row_listed region inside closed =
+        let at = has_slot config memory region inside closed in
+        let word = memory (Pin at.0 at.1) in
         let stands = rooted.pins at.0 at.1 at.2 at.3 in
-        let some : word ≢ 0 = λ none. omega (arith, none, at.4, c.in_range.least_words) in
-        let held = pin_some m block word (g.pin (at.0 + 1) at.1) stands some in
-        let copy = pin_copy m block word (g.pin (at.0 + 1) at.1) held.0 stands held.1 in
-        let row : held.0.place / c.region_words ≡ r + 1 = ap (λ k. k / c.region_words) (sym copy.0) ∙ row_is c.region_words r word at.4 at.5 in
+        let some : word ≢ 0 = λ none. omega (arith, none, at.4, config.in_range.least_words) in
+        let held = pin_some memory block word (graph.pin (at.0 + 1) at.1) stands some in
+        let copy = pin_copy memory block word (graph.pin (at.0 + 1) at.1) held.0 stands held.1 in
+        let row : held.0.place / config.region_words ≡ region + 1 = ap (λ k. k / config.region_words) (sym copy.0) ∙ row_is config.region_words region word at.4 at.5 in
         let found = regions.all (at.0 + 1) at.1 held.0 held.1 in
-        (found.0, found.1, get_or_default rows found.0 0 (held.0.place / c.region_words) found.1 ∙ found.2 ∙ row)
+        (found.0, found.1, get_or_default rows found.0 0 (held.0.place / config.region_words) found.1 ∙ found.2 ∙ row)
 
     abbrev one : ℕ → ℕ
     one r = cond (shut (r + 1)) 1 0
@@ -105,9 +105,9 @@ module _ (c : Config) (m : Word → ℕ) (block : Plot) (g : Graph) (p : Promise
     one_at_most r = cond_both (shut (r + 1)) 1 0 (λ k. k ≤ 1) (λ _. omega arith) (λ _. omega arith)
 
     -- so there are no more pinned regions than rows
-    pub few_are_shut : sum_below one c.regions ≤ length rows
+    pub few_are_shut : sum_below one config.regions ≤ length rows
     few_are_shut =
-        let less = sum_of_things one (λ k. 1) c.regions (length rows)
+        let less = sum_of_things one (λ k. 1) config.regions (length rows)
         (λ r below some. let at = row_listed r below (shut_if r some) in (at.0, at.1, one_at_most r))
         (λ r q less_r some_r less_q some_q same.
         let at = row_listed r less_r (shut_if r some_r) in
@@ -117,45 +117,45 @@ module _ (c : Config) (m : Word → ℕ) (block : Plot) (g : Graph) (p : Promise
         in
         omega (arith, less, ones (length rows))
 
-    pub many_are_open : c.regions - length rows ≤ count_where (λ r. not (shut (r + 1))) c.regions
-    many_are_open = omega (arith, few_are_shut, all_counted (λ r. shut (r + 1)) c.regions)
+    pub many_are_open : config.regions - length rows ≤ count_where (λ r. not (shut (r + 1))) config.regions
+    many_are_open = omega (arith, few_are_shut, all_counted (λ r. shut (r + 1)) config.regions)
 
 -- packing leaves what is asked for as it is
-same_asked : (c : Config) (m : Word → ℕ) (shut : ℕ → Bool) (now kept : ℕ → ℕ) (t : ℕ) → (packed c shut now kept m (Wait t) ≡ m (Wait t)) × (asked_in (packed c shut now kept m) t ≡ asked_in m t)
+same_asked : (config : Config) (memory : Word → ℕ) (shut : ℕ → Bool) (now kept : ℕ → ℕ) (mutator : ℕ) → (packed config shut now kept memory (Wait mutator) ≡ memory (Wait mutator)) × (asked_in (packed config shut now kept memory) mutator ≡ asked_in memory mutator)
 unfolding packed
-same_asked c m shut now kept t = (refl, refl)
+same_asked config memory shut now kept mutator = (refl, refl)
 
-pub full_is_crowded : (c : Config) (m : Word → ℕ) (block : Plot) (g : Graph) (p : Promises) (names : List Name) (held pinned : ℕ)
-    → HoldsGraph c (λ r. m (Top r)) (λ a. m (Heap a)) block (now_in m) (IsAmong (held_words c m)) (with_promised g p)
-    → RootsStand c m block g p → AreFresh c.mutators g p → IsReach g names → Held g held → PinnedRegions c.region_words g pinned
-    → (t : ℕ) → t < c.mutators → m (Wait t) ≢ 0 → asked_in m t ≤ c.region_words → full_from c m (Answer t) ≡ 1
-    → (c.regions - pinned) * (c.region_words - asked_in m t + 1)
-    ≤ sum_by (λ n. size (named g (Some n))) names - held + sum_below (promised_words p) (c.mutators + 1)
-    + sum_below (given_in c (packed c (is_row_pinned c m) (now_in m) (kept_in c m) m)) t
-full_is_crowded c m block g p names held pinned holds rooted fresh reach is_held regions t inside waits short is =
-    let now : ℕ → ℕ = now_in m in
-    let kept : ℕ → ℕ = kept_in c m in
-    let shut : ℕ → Bool = is_row_pinned c m in
-    let after : Word → ℕ = packed c shut now kept m in
+pub full_is_crowded : (config : Config) (memory : Word → ℕ) (block : Plot) (graph : Graph) (promises : Promises) (names : List Name) (held pinned : ℕ)
+    → HoldsGraph config (λ r. memory (Top r)) (λ a. memory (Heap a)) block (now_in memory) (IsAmong (held_words config memory)) (with_promised graph promises)
+    → RootsStand config memory block graph promises → AreFresh config.mutators graph promises → IsReach graph names → Held graph held → PinnedRegions config.region_words graph pinned
+    → (mutator : ℕ) → mutator < config.mutators → memory (Wait mutator) ≢ 0 → asked_in memory mutator ≤ config.region_words → full_from config memory (Answer mutator) ≡ 1
+    → (config.regions - pinned) * (config.region_words - asked_in memory mutator + 1)
+    ≤ sum_by (λ n. size (named graph (Some n))) names - held + sum_below (promised_words promises) (config.mutators + 1)
+    + sum_below (given_in config (packed config (is_row_pinned config memory) (now_in memory) (kept_in config memory) memory)) mutator
+full_is_crowded config memory block graph promises names held pinned holds rooted fresh reach is_held regions mutator inside waits short is =
+    let now : ℕ → ℕ = now_in memory in
+    let kept : ℕ → ℕ = kept_in config memory in
+    let shut : ℕ → Bool = is_row_pinned config memory in
+    let after : Word → ℕ = packed config shut now kept memory in
     let open_one : ℕ → Bool = λ r. not (shut (r + 1)) in
-    let are = walk_keeps c m block (with_promised g p) holds in
-    let can = can_pack c (λ r. m (Top r)) (λ a. m (Heap a)) block now (IsAmong (held_words c m)) (with_promised g p) holds kept are in
-    let sum = open_tops_sum c m block (with_promised g p).object shut now kept can in
-    let live = open_kept_are_fewer c shut (λ r. m (Top r)) (λ a. m (Heap a)) block now kept (IsAmong (held_words c m)) g p names held holds are fresh reach is_held
-    (pinned_there c m block g p holds rooted) (heap_end c) in
-    let same = same_asked c m shut now kept t in
-    let answered = (requests_are_answered c after).answered t inside (λ is_zero. waits (sym same.0 ∙ is_zero)) in
+    let are = walk_keeps config memory block (with_promised graph promises) holds in
+    let can = can_pack config (λ r. memory (Top r)) (λ a. memory (Heap a)) block now (IsAmong (held_words config memory)) (with_promised graph promises) holds kept are in
+    let sum = open_tops_sum config memory block (with_promised graph promises).object shut now kept can in
+    let live = open_kept_are_fewer config shut (λ r. memory (Top r)) (λ a. memory (Heap a)) block now kept (IsAmong (held_words config memory)) graph promises names held holds are fresh reach is_held
+    (pinned_there config memory block graph promises holds rooted) (heap_end config) in
+    let same = same_asked config memory shut now kept mutator in
+    let answered = (requests_are_answered config after).answered mutator inside (λ is_zero. waits (sym same.0 ∙ is_zero)) in
     ⊎_elim
-    (λ (given : (r : ℕ) × IsLowestRoom c.region_words (tops_at_turn c after t) (asked_in after t) c.regions r).
+    (λ (given : (r : ℕ) × IsLowestRoom config.region_words (tops_at_turn config after mutator) (asked_in after mutator) config.regions r).
     let answer = answered.given given.0 given.1 in
-    let low : 1 * c.region_words ≤ (given.0 + 1) * c.region_words = mul-le-mul_right c.region_words (omega arith) in
-    absurd (omega (arith, is, answer, low, c.in_range.least_words)))
-    (λ (none : NoneHasRoom c.region_words (tops_at_turn c after t) (asked_in after t) c.regions).
+    let low : 1 * config.region_words ≤ (given.0 + 1) * config.region_words = mul-le-mul_right config.region_words (omega arith) in
+    absurd (omega (arith, is, answer, low, config.in_range.least_words)))
+    (λ (none : NoneHasRoom config.region_words (tops_at_turn config after mutator) (asked_in after mutator) config.regions).
     let crowded = answered.crowded open_one none (omega (arith, same.1, short)) in
-    let many : c.regions - pinned ≤ count_where open_one c.regions = omega (arith, many_are_open c m block g p holds rooted regions.0 regions.1, regions.2) in
-    let product : (c.regions - pinned) * (c.region_words - asked_in m t + 1) ≤ count_where open_one c.regions * (c.region_words - asked_in m t + 1) =
-    mul-le-mul_right (c.region_words - asked_in m t + 1) many in
-    let asked : count_where open_one c.regions * (c.region_words - asked_in after t + 1) ≡ count_where open_one c.regions * (c.region_words - asked_in m t + 1) =
-    ap (λ (n : ℕ). count_where open_one c.regions * (c.region_words - n + 1)) same.1 in
+    let many : config.regions - pinned ≤ count_where open_one config.regions = omega (arith, many_are_open config memory block graph promises holds rooted regions.0 regions.1, regions.2) in
+    let product : (config.regions - pinned) * (config.region_words - asked_in memory mutator + 1) ≤ count_where open_one config.regions * (config.region_words - asked_in memory mutator + 1) =
+    mul-le-mul_right (config.region_words - asked_in memory mutator + 1) many in
+    let asked : count_where open_one config.regions * (config.region_words - asked_in after mutator + 1) ≡ count_where open_one config.regions * (config.region_words - asked_in memory mutator + 1) =
+    ap (λ (n : ℕ). count_where open_one config.regions * (config.region_words - n + 1)) same.1 in
     omega (arith, crowded, product, asked, sum, live))
     answered.either

@@ -19,109 +19,109 @@ use Rattle.image_graph.specs.Divided.{AreDivided}
 use Rattle.image_graph.proofs.Inside.{buffer_region_is}
 
 -- an edge is the top, or where the free words of a last buffer begin
-data IsEdge (c : Config) (m : Word → ℕ) (r e : ℕ) : Type 0 where
-  is_top : e ≡ m (Top r) → IsEdge c m r e
-  is_next : (seat : ℕ) → is_last_in c m r seat ≡ true → e ≡ next_in (m (Current seat)) - base_of c r → IsEdge c m r e
+data IsEdge (config : Config) (memory : Word → ℕ) (region e : ℕ) : Type 0 where
+  is_top : e ≡ memory (Top region) → IsEdge config memory region e
+  is_next : (seat : ℕ) → is_last_in config memory region seat ≡ true → e ≡ next_in (memory (Current seat)) - base_of config region → IsEdge config memory region e
 
-module _ (c : Config) (m : Word → ℕ) (r : ℕ) where
-  lesser_is : (seat least : ℕ) → IsEdge c m r least
-      → IsEdge c m r (if is_last_in c m r seat && nat_lt (next_in (m (Current seat)) - base_of c r) least then next_in (m (Current seat)) - base_of c r else least)
+module _ (config : Config) (memory : Word → ℕ) (region : ℕ) where
+  lesser_is : (seat least : ℕ) → IsEdge config memory region least
+      → IsEdge config memory region (if is_last_in config memory region seat && nat_lt (next_in (memory (Current seat)) - base_of config region) least then next_in (memory (Current seat)) - base_of config region else least)
   lesser_is seat least was = ⊎_elim
-      (λ (yes : (is_last_in c m r seat && nat_lt (next_in (m (Current seat)) - base_of c r) least) ≡ true).
-      IsEdge.is_next seat (and_parts (is_last_in c m r seat) (nat_lt (next_in (m (Current seat)) - base_of c r) least) yes).0
-      (cond-true (is_last_in c m r seat && nat_lt (next_in (m (Current seat)) - base_of c r) least) (next_in (m (Current seat)) - base_of c r) least yes))
-      (λ (no : (is_last_in c m r seat && nat_lt (next_in (m (Current seat)) - base_of c r) least) ≡ false).
-      subst (IsEdge c m r) (sym (cond-false (is_last_in c m r seat && nat_lt (next_in (m (Current seat)) - base_of c r) least) (next_in (m (Current seat)) - base_of c r) least no)) was)
-      (cases_Bool (is_last_in c m r seat && nat_lt (next_in (m (Current seat)) - base_of c r) least))
+      (λ (yes : (is_last_in config memory region seat && nat_lt (next_in (memory (Current seat)) - base_of config region) least) ≡ true).
+      IsEdge.is_next seat (and_parts (is_last_in config memory region seat) (nat_lt (next_in (memory (Current seat)) - base_of config region) least) yes).0
+      (cond-true (is_last_in config memory region seat && nat_lt (next_in (memory (Current seat)) - base_of config region) least) (next_in (memory (Current seat)) - base_of config region) least yes))
+      (λ (no : (is_last_in config memory region seat && nat_lt (next_in (memory (Current seat)) - base_of config region) least) ≡ false).
+      subst (IsEdge config memory region) (sym (cond-false (is_last_in config memory region seat && nat_lt (next_in (memory (Current seat)) - base_of config region) least) (next_in (memory (Current seat)) - base_of config region) least no)) was)
+      (cases_Bool (is_last_in config memory region seat && nat_lt (next_in (memory (Current seat)) - base_of config region) least))
 
-  edge_is : (n : ℕ) → IsEdge c m r (edge_below c m r n)
+  edge_is : (n : ℕ) → IsEdge config memory region (edge_below config memory region n)
   unfolding edge_below
   edge_is zero = IsEdge.is_top refl
-  edge_is (suc n) = lesser_is n (edge_below c m r n) (edge_is n)
+  edge_is (suc n) = lesser_is n (edge_below config memory region n) (edge_is n)
 
 -- what it is to be the last one in a region
-last_parts : (c : Config) (m : Word → ℕ) (r seat : ℕ) → is_last_in c m r seat ≡ true → (m (Current seat) ≢ 0) × (buffer_region c (m (Current seat)) ≡ r) × (is_last c m (m (Current seat)) ≡ true)
-last_parts c m r seat is =
-    let both = and_parts (not (m (Current seat) == 0) && (buffer_region c (m (Current seat)) == r)) (is_last c m (m (Current seat))) is in
-    let first = and_parts (not (m (Current seat) == 0)) (buffer_region c (m (Current seat)) == r) both.0 in
-    (eqb-false (m (Current seat)) 0 (not-true (m (Current seat) == 0) first.0), eqb-true (buffer_region c (m (Current seat))) r first.1, both.1)
+last_parts : (config : Config) (memory : Word → ℕ) (r seat : ℕ) → is_last_in config memory r seat ≡ true → (memory (Current seat) ≢ 0) × (buffer_region config (memory (Current seat)) ≡ r) × (is_last config memory (memory (Current seat)) ≡ true)
+last_parts config memory r seat is =
+    let both = and_parts (not (memory (Current seat) == 0) && (buffer_region config (memory (Current seat)) == r)) (is_last config memory (memory (Current seat))) is in
+    let first = and_parts (not (memory (Current seat) == 0)) (buffer_region config (memory (Current seat)) == r) both.0 in
+    (eqb-false (memory (Current seat)) 0 (not-true (memory (Current seat) == 0) first.0), eqb-true (buffer_region config (memory (Current seat))) r first.1, both.1)
 
-module _ (c : Config) (m : Word → ℕ) (block : Plot) (plotted : IsPlotted c (λ r. m (Top r)) block) (long_enough : (a : ℕ) (x : Block) → block a ≡ Some x → 1 ≤ words_of x)
-    (buffers : AreBuffers c (λ r. m (Top r)) (λ s. m (Current s)) block) (uncarved : (a seat words : ℕ) → block a ≡ Some (carved seat words) → ⊥) where
+module _ (config : Config) (memory : Word → ℕ) (block : Plot) (plotted : IsPlotted config (λ r. memory (Top r)) block) (long_enough : (a : ℕ) (x : Block) → block a ≡ Some x → 1 ≤ words_of x)
+    (buffers : AreBuffers config (λ r. memory (Top r)) (λ s. memory (Current s)) block) (uncarved : (a seat words : ℕ) → block a ≡ Some (carved seat words) → ⊥) where
   abbrev tops : ℕ → ℕ
-  tops q = m (Top q)
+  tops region = memory (Top region)
 
   -- the region of a buffer
-  region_is : (seat : ℕ) (b : IsBuffer c tops block seat (m (Current seat))) → buffer_region c (m (Current seat)) ≡ b.region
-  region_is seat b = buffer_region_is c tops block seat (m (Current seat)) b (plotted.tops b.region b.within)
+  region_is : (seat : ℕ) (b : IsBuffer config tops block seat (memory (Current seat))) → buffer_region config (memory (Current seat)) ≡ b.region
+  region_is seat b = buffer_region_is config tops block seat (memory (Current seat)) b (plotted.tops b.region b.within)
 
   -- a piece lies in its region, below the top
-  piece_place : (a : ℕ) (x : Block) → block a ≡ Some x → (base_of c (region_with c a) ≤ a) × (a + words_of x ≤ base_of c (region_with c a) + tops (region_with c a))
-  piece_place a x is =
-      let used = plotted.in_use a x is in
+  piece_place : (address : ℕ) (piece : Block) → block address ≡ Some piece → (base_of config (region_with config address) ≤ address) × (address + words_of piece ≤ base_of config (region_with config address) + tops (region_with config address))
+  piece_place address piece is =
+      let used = plotted.in_use address piece is in
       let most = plotted.tops used.region used.within in
       let low = used.from_base in
       let high = used.to_top in
-      let long = long_enough a x is in
-      let of : region_with c a ≡ used.region = regions_tile.of_no_other c used.region a (record { from = low; before = omega (arith, high, most, long) }) in
-      subst (λ q. (base_of c q ≤ a) × (a + words_of x ≤ base_of c q + tops q)) (sym of) (low, high)
+      let long = long_enough address piece is in
+      let of : region_with config address ≡ used.region = regions_tile.of_no_other config used.region address (record { from = low; before = omega (arith, high, most, long) }) in
+      subst (λ q. (base_of config q ≤ address) × (address + words_of piece ≤ base_of config q + tops q)) (sym of) (low, high)
 
   -- what is not room lies below its region's edge
-  others_below : (a : ℕ) (x : Block) → block a ≡ Some x → room_of x ≡ None → IsYoung c (edge c m) a → ⊥
-  others_below a x is no_room young = by_edge (edge c m (region_with c a)) (edge_is c m (region_with c a) (seat_count c.mutators c.helpers)) young
+  others_below : (address : ℕ) (piece : Block) → block address ≡ Some piece → room_of piece ≡ None → IsYoung config (edge config memory) address → ⊥
+  others_below address piece is no_room young = by_edge (edge config memory (region_with config address)) (edge_is config memory (region_with config address) (seat_count config.mutators config.helpers)) young
     where
-      by_edge : (e : ℕ) → IsEdge c m (region_with c a) e → base_of c (region_with c a) + e ≤ a → ⊥
+      by_edge : (e : ℕ) → IsEdge config memory (region_with config address) e → base_of config (region_with config address) + e ≤ address → ⊥
       by_edge e (IsEdge.is_top is_e) above =
-          let place = (piece_place a x is).1 in
-          let long = long_enough a x is in
+          let place = (piece_place address piece is).1 in
+          let long = long_enough address piece is in
           omega (arith, place, long, above, is_e)
       by_edge e (IsEdge.is_next seat last is_e) above =
-          let parts = last_parts c m (region_with c a) seat last in
+          let parts = last_parts config memory (region_with config address) seat last in
           let b = buffers.each seat parts.0 in
-          let end : end_in (m (Current seat)) ≡ base_of c (buffer_region c (m (Current seat))) + tops (buffer_region c (m (Current seat))) =
-          eqb-true (end_in (m (Current seat))) (base_of c (buffer_region c (m (Current seat))) + tops (buffer_region c (m (Current seat)))) parts.2 in
-          let end_here : end_in (m (Current seat)) ≡ base_of c (region_with c a) + tops (region_with c a) = subst (λ q. end_in (m (Current seat)) ≡ base_of c q + tops q) parts.1 end in
-          let low : base_of c (region_with c a) ≤ next_in (m (Current seat)) = subst (λ q. base_of c q ≤ next_in (m (Current seat))) (sym (region_is seat b) ∙ parts.1) b.from_base in
-          let place = (piece_place a x is).1 in
-          let long = long_enough a x is in
-          let from : next_in (m (Current seat)) ≤ a = omega (arith, above, is_e, low) in
-          let more : next_in (m (Current seat)) < end_in (m (Current seat)) = omega (arith, from, place, long, end_here) in
-          let free : block (next_in (m (Current seat))) ≡ Some (spare seat (end_in (m (Current seat)) - next_in (m (Current seat)))) =
+          let end : end_in (memory (Current seat)) ≡ base_of config (buffer_region config (memory (Current seat))) + tops (buffer_region config (memory (Current seat))) =
+          eqb-true (end_in (memory (Current seat))) (base_of config (buffer_region config (memory (Current seat))) + tops (buffer_region config (memory (Current seat)))) parts.2 in
+          let end_here : end_in (memory (Current seat)) ≡ base_of config (region_with config address) + tops (region_with config address) = subst (λ q. end_in (memory (Current seat)) ≡ base_of config q + tops q) parts.1 end in
+          let low : base_of config (region_with config address) ≤ next_in (memory (Current seat)) = subst (λ q. base_of config q ≤ next_in (memory (Current seat))) (sym (region_is seat b) ∙ parts.1) b.from_base in
+          let place = (piece_place address piece is).1 in
+          let long = long_enough address piece is in
+          let from : next_in (memory (Current seat)) ≤ address = omega (arith, above, is_e, low) in
+          let more : next_in (memory (Current seat)) < end_in (memory (Current seat)) = omega (arith, from, place, long, end_here) in
+          let free : block (next_in (memory (Current seat))) ≡ Some (spare seat (end_in (memory (Current seat)) - next_in (memory (Current seat)))) =
           ⊎_elim (λ there. there) (λ has. absurd (uncarved has.0 seat has.1 has.2)) (b.free more) in
           ⊎_elim
-          (λ (same : next_in (m (Current seat)) ≡ a).
-          none-some seat (sym no_room ∙ ap room_of (same_Some x (spare seat (end_in (m (Current seat)) - next_in (m (Current seat)))) (sym is ∙ ap block (sym same) ∙ free))))
-          (λ (other : next_in (m (Current seat)) ≢ a).
-          let far = plotted.apart (next_in (m (Current seat))) a (spare seat (end_in (m (Current seat)) - next_in (m (Current seat)))) x free is (omega (arith, from, other)) in
+          (λ (same : next_in (memory (Current seat)) ≡ address).
+          none-some seat (sym no_room ∙ ap room_of (same_Some piece (spare seat (end_in (memory (Current seat)) - next_in (memory (Current seat)))) (sym is ∙ ap block (sym same) ∙ free))))
+          (λ (other : next_in (memory (Current seat)) ≢ address).
+          let far = plotted.apart (next_in (memory (Current seat))) address (spare seat (end_in (memory (Current seat)) - next_in (memory (Current seat)))) piece free is (omega (arith, from, other)) in
           omega (arith, far, more, place, long, end_here))
-          (cases_eq (next_in (m (Current seat))) a)
+          (cases_eq (next_in (memory (Current seat))) address)
 
   -- free words lie at or above it, where each buffer is the last of its region
-  spare_above : AreLast c m → (a seat words : ℕ) → seat < seat_count c.mutators c.helpers → block a ≡ Some (spare seat words) → IsYoung c (edge c m) a
-  spare_above last a seat words seated is =
-      let own = buffers.spares a seat words is in
+  spare_above : AreLast config memory → (address seat words : ℕ) → seat < seat_count config.mutators config.helpers → block address ≡ Some (spare seat words) → IsYoung config (edge config memory) address
+  spare_above last address seat words seated is =
+      let own = buffers.spares address seat words is in
       let one = own.0 in
       let two = own.1 in
-      let long = long_enough a (spare seat words) is in
-      let some : m (Current seat) ≢ 0 = λ none. (let zero_end = ap end_in none in omega (arith, zero_end, two, long)) in
+      let long = long_enough address (spare seat words) is in
+      let some : memory (Current seat) ≢ 0 = λ none. (let zero_end = ap end_in none in omega (arith, zero_end, two, long)) in
       let b = buffers.each seat some in
-      let is_it : is_last c m (m (Current seat)) ≡ true = ⊎_elim (λ none. absurd (some none)) (λ yes. yes) (last seat seated) in
-      let of : region_with c a ≡ b.region =
+      let is_it : is_last config memory (memory (Current seat)) ≡ true = ⊎_elim (λ none. absurd (some none)) (λ yes. yes) (last seat seated) in
+      let of : region_with config address ≡ b.region =
       (let low = b.from_base in let high = b.to_top in let most = plotted.tops b.region b.within in
-      regions_tile.of_no_other c b.region a (record { from = omega (arith, low, one); before = omega (arith, high, most, one, two, long) })) in
-      let last_here : is_last_in c m (region_with c a) seat ≡ true =
-      and_from (not (m (Current seat) == 0) && (buffer_region c (m (Current seat)) == region_with c a)) (is_last c m (m (Current seat)))
-      (and_from (not (m (Current seat) == 0)) (buffer_region c (m (Current seat)) == region_with c a) (not_from_false (m (Current seat) == 0) (ne_eqb (m (Current seat)) 0 some))
-      (eq-eqb (buffer_region c (m (Current seat))) (region_with c a) (region_is seat b ∙ sym of))) is_it in
-      let low = (edges_lie c m (region_with c a)).below_free seat seated last_here in
-      let base : base_of c (region_with c a) ≤ next_in (m (Current seat)) = subst (λ q. base_of c q ≤ next_in (m (Current seat))) (sym of) b.from_base in
+      regions_tile.of_no_other config b.region address (record { from = omega (arith, low, one); before = omega (arith, high, most, one, two, long) })) in
+      let last_here : is_last_in config memory (region_with config address) seat ≡ true =
+      and_from (not (memory (Current seat) == 0) && (buffer_region config (memory (Current seat)) == region_with config address)) (is_last config memory (memory (Current seat)))
+      (and_from (not (memory (Current seat) == 0)) (buffer_region config (memory (Current seat)) == region_with config address) (not_from_false (memory (Current seat) == 0) (ne_eqb (memory (Current seat)) 0 some))
+      (eq-eqb (buffer_region config (memory (Current seat))) (region_with config address) (region_is seat b ∙ sym of))) is_it in
+      let low = (edges_lie config memory (region_with config address)).below_free seat seated last_here in
+      let base : base_of config (region_with config address) ≤ next_in (memory (Current seat)) = subst (λ q. base_of config q ≤ next_in (memory (Current seat))) (sym of) b.from_base in
       omega (arith, low, base, one)
 
-  pub divided : ((a seat words : ℕ) → block a ≡ Some (hand seat words) → ⊥) → ((a seat words : ℕ) → block a ≡ Some (spare seat words) → seat < seat_count c.mutators c.helpers) → AreLast c m → AreDivided c m block
+  pub divided : ((address seat words : ℕ) → block address ≡ Some (hand seat words) → ⊥) → ((address seat words : ℕ) → block address ≡ Some (spare seat words) → seat < seat_count config.mutators config.helpers) → AreLast config memory → AreDivided config memory block
   divided none seated last = record {
-    rooms = λ a seat x is room.
-        let free = only_spares block none uncarved a seat x is room in
-        spare_above last a seat free.0 (seated a seat free.0 (is ∙ ap Some free.1)) (is ∙ ap Some free.1);
+    rooms = λ address seat x is room.
+        let free = only_spares block none uncarved address seat x is room in
+        spare_above last address seat free.0 (seated address seat free.0 (is ∙ ap Some free.1)) (is ∙ ap Some free.1);
     others = others_below;
-    tops = λ r. (edges_lie c m r).below_top;
+    tops = λ r. (edges_lie config memory r).below_top;
   }

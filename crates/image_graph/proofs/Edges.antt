@@ -11,55 +11,55 @@ use Rattle.image_graph.specs.Edge.{is_last_in, edge_below, edge}
 use Rattle.image_graph.specs.SeatBuffers.{buffer_region}
 use Rattle.image_graph.specs.BufferLaws.{EdgesLie}
 
-module _ (c : Config) (m : Word → ℕ) (r : ℕ) where
+module _ (config : Config) (memory : Word → ℕ) (region : ℕ) where
   -- where a seat's free words begin, from the base
   abbrev free_at : ℕ → ℕ
-  free_at seat = next_in (m (Current seat)) - base_of c r
+  free_at seat = next_in (memory (Current seat)) - base_of config region
 
   -- the lesser is not above the other, and not above the one where that counts
   lesser : (last : Bool) (free least : ℕ) → ((if last && nat_lt free least then free else least) ≤ least) × (last ≡ true → (if last && nat_lt free least then free else least) ≤ free)
   lesser false free least = (omega arith, λ wrong. cc)
   lesser true free least = by_order (nat_lt free least) refl
     where
-      by_order : (b : Bool) → b ≡ nat_lt free least → ((if b then free else least) ≤ least) × (true ≡ true → (if b then free else least) ≤ free)
+      by_order : (holds : Bool) → holds ≡ nat_lt free least → ((if holds then free else least) ≤ least) × (true ≡ true → (if holds then free else least) ≤ free)
       by_order true is = (let less = ltb-true free least (sym is) in omega (arith, less), λ on. omega arith)
       by_order false is = (omega arith, λ on. ltb-false free least (sym is))
 
-  below_top : (n : ℕ) → edge_below c m r n ≤ m (Top r)
+  below_top : (n : ℕ) → edge_below config memory region n ≤ memory (Top region)
   unfolding edge_below
   below_top zero = omega arith
-  below_top (suc n) = (let one = (lesser (is_last_in c m r n) (free_at n) (edge_below c m r n)).0 in let rest = below_top n in omega (arith, one, rest))
+  below_top (suc n) = (let one = (lesser (is_last_in config memory region n) (free_at n) (edge_below config memory region n)).0 in let rest = below_top n in omega (arith, one, rest))
 
-  below_free : (n seat : ℕ) → seat < n → is_last_in c m r seat ≡ true → edge_below c m r n ≤ free_at seat
+  below_free : (n seat : ℕ) → seat < n → is_last_in config memory region seat ≡ true → edge_below config memory region n ≤ free_at seat
   unfolding edge_below
   below_free zero seat below last = absurd (omega (arith, below))
   below_free (suc n) seat below last = ⊎_elim
-      (λ (same : seat ≡ n). subst (λ k. (if is_last_in c m r n && nat_lt (free_at n) (edge_below c m r n) then free_at n else edge_below c m r n) ≤ free_at k) (sym same)
-      ((lesser (is_last_in c m r n) (free_at n) (edge_below c m r n)).1 (subst (λ k. is_last_in c m r k ≡ true) same last)))
-      (λ (other : seat ≢ n). (let one = (lesser (is_last_in c m r n) (free_at n) (edge_below c m r n)).0 in let rest = below_free n seat (omega (arith, below, other)) last in omega (arith, one, rest)))
+      (λ (same : seat ≡ n). subst (λ k. (if is_last_in config memory region n && nat_lt (free_at n) (edge_below config memory region n) then free_at n else edge_below config memory region n) ≤ free_at k) (sym same)
+      ((lesser (is_last_in config memory region n) (free_at n) (edge_below config memory region n)).1 (subst (λ k. is_last_in config memory region k ≡ true) same last)))
+      (λ (other : seat ≢ n). (let one = (lesser (is_last_in config memory region n) (free_at n) (edge_below config memory region n)).0 in let rest = below_free n seat (omega (arith, below, other)) last in omega (arith, one, rest)))
       (cases_eq seat n)
 
 -- Edges are told by tops and buffers.
-module _ (c : Config) (m n : Word → ℕ) (r : ℕ) (tops : (q : ℕ) → n (Top q) ≡ m (Top q)) (buffers : (seat : ℕ) → n (Current seat) ≡ m (Current seat)) where
+module _ (config : Config) (memory other_memory : Word → ℕ) (region : ℕ) (tops : (q : ℕ) → other_memory (Top q) ≡ memory (Top q)) (buffers : (seat : ℕ) → other_memory (Current seat) ≡ memory (Current seat)) where
   abbrev turn : (word top least : ℕ) → ℕ
   turn word top least =
-      if (not (word == 0) && (buffer_region c word == r) && (end_in word == base_of c (buffer_region c word) + top)) && nat_lt (next_in word - base_of c r) least
-      then next_in word - base_of c r else least
+      if (not (word == 0) && (buffer_region config word == region) && (end_in word == base_of config (buffer_region config word) + top)) && nat_lt (next_in word - base_of config region) least
+      then next_in word - base_of config region else least
 
-  pub edges_same : (k : ℕ) → edge_below c n r k ≡ edge_below c m r k
+  pub edges_same : (seat : ℕ) → edge_below config other_memory region seat ≡ edge_below config memory region seat
   unfolding edge_below
-  edges_same zero = tops r
-  edges_same (suc k) =
-      ap (λ word. turn word (n (Top (buffer_region c word))) (edge_below c n r k)) (buffers k)
-      ∙ ap (λ top. turn (m (Current k)) top (edge_below c n r k)) (tops (buffer_region c (m (Current k))))
-      ∙ ap (turn (m (Current k)) (m (Top (buffer_region c (m (Current k)))))) (edges_same k)
+  edges_same zero = tops region
+  edges_same (suc seat) =
+      ap (λ word. turn word (other_memory (Top (buffer_region config word))) (edge_below config other_memory region seat)) (buffers seat)
+      ∙ ap (λ top. turn (memory (Current seat)) top (edge_below config other_memory region seat)) (tops (buffer_region config (memory (Current seat))))
+      ∙ ap (turn (memory (Current seat)) (memory (Top (buffer_region config (memory (Current seat)))))) (edges_same seat)
 
-pub edges_lie : (c : Config) (m : Word → ℕ) (r : ℕ) → EdgesLie c m r
-edges_lie c m r = record {
-  below_top = below_top c m r (seat_count c.mutators c.helpers);
-  below_free = λ seat below last. below_free c m r (seat_count c.mutators c.helpers) seat below last;
+pub edges_lie : (config : Config) (memory : Word → ℕ) (r : ℕ) → EdgesLie config memory r
+edges_lie config memory r = record {
+  below_top = below_top config memory r (seat_count config.mutators config.helpers);
+  below_free = λ seat below last. below_free config memory r (seat_count config.mutators config.helpers) seat below last;
 }
 
 -- where nothing is in use no edge is but 0
-pub edge_zero : (c : Config) (m : Word → ℕ) (r : ℕ) → m (Top r) ≡ 0 → edge c m r ≡ 0
-edge_zero c m r none = (let low = (edges_lie c m r).below_top in omega (arith, low, none))
+pub edge_zero : (config : Config) (memory : Word → ℕ) (region : ℕ) → memory (Top region) ≡ 0 → edge config memory region ≡ 0
+edge_zero config memory region none = (let low = (edges_lie config memory region).below_top in omega (arith, low, none))

@@ -20,36 +20,36 @@ IsOfBuffers (Current seat) = ⊤
 IsOfBuffers word = ⊥
 
 module _ (word : Word) (other : IsOfBuffers word → ⊥) where
-  not_written : (m : Word → ℕ) (at : Word) (value : ℕ) → IsOfBuffers at → write m at value word ≡ m word
-  not_written m at value of = ⊎_elim
+  not_written : (memory : Word → ℕ) (at : Word) (value : ℕ) → IsOfBuffers at → write memory at value word ≡ memory word
+  not_written memory at value of = ⊎_elim
       (λ (same : same_word at word ≡ true). absurd (other (subst IsOfBuffers (same_word_true at word same) of)))
-      (λ (differs : same_word at word ≡ false). cond-false (same_word at word) value (m word) differs)
+      (λ (differs : same_word at word ≡ false). cond-false (same_word at word) value (memory word) differs)
       (cases_Bool (same_word at word))
 
-  filled_else : (m : Word → ℕ) (buffer : ℕ) → filled_over m buffer word ≡ m word
-  filled_else m buffer =
-      if_at (nat_lt (next_in buffer) (end_in buffer)) (write m (Heap (next_in buffer)) (filler_header (end_in buffer - next_in buffer))) m word (m word)
-      (not_written m (Heap (next_in buffer)) (filler_header (end_in buffer - next_in buffer)) tt) refl
+  filled_else : (memory : Word → ℕ) (buffer : ℕ) → filled_over memory buffer word ≡ memory word
+  filled_else memory buffer =
+      if_at (nat_lt (next_in buffer) (end_in buffer)) (write memory (Heap (next_in buffer)) (filler_header (end_in buffer - next_in buffer))) memory word (memory word)
+      (not_written memory (Heap (next_in buffer)) (filler_header (end_in buffer - next_in buffer)) tt) refl
 
-  settled_else : (c : Config) (m : Word → ℕ) (seat : ℕ) → settled_at c m seat word ≡ m word
-  settled_else c m seat =
-      if_at ((m (Current seat) == 0) || is_last c m (m (Current seat))) m (write (filled_over m (m (Current seat))) (Current seat) 0) word (m word) refl
-      (not_written (filled_over m (m (Current seat))) (Current seat) 0 tt ∙ filled_else m (m (Current seat)))
+  settled_else : (config : Config) (memory : Word → ℕ) (seat : ℕ) → settled_at config memory seat word ≡ memory word
+  settled_else config memory seat =
+      if_at ((memory (Current seat) == 0) || is_last config memory (memory (Current seat))) memory (write (filled_over memory (memory (Current seat))) (Current seat) 0) word (memory word) refl
+      (not_written (filled_over memory (memory (Current seat))) (Current seat) 0 tt ∙ filled_else memory (memory (Current seat)))
 
-  let_go_else : (c : Config) (m : Word → ℕ) (seat : ℕ) → let_go_at c m seat word ≡ m word
-  let_go_else c m seat =
-      if_at (m (Current seat) == 0) m (write (if is_last c m (m (Current seat)) then given_back c m (m (Current seat)) else filled_over m (m (Current seat))) (Current seat) 0) word (m word) refl
-      (not_written (if is_last c m (m (Current seat)) then given_back c m (m (Current seat)) else filled_over m (m (Current seat))) (Current seat) 0 tt
-      ∙ if_at (is_last c m (m (Current seat))) (given_back c m (m (Current seat))) (filled_over m (m (Current seat))) word (m word)
-      (not_written m (Top (buffer_region c (m (Current seat)))) (next_in (m (Current seat)) - base_of c (buffer_region c (m (Current seat)))) tt) (filled_else m (m (Current seat))))
+  let_go_else : (config : Config) (memory : Word → ℕ) (seat : ℕ) → let_go_at config memory seat word ≡ memory word
+  let_go_else config memory seat =
+      if_at (memory (Current seat) == 0) memory (write (if is_last config memory (memory (Current seat)) then given_back config memory (memory (Current seat)) else filled_over memory (memory (Current seat))) (Current seat) 0) word (memory word) refl
+      (not_written (if is_last config memory (memory (Current seat)) then given_back config memory (memory (Current seat)) else filled_over memory (memory (Current seat))) (Current seat) 0 tt
+      ∙ if_at (is_last config memory (memory (Current seat))) (given_back config memory (memory (Current seat))) (filled_over memory (memory (Current seat))) word (memory word)
+      (not_written memory (Top (buffer_region config (memory (Current seat)))) (next_in (memory (Current seat)) - base_of config (buffer_region config (memory (Current seat)))) tt) (filled_else memory (memory (Current seat))))
 
   -- after any number of turns
-  pub settled_same : (c : Config) (m : Word → ℕ) (n : ℕ) → settled_below c m n word ≡ m word
+  pub settled_same : (config : Config) (memory : Word → ℕ) (n : ℕ) → settled_below config memory n word ≡ memory word
   unfolding settled_below
-  settled_same c m zero = refl
-  settled_same c m (suc n) = settled_else c (settled_below c m n) n ∙ settled_same c m n
+  settled_same config memory zero = refl
+  settled_same config memory (suc n) = settled_else config (settled_below config memory n) n ∙ settled_same config memory n
 
-  pub let_go_same : (c : Config) (m : Word → ℕ) (n : ℕ) → let_go_below c m n word ≡ m word
+  pub let_go_same : (config : Config) (memory : Word → ℕ) (n : ℕ) → let_go_below config memory n word ≡ memory word
   unfolding let_go_below
-  let_go_same c m zero = refl
-  let_go_same c m (suc n) = let_go_else c (let_go_below c m n) n ∙ let_go_same c m n
+  let_go_same config memory zero = refl
+  let_go_same config memory (suc n) = let_go_else config (let_go_below config memory n) n ∙ let_go_same config memory n

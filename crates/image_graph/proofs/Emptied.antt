@@ -16,19 +16,19 @@ use Rattle.image_graph.proofs.StandsStill.{IsOfRoots, stands_still}
 use Rattle.image_graph.proofs.SeatTurns.{IsDropped}
 
 -- the words of buffers tell of the free words still
-pub buffers_dropped : (c : Config) (top current then_current : ℕ → ℕ) (block : Plot) → ((seat : ℕ) → IsDropped current then_current seat) → ((a seat more : ℕ) → block a ≡ Some (spare seat more) → 1 ≤ more)
-    → AreBuffers c top current block → AreBuffers c top then_current block
-buffers_dropped c top current then_current block dropped some buffers = record {
+pub buffers_dropped : (config : Config) (top current then_current : ℕ → ℕ) (block : Plot) → ((seat : ℕ) → IsDropped current then_current seat) → ((address seat more : ℕ) → block address ≡ Some (spare seat more) → 1 ≤ more)
+    → AreBuffers config top current block → AreBuffers config top then_current block
+buffers_dropped config top current then_current block dropped some buffers = record {
   each = λ seat is_some. ⊎_elim
-      (λ (same : then_current seat ≡ current seat). subst (IsBuffer c top block seat) (sym same) (buffers.each seat (λ none. is_some (same ∙ none))))
+      (λ (same : then_current seat ≡ current seat). subst (IsBuffer config top block seat) (sym same) (buffers.each seat (λ none. is_some (same ∙ none))))
       (λ (gone : (then_current seat ≡ 0) × (end_in (current seat) ≤ next_in (current seat))). absurd (is_some gone.0))
       (dropped seat);
-  spares = λ a seat more is.
-      let own = buffers.spares a seat more is in
+  spares = λ address seat more is.
+      let own = buffers.spares address seat more is in
       ⊎_elim
-      (λ (same : then_current seat ≡ current seat). subst (λ word. (next_in word ≡ a) × (end_in word ≡ a + more)) (sym same) own)
+      (λ (same : then_current seat ≡ current seat). subst (λ word. (next_in word ≡ address) × (end_in word ≡ address + more)) (sym same) own)
       (λ (gone : (then_current seat ≡ 0) × (end_in (current seat) ≤ next_in (current seat))).
-      let long = some a seat more is in
+      let long = some address seat more is in
       let one = own.0 in
       let two = own.1 in
       let empty = gone.1 in
@@ -37,10 +37,10 @@ buffers_dropped c top current then_current block dropped some buffers = record {
 }
 
 -- Where each buffer is one that there was, they lie outside the collection set still.
-pub fewer_outside : (c : Config) (cset : ℕ) (current fewer : ℕ → ℕ) → ((s : ℕ) → fewer s ≢ 0 → fewer s ≡ current s) → AreBuffersOutside c cset current → AreBuffersOutside c cset fewer
-fewer_outside c cset current fewer same outside s some inside =
+pub fewer_outside : (config : Config) (cset : ℕ) (current fewer : ℕ → ℕ) → ((s : ℕ) → fewer s ≢ 0 → fewer s ≡ current s) → AreBuffersOutside config cset current → AreBuffersOutside config cset fewer
+fewer_outside config cset current fewer same outside s some inside =
     let is = same s some in
-    outside s (λ none. some (is ∙ none)) (subst (λ word. IsIn cset (region_with c (end_in word - 1))) is inside)
+    outside s (λ none. some (is ∙ none)) (subst (λ word. IsIn cset (region_with config (end_in word - 1))) is inside)
 
 -- so they are without a seat's
 pub without_fewer : (current : ℕ → ℕ) (seat s : ℕ) → updated current seat 0 s ≢ 0 → updated current seat 0 s ≡ current s
@@ -53,15 +53,15 @@ without_fewer current seat s some = ⊎_elim
 pub dropped_fewer : (current then_current : ℕ → ℕ) → ((seat : ℕ) → IsDropped current then_current seat) → (s : ℕ) → then_current s ≢ 0 → then_current s ≡ current s
 dropped_fewer current then_current dropped s some = ⊎_elim (λ same. same) (λ gone. absurd (some gone.0)) (dropped s)
 
-module _ (Asks : (Word → ℕ) → Plot → Type 0) (of_roots : IsOfRoots Asks) (c : Config) (m : Word → ℕ) (g : Graph) (asking : ℕ → Asking) (r : RepresentsWith (Asks m) c m g asking) (current : ℕ → ℕ)
-    (dropped : (seat : ℕ) → IsDropped (λ s. m (Current s)) current seat) where
-  pub rebuffered : RepresentsWith (Asks (refitted m (λ q. m (Top q)) (λ x. m (Heap x)) current)) c (refitted m (λ q. m (Top q)) (λ x. m (Heap x)) current) g asking
-  rebuffered = stands_still Asks of_roots c m g asking r (λ q. m (Top q)) (λ x. m (Heap x)) current r.block
+module _ (Asks : (Word → ℕ) → Plot → Type 0) (of_roots : IsOfRoots Asks) (config : Config) (memory : Word → ℕ) (graph : Graph) (asking : ℕ → Asking) (r : RepresentsWith (Asks memory) config memory graph asking) (current : ℕ → ℕ)
+    (dropped : (seat : ℕ) → IsDropped (λ s. memory (Current s)) current seat) where
+  pub rebuffered : RepresentsWith (Asks (refitted memory (λ q. memory (Top q)) (λ x. memory (Heap x)) current)) config (refitted memory (λ q. memory (Top q)) (λ x. memory (Heap x)) current) graph asking
+  rebuffered = stands_still Asks of_roots config memory graph asking r (λ q. memory (Top q)) (λ x. memory (Heap x)) current r.block
       (record { stays = λ a x fixed is. is; came = λ a x fixed is. is }) (λ a s more is. is) (λ a s more is. is) (λ a k s more is below. refl)
       (record {
         parsable = r.shared.parsable;
         contents = r.shared.contents;
-        owned = record { free_word = r.shared.owned.free_word; shared_one = r.shared.owned.shared_one; rooms = r.shared.owned.rooms; buffers = buffers_dropped c (λ q. m (Top q)) (λ s. m (Current s)) current r.block dropped r.shared.owned.rooms.spares r.shared.owned.buffers; outside = fewer_outside c (m Cset) (λ s. m (Current s)) current (dropped_fewer (λ s. m (Current s)) current dropped) r.shared.owned.outside };
+        owned = record { free_word = r.shared.owned.free_word; shared_one = r.shared.owned.shared_one; rooms = r.shared.owned.rooms; buffers = buffers_dropped config (λ q. memory (Top q)) (λ s. memory (Current s)) current r.block dropped r.shared.owned.rooms.spares r.shared.owned.buffers; outside = fewer_outside config (memory Cset) (λ s. memory (Current s)) current (dropped_fewer (λ s. memory (Current s)) current dropped) r.shared.owned.outside };
         phased = r.shared.phased;
         unwritten = r.shared.unwritten;
         marked = r.shared.marked;

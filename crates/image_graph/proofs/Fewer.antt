@@ -27,26 +27,26 @@ use Rattle.image_graph.proofs.Roots.{copy_named}
 use Rattle.image_graph.proofs.Promised.{old_object, kept_are_live_or_promised}
 
 -- two objects at one address have one name
-one_copy : (block : Plot) (a : ℕ) (n m : Name) → IsCopy block a n → IsCopy block a m → n ≡ m
-one_copy block a n m one other = same_Some n m (sym (copy_named block a n one) ∙ copy_named block a m other)
+one_copy : (block : Plot) (address : ℕ) (name other_name : Name) → IsCopy block address name → IsCopy block address other_name → name ≡ other_name
+one_copy block address name other_name one other = same_Some name other_name (sym (copy_named block address name one) ∙ copy_named block address other_name other)
 
 -- where each object that a slot holds is kept in a shut region, at its place
 abbrev pub ArePinnedThere : (region_words : ℕ) (shut : ℕ → Bool) → Plot → (kept : ℕ → ℕ) → Graph → Type 0
-ArePinnedThere region_words shut block kept g =
-    (t slot : ℕ) (pinned : Pinned) → g.pin t slot ≡ Some pinned
+ArePinnedThere region_words shut block kept graph =
+    (thread slot : ℕ) (pinned : Pinned) → graph.pin thread slot ≡ Some pinned
     → (0 < kept pinned.place) × (shut (pinned.place / region_words) ≡ true) × IsCopy block pinned.place pinned.name
 
-module _ (c : Config) (shut : ℕ → Bool) (top heap : ℕ → ℕ) (block : Plot) (now kept : ℕ → ℕ) (IsRoot : ℕ → Type 0) (g : Graph) (p : Promises)
-    (holds : HoldsGraph c top heap block now IsRoot (with_promised g p)) (are : AreHeldKept heap (IsLedTo now heap IsRoot) kept)
-    (fresh : AreFresh c.mutators g p) (there : ArePinnedThere c.region_words shut block kept g) (names : List Name) (pinned : ArePinned g names) (end : ℕ) where
+module _ (config : Config) (shut : ℕ → Bool) (top heap : ℕ → ℕ) (block : Plot) (now kept : ℕ → ℕ) (IsRoot : ℕ → Type 0) (graph : Graph) (promises : Promises)
+    (holds : HoldsGraph config top heap block now IsRoot (with_promised graph promises)) (are : AreHeldKept heap (IsLedTo now heap IsRoot) kept)
+    (fresh : AreFresh config.mutators graph promises) (there : ArePinnedThere config.region_words shut block kept graph) (names : List Name) (pinned : ArePinned graph names) (end : ℕ) where
   abbrev counts : ℕ → ℕ
-  counts = open_kept c.region_words shut kept
+  counts = open_kept config.region_words shut kept
 
   abbrev name_of : ℕ → Name
-  name_of k = get_or names k hub
+  name_of index = get_or names index hub
 
   abbrev words_of_name : ℕ → ℕ
-  words_of_name k = size (named g (Some (name_of k)))
+  words_of_name k = size (named graph (Some (name_of k)))
 
   -- what is kept in open regions, and behind it what is pinned
   abbrev both : ℕ → ℕ
@@ -54,23 +54,23 @@ module _ (c : Config) (shut : ℕ → Bool) (top heap : ℕ → ℕ) (block : Pl
 
   -- each of them is at an address of its own
   abbrev IsOpenAt : ℕ → ℕ → Type 0
-  IsOpenAt k a = (k < end) × (k ≡ a) × (shut (a / c.region_words) ≡ false)
+  IsOpenAt k a = (k < end) × (k ≡ a) × (shut (a / config.region_words) ≡ false)
 
   abbrev IsPinnedAt : ℕ → ℕ → Type 0
-  IsPinnedAt k a = (end ≤ k) × (k - end < length names) × (shut (a / c.region_words) ≡ true) × IsCopy block a (name_of (k - end))
+  IsPinnedAt k address = (end ≤ k) × (k - end < length names) × (shut (address / config.region_words) ≡ true) × IsCopy block address (name_of (k - end))
 
   abbrev Found : ℕ → Type 0
-  Found k = (a : ℕ) × (a < heap_end c) × (both k ≤ kept a) × (IsOpenAt k a ⊎ IsPinnedAt k a)
+  Found k = (a : ℕ) × (a < heap_end config) × (both k ≤ kept a) × (IsOpenAt k a ⊎ IsPinnedAt k a)
 
-  kept_below : (a : ℕ) → 0 < kept a → a < heap_end c
+  kept_below : (a : ℕ) → 0 < kept a → a < heap_end config
   kept_below a some =
-      let can = can_pack c top heap block now IsRoot (with_promised g p) holds kept are in
-      omega (arith, (kept_inside c top heap block (with_promised g p).object now kept can a some).1, some)
+      let can = can_pack config top heap block now IsRoot (with_promised graph promises) holds kept are in
+      omega (arith, (kept_inside config top heap block (with_promised graph promises).object now kept can a some).1, some)
 
   found_open : (k : ℕ) → k < end → 0 < both k → Found k
   found_open k below some =
       let weight = cond-true (nat_lt k end) (counts k) (words_of_name (k - end)) (lt-ltb k end below) in
-      let is = is_open c.region_words shut kept k (omega (arith, some, weight)) in
+      let is = is_open config.region_words shut kept k (omega (arith, some, weight)) in
       (k, kept_below k is.0, omega (arith, weight, is.2), inl (below, refl, is.1))
 
   -- a pinned object is kept where its slot says
@@ -81,11 +81,11 @@ module _ (c : Config) (shut : ℕ → Bool) (top heap : ℕ → ℕ) (block : Pl
       let slot = pinned.only name listed in
       let at = there slot.0 slot.1 slot.2 slot.3 in
       let place = slot.2.place in
-      let one = kept_one c top heap block now kept IsRoot (with_promised g p) holds are place at.0 in
+      let one = kept_one config top heap block now kept IsRoot (with_promised graph promises) holds are place at.0 in
       let same : one.name ≡ name = one_copy block place one.name slot.2.name (one.refs, one.nums, one.is) at.2 ∙ slot.4 in
-      let reached : IsReachable g name = subst (IsReachable g) slot.4 (reach.from_pin slot.0 slot.1 slot.2 slot.3) in
-      let old : size (named (with_promised g p) (Some one.name)) ≡ size (named g (Some name)) =
-      ap (λ (n : Name). size (named (with_promised g p) (Some n))) same ∙ ap size (old_object c.mutators g p fresh name reached) in
+      let reached : IsReachable graph name = subst (IsReachable graph) slot.4 (reach.from_pin slot.0 slot.1 slot.2 slot.3) in
+      let old : size (named (with_promised graph promises) (Some one.name)) ≡ size (named graph (Some name)) =
+      ap (λ (name : Name). size (named (with_promised graph promises) (Some name))) same ∙ ap size (old_object config.mutators graph promises fresh name reached) in
       let weight = cond-false (nat_lt k end) (counts k) (words_of_name (k - end)) (le-ltb k end past) in
       (place, kept_below place at.0, omega (arith, weight, one.words, old), inr (past, within, at.1, subst (IsCopy block place) slot.4 at.2))
 
@@ -96,49 +96,49 @@ module _ (c : Config) (shut : ℕ → Bool) (top heap : ℕ → ℕ) (block : Pl
       (cases_lt k end)
 
   -- no name is pinned twice
-  one_name : (i j : ℕ) → i < length names → j < length names → name_of i ≡ name_of j → i ≡ j
-  one_name i j in_i in_j same = ⊎_elim
-      (λ (is : i ≡ j). is)
-      (λ (other : (i < j) ⊎ (j < i)). absurd (⊎_elim
-      (λ (less : i < j). differs i j less in_j same)
-      (λ (more : j < i). differs j i more in_i (sym same))
+  one_name : (index other_index : ℕ) → index < length names → other_index < length names → name_of index ≡ name_of other_index → index ≡ other_index
+  one_name index other_index in_i in_j same = ⊎_elim
+      (λ (is : index ≡ other_index). is)
+      (λ (other : (index < other_index) ⊎ (other_index < index)). absurd (⊎_elim
+      (λ (less : index < other_index). differs index other_index less in_j same)
+      (λ (more : other_index < index). differs other_index index more in_i (sym same))
       other))
-      (cases_order i j)
+      (cases_order index other_index)
     where
       differs : (k l : ℕ) → k < l → l < length names → name_of k ≡ name_of l → ⊥
       differs k l less within is =
-          true≢false (sym (ap (λ (n : Name). same_name n (name_of l)) is ∙ same_name-itself (name_of l)) ∙ apart_from_distinct same_name names k l hub pinned.differ less within)
+          true≢false (sym (ap (λ (name : Name). same_name name (name_of l)) is ∙ same_name-itself (name_of l)) ∙ apart_from_distinct same_name names k l hub pinned.differ less within)
 
   -- so no two are at one address
-  one_address : (k j : ℕ) (a b : ℕ) → IsOpenAt k a ⊎ IsPinnedAt k a → IsOpenAt j b ⊎ IsPinnedAt j b → a ≡ b → k ≡ j
-  one_address k j a b of_k of_j same =
-      let rows : shut (a / c.region_words) ≡ shut (b / c.region_words) = ap (λ x. shut (x / c.region_words)) same in
+  one_address : (k j : ℕ) (a address : ℕ) → IsOpenAt k a ⊎ IsPinnedAt k a → IsOpenAt j address ⊎ IsPinnedAt j address → a ≡ address → k ≡ j
+  one_address k j a address of_k of_j same =
+      let rows : shut (a / config.region_words) ≡ shut (address / config.region_words) = ap (λ x. shut (x / config.region_words)) same in
       ⊎_elim
       (λ (one : IsOpenAt k a). ⊎_elim
-      (λ (other : IsOpenAt j b). one.1 ∙ same ∙ sym other.1)
-      (λ (other : IsPinnedAt j b). absurd (true≢false (sym other.2 ∙ sym rows ∙ one.2)))
+      (λ (other : IsOpenAt j address). one.1 ∙ same ∙ sym other.1)
+      (λ (other : IsPinnedAt j address). absurd (true≢false (sym other.2 ∙ sym rows ∙ one.2)))
       of_j)
       (λ (one : IsPinnedAt k a). ⊎_elim
-      (λ (other : IsOpenAt j b). absurd (true≢false (sym one.2 ∙ rows ∙ other.2)))
-      (λ (other : IsPinnedAt j b).
-      let names_same = one_copy block b (name_of (k - end)) (name_of (j - end)) (subst (λ x. IsCopy block x (name_of (k - end))) same one.3) other.3 in
+      (λ (other : IsOpenAt j address). absurd (true≢false (sym one.2 ∙ rows ∙ other.2)))
+      (λ (other : IsPinnedAt j address).
+      let names_same = one_copy block address (name_of (k - end)) (name_of (j - end)) (subst (λ x. IsCopy block x (name_of (k - end))) same one.3) other.3 in
       omega (arith, one_name (k - end) (j - end) one.1 other.1 names_same, one.0, other.0))
       of_j)
       of_k
 
-  pub both_fit : sum_below counts end + sum_by (λ n. size (named g (Some n))) names ≤ sum_below kept (heap_end c)
+  pub both_fit : sum_below counts end + sum_by (λ n. size (named graph (Some n))) names ≤ sum_below kept (heap_end config)
   both_fit =
-      let less = sum_of_things both kept (end + length names) (heap_end c)
+      let less = sum_of_things both kept (end + length names) (heap_end config)
       (λ k below some. let at = found k below some in (at.0, at.1, at.2))
       (λ k j less_k some_k less_j some_j same. one_address k j (found k less_k some_k).0 (found j less_j some_j).0 (found k less_k some_k).3 (found j less_j some_j).3 same)
       in
-      omega (arith, less, sum_of_two_rows counts words_of_name end (length names), sum_by_index (λ n. size (named g (Some n))) names hub)
+      omega (arith, less, sum_of_two_rows counts words_of_name end (length names), sum_by_index (λ n. size (named graph (Some n))) names hub)
 
-pub open_kept_are_fewer : (c : Config) (shut : ℕ → Bool) (top heap : ℕ → ℕ) (block : Plot) (now kept : ℕ → ℕ) (IsRoot : ℕ → Type 0) (g : Graph) (p : Promises) (names : List Name) (held : ℕ)
-    → HoldsGraph c top heap block now IsRoot (with_promised g p) → AreHeldKept heap (IsLedTo now heap IsRoot) kept
-    → AreFresh c.mutators g p → IsReach g names → Held g held → ArePinnedThere c.region_words shut block kept g
-    → (end : ℕ) → sum_below (open_kept c.region_words shut kept) end ≤ sum_by (λ n. size (named g (Some n))) names - held + sum_below (promised_words p) (c.mutators + 1)
-open_kept_are_fewer c shut top heap block now kept IsRoot g p names held holds are fresh reach_is pinned there end =
-    let fit = both_fit c shut top heap block now kept IsRoot g p holds are fresh there pinned.0 pinned.1 end in
-    let live = kept_are_live_or_promised c top heap block now kept IsRoot g p holds are fresh names reach_is (heap_end c) in
+pub open_kept_are_fewer : (config : Config) (shut : ℕ → Bool) (top heap : ℕ → ℕ) (block : Plot) (now kept : ℕ → ℕ) (IsRoot : ℕ → Type 0) (graph : Graph) (promises : Promises) (names : List Name) (held : ℕ)
+    → HoldsGraph config top heap block now IsRoot (with_promised graph promises) → AreHeldKept heap (IsLedTo now heap IsRoot) kept
+    → AreFresh config.mutators graph promises → IsReach graph names → Held graph held → ArePinnedThere config.region_words shut block kept graph
+    → (end : ℕ) → sum_below (open_kept config.region_words shut kept) end ≤ sum_by (λ n. size (named graph (Some n))) names - held + sum_below (promised_words promises) (config.mutators + 1)
+open_kept_are_fewer config shut top heap block now kept IsRoot graph promises names held holds are fresh reach_is pinned there end =
+    let fit = both_fit config shut top heap block now kept IsRoot graph promises holds are fresh there pinned.0 pinned.1 end in
+    let live = kept_are_live_or_promised config top heap block now kept IsRoot graph promises holds are fresh names reach_is (heap_end config) in
     omega (arith, fit, live, pinned.2)

@@ -18,43 +18,43 @@ use Rattle.image_graph.proofs.Refitted.{refitted}
 use Rattle.image_graph.proofs.StandsStill.{IsOfRoots, standing, stands_still}
 use Rattle.image_graph.proofs.Emptied.{fewer_outside, without_fewer}
 
-module _ (Asks : (Word → ℕ) → Plot → Type 0) (of_roots : IsOfRoots Asks) (c : Config) (m : Word → ℕ) (g : Graph) (asking : ℕ → Asking) (r : RepresentsWith (Asks m) c m g asking) (seat a words : ℕ)
-    (here : r.block a ≡ Some (spare seat words)) where
+module _ (Asks : (Word → ℕ) → Plot → Type 0) (of_roots : IsOfRoots Asks) (config : Config) (memory : Word → ℕ) (graph : Graph) (asking : ℕ → Asking) (r : RepresentsWith (Asks memory) config memory graph asking) (seat address words : ℕ)
+    (here : r.block address ≡ Some (spare seat words)) where
   abbrev tops : ℕ → ℕ
-  tops q = m (Top q)
+  tops region = memory (Top region)
 
   -- the one new piece
   abbrev new : Plot
-  new = one_at a (filler words)
+  new = one_at address (filler words)
 
   -- the words of the heap with its header
   abbrev pub heap_filled : ℕ → ℕ
-  heap_filled = updated (λ x. m (Heap x)) a (filler_header words)
+  heap_filled = updated (λ x. memory (Heap x)) address (filler_header words)
 
   -- the buffers without the seat's
   abbrev pub buffers_without : ℕ → ℕ
-  buffers_without = updated (λ s. m (Current s)) seat 0
+  buffers_without = updated (λ s. memory (Current s)) seat 0
 
   -- it has a word at least
   some : 1 ≤ words
-  some = r.shared.owned.rooms.spares a seat words here
+  some = r.shared.owned.rooms.spares address seat words here
 
   -- the new piece is the one
-  only_new : (x : ℕ) (b : Block) → new x ≡ Some b → (x ≡ a) × (filler words ≡ b)
-  only_new x b is = ⊎_elim (λ one. one) (λ (none : (x ≢ a) × (None ≡ Some b)). absurd (none-some b none.1)) (piece_cases (λ k. None) a (filler words) x b is)
+  only_new : (x : ℕ) (piece : Block) → new x ≡ Some piece → (x ≡ address) × (filler words ≡ piece)
+  only_new x piece is = ⊎_elim (λ one. one) (λ (none : (x ≢ address) × (None ≡ Some piece)). absurd (none-some piece none.1)) (piece_cases (λ k. None) address (filler words) x piece is)
 
   -- the old piece is the one
-  only_old : (x : ℕ) (b : Block) → a ≤ x → x < a + words → r.block x ≡ Some b → (x ≡ a) × (spare seat words ≡ b)
-  only_old x b from to is =
+  only_old : (x : ℕ) (piece : Block) → address ≤ x → x < address + words → r.block x ≡ Some piece → (x ≡ address) × (spare seat words ≡ piece)
+  only_old x piece from to is =
       let long = some in
       ⊎_elim
-      (λ (same : x ≡ a). (same, same_Some (spare seat words) b (sym here ∙ ap r.block (sym same) ∙ is)))
-      (λ (other : x ≢ a). let far = r.shared.parsable.plotted.apart a x (spare seat words) b here is (omega (arith, from, other)) in absurd (omega (arith, far, to)))
-      (cases_eq x a)
+      (λ (same : x ≡ address). (same, same_Some (spare seat words) piece (sym here ∙ ap r.block (sym same) ∙ is)))
+      (λ (other : x ≢ address). let far = r.shared.parsable.plotted.apart address x (spare seat words) piece here is (omega (arith, from, other)) in absurd (omega (arith, far, to)))
+      (cases_eq x address)
 
-  can : CanRecut c tops r.block new seat a words
+  can : CanRecut config tops r.block new seat address words
   can =
-      let used = r.shared.parsable.plotted.in_use a (spare seat words) here in
+      let used = r.shared.parsable.plotted.in_use address (spare seat words) here in
       record {
         parsable = r.shared.parsable;
         rooms = r.shared.owned.rooms;
@@ -66,13 +66,13 @@ module _ (Asks : (Word → ℕ) → Plot → Type 0) (of_roots : IsOfRoots Asks)
           some = some;
           first = spare seat words;
           begins = here;
-          last_at = a;
+          last_at = address;
           last_from = omega arith;
           last = spare seat words;
           ends = here;
           ends_there = refl;
         };
-        tiling = one_tile a (filler words) some;
+        tiling = one_tile address (filler words) some;
         olds = λ x b from to is. ap room_of (sym (only_old x b from to is).1);
         loose = λ x b is. ap is_loose (sym (only_new x b is).1);
         own = λ x other b is room. absurd (none-some other (ap room_of (only_new x b is).1 ∙ room));
@@ -82,35 +82,35 @@ module _ (Asks : (Word → ℕ) → Plot → Type 0) (of_roots : IsOfRoots Asks)
 
   -- the plot then
   abbrev after : Plot
-  after = retiled r.block new a words
+  after = retiled r.block new address words
 
   -- a piece that is no filler was there
-  was_there : (x : ℕ) (b : Block) → (filler words ≡ b → ⊥) → after x ≡ Some b → (((x < a) ⊎ (a + words ≤ x)) × (r.block x ≡ Some b))
-  was_there x b differs is = ⊎_elim
+  was_there : (x : ℕ) (piece : Block) → (filler words ≡ piece → ⊥) → after x ≡ Some piece → (((x < address) ⊎ (address + words ≤ x)) × (r.block x ≡ Some piece))
+  was_there x piece differs is = ⊎_elim
       (λ old. old)
-      (λ (now : (a ≤ x) × (x < a + words) × (new x ≡ Some b)). absurd (differs (only_new x b now.2).1))
-      (retiled_cases r.block new a words x b is)
+      (λ (now : (address ≤ x) × (x < address + words) × (new x ≡ Some piece)). absurd (differs (only_new x piece now.2).1))
+      (retiled_cases r.block new address words x piece is)
 
   -- words elsewhere stay
-  elsewhere : (x : ℕ) → (x < a) ⊎ (a + words ≤ x) → heap_filled x ≡ m (Heap x)
-  elsewhere x away = (let long = some in updated_else (λ y. m (Heap y)) a (filler_header words) x (omega (arith, away, long)))
+  elsewhere : (x : ℕ) → (x < address) ⊎ (address + words ≤ x) → heap_filled x ≡ memory (Heap x)
+  elsewhere x away = (let long = some in updated_else (λ y. memory (Heap y)) address (filler_header words) x (omega (arith, away, long)))
 
   -- the header of the new piece
   header : (x more : ℕ) → new x ≡ Some (filler more) → heap_filled x ≡ filler_header more
   header x more is =
       let one = only_new x (filler more) is in
       let long : words ≡ more = ap words_of one.1 in
-      ap heap_filled one.0 ∙ updated_there (λ y. m (Heap y)) a (filler_header words) ∙ ap filler_header long
+      ap heap_filled one.0 ∙ updated_there (λ y. memory (Heap y)) address (filler_header words) ∙ ap filler_header long
 
   -- the seat's free words were these
-  buffers : AreBuffers c tops buffers_without after
-  buffers = buffers_again c tops r.block new seat a words can (λ s. m (Current s)) buffers_without
-      (λ other differs. updated_else (λ s. m (Current s)) seat 0 other (λ same. differs (sym same)))
-      (λ is_some. absurd (is_some (updated_there (λ s. m (Current s)) seat 0)))
+  buffers : AreBuffers config tops buffers_without after
+  buffers = buffers_again config tops r.block new seat address words can (λ s. memory (Current s)) buffers_without
+      (λ other differs. updated_else (λ s. memory (Current s)) seat 0 other (λ same. differs (sym same)))
+      (λ is_some. absurd (is_some (updated_there (λ s. memory (Current s)) seat 0)))
       (λ x more is. absurd (
       let old = was_there x (spare seat more) (λ differ. cc) is in
       let was = r.shared.owned.buffers.spares x seat more old.1 in
-      let own = r.shared.owned.buffers.spares a seat words here in
+      let own = r.shared.owned.buffers.spares address seat words here in
       let long = some in
       let away = old.0 in
       let one = was.0 in
@@ -120,10 +120,10 @@ module _ (Asks : (Word → ℕ) → Plot → Type 0) (of_roots : IsOfRoots Asks)
       r.shared.owned.buffers
 
   -- The words represent the graph still.
-  pub filled_stands : RepresentsWith (Asks (refitted m tops heap_filled buffers_without)) c (refitted m tops heap_filled buffers_without) g asking
-  filled_stands = stands_still Asks of_roots c m g asking r tops heap_filled buffers_without after (same_but_loose c tops r.block new seat a words can)
+  pub filled_stands : RepresentsWith (Asks (refitted memory tops heap_filled buffers_without)) config (refitted memory tops heap_filled buffers_without) graph asking
+  filled_stands = stands_still Asks of_roots config memory graph asking r tops heap_filled buffers_without after (same_but_loose config tops r.block new seat address words can)
       (λ x other more is. (was_there x (hand other more) (λ differ. cc) is).1)
       (λ x other more is. (was_there x (carved other more) (λ differ. cc) is).1)
-      (λ x k other more is below. fixed_stay c (standing Asks of_roots c m g asking r) new seat a words r.shared can heap_filled elsewhere x k (promised other more) refl is below)
-      (shared_recut c (standing Asks of_roots c m g asking r) new seat a words r.shared can heap_filled elsewhere buffers_without header buffers
-      (fewer_outside c (m Cset) (λ s. m (Current s)) buffers_without (without_fewer (λ s. m (Current s)) seat) r.shared.owned.outside))
+      (λ x k other more is below. fixed_stay config (standing Asks of_roots config memory graph asking r) new seat address words r.shared can heap_filled elsewhere x k (promised other more) refl is below)
+      (shared_recut config (standing Asks of_roots config memory graph asking r) new seat address words r.shared can heap_filled elsewhere buffers_without header buffers
+      (fewer_outside config (memory Cset) (λ s. memory (Current s)) buffers_without (without_fewer (λ s. memory (Current s)) seat) r.shared.owned.outside))

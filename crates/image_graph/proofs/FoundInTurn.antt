@@ -9,15 +9,15 @@ pub noted_both : (order xs ys : List ℕ) → with_addresses (with_addresses ord
 noted_both order xs ys = sym (with_addresses-append order xs ys)
 
 -- what is nothing
-pub is_none : (o : Option ℕ) → ((x : ℕ) → o ≡ Some x → ⊥) → o ≡ None
+pub is_none : (found : Option ℕ) → ((x : ℕ) → found ≡ Some x → ⊥) → found ≡ None
 is_none None never = refl
 is_none (Some x) never = absurd (never x refl)
 
 -- past the end of a list there is nothing
-pub none_left : (xs : List ℕ) (n : ℕ) → slice_get xs n ≡ None → length xs ≤ n
-none_left [] n none = omega arith
+pub none_left : (xs : List ℕ) (index : ℕ) → slice_get xs index ≡ None → length xs ≤ index
+none_left [] index none = omega arith
 none_left (x ∷ xs) zero none = absurd (cc)
-none_left (x ∷ xs) (suc n) none = omega (arith, none_left xs n none)
+none_left (x ∷ xs) (suc index) none = omega (arith, none_left xs index none)
 
 module _ (fields : ℕ → List ℕ) (roots : List ℕ) where
   abbrev found : ℕ → List ℕ
@@ -27,14 +27,14 @@ module _ (fields : ℕ → List ℕ) (roots : List ℕ) where
   unfolding found_in
   no_turn = refl
 
-  turn : (n : ℕ) → found (suc n) ≡ with_fields fields (found n) (slice_get (found n) n)
+  turn : (index : ℕ) → found (suc index) ≡ with_fields fields (found index) (slice_get (found index) index)
   unfolding found_in
-  turn n = refl
+  turn index = refl
 
-  pub next_turn : (n a : ℕ) → slice_get (found n) n ≡ Some a → with_addresses (found n) (fields a) ≡ found (n + 1)
-  next_turn n a at =
-      let next : suc n ≡ n + 1 = omega arith in
-      sym (turn n ∙ ap (with_fields fields (found n)) at) ∙ ap found next
+  pub next_turn : (index a : ℕ) → slice_get (found index) index ≡ Some a → with_addresses (found index) (fields a) ≡ found (index + 1)
+  next_turn index a at =
+      let next : suc index ≡ index + 1 = omega arith in
+      sym (turn index ∙ ap (with_fields fields (found index)) at) ∙ ap found next
 
   -- where no turn is left, further turns find nothing
   stays : (n k : ℕ) → length (found n) ≤ n → found (k + n) ≡ found n
@@ -45,10 +45,10 @@ module _ (fields : ℕ → List ℕ) (roots : List ℕ) where
       let none : slice_get (found (k + n)) (k + n) ≡ None = ap (λ xs. slice_get xs (k + n)) before ∙ get_none (found n) (k + n) (omega (arith, short)) in
       ap found next ∙ turn (k + n) ∙ ap (with_fields fields (found (k + n))) none ∙ before
     where
-      get_none : (xs : List ℕ) (j : ℕ) → length xs ≤ j → slice_get xs j ≡ None
-      get_none [] j past = refl
+      get_none : (xs : List ℕ) (index : ℕ) → length xs ≤ index → slice_get xs index ≡ None
+      get_none [] index past = refl
       get_none (x ∷ xs) zero past = absurd (omega (arith, past))
-      get_none (x ∷ xs) (suc j) past = get_none xs j (omega (arith, past))
+      get_none (x ∷ xs) (suc index) past = get_none xs index (omega (arith, past))
 
   pub last_turn : (n most : ℕ) → length (found n) ≤ n → n ≤ most → found n ≡ found most
   last_turn n most short few =

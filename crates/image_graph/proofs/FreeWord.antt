@@ -70,9 +70,9 @@ pub empty_is : (top : ℕ → ℕ) (n r : ℕ) → r < n → bit_at (empty_regio
 empty_is top n r below there = eqb-true (top r) 0 (set_is (λ q. top q == 0) n r below there)
 
 -- so it is a free word of regions that are nobody's
-pub free_again : (c : Config) (top : ℕ → ℕ) → IsFreeWord c (empty_regions top c.regions) top (λ r. None)
-free_again c top = record {
-  no_more = empty_small top c.regions;
-  empty = λ r inside bit. empty_is top c.regions r inside bit;
+pub free_again : (config : Config) (top : ℕ → ℕ) → IsFreeWord config (empty_regions top config.regions) top (λ r. None)
+free_again config top = record {
+  no_more = empty_small top config.regions;
+  empty = λ r inside bit. empty_is top config.regions r inside bit;
   nobodys = λ r inside bit. refl;
 }

@@ -14,16 +14,16 @@ use Rattle.heap_world.proofs.Marks.{has-range, kept, new, only, prefix}
 use Rattle.image_graph.specs.Held.{with_fields, found_in}
 
 -- one step of the recursion
-found_next : (fields : ℕ → List ℕ) (roots : List ℕ) (n : ℕ) → found_in fields roots (suc n) ≡ with_fields fields (found_in fields roots n) (slice_get (found_in fields roots n) n)
+found_next : (fields : ℕ → List ℕ) (roots : List ℕ) (index : ℕ) → found_in fields roots (suc index) ≡ with_fields fields (found_in fields roots index) (slice_get (found_in fields roots index) index)
 unfolding found_in
-found_next fields roots n = refl
+found_next fields roots index = refl
 
 found_first : (fields : ℕ → List ℕ) (roots : List ℕ) → found_in fields roots 0 ≡ with_addresses [] roots
 unfolding found_in
 found_first fields roots = refl
 
 -- what a list has is at an index of it
-pub index_of : (xs : List ℕ) (q : ℕ) → has xs q ≡ true → (k : ℕ) × (k < length xs) × (slice_get xs k ≡ Some q)
+pub index_of : (xs : List ℕ) (q : ℕ) → has xs q ≡ true → (index : ℕ) × (index < length xs) × (slice_get xs index ≡ Some q)
 index_of [] q is = absurd (false≢true is)
 index_of (x ∷ xs) q is = ⊎_elim
     (λ (here : nat_eq q x ≡ true). (0, omega arith, ap Some (sym (eqb-true q x here))))
@@ -31,10 +31,10 @@ index_of (x ∷ xs) q is = ⊎_elim
     (or_cases (nat_eq q x) (has xs q) is)
 
 -- and what is at an index it has
-pub has_at : (xs : List ℕ) (k q : ℕ) → slice_get xs k ≡ Some q → has xs q ≡ true
-has_at [] k q is = absurd (none-some q is)
+pub has_at : (xs : List ℕ) (index q : ℕ) → slice_get xs index ≡ Some q → has xs q ≡ true
+has_at [] index q is = absurd (none-some q is)
 has_at (x ∷ xs) zero q is = or_left (nat_eq q x) (has xs q) (eq-eqb q x (sym (same_Some x q is)))
-has_at (x ∷ xs) (suc k) q is = or_right (nat_eq q x) (has xs q) (has_at xs k q is)
+has_at (x ∷ xs) (suc index) q is = or_right (nat_eq q x) (has xs q) (has_at xs index q is)
 
 -- a list whose elements are each another one's image
 pub has_map : (f : ℕ → ℕ) (xs : List ℕ) (q : ℕ) → has (map f xs) q ≡ true → (x : ℕ) × (has xs x ≡ true) × (f x ≡ q)
@@ -70,16 +70,16 @@ distinct_all order [] once = once
 distinct_all order (a ∷ words) once = distinct_all (with_address order a) words (distinct_one order a once)
 
 -- an element of the front of a list
-front_get : (xs ys : List ℕ) (k : ℕ) → k < length xs → slice_get (xs ++ ys) k ≡ slice_get xs k
-front_get [] ys k below = absurd (omega (arith, below))
+front_get : (xs ys : List ℕ) (index : ℕ) → index < length xs → slice_get (xs ++ ys) index ≡ slice_get xs index
+front_get [] ys index below = absurd (omega (arith, below))
 front_get (x ∷ xs) ys zero below = refl
-front_get (x ∷ xs) ys (suc k) below = front_get xs ys k (omega (arith, below))
+front_get (x ∷ xs) ys (suc index) below = front_get xs ys index (omega (arith, below))
 
 -- past the end of a list there is nothing
-get_none : (xs : List ℕ) (k : ℕ) → length xs ≤ k → slice_get xs k ≡ None
-get_none [] k past = refl
+get_none : (xs : List ℕ) (index : ℕ) → length xs ≤ index → slice_get xs index ≡ None
+get_none [] index past = refl
 get_none (x ∷ xs) zero past = absurd (omega (arith, past))
-get_none (x ∷ xs) (suc k) past = get_none xs k (omega (arith, past))
+get_none (x ∷ xs) (suc index) past = get_none xs index (omega (arith, past))
 
 module _ (fields : ℕ → List ℕ) (roots : List ℕ) where
   abbrev found : ℕ → List ℕ
@@ -93,23 +93,23 @@ module _ (fields : ℕ → List ℕ) (roots : List ℕ) where
   grown_keeps n None q is = is
   grown_keeps n (Some a) q is = kept (found n) (fields a) q is
 
-  found_keeps : (n q : ℕ) → has (found n) q ≡ true → has (found (suc n)) q ≡ true
-  found_keeps n q is = ap (λ xs. has xs q) (found_next fields roots n) ∙ grown_keeps n (slice_get (found n) n) q is
+  found_keeps : (index q : ℕ) → has (found index) q ≡ true → has (found (suc index)) q ≡ true
+  found_keeps index q is = ap (λ xs. has xs q) (found_next fields roots index) ∙ grown_keeps index (slice_get (found index) index) q is
 
   -- and moves none
   grown_prefix : (n : ℕ) (o : Option ℕ) → (more : List ℕ) × (grown n o ≡ found n ++ more)
   grown_prefix n None = ([], sym (append-nil (found n)))
   grown_prefix n (Some a) = prefix (found n) (fields a)
 
-  found_stays : (n k : ℕ) → k < length (found n) → slice_get (found (suc n)) k ≡ slice_get (found n) k
-  found_stays n k below =
-      let p = grown_prefix n (slice_get (found n) n) in
-      ap (λ xs. slice_get xs k) (found_next fields roots n ∙ p.1) ∙ front_get (found n) p.0 k below
+  found_stays : (other_index index : ℕ) → index < length (found other_index) → slice_get (found (suc other_index)) index ≡ slice_get (found other_index) index
+  found_stays other_index index below =
+      let p = grown_prefix other_index (slice_get (found other_index) other_index) in
+      ap (λ xs. slice_get xs index) (found_next fields roots other_index ∙ p.1) ∙ front_get (found other_index) p.0 index below
 
-  found_longer : (n : ℕ) → length (found n) ≤ length (found (suc n))
-  found_longer n =
-      let p = grown_prefix n (slice_get (found n) n) in
-      omega (arith, ap length (found_next fields roots n ∙ p.1), length-append (found n) p.0)
+  found_longer : (index : ℕ) → length (found index) ≤ length (found (suc index))
+  found_longer index =
+      let p = grown_prefix index (slice_get (found index) index) in
+      omega (arith, ap length (found_next fields roots index ∙ p.1), length-append (found index) p.0)
 
   -- the roots are found from the start
   pub roots_found : (n q : ℕ) → q ≢ 0 → has roots q ≡ true → has (found n) q ≡ true
@@ -121,26 +121,26 @@ module _ (fields : ℕ → List ℕ) (roots : List ℕ) where
   once_grown n None once = once
   once_grown n (Some a) once = distinct_all (found n) (fields a) once
 
-  found_once : (n : ℕ) → IsDistinct nat_eq (found n)
+  found_once : (index : ℕ) → IsDistinct nat_eq (found index)
   found_once zero = subst (IsDistinct nat_eq) (sym (found_first fields roots)) (distinct_all [] roots (IsDistinct-from_apart nat_eq [] (λ i j d _ h. absurd (omega arith))))
-  found_once (suc n) = subst (IsDistinct nat_eq) (sym (found_next fields roots n)) (once_grown n (slice_get (found n) n) (found_once n))
+  found_once (suc index) = subst (IsDistinct nat_eq) (sym (found_next fields roots index)) (once_grown index (slice_get (found index) index) (found_once index))
 
   module _ (Held : ℕ → Type 0) (root_held : (q : ℕ) → q ≢ 0 → has roots q ≡ true → Held q) (field_held : (a q : ℕ) → Held a → q ≢ 0 → has (fields a) q ≡ true → Held q) where
     -- a turn finds only what is held
-    held_grown : (n : ℕ) (o : Option ℕ) → slice_get (found n) n ≡ o → ((q : ℕ) → has (found n) q ≡ true → Held q) → (q : ℕ) → has (grown n o) q ≡ true → Held q
-    held_grown n None at before q is = before q is
-    held_grown n (Some a) at before q is = ⊎_elim
-        (λ (old : has (found n) q ≡ true). before q old)
-        (λ (field : (q ≢ 0) × (has (fields a) q ≡ true)). field_held a q (before a (has_at (found n) n a at)) field.0 field.1)
-        (only (found n) (fields a) q is)
+    held_grown : (index : ℕ) (o : Option ℕ) → slice_get (found index) index ≡ o → ((q : ℕ) → has (found index) q ≡ true → Held q) → (q : ℕ) → has (grown index o) q ≡ true → Held q
+    held_grown index None at before q is = before q is
+    held_grown index (Some a) at before q is = ⊎_elim
+        (λ (old : has (found index) q ≡ true). before q old)
+        (λ (field : (q ≢ 0) × (has (fields a) q ≡ true)). field_held a q (before a (has_at (found index) index a at)) field.0 field.1)
+        (only (found index) (fields a) q is)
 
     -- nothing else is found
-    pub found_held : (n q : ℕ) → has (found n) q ≡ true → Held q
+    pub found_held : (index q : ℕ) → has (found index) q ≡ true → Held q
     found_held zero q is = ⊎_elim
         (λ (none : has [] q ≡ true). absurd (false≢true none))
         (λ (root : (q ≢ 0) × (has roots q ≡ true)). root_held q root.0 root.1)
         (only [] roots q (sym (ap (λ xs. has xs q) (found_first fields roots)) ∙ is))
-    found_held (suc n) q is = held_grown n (slice_get (found n) n) refl (found_held n) q (sym (ap (λ xs. has xs q) (found_next fields roots n)) ∙ is)
+    found_held (suc index) q is = held_grown index (slice_get (found index) index) refl (found_held index) q (sym (ap (λ xs. has xs q) (found_next fields roots index)) ∙ is)
 
     module _ (first size : ℕ) (inside : (q : ℕ) → Held q → (first ≤ q) × (q < first + size)) where
       -- so there are at most as many as the heap has addresses
@@ -156,21 +156,21 @@ module _ (fields : ℕ → List ℕ) (roots : List ℕ) where
       past n short = found_next fields roots n ∙ ap (grown n) (get_none (found n) n short)
 
       -- the fields of what had its turn are found
-      turned : (n k a q : ℕ) → k < n → slice_get (found n) k ≡ Some a → q ≢ 0 → has (fields a) q ≡ true → has (found n) q ≡ true
-      turned zero k a q below is other field = absurd (omega (arith, below))
-      turned (suc n) k a q below is other field = ⊎_elim
-          (λ (within : k < length (found n)).
-          let was : slice_get (found n) k ≡ Some a = sym (found_stays n k within) ∙ is in
+      turned : (other_index index a q : ℕ) → index < other_index → slice_get (found other_index) index ≡ Some a → q ≢ 0 → has (fields a) q ≡ true → has (found other_index) q ≡ true
+      turned zero index a q below is other field = absurd (omega (arith, below))
+      turned (suc other_index) index a q below is other field = ⊎_elim
+          (λ (within : index < length (found other_index)).
+          let was : slice_get (found other_index) index ≡ Some a = sym (found_stays other_index index within) ∙ is in
           ⊎_elim
-          (λ (now : k ≡ n).
-          let turn : slice_get (found n) n ≡ Some a = ap (slice_get (found n)) (sym now) ∙ was in
-          ap (λ xs. has xs q) (found_next fields roots n ∙ ap (grown n) turn) ∙ new (found n) (fields a) q other field)
-          (λ (earlier : k ≢ n). found_keeps n q (turned n k a q (omega (arith, below, earlier)) was other field))
-          (cases_eq k n))
-          (λ (behind : length (found n) ≤ k).
-          let same = past n (omega (arith, behind, below)) in
-          absurd (let within = slice_get_within (found n) k a (sym (ap (λ xs. slice_get xs k) same) ∙ is) in omega (arith, within, behind)))
-          (cases_lt k (length (found n)))
+          (λ (now : index ≡ other_index).
+          let turn : slice_get (found other_index) other_index ≡ Some a = ap (slice_get (found other_index)) (sym now) ∙ was in
+          ap (λ xs. has xs q) (found_next fields roots other_index ∙ ap (grown other_index) turn) ∙ new (found other_index) (fields a) q other field)
+          (λ (earlier : index ≢ other_index). found_keeps other_index q (turned other_index index a q (omega (arith, below, earlier)) was other field))
+          (cases_eq index other_index))
+          (λ (behind : length (found other_index) ≤ index).
+          let same = past other_index (omega (arith, behind, below)) in
+          absurd (let within = slice_get_within (found other_index) index a (sym (ap (λ xs. slice_get xs index) same) ∙ is) in omega (arith, within, behind)))
+          (cases_lt index (length (found other_index)))
 
       -- after as many turns as there are addresses, the fields of each address that was found are found
       pub found_closed : (a q : ℕ) → has (found size) a ≡ true → q ≢ 0 → has (fields a) q ≡ true → has (found size) q ≡ true

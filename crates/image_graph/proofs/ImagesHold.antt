@@ -27,48 +27,48 @@ use Rattle.image_graph.proofs.PackedWords.{placed_words, fillers_say}
 use Rattle.image_graph.proofs.FreeWord.{free_again}
 
 -- the tops of open regions are together what is kept in them, whatever stands in shut ones
-pub open_tops_sum : (c : Config) (memory : Word → ℕ) (block : Plot) (object : Name → Option Object) (shut : ℕ → Bool) (now kept : ℕ → ℕ)
-    → CanPack c (λ r. memory (Top r)) (λ a. memory (Heap a)) block object now kept
-    → tops_where (λ r. not (shut (r + 1))) (λ r. packed c shut now kept memory (Top r)) c.regions ≡ sum_below (open_kept c.region_words shut kept) (heap_end c)
+pub open_tops_sum : (config : Config) (memory : Word → ℕ) (block : Plot) (object : Name → Option Object) (shut : ℕ → Bool) (now kept : ℕ → ℕ)
+    → CanPack config (λ region. memory (Top region)) (λ a. memory (Heap a)) block object now kept
+    → tops_where (λ region. not (shut (region + 1))) (λ region. packed config shut now kept memory (Top region)) config.regions ≡ sum_below (open_kept config.region_words shut kept) (heap_end config)
 unfolding packed
-open_tops_sum c memory block object shut now kept can =
-    let top : ℕ → ℕ = λ r. memory (Top r) in
+open_tops_sum config memory block object shut now kept can =
+    let top : ℕ → ℕ = λ region. memory (Top region) in
     let heap : ℕ → ℕ = λ a. memory (Heap a) in
-    let lie = origins.lie_apart c top heap block object now kept can in
-    let one : ℕ → ℕ = λ r. if not (shut (r + 1)) then top_then c shut kept memory r else 0 in
-    let each : (r : ℕ) → r < c.regions → one r ≡ packed_top c shut kept r = λ r _. ⊎_elim
-    (λ (closed : shut (r + 1) ≡ true).
-    cond-false (not (shut (r + 1))) (top_then c shut kept memory r) 0 (not_from_true (shut (r + 1)) closed)
-    ∙ sym (top_in_shut c.region_words shut kept lie (origins.kept_low c top heap block object now kept can) r (heap_end c) closed))
-    (λ (opened : shut (r + 1) ≡ false).
-    cond-true (not (shut (r + 1))) (top_then c shut kept memory r) 0 (not_from_false (shut (r + 1)) opened)
-    ∙ cond-false (shut (r + 1)) (memory (Top r)) (packed_top c shut kept r) opened)
-    (cases_Bool (shut (r + 1))) in
-    sum_same one (packed_top c shut kept) c.regions each
-    ∙ tops_are_words c.region_words shut kept lie c.regions
-    (λ a some. (let inside = origins.kept_inside c top heap block object now kept can a some in omega (arith, inside.1, some))) (heap_end c)
+    let lie = origins.lie_apart config top heap block object now kept can in
+    let one : ℕ → ℕ = λ region. if not (shut (region + 1)) then top_then config shut kept memory region else 0 in
+    let each : (region : ℕ) → region < config.regions → one region ≡ packed_top config shut kept region = λ region _. ⊎_elim
+    (λ (closed : shut (region + 1) ≡ true).
+    cond-false (not (shut (region + 1))) (top_then config shut kept memory region) 0 (not_from_true (shut (region + 1)) closed)
+    ∙ sym (top_in_shut config.region_words shut kept lie (origins.kept_low config top heap block object now kept can) region (heap_end config) closed))
+    (λ (opened : shut (region + 1) ≡ false).
+    cond-true (not (shut (region + 1))) (top_then config shut kept memory region) 0 (not_from_false (shut (region + 1)) opened)
+    ∙ cond-false (shut (region + 1)) (memory (Top region)) (packed_top config shut kept region) opened)
+    (cases_Bool (shut (region + 1))) in
+    sum_same one (packed_top config shut kept) config.regions each
+    ∙ tops_are_words config.region_words shut kept lie config.regions
+    (λ a some. (let inside = origins.kept_inside config top heap block object now kept can a some in omega (arith, inside.1, some))) (heap_end config)
 
-module _ (c : Config) (memory : Word → ℕ) (block : Plot) (g : Graph) (shut : ℕ → Bool) (now kept : ℕ → ℕ) (roots : List ℕ) (before : IsBeforePacking c memory block g shut now kept roots) where
+module _ (config : Config) (memory : Word → ℕ) (block : Plot) (graph : Graph) (shut : ℕ → Bool) (now kept : ℕ → ℕ) (roots : List ℕ) (before : IsBeforePacking config memory block graph shut now kept roots) where
   abbrev top : ℕ → ℕ
-  top r = memory (Top r)
+  top region = memory (Top region)
 
   abbrev heap : ℕ → ℕ
-  heap a = memory (Heap a)
+  heap address = memory (Heap address)
 
-  can : CanPack c top heap block g.object now kept
-  can = can_pack c top heap block now (IsAmong roots) g before.holds kept before.kept_are
+  can : CanPack config top heap block graph.object now kept
+  can = can_pack config top heap block now (IsAmong roots) graph before.holds kept before.kept_are
 
   abbrev place : ℕ → ℕ
-  place = new_place c.region_words shut kept
+  place = new_place config.region_words shut kept
 
   abbrev new_block : Plot
-  new_block = packed_block c shut kept block
+  new_block = packed_block config shut kept block
 
   abbrev IsFrom : ℕ → Block → Type 0
-  IsFrom p b = origins.IsFrom c top heap block g.object now kept can shut p b
+  IsFrom p piece = origins.IsFrom config top heap block graph.object now kept can shut p piece
 
   abbrev IsLeft : ℕ → Block → Type 0
-  IsLeft p b = origins.IsLeft c top heap block g.object now kept can shut p b
+  IsLeft p piece = origins.IsLeft config top heap block graph.object now kept can shut p piece
 
   -- each piece is an object, or only fills
   are_things : AreThings new_block
@@ -77,36 +77,36 @@ module _ (c : Config) (memory : Word → ℕ) (block : Plot) (g : Graph) (shut :
       let object = can.things from.0 from.1 in
       inl (object.0, object.1, object.2, same_Some piece (thing object.0 object.1 object.2) (sym from.4 ∙ object.3)))
       (λ (left : IsLeft a piece). inr (words_of left.0, before.parsed.some a left.0 left.3, sym left.4))
-      (origins.block_from c top heap block g.object now kept can shut a piece is)
+      (origins.block_from config top heap block graph.object now kept can shut a piece is)
 
   -- the pieces are the graph's objects
-  objects_again : AreObjects (λ a. packed c shut now kept memory (Heap a)) new_block g.object
+  objects_again : AreObjects (λ a. packed config shut now kept memory (Heap a)) new_block graph.object
   objects_again =
-      slid_are_objects c top heap block g.object now kept can shut (λ a. packed c shut now kept memory (Heap a))
-      (placed_words c memory block g.object now kept can shut before.parsed)
+      slid_are_objects config top heap block graph.object now kept can shut (λ a. packed config shut now kept memory (Heap a))
+      (placed_words config memory block graph.object now kept can shut before.parsed)
 
   -- what a root word leads to is kept
   led_kept : (word : ℕ) → IsAmong roots word → word ≢ 0 → 0 < kept (now word)
   led_kept word is other = let size = before.kept_are.words (now word) (from_root word is other) in omega (arith, size)
 
   -- what a root word holds in a shut region is where it was
-  stays_there : (word : ℕ) (name : Name) → IsAmong roots word → now word ≡ word → shut (word / c.region_words) ≡ true → IsCopy block word name → IsCopy new_block word name
+  stays_there : (word : ℕ) (name : Name) → IsAmong roots word → now word ≡ word → shut (word / config.region_words) ≡ true → IsCopy block word name → IsCopy new_block word name
   stays_there word name is current closed copy =
-      let other = none_at_0 c top block can.plotted word name (ap name_at copy.2) in
+      let other = none_at_0 config top block can.plotted word name (ap name_at copy.2) in
       let size : kept (now word) ≡ kept word = ap kept current in
       let some : 0 < kept word = (let led = led_kept word is other in omega (arith, led, size)) in
-      (copy.0, copy.1, ap new_block (sym (new_shut c.region_words shut kept word closed)) ∙ origins.block_at c top heap block g.object now kept can shut word some ∙ copy.2)
+      (copy.0, copy.1, ap new_block (sym (new_shut config.region_words shut kept word closed)) ∙ origins.block_at config top heap block graph.object now kept can shut word some ∙ copy.2)
 
-  pub keeps_graph : KeepsGraph c memory block g shut now kept roots
+  pub keeps_graph : KeepsGraph config memory block graph shut now kept roots
   unfolding packed
   keeps_graph = record {
-    plotted = slid_is_plotted c top heap block g.object now kept can shut before.parsed;
-    filled = slid_is_filled c top heap block g.object now kept can shut before.parsed;
+    plotted = slid_is_plotted config top heap block graph.object now kept can shut before.parsed;
+    filled = slid_is_filled config top heap block graph.object now kept can shut before.parsed;
     objects = objects_again;
-    root_words = λ word r is points. renewed_points c top heap block g.object now kept can shut word r points (led_kept word is);
+    root_words = λ word r is points. renewed_points config top heap block graph.object now kept can shut word r points (led_kept word is);
     stays = stays_there;
-    free_word = free_again c (top_then c shut kept memory);
+    free_word = free_again config (top_then config shut kept memory);
     things = are_things;
-    fillers = fillers_say c memory block g.object now kept can shut before.parsed;
-    tops_sum = open_tops_sum c memory block g.object shut now kept can;
+    fillers = fillers_say config memory block graph.object now kept can shut before.parsed;
+    tops_sum = open_tops_sum config memory block graph.object shut now kept can;
   }

@@ -27,19 +27,19 @@ use Rattle.image_graph.proofs.Walked.{walk_keeps}
 use Rattle.image_graph.proofs.Roots.{pin_stays, root_named, root_held, root_among, answer_among, pin_among, no_pins}
 
 -- an object with a plain header is its own current copy
-pub own_copy : (memory : Word → ℕ) (a : ℕ) → memory (Heap a) ≡ plain_header → now_in memory a ≡ a
-own_copy memory a plain =
-    cond-false (is_forwarded (memory (Heap a))) (forwardee_in (memory (Heap a))) a (ap is_forwarded plain)
+pub own_copy : (memory : Word → ℕ) (address : ℕ) → memory (Heap address) ≡ plain_header → now_in memory address ≡ address
+own_copy memory address plain =
+    cond-false (is_forwarded (memory (Heap address))) (forwardee_in (memory (Heap address))) address (ap is_forwarded plain)
 
 -- packing changes no pin slot
-pub packed_pin : (c : Config) (shut : ℕ → Bool) (now kept : ℕ → ℕ) (memory : Word → ℕ) (t i : ℕ) → packed c shut now kept memory (Pin t i) ≡ memory (Pin t i)
+pub packed_pin : (config : Config) (shut : ℕ → Bool) (now kept : ℕ → ℕ) (memory : Word → ℕ) (mutator index : ℕ) → packed config shut now kept memory (Pin mutator index) ≡ memory (Pin mutator index)
 unfolding packed
-packed_pin c shut now kept memory t i = refl
+packed_pin config shut now kept memory mutator index = refl
 
-pub objects_hold : (c : Config) (memory : Word → ℕ) (block : Plot) (g : Graph) (p : Promises) → IsPlotted c (λ r. memory (Top r)) block → AreThings block
-    → AreObjects (λ a. memory (Heap a)) block (with_promised g p).object → RootsStand c memory block g p
-    → HoldsGraph c (λ r. memory (Top r)) (λ a. memory (Heap a)) block (now_in memory) (IsAmong (held_words c memory)) (with_promised g p)
-objects_hold c memory block g p plotted things objects rooted = record {
+pub objects_hold : (config : Config) (memory : Word → ℕ) (block : Plot) (graph : Graph) (promises : Promises) → IsPlotted config (λ r. memory (Top r)) block → AreThings block
+    → AreObjects (λ a. memory (Heap a)) block (with_promised graph promises).object → RootsStand config memory block graph promises
+    → HoldsGraph config (λ r. memory (Top r)) (λ a. memory (Heap a)) block (now_in memory) (IsAmong (held_words config memory)) (with_promised graph promises)
+objects_hold config memory block graph promises plotted things objects rooted = record {
   plotted = plotted;
   current = λ word name is.
       let piece = thing_at block things word name is in
@@ -47,97 +47,97 @@ objects_hold c memory block g p plotted things objects rooted = record {
       (piece.0, piece.1, ap block (own_copy memory word object.2.header) ∙ piece.2);
   each = λ a refs nums name held is. objects.each a refs nums name is;
   once = λ a b refs nums more_refs more_nums name held_a held_b is_a is_b. objects.once a b refs nums more_refs more_nums name is_a is_b;
-  root_named = root_named c (λ r. memory (Top r)) memory block g p plotted rooted;
-  root_held = root_held c (λ r. memory (Top r)) memory block g p plotted rooted;
-  pinless = no_pins c (λ r. memory (Top r)) memory block g p plotted rooted;
+  root_named = root_named config (λ r. memory (Top r)) memory block graph promises plotted rooted;
+  root_held = root_held config (λ r. memory (Top r)) memory block graph promises plotted rooted;
+  pinless = no_pins config (λ r. memory (Top r)) memory block graph promises plotted rooted;
 }
 
-pub standing_holds : (c : Config) (memory : Word → ℕ) (block : Plot) (g : Graph) (p : Promises) → ImageStands c memory block g p
-    → HoldsGraph c (λ r. memory (Top r)) (λ a. memory (Heap a)) block (now_in memory) (IsAmong (held_words c memory)) (with_promised g p)
-standing_holds c memory block g p stands = objects_hold c memory block g p stands.plotted stands.things stands.objects stands.rooted
+pub standing_holds : (config : Config) (memory : Word → ℕ) (block : Plot) (graph : Graph) (promises : Promises) → ImageStands config memory block graph promises
+    → HoldsGraph config (λ r. memory (Top r)) (λ a. memory (Heap a)) block (now_in memory) (IsAmong (held_words config memory)) (with_promised graph promises)
+standing_holds config memory block graph promises stands = objects_hold config memory block graph promises stands.plotted stands.things stands.objects stands.rooted
 
-module _ (c : Config) (memory : Word → ℕ) (block : Plot) (g : Graph) (p : Promises)
-    (holds : HoldsGraph c (λ r. memory (Top r)) (λ a. memory (Heap a)) block (now_in memory) (IsAmong (held_words c memory)) (with_promised g p))
-    (rooted : RootsStand c memory block g p) (parsed : AreParsed c (is_row_pinned c memory) (λ r. memory (Top r)) (λ a. memory (Heap a)) block) where
+module _ (config : Config) (memory : Word → ℕ) (block : Plot) (graph : Graph) (promises : Promises)
+    (holds : HoldsGraph config (λ r. memory (Top r)) (λ a. memory (Heap a)) block (now_in memory) (IsAmong (held_words config memory)) (with_promised graph promises))
+    (rooted : RootsStand config memory block graph promises) (parsed : AreParsed config (is_row_pinned config memory) (λ r. memory (Top r)) (λ a. memory (Heap a)) block) where
   abbrev top : ℕ → ℕ
-  top r = memory (Top r)
+  top region = memory (Top region)
 
   abbrev heap : ℕ → ℕ
-  heap a = memory (Heap a)
+  heap address = memory (Heap address)
 
   abbrev now : ℕ → ℕ
   now = now_in memory
 
   abbrev kept : ℕ → ℕ
-  kept = kept_in c memory
+  kept = kept_in config memory
 
   abbrev shut : ℕ → Bool
-  shut = is_row_pinned c memory
+  shut = is_row_pinned config memory
 
   abbrev place : ℕ → ℕ
-  place = new_place c.region_words shut kept
+  place = new_place config.region_words shut kept
 
   abbrev roots : List ℕ
-  roots = held_words c memory
+  roots = held_words config memory
 
   abbrev new_block : Plot
-  new_block = packed_block c shut kept block
+  new_block = packed_block config shut kept block
 
   abbrev after : Word → ℕ
-  after = packed c shut now kept memory
+  after = packed config shut now kept memory
 
   kept_are : AreHeldKept heap (IsLedTo now heap (IsAmong roots)) kept
-  kept_are = walk_keeps c memory block (with_promised g p) holds
+  kept_are = walk_keeps config memory block (with_promised graph promises) holds
 
-  keeps : KeepsGraph c memory block (with_promised g p) shut now kept roots
-  keeps = keeps_graph c memory block (with_promised g p) shut now kept roots (record { holds = holds; kept_are = kept_are; parsed = parsed })
+  keeps : KeepsGraph config memory block (with_promised graph promises) shut now kept roots
+  keeps = keeps_graph config memory block (with_promised graph promises) shut now kept roots (record { holds = holds; kept_are = kept_are; parsed = parsed })
 
   -- the place of what a root word leads to is an address
   place_high : (word : ℕ) → IsAmong roots word → word ≢ 0 → 1 < place (now word)
   place_high word is other =
-      let can = can_pack c top heap block now (IsAmong roots) (with_promised g p) holds kept kept_are in
+      let can = can_pack config top heap block now (IsAmong roots) (with_promised graph promises) holds kept kept_are in
       let size = kept_are.words (now word) (from_root word is other) in
-      let lie = lie_apart c top heap block (with_promised g p).object now kept can in
-      omega (arith, stays_above c.region_words shut kept lie (now word) (omega (arith, size)), c.in_range.least_words)
+      let lie = lie_apart config top heap block (with_promised graph promises).object now kept can in
+      omega (arith, stays_above config.region_words shut kept lie (now word) (omega (arith, size)), config.in_range.least_words)
 
   -- what an answer stood for it stands for
-  answer_again : (t : ℕ) → t < c.mutators → AnswerStands new_block (after (Answer t)) (p.ref (t + 1))
+  answer_again : (mutator : ℕ) → mutator < config.mutators → AnswerStands new_block (after (Answer mutator)) (promises.ref (mutator + 1))
   unfolding packed
-  answer_again t inside = ⊎_elim
-      (λ (none : (memory (Answer t) ≤ 1) × (p.ref (t + 1) ≡ None)).
-      let same = cond-true (nat_le (memory (Answer t)) 1) (memory (Answer t)) (place (now (memory (Answer t)))) (le-leb (memory (Answer t)) 1 none.0) in
+  answer_again mutator inside = ⊎_elim
+      (λ (none : (memory (Answer mutator) ≤ 1) × (promises.ref (mutator + 1) ≡ None)).
+      let same = cond-true (nat_le (memory (Answer mutator)) 1) (memory (Answer mutator)) (place (now (memory (Answer mutator)))) (le-leb (memory (Answer mutator)) 1 none.0) in
       inl (omega (arith, same, none.0), none.1))
-      (λ (some : (1 < memory (Answer t)) × (name : Name) × (p.ref (t + 1) ≡ Some name) × (name_at (block (memory (Answer t))) ≡ Some name)).
-      let word = memory (Answer t) in
+      (λ (some : (1 < memory (Answer mutator)) × (name : Name) × (promises.ref (mutator + 1) ≡ Some name) × (name_at (block (memory (Answer mutator))) ≡ Some name)).
+      let word = memory (Answer mutator) in
       let other : word ≢ 0 = λ e. omega (arith, e, some.0) in
-      let among = answer_among c top memory block g p holds.plotted rooted t inside some.0 in
+      let among = answer_among config top memory block graph promises holds.plotted rooted mutator inside some.0 in
       let answer : renewed_answer place now word ≡ place (now word) = cond-false (nat_le word 1) word (place (now word)) (lt-leb word 1 some.0) in
       let root : renewed place now word ≡ place (now word) = cond-false (word == 0) 0 (place (now word)) (ne_eqb word 0 other) in
       let points : name_at (new_block (renewed place now word)) ≡ Some some.1 = keeps.root_words word (Some some.1) among some.3 in
       inr (omega (arith, answer, place_high word among other), some.1, some.2, ap (λ k. name_at (new_block k)) (answer ∙ sym root) ∙ points))
-      (rooted.answers t inside)
+      (rooted.answers mutator inside)
 
-  root_again : (t i : ℕ) → t < c.mutators → i < 16 → Points new_block (after (Root t i)) (g.root (t + 1) i)
+  root_again : (mutator index : ℕ) → mutator < config.mutators → index < 16 → Points new_block (after (Root mutator index)) (graph.root (mutator + 1) index)
   unfolding packed
-  root_again t i inside few = keeps.root_words (memory (Root t i)) (g.root (t + 1) i) (root_among c top memory block g p holds.plotted rooted t i inside few) (rooted.roots t i inside few)
+  root_again mutator index inside few = keeps.root_words (memory (Root mutator index)) (graph.root (mutator + 1) index) (root_among config top memory block graph promises holds.plotted rooted mutator index inside few) (rooted.roots mutator index inside few)
 
   -- the object of a pin slot stays where it is, and is its own current copy
-  pin_there : (t i : ℕ) → t < c.mutators → i < 4 → (name : Name) → IsCopy block (memory (Pin t i)) name → is_forwarded (memory (Heap (memory (Pin t i)))) ≡ false
-      → IsCopy new_block (memory (Pin t i)) name × (is_forwarded (after (Heap (memory (Pin t i)))) ≡ false)
-  pin_there t i inside few name copy plain =
-      let word = memory (Pin t i) in
-      let lies = piece_inside c top block holds.plotted word (thing name copy.0 copy.1) copy.2 in
-      let closed = word_pinned c memory t i inside few lies.0 (omega (arith, lies.1)) in
+  pin_there : (mutator index : ℕ) → mutator < config.mutators → index < 4 → (name : Name) → IsCopy block (memory (Pin mutator index)) name → is_forwarded (memory (Heap (memory (Pin mutator index)))) ≡ false
+      → IsCopy new_block (memory (Pin mutator index)) name × (is_forwarded (after (Heap (memory (Pin mutator index)))) ≡ false)
+  pin_there mutator index inside few name copy plain =
+      let word = memory (Pin mutator index) in
+      let lies = piece_inside config top block holds.plotted word (thing name copy.0 copy.1) copy.2 in
+      let closed = word_pinned config memory mutator index inside few lies.0 (omega (arith, lies.1)) in
       let current : now word ≡ word = cond-false (is_forwarded (memory (Heap word))) (forwardee_in (memory (Heap word))) word plain in
-      let stays = keeps.stays word name (pin_among c top memory block g p holds.plotted rooted t i inside few) current closed copy in
+      let stays = keeps.stays word name (pin_among config top memory block graph promises holds.plotted rooted mutator index inside few) current closed copy in
       (stays, ap is_forwarded (keeps.objects.each word stays.0 stays.1 name stays.2).2.header)
 
-  pin_again : (t i : ℕ) → t < c.mutators → i < 4 → PinWordStands after new_block (after (Pin t i)) (g.pin (t + 1) i)
-  pin_again t i inside few =
-      subst (λ word. PinWordStands after new_block word (g.pin (t + 1) i)) (sym (packed_pin c shut now kept memory t i))
-      (pin_stays memory after block new_block (memory (Pin t i)) (g.pin (t + 1) i) (pin_there t i inside few) (rooted.pins t i inside few))
+  pin_again : (mutator index : ℕ) → mutator < config.mutators → index < 4 → PinWordStands after new_block (after (Pin mutator index)) (graph.pin (mutator + 1) index)
+  pin_again mutator index inside few =
+      subst (λ word. PinWordStands after new_block word (graph.pin (mutator + 1) index)) (sym (packed_pin config shut now kept memory mutator index))
+      (pin_stays memory after block new_block (memory (Pin mutator index)) (graph.pin (mutator + 1) index) (pin_there mutator index inside few) (rooted.pins mutator index inside few))
 
-  pub packed_stands : ImageStands c after new_block g p
+  pub packed_stands : ImageStands config after new_block graph promises
   packed_stands = record {
     plotted = keeps.plotted;
     filled = keeps.filled;

@@ -13,45 +13,45 @@ use Rattle.image_graph.specs.Held.{IsLedTo, AreHeldKept, HoldsGraph}
 use Rattle.image_graph.proofs.Reached.{held_is_reached, named_object, words_read}
 
 -- The object that is kept at an address: one of the graph, reachable, of so many words.
-pub record KeptOne (block : Plot) (g : Graph) (kept : ℕ → ℕ) (a : ℕ) : Type 0 where
+pub record KeptOne (block : Plot) (graph : Graph) (kept : ℕ → ℕ) (address : ℕ) : Type 0 where
   pub name : Name
   pub refs : ℕ
   pub nums : ℕ
-  pub is : block a ≡ Some (thing name refs nums)
-  pub reached : IsReachable g name
-  pub words : kept a ≡ size (named g (Some name))
+  pub is : block address ≡ Some (thing name refs nums)
+  pub reached : IsReachable graph name
+  pub words : kept address ≡ size (named graph (Some name))
 
-module _ (c : Config) (top heap : ℕ → ℕ) (block : Plot) (now kept : ℕ → ℕ) (IsRoot : ℕ → Type 0) (g : Graph)
-    (holds : HoldsGraph c top heap block now IsRoot g) (are : AreHeldKept heap (IsLedTo now heap IsRoot) kept) where
-  pub kept_one : (a : ℕ) → 0 < kept a → KeptOne block g kept a
-  kept_one a some =
-      let held = are.only a some in
-      let at = held_is_reached c top heap block now IsRoot g holds a held in
-      let object = holds.each a at.1 at.2 at.0 held at.3 in
+module _ (config : Config) (top heap : ℕ → ℕ) (block : Plot) (now kept : ℕ → ℕ) (IsRoot : ℕ → Type 0) (graph : Graph)
+    (holds : HoldsGraph config top heap block now IsRoot graph) (are : AreHeldKept heap (IsLedTo now heap IsRoot) kept) where
+  pub kept_one : (address : ℕ) → 0 < kept address → KeptOne block graph kept address
+  kept_one address some =
+      let held = are.only address some in
+      let at = held_is_reached config top heap block now IsRoot graph holds address held in
+      let object = holds.each address at.1 at.2 at.0 held at.3 in
       let facts = object.2 in
-      let shape : object_words (heap (a + 1)) ≡ 3 + at.1 + at.2 = ap object_words facts.shape ∙ words_read at.1 at.2 facts.few_refs facts.few_nums in
-      let same : size (named g (Some at.0)) ≡ size object.0 = ap size (named_object g at.0 object.0 object.1) in
+      let shape : object_words (heap (address + 1)) ≡ 3 + at.1 + at.2 = ap object_words facts.shape ∙ words_read at.1 at.2 facts.few_refs facts.few_nums in
+      let same : size (named graph (Some at.0)) ≡ size object.0 = ap size (named_object graph at.0 object.0 object.1) in
       record {
         name = at.0;
         refs = at.1;
         nums = at.2;
         is = at.3;
         reached = at.4;
-        words = omega (arith, are.words a held, shape, same, facts.refs_are, facts.nums_are);
+        words = omega (arith, are.words address held, shape, same, facts.refs_are, facts.nums_are);
       }
 
   -- two kept addresses of one name are one
-  pub one_name : (a b : ℕ) (some_a : 0 < kept a) (some_b : 0 < kept b) → (kept_one a some_a).name ≡ (kept_one b some_b).name → a ≡ b
-  one_name a b some_a some_b same =
-      let one = kept_one a some_a in
+  pub one_name : (address b : ℕ) (some_a : 0 < kept address) (some_b : 0 < kept b) → (kept_one address some_a).name ≡ (kept_one b some_b).name → address ≡ b
+  one_name address b some_a some_b same =
+      let one = kept_one address some_a in
       let other = kept_one b some_b in
-      let is : block a ≡ Some (thing other.name one.refs one.nums) = one.is ∙ ap (λ (n : Name). Some (thing n one.refs one.nums)) same in
-      holds.once a b one.refs one.nums other.refs other.nums other.name (are.only a some_a) (are.only b some_b) is other.is
+      let is : block address ≡ Some (thing other.name one.refs one.nums) = one.is ∙ ap (λ (name : Name). Some (thing name one.refs one.nums)) same in
+      holds.once address b one.refs one.nums other.refs other.nums other.name (are.only address some_a) (are.only b some_b) is other.is
 
-  pub kept_are_live : (names : List Name) → IsReach g names → (end : ℕ) → sum_below kept end ≤ sum_by (λ n. size (named g (Some n))) names
+  pub kept_are_live : (names : List Name) → IsReach graph names → (end : ℕ) → sum_below kept end ≤ sum_by (λ n. size (named graph (Some n))) names
   kept_are_live names reach end =
-      let words : ℕ → ℕ = λ k. size (named g (Some (get_or names k hub))) in
-      let place : (a : ℕ) (some : 0 < kept a) → (k : ℕ) × (k < length names) × (get_or names k hub ≡ (kept_one a some).name) = λ a some.
+      let words : ℕ → ℕ = λ index. size (named graph (Some (get_or names index hub))) in
+      let place : (a : ℕ) (some : 0 < kept a) → (index : ℕ) × (index < length names) × (get_or names index hub ≡ (kept_one a some).name) = λ a some.
       let one = kept_one a some in
       let found = reach.all one.name one.reached in
       (found.0, found.1, get_or_default names found.0 hub one.name found.1 ∙ found.2)
@@ -59,9 +59,9 @@ module _ (c : Config) (top heap : ℕ → ℕ) (block : Plot) (now kept : ℕ �
       let less = sum_of_things kept words end (length names)
       (λ a below some.
       let at = place a some in
-      let same : words at.0 ≡ size (named g (Some (kept_one a some).name)) = ap (λ (n : Name). size (named g (Some n))) at.2 in
+      let same : words at.0 ≡ size (named graph (Some (kept_one a some).name)) = ap (λ (name : Name). size (named graph (Some name))) at.2 in
       (at.0, at.1, omega (arith, same, (kept_one a some).words)))
       (λ a b less_a some_a less_b some_b same.
-      one_name a b some_a some_b (sym (place a some_a).2 ∙ ap (λ k. get_or names k hub) same ∙ (place b some_b).2))
+      one_name a b some_a some_b (sym (place a some_a).2 ∙ ap (λ index. get_or names index hub) same ∙ (place b some_b).2))
       in
-      omega (arith, less, sum_by_index (λ n. size (named g (Some n))) names hub)
+      omega (arith, less, sum_by_index (λ n. size (named graph (Some n))) names hub)

@@ -19,38 +19,38 @@ use Rattle.image_graph.proofs.Divided.{divided}
 
 -- that roots may be used
 abbrev Usable : Config → (Word → ℕ) → Plot → Type 0
-Usable c m block = AreUsable c (m Cset) (m Evac) block (λ t i. m (Root t i))
+Usable config memory block = AreUsable config (memory Cset) (memory Evac) block (λ t i. memory (Root t i))
 
 -- a word may be used still where objects stay
-usable_still : (c : Config) (cset evac : ℕ) (u w : Plot) → SameButLoose u w → (word : ℕ) → IsUsable c cset evac u word → IsUsable c cset evac w word
-usable_still c cset evac u w same word (inl null) = inl null
-usable_still c cset evac u w same word (inr at) = inr (at.0, at.1, at.2, record { piece = same.stays word (thing at.0 at.1 at.2) refl at.3.piece; safe = at.3.safe })
+usable_still : (config : Config) (cset evac : ℕ) (plot other_plot : Plot) → SameButLoose plot other_plot → (word : ℕ) → IsUsable config cset evac plot word → IsUsable config cset evac other_plot word
+usable_still config cset evac plot other_plot same word (inl null) = inl null
+usable_still config cset evac plot other_plot same word (inr at) = inr (at.0, at.1, at.2, record { piece = same.stays word (thing at.0 at.1 at.2) refl at.3.piece; safe = at.3.safe })
 
-usable_of_roots : (c : Config) → IsOfRoots (Usable c)
-usable_of_roots c = record {
+usable_of_roots : (config : Config) → IsOfRoots (Usable config)
+usable_of_roots config = record {
   refits = λ m top heap current block is. is;
-  stays = λ m u w same is. λ t i below small. usable_still c (m Cset) (m Evac) u w same (m (Root t i)) (is t i below small);
+  stays = λ m u w same is. λ t i below small. usable_still config (m Cset) (m Evac) u w same (m (Root t i)) (is t i below small);
 }
 
 -- nothing is asked of them
 nothing_of_roots : IsOfRoots (λ m block. Unit {0})
 nothing_of_roots = record { refits = λ m top heap current block is. is; stays = λ m u w same is. is }
 
-pub settling_keeps : (c : Config) (m : Word → ℕ) (g : Graph) (asking : ℕ → Asking) → SettlingKeeps c m g asking
-settling_keeps c m g asking = record {
-  represents = λ r. settled_stands (Usable c) (usable_of_roots c) c g asking m r;
-  by_copies = λ r. settled_stands (λ k block. Unit {0}) nothing_of_roots c g asking m r;
+pub settling_keeps : (config : Config) (memory : Word → ℕ) (graph : Graph) (asking : ℕ → Asking) → SettlingKeeps config memory graph asking
+settling_keeps config memory graph asking = record {
+  represents = λ r. settled_stands (Usable config) (usable_of_roots config) config graph asking memory r;
+  by_copies = λ r. settled_stands (λ k block. Unit {0}) nothing_of_roots config graph asking memory r;
 }
 
-pub letting_go_keeps : (c : Config) (m : Word → ℕ) (g : Graph) (asking : ℕ → Asking) → HasNoOtherBuffers c m → LettingGoKeeps c m g asking
-letting_go_keeps c m g asking beyond = record {
-  represents = λ r. let_go_stands (Usable c) (usable_of_roots c) c g asking m beyond r;
-  by_copies = λ r. let_go_stands (λ k block. Unit {0}) nothing_of_roots c g asking m beyond r;
+pub letting_go_keeps : (config : Config) (memory : Word → ℕ) (graph : Graph) (asking : ℕ → Asking) → HasNoOtherBuffers config memory → LettingGoKeeps config memory graph asking
+letting_go_keeps config memory graph asking beyond = record {
+  represents = λ r. let_go_stands (Usable config) (usable_of_roots config) config graph asking memory beyond r;
+  by_copies = λ r. let_go_stands (λ k block. Unit {0}) nothing_of_roots config graph asking memory beyond r;
 }
 
 -- Whatever seats there are, so it is but for buffers without free words.
-pub trimmed_copies : (c : Config) (m : Word → ℕ) (g : Graph) (asking : ℕ → Asking) → RepresentsByCopies c m g asking → RepresentsByCopies c (trim (let_go c m)) g asking
-trimmed_copies c m g asking r = let_go_trims (λ k block. Unit {0}) nothing_of_roots c g asking m r
+pub trimmed_copies : (config : Config) (memory : Word → ℕ) (graph : Graph) (asking : ℕ → Asking) → RepresentsByCopies config memory graph asking → RepresentsByCopies config (trim (let_go config memory)) graph asking
+trimmed_copies config memory graph asking r = let_go_trims (λ k block. Unit {0}) nothing_of_roots config graph asking memory r
 
 pub edges_divide : LastDivide
 edges_divide c m g asking r last = divided c m r.block r.shared.parsable.plotted (some_words c (λ q. m (Top q)) r.block r.shared.parsable r.shared.owned.rooms) r.shared.owned.buffers r.uncarved r.none

@@ -72,56 +72,56 @@ fresh_field a shape name before x low high =
     ∙ cond-false (a + 2 == x) name 0 (ne_eqb (a + 2) x (λ e. omega (arith, e, low)))
 
 -- an element of a list of equal ones
-blank_element : {X : Type 0} (n i : ℕ) (x y : X) → slice_get (replicate n x) i ≡ Some y → x ≡ y
-blank_element zero i x y is = absurd (none-some y is)
+blank_element : {X : Type 0} (n index : ℕ) (x y : X) → slice_get (replicate n x) index ≡ Some y → x ≡ y
+blank_element zero index x y is = absurd (none-some y is)
 blank_element (suc n) zero x y is = same_Some x y is
-blank_element (suc n) (suc i) x y is = blank_element n i x y is
+blank_element (suc n) (suc index) x y is = blank_element n index x y is
 
 -- two names that differ
-differ : (a b : Name) → a ≢ b → same_name a b ≡ false
-differ a b other = ⊎_elim (λ (is : same_name a b ≡ true). absurd (other (same_name-true a b is))) (λ (is : same_name a b ≡ false). is) (cases_Bool (same_name a b))
+differ : (name other_name : Name) → name ≢ other_name → same_name name other_name ≡ false
+differ name other_name other = ⊎_elim (λ (is : same_name name other_name ≡ true). absurd (other (same_name-true name other_name is))) (λ (is : same_name name other_name ≡ false). is) (cases_Bool (same_name name other_name))
 
 -- what the words at an address are as a piece
 abbrev PieceAt : (ℕ → ℕ) → Plot → (Name → Option Object) → ℕ → Block → Type 0
-PieceAt heap block object a (thing name refs nums) = (o : Object) × (object name ≡ Some o) × IsThing heap block a refs nums name o
-PieceAt heap block object a _ = Unit {0}
+PieceAt heap block object address (thing name refs nums) = (o : Object) × (object name ≡ Some o) × IsThing heap block address refs nums name o
+PieceAt heap block object address _ = Unit {0}
 
 -- What making an object stands on: the pieces that stand for a name are objects, and roots and answers stand for what they should.
-pub record CanMake (c : Config) (m : Word → ℕ) (block : Plot) (g : Graph) (p : Promises) : Type 0 where
-  pub plotted : IsPlotted c (λ r. m (Top r)) block
+pub record CanMake (config : Config) (memory : Word → ℕ) (block : Plot) (graph : Graph) (promises : Promises) : Type 0 where
+  pub plotted : IsPlotted config (λ r. memory (Top r)) block
   pub pieces : NamedAreThings block
-  pub rooted : RootsStand c m block g p
+  pub rooted : RootsStand config memory block graph promises
 
-pub can_make : (c : Config) (m : Word → ℕ) (block : Plot) (g : Graph) (p : Promises) → ImageStands c m block g p → CanMake c m block g p
-can_make c m block g p stands = record { plotted = stands.plotted; pieces = named_things block stands.things; rooted = stands.rooted }
+pub can_make : (config : Config) (memory : Word → ℕ) (block : Plot) (graph : Graph) (promises : Promises) → ImageStands config memory block graph promises → CanMake config memory block graph promises
+can_make config memory block graph promises stands = record { plotted = stands.plotted; pieces = named_things block stands.things; rooted = stands.rooted }
 
-module _ (c : Config) (m : Word → ℕ) (block : Plot) (g : Graph) (p : Promises) (stands : CanMake c m block g p) (t r : ℕ) (inside : t < c.mutators)
-    (asking : IsAsking m g p t) (within : r < c.regions) (room : m (Top r) + object_words (asked_shape m t) ≤ c.region_words) where
+module _ (config : Config) (memory : Word → ℕ) (block : Plot) (graph : Graph) (promises : Promises) (stands : CanMake config memory block graph promises) (t r : ℕ) (inside : t < config.mutators)
+    (asking : IsAsking memory graph promises t) (within : r < config.regions) (room : memory (Top r) + object_words (asked_shape memory t) ≤ config.region_words) where
   abbrev top : ℕ → ℕ
-  top q = m (Top q)
+  top region = memory (Top region)
 
   abbrev heap : ℕ → ℕ
-  heap x = m (Heap x)
+  heap address = memory (Heap address)
 
   abbrev address : ℕ
-  address = base_of c r + m (Top r)
+  address = base_of config r + memory (Top r)
 
   abbrev piece : Block
-  piece = asked_piece m t
+  piece = asked_piece memory t
 
   abbrev new : Name
-  new = asked_name m t
+  new = asked_name memory t
 
   abbrev new_block : Plot
-  new_block = made_block c m block t (Some r)
+  new_block = made_block config memory block t (Some r)
 
   abbrev more : Promises
-  more = made_promise m p t (Some r)
+  more = made_promise memory promises t (Some r)
 
   abbrev after : Word → ℕ
-  after = made_in c m t r
+  after = made_in config memory t r
 
-  pub can : CanJoin c top block r (m (Top r)) piece
+  pub can : CanJoin config top block r (memory (Top r)) piece
   can = record {
     plotted = stands.plotted;
     long = stands.pieces.some;
@@ -131,71 +131,71 @@ module _ (c : Config) (m : Word → ℕ) (block : Plot) (g : Graph) (p : Promise
     some = omega arith;
   }
 
-  pub names_stay : (a : ℕ) (name : Name) → name_at (block a) ≡ Some name → name_at (new_block a) ≡ Some name
-  names_stay = joined.names_stay c top block r (m (Top r)) piece can
+  pub names_stay : (address : ℕ) (name : Name) → name_at (block address) ≡ Some name → name_at (new_block address) ≡ Some name
+  names_stay = joined.names_stay config top block r (memory (Top r)) piece can
 
   -- the thread was promised nothing
-  promised_nothing : p.ref (t + 1) ≡ None
+  promised_nothing : promises.ref (t + 1) ≡ None
   promised_nothing = ⊎_elim
-      (λ (none : (m (Answer t) ≤ 1) × (p.ref (t + 1) ≡ None)). none.1)
-      (λ (some : (1 < m (Answer t)) × (name : Name) × (p.ref (t + 1) ≡ Some name) × (name_at (block (m (Answer t))) ≡ Some name)). absurd (omega (arith, some.0, asking.unanswered)))
+      (λ (none : (memory (Answer t) ≤ 1) × (promises.ref (t + 1) ≡ None)). none.1)
+      (λ (some : (1 < memory (Answer t)) × (name : Name) × (promises.ref (t + 1) ≡ Some name) × (name_at (block (memory (Answer t))) ≡ Some name)). absurd (omega (arith, some.0, asking.unanswered)))
       (stands.rooted.answers t inside)
 
   -- the new object is one of the graph with the new promise
-  new_object : (with_promised g more).object new ≡ Some (blank (refs_in (asked_shape m t)) (nums_in (asked_shape m t)))
+  new_object : (with_promised graph more).object new ≡ Some (blank (refs_in (asked_shape memory t)) (nums_in (asked_shape memory t)))
   new_object =
       let own : t + 1 == t + 1 ≡ true = eq-eqb (t + 1) (t + 1) refl in
-      let ref : more.ref (t + 1) ≡ Some new = cond-true (t + 1 == t + 1) (Some new) (p.ref (t + 1)) own in
-      let refs : more.refs (t + 1) ≡ refs_in (asked_shape m t) = cond-true (t + 1 == t + 1) (refs_in (asked_shape m t)) (p.refs (t + 1)) own in
-      let nums : more.nums (t + 1) ≡ nums_in (asked_shape m t) = cond-true (t + 1 == t + 1) (nums_in (asked_shape m t)) (p.nums (t + 1)) own in
-      cond-true (same_reference (more.ref (t + 1)) (Some new)) (Some (blank (more.refs (t + 1)) (more.nums (t + 1)))) (g.object new)
+      let ref : more.ref (t + 1) ≡ Some new = cond-true (t + 1 == t + 1) (Some new) (promises.ref (t + 1)) own in
+      let refs : more.refs (t + 1) ≡ refs_in (asked_shape memory t) = cond-true (t + 1 == t + 1) (refs_in (asked_shape memory t)) (promises.refs (t + 1)) own in
+      let nums : more.nums (t + 1) ≡ nums_in (asked_shape memory t) = cond-true (t + 1 == t + 1) (nums_in (asked_shape memory t)) (promises.nums (t + 1)) own in
+      cond-true (same_reference (more.ref (t + 1)) (Some new)) (Some (blank (more.refs (t + 1)) (more.nums (t + 1)))) (graph.object new)
       (ap (λ k. same_reference k (Some new)) ref ∙ same_name-itself new)
-      ∙ ap (λ k. Some (blank k (more.nums (t + 1)))) refs ∙ ap (λ k. Some (blank (refs_in (asked_shape m t)) k)) nums
+      ∙ ap (λ k. Some (blank k (more.nums (t + 1)))) refs ∙ ap (λ k. Some (blank (refs_in (asked_shape memory t)) k)) nums
 
   -- an object of another thread's name is as it was
-  same_object : (name : Name) → t + 1 ≢ name.thread → (with_promised g more).object name ≡ (with_promised g p).object name
+  same_object : (name : Name) → t + 1 ≢ name.thread → (with_promised graph more).object name ≡ (with_promised graph promises).object name
   same_object name another =
       let test : (t + 1 == name.thread) ≡ false = ne_eqb (t + 1) name.thread another in
-      let ref : more.ref name.thread ≡ p.ref name.thread = cond-false (t + 1 == name.thread) (Some new) (p.ref name.thread) test in
-      let refs : more.refs name.thread ≡ p.refs name.thread = cond-false (t + 1 == name.thread) (refs_in (asked_shape m t)) (p.refs name.thread) test in
-      let nums : more.nums name.thread ≡ p.nums name.thread = cond-false (t + 1 == name.thread) (nums_in (asked_shape m t)) (p.nums name.thread) test in
-      ap (λ k. cond (same_reference k (Some name)) (Some (blank (more.refs name.thread) (more.nums name.thread))) (g.object name)) ref
-      ∙ ap (λ k. cond (same_reference (p.ref name.thread) (Some name)) (Some (blank k (more.nums name.thread))) (g.object name)) refs
-      ∙ ap (λ k. cond (same_reference (p.ref name.thread) (Some name)) (Some (blank (p.refs name.thread) k)) (g.object name)) nums
+      let ref : more.ref name.thread ≡ promises.ref name.thread = cond-false (t + 1 == name.thread) (Some new) (promises.ref name.thread) test in
+      let refs : more.refs name.thread ≡ promises.refs name.thread = cond-false (t + 1 == name.thread) (refs_in (asked_shape memory t)) (promises.refs name.thread) test in
+      let nums : more.nums name.thread ≡ promises.nums name.thread = cond-false (t + 1 == name.thread) (nums_in (asked_shape memory t)) (promises.nums name.thread) test in
+      ap (λ k. cond (same_reference k (Some name)) (Some (blank (more.refs name.thread) (more.nums name.thread))) (graph.object name)) ref
+      ∙ ap (λ k. cond (same_reference (promises.ref name.thread) (Some name)) (Some (blank k (more.nums name.thread))) (graph.object name)) refs
+      ∙ ap (λ k. cond (same_reference (promises.ref name.thread) (Some name)) (Some (blank (promises.refs name.thread) k)) (graph.object name)) nums
 
   -- and the old ones are as they were
-  object_stays : (name : Name) (o : Object) → (with_promised g p).object name ≡ Some o → (with_promised g more).object name ≡ Some o
-  object_stays name o is = ⊎_elim
+  object_stays : (name : Name) (object : Object) → (with_promised graph promises).object name ≡ Some object → (with_promised graph more).object name ≡ Some object
+  object_stays name object is = ⊎_elim
       (λ (own : t + 1 ≡ name.thread).
-      let old_ref : p.ref name.thread ≡ None = ap p.ref (sym own) ∙ promised_nothing in
-      let old : g.object name ≡ Some o =
-      sym (cond-false (same_reference (p.ref name.thread) (Some name)) (Some (blank (p.refs name.thread) (p.nums name.thread))) (g.object name) (ap (λ k. same_reference k (Some name)) old_ref)) ∙ is in
-      let other : new ≢ name = λ same. none-some o (sym asking.new ∙ ap (with_promised g p).object same ∙ is) in
-      let ref : more.ref name.thread ≡ Some new = cond-true (t + 1 == name.thread) (Some new) (p.ref name.thread) (eq-eqb (t + 1) name.thread own) in
-      cond-false (same_reference (more.ref name.thread) (Some name)) (Some (blank (more.refs name.thread) (more.nums name.thread))) (g.object name)
+      let old_ref : promises.ref name.thread ≡ None = ap promises.ref (sym own) ∙ promised_nothing in
+      let old : graph.object name ≡ Some object =
+      sym (cond-false (same_reference (promises.ref name.thread) (Some name)) (Some (blank (promises.refs name.thread) (promises.nums name.thread))) (graph.object name) (ap (λ k. same_reference k (Some name)) old_ref)) ∙ is in
+      let other : new ≢ name = λ same. none-some object (sym asking.new ∙ ap (with_promised graph promises).object same ∙ is) in
+      let ref : more.ref name.thread ≡ Some new = cond-true (t + 1 == name.thread) (Some new) (promises.ref name.thread) (eq-eqb (t + 1) name.thread own) in
+      cond-false (same_reference (more.ref name.thread) (Some name)) (Some (blank (more.refs name.thread) (more.nums name.thread))) (graph.object name)
       (ap (λ k. same_reference k (Some name)) ref ∙ differ new name other) ∙ old)
       (λ (another : t + 1 ≢ name.thread). same_object name another ∙ is)
       (cases_eq (t + 1) name.thread)
 
   -- the words of old pieces stay
-  pub old_word : (a k : ℕ) (b : Block) → block a ≡ Some b → k < words_of b → after (Heap (a + k)) ≡ heap (a + k)
+  pub old_word : (a k : ℕ) (piece : Block) → block a ≡ Some piece → k < words_of piece → after (Heap (a + k)) ≡ heap (a + k)
   unfolding made_in
-  old_word a k b is below =
-      outside_fresh address (asked_shape m t) (name_code (t + 1) (request_count_in (m (Wait t)))) (heap (a + k)) (a + k)
+  old_word a k piece is below =
+      outside_fresh address (asked_shape memory t) (name_code (t + 1) (request_count_in (memory (Wait t)))) (heap (a + k)) (a + k)
       (⊎_elim
       (λ before. inl (omega (arith, before, below)))
       (λ rest. ⊎_elim
-      (λ (here : (base_of c r ≤ a) × (a + words_of b ≤ address)). inl (omega (arith, here.1, below)))
-      (λ (behind : base_of c r + c.region_words ≤ a). inr (omega (arith, behind, room)))
+      (λ (here : (base_of config r ≤ a) × (a + words_of piece ≤ address)). inl (omega (arith, here.1, below)))
+      (λ (behind : base_of config r + config.region_words ≤ a). inr (omega (arith, behind, room)))
       rest)
-      (beside c top block stands.plotted r a b is))
+      (beside config top block stands.plotted r a piece is))
 
   -- the new words are a blank object
-  pub new_words : IsThing (λ x. after (Heap x)) new_block address (refs_in (asked_shape m t)) (nums_in (asked_shape m t)) new (blank (refs_in (asked_shape m t)) (nums_in (asked_shape m t)))
+  pub new_words : IsThing (λ x. after (Heap x)) new_block address (refs_in (asked_shape memory t)) (nums_in (asked_shape memory t)) new (blank (refs_in (asked_shape memory t)) (nums_in (asked_shape memory t)))
   unfolding made_in
   new_words =
-      let shape = asked_shape m t in
-      let name = name_code (t + 1) (request_count_in (m (Wait t))) in
+      let shape = asked_shape memory t in
+      let name = name_code (t + 1) (request_count_in (memory (Wait t))) in
       let null : Reference = None in
       let blank_number : ℕ = 0 in
       record {
@@ -221,23 +221,23 @@ module _ (c : Config) (m : Word → ℕ) (block : Plot) (g : Graph) (p : Promise
 
   -- the new piece is a blank object, ..
   pub new_piece : (a refs nums : ℕ) (name : Name) → (a ≡ address) × (piece ≡ thing name refs nums)
-      → (o : Object) × ((with_promised g more).object name ≡ Some o) × IsThing (λ x. after (Heap x)) new_block a refs nums name o
+      → (object : Object) × ((with_promised graph more).object name ≡ Some object) × IsThing (λ x. after (Heap x)) new_block a refs nums name object
   new_piece a refs nums name made =
-      subst (λ k. PieceAt (λ x. after (Heap x)) new_block (with_promised g more).object k (thing name refs nums)) (sym made.0)
-      (subst (PieceAt (λ x. after (Heap x)) new_block (with_promised g more).object address) made.1
-      (blank (refs_in (asked_shape m t)) (nums_in (asked_shape m t)), new_object, new_words))
+      subst (λ k. PieceAt (λ x. after (Heap x)) new_block (with_promised graph more).object k (thing name refs nums)) (sym made.0)
+      (subst (PieceAt (λ x. after (Heap x)) new_block (with_promised graph more).object address) made.1
+      (blank (refs_in (asked_shape memory t)) (nums_in (asked_shape memory t)), new_object, new_words))
 
   -- .. of the new name, and an old one is the object that it was
   pub new_name : (name : Name) (refs nums : ℕ) → piece ≡ thing name refs nums → new ≡ name
   new_name name refs nums same = same_Some new name (ap (λ b. name_at (Some b)) same)
 
-  pub old_piece : (a refs nums : ℕ) (name : Name) → block a ≡ Some (thing name refs nums)
-      → (o : Object) × ((with_promised g p).object name ≡ Some o) × IsThing heap block a refs nums name o
-      → (o : Object) × ((with_promised g more).object name ≡ Some o) × IsThing (λ x. after (Heap x)) new_block a refs nums name o
-  old_piece a refs nums name is o = (
-    o.0,
-    object_stays name o.0 o.1,
-    object_reads heap (λ x. after (Heap x)) block new_block a refs nums name o.0 (λ k below. old_word a k (thing name refs nums) is below) names_stay o.2,
+  pub old_piece : (address refs nums : ℕ) (name : Name) → block address ≡ Some (thing name refs nums)
+      → (object : Object) × ((with_promised graph promises).object name ≡ Some object) × IsThing heap block address refs nums name object
+      → (object : Object) × ((with_promised graph more).object name ≡ Some object) × IsThing (λ x. after (Heap x)) new_block address refs nums name object
+  old_piece address refs nums name is object = (
+    object.0,
+    object_stays name object.0 object.1,
+    object_reads heap (λ x. after (Heap x)) block new_block address refs nums name object.0 (λ k below. old_word address k (thing name refs nums) is below) names_stay object.2,
   )
 
   pub named_again : (a : ℕ) (name : Name) → name_at (new_block a) ≡ Some name → (refs : ℕ) × (nums : ℕ) × (new_block a ≡ Some (thing name refs nums))
@@ -246,9 +246,9 @@ module _ (c : Config) (m : Word → ℕ) (block : Plot) (g : Graph) (p : Promise
       ⊎_elim
       (λ (made : (a ≡ address) × (piece ≡ at.0)).
       let same : new ≡ name = same_Some new name (ap name_at (ap Some made.1) ∙ at.2) in (
-        refs_in (asked_shape m t),
-        nums_in (asked_shape m t),
-        at.1 ∙ ap Some (sym made.1) ∙ ap (λ k. Some (thing k (refs_in (asked_shape m t)) (nums_in (asked_shape m t)))) same,
+        refs_in (asked_shape memory t),
+        nums_in (asked_shape memory t),
+        at.1 ∙ ap Some (sym made.1) ∙ ap (λ k. Some (thing k (refs_in (asked_shape memory t)) (nums_in (asked_shape memory t)))) same,
       ))
       (λ (old : (a ≢ address) × (block a ≡ Some at.0)).
       let was = stands.pieces.named a name (ap name_at old.1 ∙ at.2) in
@@ -276,19 +276,19 @@ module _ (c : Config) (m : Word → ℕ) (block : Plot) (g : Graph) (p : Promise
         (cases a other is);
   }
 
-  pub free_less : (owner : ℕ → Option ℕ) → IsFreeWord c (m Free) top owner → IsFreeWord c (bit_and (m Free) (all_but r)) (updated top r (m (Top r) + words_of piece)) owner
+  pub free_less : (owner : ℕ → Option ℕ) → IsFreeWord config (memory Free) top owner → IsFreeWord config (bit_and (memory Free) (all_but r)) (updated top r (memory (Top r) + words_of piece)) owner
   free_less owner free_word =
-      let less = free_without c (m Free) r top owner owner within (λ q other. refl) free_word in
-      let few = c.in_range.most_regions in
+      let less = free_without config (memory Free) r top owner owner within (λ q other. refl) free_word in
+      let few = config.in_range.most_regions in
       record {
         no_more = less.no_more;
         empty = λ q below bit.
             let other : r ≢ q = λ same.
-            let gone = bit_at_clear_same w64 (m Free) r (omega (arith, within, few)) in
-            let here : bit_at (bit_and (m Free) (all_but r)) r ≡ 1 = subst (λ k. bit_at (bit_and (m Free) (all_but r)) k ≡ 1) (sym same) bit in
+            let gone = bit_at_clear_same w64 (memory Free) r (omega (arith, within, few)) in
+            let here : bit_at (bit_and (memory Free) (all_but r)) r ≡ 1 = subst (λ k. bit_at (bit_and (memory Free) (all_but r)) k ≡ 1) (sym same) bit in
             omega (arith, gone, here)
             in
-            updated_else top r (m (Top r) + words_of piece) q other ∙ less.empty q below bit;
+            updated_else top r (memory (Top r) + words_of piece) q other ∙ less.empty q below bit;
         nobodys = less.nobodys;
       }
 
@@ -299,51 +299,51 @@ module _ (c : Config) (m : Word → ℕ) (block : Plot) (g : Graph) (p : Promise
       (λ (some : (1 < word) × (name : Name) × (ref ≡ Some name) × (name_at (block word) ≡ Some name)). inr (some.0, some.1, some.2, names_stay word some.1 some.3))
       stands_for
 
-  answers_more : (u : ℕ) → u < c.mutators → AnswerStands new_block (after (Answer u)) (more.ref (u + 1))
+  answers_more : (mutator : ℕ) → mutator < config.mutators → AnswerStands new_block (after (Answer mutator)) (more.ref (mutator + 1))
   unfolding made_in
-  answers_more u below = ⊎_elim
-      (λ (own : t ≡ u).
-      let answer : cond (t == u) address (m (Answer u)) ≡ address = cond-true (t == u) address (m (Answer u)) (eq-eqb t u own) in
-      let ref : more.ref (u + 1) ≡ Some new = cond-true (t + 1 == u + 1) (Some new) (p.ref (u + 1)) (eq-eqb (t + 1) (u + 1) (ap (λ k. k + 1) own)) in
+  answers_more mutator below = ⊎_elim
+      (λ (own : t ≡ mutator).
+      let answer : cond (t == mutator) address (memory (Answer mutator)) ≡ address = cond-true (t == mutator) address (memory (Answer mutator)) (eq-eqb t mutator own) in
+      let ref : more.ref (mutator + 1) ≡ Some new = cond-true (t + 1 == mutator + 1) (Some new) (promises.ref (mutator + 1)) (eq-eqb (t + 1) (mutator + 1) (ap (λ k. k + 1) own)) in
       let there : new_block address ≡ Some piece = updated_there block address (Some piece) in
-      inr (omega (arith, answer, c.in_range.least_words), new, ref, ap (λ k. name_at (new_block k)) answer ∙ ap name_at there))
-      (λ (another : t ≢ u).
-      let answer : cond (t == u) address (m (Answer u)) ≡ m (Answer u) = cond-false (t == u) address (m (Answer u)) (ne_eqb t u another) in
-      let ref : more.ref (u + 1) ≡ p.ref (u + 1) = cond-false (t + 1 == u + 1) (Some new) (p.ref (u + 1)) (ne_eqb (t + 1) (u + 1) (λ e. another (omega (arith, e)))) in
-      subst (λ k. AnswerStands new_block k (more.ref (u + 1))) (sym answer)
-      (subst (AnswerStands new_block (m (Answer u))) (sym ref) (other_answer (m (Answer u)) (p.ref (u + 1)) (stands.rooted.answers u below))))
-      (cases_eq t u)
+      inr (omega (arith, answer, config.in_range.least_words), new, ref, ap (λ k. name_at (new_block k)) answer ∙ ap name_at there))
+      (λ (another : t ≢ mutator).
+      let answer : cond (t == mutator) address (memory (Answer mutator)) ≡ memory (Answer mutator) = cond-false (t == mutator) address (memory (Answer mutator)) (ne_eqb t mutator another) in
+      let ref : more.ref (mutator + 1) ≡ promises.ref (mutator + 1) = cond-false (t + 1 == mutator + 1) (Some new) (promises.ref (mutator + 1)) (ne_eqb (t + 1) (mutator + 1) (λ e. another (omega (arith, e)))) in
+      subst (λ k. AnswerStands new_block k (more.ref (mutator + 1))) (sym answer)
+      (subst (AnswerStands new_block (memory (Answer mutator))) (sym ref) (other_answer (memory (Answer mutator)) (promises.ref (mutator + 1)) (stands.rooted.answers mutator below))))
+      (cases_eq t mutator)
 
-  promised_to : (u : ℕ) (name : Name) → more.ref u ≡ Some name → (v : ℕ) × (v < c.mutators) × (u ≡ v + 1)
+  promised_to : (u : ℕ) (name : Name) → more.ref u ≡ Some name → (mutator : ℕ) × (mutator < config.mutators) × (u ≡ mutator + 1)
   promised_to u name is = ⊎_elim
       (λ (own : t + 1 ≡ u). (t, inside, sym own))
       (λ (another : t + 1 ≢ u).
-      stands.rooted.no_more_promised u name (sym (cond-false (t + 1 == u) (Some new) (p.ref u) (ne_eqb (t + 1) u another)) ∙ is))
+      stands.rooted.no_more_promised u name (sym (cond-false (t + 1 == u) (Some new) (promises.ref u) (ne_eqb (t + 1) u another)) ∙ is))
       (cases_eq (t + 1) u)
 
-  roots_more : (u i : ℕ) → u < c.mutators → i < 16 → Points new_block (after (Root u i)) (g.root (u + 1) i)
+  roots_more : (mutator index : ℕ) → mutator < config.mutators → index < 16 → Points new_block (after (Root mutator index)) (graph.root (mutator + 1) index)
   unfolding made_in
-  roots_more u i below few = points_stay block new_block names_stay (m (Root u i)) (g.root (u + 1) i) (stands.rooted.roots u i below few)
+  roots_more mutator index below few = points_stay block new_block names_stay (memory (Root mutator index)) (graph.root (mutator + 1) index) (stands.rooted.roots mutator index below few)
 
   -- the header of an old piece is as it was
-  old_header : (a : ℕ) (b : Block) → block a ≡ Some b → after (Heap a) ≡ heap a
-  old_header a b is = let plain : a + 0 ≡ a = omega arith in ap (λ k. after (Heap k)) (sym plain) ∙ old_word a 0 b is (stands.pieces.some a b is) ∙ ap heap plain
+  old_header : (address : ℕ) (piece : Block) → block address ≡ Some piece → after (Heap address) ≡ heap address
+  old_header address piece is = let plain : address + 0 ≡ address = omega arith in ap (λ k. after (Heap k)) (sym plain) ∙ old_word address 0 piece is (stands.pieces.some address piece is) ∙ ap heap plain
 
-  same_pin : (u i : ℕ) → after (Pin u i) ≡ m (Pin u i)
+  same_pin : (mutator index : ℕ) → after (Pin mutator index) ≡ memory (Pin mutator index)
   unfolding made_in
-  same_pin u i = refl
+  same_pin mutator index = refl
 
   -- a pin slot holds what it held
-  pins_more : (u i : ℕ) → u < c.mutators → i < 4 → PinWordStands after new_block (after (Pin u i)) (g.pin (u + 1) i)
-  pins_more u i below few =
-      subst (λ word. PinWordStands after new_block word (g.pin (u + 1) i)) (sym (same_pin u i))
-      (pin_stays m after block new_block (m (Pin u i)) (g.pin (u + 1) i)
+  pins_more : (mutator index : ℕ) → mutator < config.mutators → index < 4 → PinWordStands after new_block (after (Pin mutator index)) (graph.pin (mutator + 1) index)
+  pins_more mutator index below few =
+      subst (λ word. PinWordStands after new_block word (graph.pin (mutator + 1) index)) (sym (same_pin mutator index))
+      (pin_stays memory after block new_block (memory (Pin mutator index)) (graph.pin (mutator + 1) index)
       (λ name copy plain.
-      let stays : IsCopy new_block (m (Pin u i)) name = (copy.0, copy.1, joined.stays c top block r (m (Top r)) piece can (m (Pin u i)) (thing name copy.0 copy.1) copy.2) in
-      (stays, ap is_forwarded (old_header (m (Pin u i)) (thing name copy.0 copy.1) copy.2) ∙ plain))
-      (stands.rooted.pins u i below few))
+      let stays : IsCopy new_block (memory (Pin mutator index)) name = (copy.0, copy.1, joined.stays config top block r (memory (Top r)) piece can (memory (Pin mutator index)) (thing name copy.0 copy.1) copy.2) in
+      (stays, ap is_forwarded (old_header (memory (Pin mutator index)) (thing name copy.0 copy.1) copy.2) ∙ plain))
+      (stands.rooted.pins mutator index below few))
 
-  pub rooted_more : RootsStand c after new_block g more
+  pub rooted_more : RootsStand config after new_block graph more
   rooted_more = record {
     roots = roots_more;
     answers = answers_more;
@@ -354,27 +354,27 @@ module _ (c : Config) (m : Word → ℕ) (block : Plot) (g : Graph) (p : Promise
   }
 
   -- another thread's words are as they were
-  pub other_words : (u : ℕ) → t ≢ u → (after (Wait u) ≡ m (Wait u)) × (after (Answer u) ≡ m (Answer u))
+  pub other_words : (mutator : ℕ) → t ≢ mutator → (after (Wait mutator) ≡ memory (Wait mutator)) × (after (Answer mutator) ≡ memory (Answer mutator))
   unfolding made_in
-  other_words u another = (cond-false (t == u) 0 (m (Wait u)) (ne_eqb t u another), cond-false (t == u) address (m (Answer u)) (ne_eqb t u another))
+  other_words mutator another = (cond-false (t == mutator) 0 (memory (Wait mutator)) (ne_eqb t mutator another), cond-false (t == mutator) address (memory (Answer mutator)) (ne_eqb t mutator another))
 
   -- and so is its request
-  pub other_asks : (u : ℕ) → t ≢ u → IsAsking m g p u → IsAsking after g more u
+  pub other_asks : (u : ℕ) → t ≢ u → IsAsking memory graph promises u → IsAsking after graph more u
   other_asks u another asks =
       let words = other_words u another in
       let name : Name = asked_name after u in
-      let same : name ≡ asked_name m u = ap (λ (word : ℕ). record { thread = u + 1; count = request_count_in word }) words.0 in
+      let same : name ≡ asked_name memory u = ap (λ (word : ℕ). record { thread = u + 1; count = request_count_in word }) words.0 in
       record {
         shape = subst (λ word. request_shape_in word ≡ shape_word (refs_in (request_shape_in word)) (nums_in (request_shape_in word))) (sym words.0) asks.shape;
         few_refs = subst (λ word. refs_in (request_shape_in word) ≤ 16) (sym words.0) asks.few_refs;
         few_nums = subst (λ word. nums_in (request_shape_in word) ≤ 16) (sym words.0) asks.few_nums;
         unanswered = words.1 ∙ asks.unanswered;
-        new = same_object name (λ e. another (omega (arith, e))) ∙ ap (with_promised g p).object same ∙ asks.new;
+        new = same_object name (λ e. another (omega (arith, e))) ∙ ap (with_promised graph promises).object same ∙ asks.new;
       }
 
   -- where the image stands for a graph, it stands for it with the promise
-  module _ (whole : ImageStands c m block g p) where
-    objects_more : AreObjects (λ x. after (Heap x)) new_block (with_promised g more).object
+  module _ (whole : ImageStands config memory block graph promises) where
+    objects_more : AreObjects (λ x. after (Heap x)) new_block (with_promised graph more).object
     objects_more = record {
       each = λ a refs nums name is. ⊎_elim
           (λ (made : (a ≡ address) × (piece ≡ thing name refs nums)). new_piece a refs nums name made)
@@ -395,11 +395,11 @@ module _ (c : Config) (m : Word → ℕ) (block : Plot) (g : Graph) (p : Promise
         not_old : (a : ℕ) (name : Name) (refs nums : ℕ) → block a ≡ Some (thing name refs nums) → new ≡ name → ⊥
         not_old a name refs nums is same =
             let o = whole.objects.each a refs nums name is in
-            none-some o.0 (sym asking.new ∙ ap (with_promised g p).object same ∙ o.1)
+            none-some o.0 (sym asking.new ∙ ap (with_promised graph promises).object same ∙ o.1)
 
     are_things : AreThings new_block
     are_things a other is = ⊎_elim
-        (λ (made : (a ≡ address) × (piece ≡ other)). inl (new, refs_in (asked_shape m t), nums_in (asked_shape m t), sym made.1))
+        (λ (made : (a ≡ address) × (piece ≡ other)). inl (new, refs_in (asked_shape memory t), nums_in (asked_shape memory t), sym made.1))
         (λ (old : (a ≢ address) × (block a ≡ Some other)). whole.things a other old.1)
         (cases a other is)
 
@@ -409,11 +409,11 @@ module _ (c : Config) (m : Word → ℕ) (block : Plot) (g : Graph) (p : Promise
         (λ (old : (a ≢ address) × (block a ≡ Some (filler words))). old_header a (filler words) old.1 ∙ whole.fillers a words old.1)
         (cases a (filler words) is)
 
-    pub made_stands : ImageStands c after new_block g more
+    pub made_stands : ImageStands config after new_block graph more
     unfolding made_in
     made_stands = record {
-      plotted = joined.plotted_more c top block r (m (Top r)) piece can;
-      filled = joined.filled_more c top block r (m (Top r)) piece can whole.filled;
+      plotted = joined.plotted_more config top block r (memory (Top r)) piece can;
+      filled = joined.filled_more config top block r (memory (Top r)) piece can whole.filled;
       objects = objects_more;
       things = are_things;
       fillers = fillers_say;

@@ -26,17 +26,17 @@ module _ (block : Plot) (things : AreThings block) where
       (things word piece.0 piece.1)
 
   -- other kinds of pieces there are none
-  pub no_moved : (a refs nums to : ℕ) (name : Name) → block a ≡ Some (moved name refs nums to) → ⊥
-  no_moved a refs nums to name is = ⊎_elim
+  pub no_moved : (address refs nums to : ℕ) (name : Name) → block address ≡ Some (moved name refs nums to) → ⊥
+  no_moved address refs nums to name is = ⊎_elim
       (λ (found : IsObject (moved name refs nums to)). (let other = found.3 in cc))
       (λ (fills : IsFiller (moved name refs nums to)). (let other = fills.2 in cc))
-      (things a (moved name refs nums to) is)
+      (things address (moved name refs nums to) is)
 
-  pub no_spent : (a words to : ℕ) → block a ≡ Some (spent words to) → ⊥
-  no_spent a words to is = ⊎_elim
+  pub no_spent : (address words to : ℕ) → block address ≡ Some (spent words to) → ⊥
+  no_spent address words to is = ⊎_elim
       (λ (found : IsObject (spent words to)). (let other = found.3 in cc))
       (λ (fills : IsFiller (spent words to)). (let other = fills.2 in cc))
-      (things a (spent words to) is)
+      (things address (spent words to) is)
 
   pub no_room : HasNoRoom block
   no_room a seat x is room = ⊎_elim
@@ -44,24 +44,24 @@ module _ (block : Plot) (things : AreThings block) where
       (λ (fills : IsFiller x). none-some seat (ap room_of (sym fills.2) ∙ room))
       (things a x is)
 
-  pub no_promised : (a seat words : ℕ) → block a ≡ Some (promised seat words) → ⊥
-  no_promised a seat words is = ⊎_elim
+  pub no_promised : (address seat words : ℕ) → block address ≡ Some (promised seat words) → ⊥
+  no_promised address seat words is = ⊎_elim
       (λ (found : IsObject (promised seat words)). (let other = found.3 in cc))
       (λ (fills : IsFiller (promised seat words)). (let other = fills.2 in cc))
-      (things a (promised seat words) is)
+      (things address (promised seat words) is)
 
-  pub no_dead : (a words : ℕ) → block a ≡ Some (dead words) → ⊥
-  no_dead a words is = ⊎_elim
+  pub no_dead : (address words : ℕ) → block address ≡ Some (dead words) → ⊥
+  no_dead address words is = ⊎_elim
       (λ (found : IsObject (dead words)). (let other = found.3 in cc))
       (λ (fills : IsFiller (dead words)). (let other = fills.2 in cc))
-      (things a (dead words) is)
+      (things address (dead words) is)
 
   -- so what stands for a name is an object
-  pub some_words : (a : ℕ) (piece : Block) → block a ≡ Some piece → 1 ≤ words_of piece
-  some_words a piece is = ⊎_elim
+  pub some_words : (address : ℕ) (piece : Block) → block address ≡ Some piece → 1 ≤ words_of piece
+  some_words address piece is = ⊎_elim
       (λ (found : IsObject piece). (let size = ap words_of found.3 in omega (arith, size)))
       (λ (fills : IsFiller piece). (let size = ap words_of fills.2 in omega (arith, size, fills.1)))
-      (things a piece is)
+      (things address piece is)
 
   pub named_things : NamedAreThings block
   named_things = record {

@@ -12,33 +12,33 @@ use Rattle.image_graph.specs.Full.{made_in}
 use Rattle.image_graph.specs.Make.{heap_cleared}
 
 -- a store at the place of a word is a store at its name
-pub stored : (c d : Config) (before after : Word → ℕ) (w : Word) (at value : ℕ) → c ≡ d → IsWord d w → at ≡ word_at d w
-    → ((word : Word) → IsWord c word → word_at c word ≡ at → after ≡ write before word value) → after ≡ write before w value
-stored c d before after w at value same is place named =
-    named w (subst (λ k. IsWord k w) (sym same) is) (ap (λ k. word_at k w) same ∙ sym place)
+pub stored : (config other_config : Config) (before after : Word → ℕ) (other_word : Word) (at value : ℕ) → config ≡ other_config → IsWord other_config other_word → at ≡ word_at other_config other_word
+    → ((word : Word) → IsWord config word → word_at config word ≡ at → after ≡ write before word value) → after ≡ write before other_word value
+stored config other_config before after other_word at value same is place named =
+    named other_word (subst (λ k. IsWord k other_word) (sym same) is) (ap (λ k. word_at k other_word) same ∙ sym place)
 
 -- and lies in the table
-pub placed_inside : (c d : Config) (w : Word) (at : ℕ) → c ≡ d → IsWord d w → at ≡ word_at d w → at < table_words c
-placed_inside c d w at same is place = omega (arith, word_inside d w is, ap table_words same, place)
+pub placed_inside : (config other_config : Config) (word : Word) (at : ℕ) → config ≡ other_config → IsWord other_config word → at ≡ word_at other_config word → at < table_words config
+placed_inside config other_config word at same is place = omega (arith, word_inside other_config word is, ap table_words same, place)
 
 -- Clearing.
 
-cleared_none_at : (a : ℕ) (m : Word → ℕ) (w : Word) → m w ≡ heap_cleared a 0 m w
-cleared_none_at a m (Heap x) = grind (arith, nat_tests)
-cleared_none_at a m _ = refl
+cleared_none_at : (a : ℕ) (memory : Word → ℕ) (word : Word) → memory word ≡ heap_cleared a 0 memory word
+cleared_none_at a memory (Heap x) = grind (arith, nat_tests)
+cleared_none_at a memory _ = refl
 
-pub cleared_none : (a : ℕ) (m : Word → ℕ) → m ≡ heap_cleared a 0 m
-cleared_none a m = fun_ext (λ w. cleared_none_at a m w)
+pub cleared_none : (a : ℕ) (memory : Word → ℕ) → memory ≡ heap_cleared a 0 memory
+cleared_none a memory = fun_ext (λ w. cleared_none_at a memory w)
 
 clear_one : (a n x y : ℕ) → cond (a + n == x) 0 (cond (nat_le a x && nat_lt x (a + n)) 0 y) ≡ cond (nat_le a x && nat_lt x (a + (n + 1))) 0 y
 clear_one a n x y = grind (arith, nat_tests)
 
-cleared_next_at : (a n : ℕ) (m : Word → ℕ) (w : Word) → write (heap_cleared a n m) (Heap (a + n)) 0 w ≡ heap_cleared a (n + 1) m w
-cleared_next_at a n m (Heap x) = clear_one a n x (m (Heap x))
-cleared_next_at a n m _ = refl
+cleared_next_at : (address n : ℕ) (memory : Word → ℕ) (word : Word) → write (heap_cleared address n memory) (Heap (address + n)) 0 word ≡ heap_cleared address (n + 1) memory word
+cleared_next_at address n memory (Heap x) = clear_one address n x (memory (Heap x))
+cleared_next_at address n memory _ = refl
 
-pub cleared_next : (a n : ℕ) (m : Word → ℕ) → write (heap_cleared a n m) (Heap (a + n)) 0 ≡ heap_cleared a (n + 1) m
-cleared_next a n m = fun_ext (λ w. cleared_next_at a n m w)
+pub cleared_next : (address n : ℕ) (memory : Word → ℕ) → write (heap_cleared address n memory) (Heap (address + n)) 0 ≡ heap_cleared address (n + 1) memory
+cleared_next address n memory = fun_ext (λ w. cleared_next_at address n memory w)
 
 -- Making an object.
 
@@ -48,30 +48,30 @@ heap_made : (a words shape name before x : ℕ) → 3 ≤ words
 heap_made a words shape name before x some = grind (arith, nat_tests)
 
 -- the words after these stores
-abbrev pub made_by_stores : (Word → ℕ) → (t r address shape name top free : ℕ) → Word → ℕ
-made_by_stores m t r address shape name top free =
-    write (write (write (write (write (write (write (heap_cleared address (object_words shape) m) (Heap address) 1) (Heap (address + 1)) shape) (Heap (address + 2)) name)
-    (Top r) top) Free free) (Answer t) address) (Wait t) 0
+abbrev pub made_by_stores : (Word → ℕ) → (mutator region address shape name top free : ℕ) → Word → ℕ
+made_by_stores memory mutator region address shape name top free =
+    write (write (write (write (write (write (write (heap_cleared address (object_words shape) memory) (Heap address) 1) (Heap (address + 1)) shape) (Heap (address + 2)) name)
+    (Top region) top) Free free) (Answer mutator) address) (Wait mutator) 0
 
-made_at : (c : Config) (m : Word → ℕ) (t r : ℕ) (w : Word)
-    → made_by_stores m t r (base_of c r + m (Top r)) (request_shape_in (m (Wait t))) (name_code (t + 1) (request_count_in (m (Wait t))))
-    (m (Top r) + object_words (request_shape_in (m (Wait t)))) (bit_and (m Free) (all_but r)) w ≡ made_in c m t r w
+made_at : (config : Config) (memory : Word → ℕ) (mutator region : ℕ) (word : Word)
+    → made_by_stores memory mutator region (base_of config region + memory (Top region)) (request_shape_in (memory (Wait mutator))) (name_code (mutator + 1) (request_count_in (memory (Wait mutator))))
+    (memory (Top region) + object_words (request_shape_in (memory (Wait mutator)))) (bit_and (memory Free) (all_but region)) word ≡ made_in config memory mutator region word
 unfolding made_in
-made_at c m t r (Heap x) =
-    heap_made (base_of c r + m (Top r)) (object_words (request_shape_in (m (Wait t)))) (request_shape_in (m (Wait t)))
-    (name_code (t + 1) (request_count_in (m (Wait t)))) (m (Heap x)) x (omega arith)
-made_at c m t r _ = refl
+made_at config memory mutator region (Heap x) =
+    heap_made (base_of config region + memory (Top region)) (object_words (request_shape_in (memory (Wait mutator)))) (request_shape_in (memory (Wait mutator)))
+    (name_code (mutator + 1) (request_count_in (memory (Wait mutator)))) (memory (Heap x)) x (omega arith)
+made_at config memory mutator region _ = refl
 
-pub made_steps : (c : Config) (m : Word → ℕ) (t r address shape name top free : ℕ)
-    → address ≡ base_of c r + m (Top r) → shape ≡ request_shape_in (m (Wait t)) → name ≡ name_code (t + 1) (request_count_in (m (Wait t)))
-    → top ≡ m (Top r) + object_words shape → free ≡ bit_and (m Free) (all_but r)
-    → made_by_stores m t r address shape name top free ≡ made_in c m t r
-made_steps c m t r address shape name top free at is named grown taken =
-    let top_is : top ≡ m (Top r) + object_words (request_shape_in (m (Wait t))) = grown ∙ ap (λ s. m (Top r) + object_words s) is in
-    ap (λ a. made_by_stores m t r a shape name top free) at
-    ∙ ap (λ s. made_by_stores m t r (base_of c r + m (Top r)) s name top free) is
-    ∙ ap (λ n. made_by_stores m t r (base_of c r + m (Top r)) (request_shape_in (m (Wait t))) n top free) named
-    ∙ ap (λ k. made_by_stores m t r (base_of c r + m (Top r)) (request_shape_in (m (Wait t))) (name_code (t + 1) (request_count_in (m (Wait t)))) k free) top_is
-    ∙ ap (λ k. made_by_stores m t r (base_of c r + m (Top r)) (request_shape_in (m (Wait t))) (name_code (t + 1) (request_count_in (m (Wait t))))
-    (m (Top r) + object_words (request_shape_in (m (Wait t)))) k) taken
-    ∙ fun_ext (λ w. made_at c m t r w)
+pub made_steps : (config : Config) (memory : Word → ℕ) (mutator region address shape name top free : ℕ)
+    → address ≡ base_of config region + memory (Top region) → shape ≡ request_shape_in (memory (Wait mutator)) → name ≡ name_code (mutator + 1) (request_count_in (memory (Wait mutator)))
+    → top ≡ memory (Top region) + object_words shape → free ≡ bit_and (memory Free) (all_but region)
+    → made_by_stores memory mutator region address shape name top free ≡ made_in config memory mutator region
+made_steps config memory mutator region address shape name top free at is named grown taken =
+    let top_is : top ≡ memory (Top region) + object_words (request_shape_in (memory (Wait mutator))) = grown ∙ ap (λ s. memory (Top region) + object_words s) is in
+    ap (λ a. made_by_stores memory mutator region a shape name top free) at
+    ∙ ap (λ s. made_by_stores memory mutator region (base_of config region + memory (Top region)) s name top free) is
+    ∙ ap (λ n. made_by_stores memory mutator region (base_of config region + memory (Top region)) (request_shape_in (memory (Wait mutator))) n top free) named
+    ∙ ap (λ k. made_by_stores memory mutator region (base_of config region + memory (Top region)) (request_shape_in (memory (Wait mutator))) (name_code (mutator + 1) (request_count_in (memory (Wait mutator)))) k free) top_is
+    ∙ ap (λ k. made_by_stores memory mutator region (base_of config region + memory (Top region)) (request_shape_in (memory (Wait mutator))) (name_code (mutator + 1) (request_count_in (memory (Wait mutator))))
+    (memory (Top region) + object_words (request_shape_in (memory (Wait mutator)))) k) taken
+    ∙ fun_ext (λ w. made_at config memory mutator region w)

@@ -10,28 +10,28 @@ use Rattle.image_graph.specs.SeatBuffers.{buffer_region, is_last, filled_over}
 use Rattle.image_graph.specs.LetGo.{given_back}
 
 -- of two memories, whichever, a word is the same where it is in both
-pub if_at : (b : Bool) (f g : Word → ℕ) (word : Word) (value : ℕ) → f word ≡ value → g word ≡ value → (if b then f else g) word ≡ value
-if_at true f g word value one other = one
-if_at false f g word value one other = other
+pub if_at : (holds : Bool) (memory other_memory : Word → ℕ) (word : Word) (value : ℕ) → memory word ≡ value → other_memory word ≡ value → (if holds then memory else other_memory) word ≡ value
+if_at true memory other_memory word value one other = one
+if_at false memory other_memory word value one other = other
 
 -- a buffer word is the one that was written, or as it was
-pub own_current : (m : Word → ℕ) (seat value : ℕ) → write m (Current seat) value (Current seat) ≡ value
-own_current m seat value = cond-true (seat == seat) value (m (Current seat)) (eq-eqb seat seat refl)
+pub own_current : (memory : Word → ℕ) (seat value : ℕ) → write memory (Current seat) value (Current seat) ≡ value
+own_current memory seat value = cond-true (seat == seat) value (memory (Current seat)) (eq-eqb seat seat refl)
 
-pub other_current : (m : Word → ℕ) (seat value other : ℕ) → seat ≢ other → write m (Current seat) value (Current other) ≡ m (Current other)
-other_current m seat value other differs = cond-false (seat == other) value (m (Current other)) (ne_eqb seat other differs)
+pub other_current : (memory : Word → ℕ) (seat value other : ℕ) → seat ≢ other → write memory (Current seat) value (Current other) ≡ memory (Current other)
+other_current memory seat value other differs = cond-false (seat == other) value (memory (Current other)) (ne_eqb seat other differs)
 
 -- Filling changes no word but those of the heap.
-pub filled_top : (m : Word → ℕ) (word r : ℕ) → filled_over m word (Top r) ≡ m (Top r)
-filled_top m word r = if_at (nat_lt (next_in word) (end_in word)) (write m (Heap (next_in word)) (filler_header (end_in word - next_in word))) m (Top r) (m (Top r)) refl refl
+pub filled_top : (memory : Word → ℕ) (word region : ℕ) → filled_over memory word (Top region) ≡ memory (Top region)
+filled_top memory word region = if_at (nat_lt (next_in word) (end_in word)) (write memory (Heap (next_in word)) (filler_header (end_in word - next_in word))) memory (Top region) (memory (Top region)) refl refl
 
-pub filled_current : (m : Word → ℕ) (word seat : ℕ) → filled_over m word (Current seat) ≡ m (Current seat)
-filled_current m word seat = if_at (nat_lt (next_in word) (end_in word)) (write m (Heap (next_in word)) (filler_header (end_in word - next_in word))) m (Current seat) (m (Current seat)) refl refl
+pub filled_current : (memory : Word → ℕ) (word seat : ℕ) → filled_over memory word (Current seat) ≡ memory (Current seat)
+filled_current memory word seat = if_at (nat_lt (next_in word) (end_in word)) (write memory (Heap (next_in word)) (filler_header (end_in word - next_in word))) memory (Current seat) (memory (Current seat)) refl refl
 
 -- Giving back changes no buffer word.
-pub back_current : (c : Config) (m : Word → ℕ) (word seat : ℕ) → given_back c m word (Current seat) ≡ m (Current seat)
-back_current c m word seat = refl
+pub back_current : (config : Config) (memory : Word → ℕ) (word seat : ℕ) → given_back config memory word (Current seat) ≡ memory (Current seat)
+back_current config memory word seat = refl
 
 -- whether a buffer is the last depends on tops alone
-pub last_same : (c : Config) (m n : Word → ℕ) (word : ℕ) → ((r : ℕ) → n (Top r) ≡ m (Top r)) → is_last c n word ≡ is_last c m word
-last_same c m n word tops = ap (λ t. end_in word == base_of c (buffer_region c word) + t) (tops (buffer_region c word))
+pub last_same : (config : Config) (memory other_memory : Word → ℕ) (word : ℕ) → ((region : ℕ) → other_memory (Top region) ≡ memory (Top region)) → is_last config other_memory word ≡ is_last config memory word
+last_same config memory other_memory word tops = ap (λ t. end_in word == base_of config (buffer_region config word) + t) (tops (buffer_region config word))

@@ -61,32 +61,32 @@ origin_found place kept apart (suc e) a some below = ⊎_elim
     (cases_Bool (nat_lt 0 (kept e) && (place e == place a)))
 
 -- a piece that was made to fill
-from_left : (o : Option Block) (b : Block) → option_map left_piece o ≡ Some b → (x : Block) × (o ≡ Some x) × (left_piece x ≡ b)
-from_left None b is = absurd (none-some b is)
-from_left (Some x) b is = (x, refl, same_Some (left_piece x) b is)
+from_left : (found : Option Block) (piece : Block) → option_map left_piece found ≡ Some piece → (other_piece : Block) × (found ≡ Some other_piece) × (left_piece other_piece ≡ piece)
+from_left None piece is = absurd (none-some piece is)
+from_left (Some other_piece) piece is = (other_piece, refl, same_Some (left_piece other_piece) piece is)
 
-module _ (c : Config) (top heap : ℕ → ℕ) (block : Plot) (object : Name → Option Object) (now kept : ℕ → ℕ) (can : CanPack c top heap block object now kept) where
+module _ (config : Config) (top heap : ℕ → ℕ) (block : Plot) (object : Name → Option Object) (now kept : ℕ → ℕ) (can : CanPack config top heap block object now kept) where
   -- a kept object lies in the heap
-  pub kept_inside : (a : ℕ) → 0 < kept a → (c.region_words ≤ a) × (a + kept a ≤ heap_end c)
+  pub kept_inside : (a : ℕ) → 0 < kept a → (config.region_words ≤ a) × (a + kept a ≤ heap_end config)
   kept_inside a some =
       let at = can.things a some in
-      let inside = piece_inside c top block can.plotted a (thing at.0 at.1 at.2) at.3 in
+      let inside = piece_inside config top block can.plotted a (thing at.0 at.1 at.2) at.3 in
       (inside.0, omega (arith, inside.1, at.4))
 
   -- kept objects lie apart
-  pub lie_apart : LieApart c.region_words kept
+  pub lie_apart : LieApart config.region_words kept
   lie_apart = record {
-    some = omega (arith, c.in_range.least_words);
+    some = omega (arith, config.in_range.least_words);
     above = λ a some. (kept_inside a some).0;
     within = λ a some.
         let at = can.things a some in
         let used = can.plotted.in_use a (thing at.0 at.1 at.2) at.3 in
         let most = can.plotted.tops used.region used.within in
-        let offset = a - base_of c used.region in
-        let back : (used.region + 1) * c.region_words + offset ≡ a = omega (arith, used.from_base) in
-        let small : offset < c.region_words = omega (arith, used.to_top, used.from_base, most) in
-        let rest : ((used.region + 1) * c.region_words + offset) % c.region_words ≡ offset = mod-mul-add (used.region + 1) c.region_words offset small in
-        let same : ((used.region + 1) * c.region_words + offset) % c.region_words ≡ a % c.region_words = ap (λ k. k % c.region_words) back in
+        let offset = a - base_of config used.region in
+        let back : (used.region + 1) * config.region_words + offset ≡ a = omega (arith, used.from_base) in
+        let small : offset < config.region_words = omega (arith, used.to_top, used.from_base, most) in
+        let rest : ((used.region + 1) * config.region_words + offset) % config.region_words ≡ offset = mod-mul-add (used.region + 1) config.region_words offset small in
+        let same : ((used.region + 1) * config.region_words + offset) % config.region_words ≡ a % config.region_words = ap (λ k. k % config.region_words) back in
         omega (arith, used.to_top, used.from_base, most, rest, same, at.4);
     apart = λ a b some_a some_b less.
         let one = can.things a some_a in
@@ -96,100 +96,100 @@ module _ (c : Config) (top heap : ℕ → ℕ) (block : Plot) (object : Name →
   }
 
   -- in at most 64 regions
-  pub kept_low : (a : ℕ) → 0 < kept a → a < 65 * c.region_words
+  pub kept_low : (a : ℕ) → 0 < kept a → a < 65 * config.region_words
   kept_low a some =
-      let rows = mul-le (c.regions + 1) c.region_words 65 c.region_words (omega (arith, c.in_range.most_regions)) (omega arith) in
+      let rows = mul-le (config.regions + 1) config.region_words 65 config.region_words (omega (arith, config.in_range.most_regions)) (omega arith) in
       omega (arith, rows, (kept_inside a some).1, some)
 
   module _ (shut : ℕ → Bool) where
     abbrev place : ℕ → ℕ
-    place = new_place c.region_words shut kept
+    place = new_place config.region_words shut kept
 
     abbrev new_block : Plot
-    new_block = packed_block c shut kept block
+    new_block = packed_block config shut kept block
 
     pub places : PlacesApart place kept
-    places = places_apart c.region_words shut kept lie_apart kept_low
+    places = places_apart config.region_words shut kept lie_apart kept_low
 
     -- a new place is in a region of the kind that the object was in
-    pub kind : (a : ℕ) → 0 < kept a → shut (place a / c.region_words) ≡ shut (a / c.region_words)
-    kind a some = same_kind c.region_words shut kept lie_apart kept_low a some
+    pub kind : (a : ℕ) → 0 < kept a → shut (place a / config.region_words) ≡ shut (a / config.region_words)
+    kind a some = same_kind config.region_words shut kept lie_apart kept_low a some
 
     -- what stands in a region that is shut, and in one that is not
     abbrev stayed : ℕ → Option Block
-    stayed p = cond (kept p == 0) (option_map left_piece (block p)) (block p)
+    stayed address = cond (kept address == 0) (option_map left_piece (block address)) (block address)
 
     abbrev came : ℕ → Option Block
-    came p = option_and_then block (origin place kept p (heap_end c))
+    came p = option_and_then block (origin place kept p (heap_end config))
 
-    in_shut : (p : ℕ) → shut (region_with c p + 1) ≡ true → new_block p ≡ stayed p
-    in_shut p closed = cond-true (shut (region_with c p + 1)) (stayed p) (came p) closed
+    in_shut : (address : ℕ) → shut (region_with config address + 1) ≡ true → new_block address ≡ stayed address
+    in_shut address closed = cond-true (shut (region_with config address + 1)) (stayed address) (came address) closed
 
-    in_open : (p : ℕ) → shut (region_with c p + 1) ≡ false → new_block p ≡ came p
-    in_open p opened = cond-false (shut (region_with c p + 1)) (stayed p) (came p) opened
+    in_open : (address : ℕ) → shut (region_with config address + 1) ≡ false → new_block address ≡ came address
+    in_open address opened = cond-false (shut (region_with config address + 1)) (stayed address) (came address) opened
 
     -- at the new place of a kept object is its piece
-    pub block_at : (a : ℕ) → 0 < kept a → new_block (place a) ≡ block a
-    block_at a some =
-        let row : shut (region_with c (place a) + 1) ≡ shut (a / c.region_words) =
-        ap shut (row_above c (place a) (stays_above c.region_words shut kept lie_apart a some)) ∙ kind a some in
+    pub block_at : (address : ℕ) → 0 < kept address → new_block (place address) ≡ block address
+    block_at address some =
+        let row : shut (region_with config (place address) + 1) ≡ shut (address / config.region_words) =
+        ap shut (row_above config (place address) (stays_above config.region_words shut kept lie_apart address some)) ∙ kind address some in
         ⊎_elim
-        (λ (closed : shut (a / c.region_words) ≡ true).
-        let stays : place a ≡ a = new_shut c.region_words shut kept a closed in
-        let size : kept (place a) ≡ kept a = ap kept stays in
-        in_shut (place a) (row ∙ closed)
-        ∙ cond-false (kept (place a) == 0) (option_map left_piece (block (place a))) (block (place a)) (ne_eqb (kept (place a)) 0 (λ none. omega (arith, none, size, some)))
+        (λ (closed : shut (address / config.region_words) ≡ true).
+        let stays : place address ≡ address = new_shut config.region_words shut kept address closed in
+        let size : kept (place address) ≡ kept address = ap kept stays in
+        in_shut (place address) (row ∙ closed)
+        ∙ cond-false (kept (place address) == 0) (option_map left_piece (block (place address))) (block (place address)) (ne_eqb (kept (place address)) 0 (λ none. omega (arith, none, size, some)))
         ∙ ap block stays)
-        (λ (opened : shut (a / c.region_words) ≡ false).
-        let inside = kept_inside a some in
-        in_open (place a) (row ∙ opened) ∙ ap (option_and_then block) (origin_found place kept places (heap_end c) a some (omega (arith, inside.1, some))))
-        (cases_Bool (shut (a / c.region_words)))
+        (λ (opened : shut (address / config.region_words) ≡ false).
+        let inside = kept_inside address some in
+        in_open (place address) (row ∙ opened) ∙ ap (option_and_then block) (origin_found place kept places (heap_end config) address some (omega (arith, inside.1, some))))
+        (cases_Bool (shut (address / config.region_words)))
 
     -- an old piece of a shut region leaves a piece there
-    pub block_stays : (p : ℕ) (x : Block) → shut (p / c.region_words) ≡ true → block p ≡ Some x → (b : Block) × (new_block p ≡ Some b)
-    block_stays p x closed is =
-        let here = in_shut p (ap shut (row_above c p (piece_inside c top block can.plotted p x is).0) ∙ closed) in
+    pub block_stays : (address : ℕ) (piece : Block) → shut (address / config.region_words) ≡ true → block address ≡ Some piece → (other_piece : Block) × (new_block address ≡ Some other_piece)
+    block_stays address piece closed is =
+        let here = in_shut address (ap shut (row_above config address (piece_inside config top block can.plotted address piece is).0) ∙ closed) in
         ⊎_elim
-        (λ (none : kept p ≡ 0). (left_piece x, here ∙ cond-true (kept p == 0) (option_map left_piece (block p)) (block p) (eq-eqb (kept p) 0 none) ∙ ap (option_map left_piece) is))
-        (λ (some : kept p ≢ 0). (x, here ∙ cond-false (kept p == 0) (option_map left_piece (block p)) (block p) (ne_eqb (kept p) 0 some) ∙ is))
-        (cases_eq (kept p) 0)
+        (λ (none : kept address ≡ 0). (left_piece piece, here ∙ cond-true (kept address == 0) (option_map left_piece (block address)) (block address) (eq-eqb (kept address) 0 none) ∙ ap (option_map left_piece) is))
+        (λ (some : kept address ≢ 0). (piece, here ∙ cond-false (kept address == 0) (option_map left_piece (block address)) (block address) (ne_eqb (kept address) 0 some) ∙ is))
+        (cases_eq (kept address) 0)
 
     -- and each piece is that of a kept object, or one that only fills where another stood
     abbrev pub IsFrom : ℕ → Block → Type 0
-    IsFrom p b = (a : ℕ) × (0 < kept a) × (a < heap_end c) × (place a ≡ p) × (block a ≡ Some b) × (words_of b ≡ kept a)
+    IsFrom p piece = (address : ℕ) × (0 < kept address) × (address < heap_end config) × (place address ≡ p) × (block address ≡ Some piece) × (words_of piece ≡ kept address)
 
     abbrev pub IsLeft : ℕ → Block → Type 0
-    IsLeft p b = (x : Block) × (shut (p / c.region_words) ≡ true) × (kept p ≡ 0) × (block p ≡ Some x) × (left_piece x ≡ b)
+    IsLeft address piece = (other_piece : Block) × (shut (address / config.region_words) ≡ true) × (kept address ≡ 0) × (block address ≡ Some other_piece) × (left_piece other_piece ≡ piece)
 
     -- a kept object's piece has its words
-    kept_words : (a : ℕ) (b : Block) → 0 < kept a → block a ≡ Some b → words_of b ≡ kept a
-    kept_words a b some found =
-        let piece = can.things a some in
+    kept_words : (address : ℕ) (b : Block) → 0 < kept address → block address ≡ Some b → words_of b ≡ kept address
+    kept_words address b some found =
+        let piece = can.things address some in
         let same : thing piece.0 piece.1 piece.2 ≡ b = same_Some (thing piece.0 piece.1 piece.2) b (sym piece.3 ∙ found) in
         ap words_of (sym same) ∙ sym piece.4
 
-    from_origin : (p : ℕ) (b : Block) (o : Option ℕ) → origin place kept p (heap_end c) ≡ o → option_and_then block o ≡ Some b → IsFrom p b
-    from_origin p b None is found = absurd (none-some b found)
-    from_origin p b (Some a) is found =
-        let at = origin_is place kept p (heap_end c) a is in
-        (a, at.0, at.1, at.2, found, kept_words a b at.0 found)
+    from_origin : (p : ℕ) (piece : Block) (o : Option ℕ) → origin place kept p (heap_end config) ≡ o → option_and_then block o ≡ Some piece → IsFrom p piece
+    from_origin p piece None is found = absurd (none-some piece found)
+    from_origin p piece (Some a) is found =
+        let at = origin_is place kept p (heap_end config) a is in
+        (a, at.0, at.1, at.2, found, kept_words a piece at.0 found)
 
-    from_stayed : (p : ℕ) (b : Block) → shut (region_with c p + 1) ≡ true → stayed p ≡ Some b → IsFrom p b ⊎ IsLeft p b
-    from_stayed p b closed found = ⊎_elim
-        (λ (none : kept p ≡ 0).
-        let left = from_left (block p) b (sym (cond-true (kept p == 0) (option_map left_piece (block p)) (block p) (eq-eqb (kept p) 0 none)) ∙ found) in
-        let row = row_above c p (piece_inside c top block can.plotted p left.0 left.1).0 in
+    from_stayed : (address : ℕ) (piece : Block) → shut (region_with config address + 1) ≡ true → stayed address ≡ Some piece → IsFrom address piece ⊎ IsLeft address piece
+    from_stayed address piece closed found = ⊎_elim
+        (λ (none : kept address ≡ 0).
+        let left = from_left (block address) piece (sym (cond-true (kept address == 0) (option_map left_piece (block address)) (block address) (eq-eqb (kept address) 0 none)) ∙ found) in
+        let row = row_above config address (piece_inside config top block can.plotted address left.0 left.1).0 in
         inr (left.0, ap shut (sym row) ∙ closed, none, left.1, left.2))
-        (λ (some : kept p ≢ 0).
-        let begins : 0 < kept p = omega (arith, some) in
-        let inside = kept_inside p begins in
-        let is : block p ≡ Some b = sym (cond-false (kept p == 0) (option_map left_piece (block p)) (block p) (ne_eqb (kept p) 0 some)) ∙ found in
-        let stays = new_shut c.region_words shut kept p (ap shut (sym (row_above c p inside.0)) ∙ closed) in
-        inl (p, begins, omega (arith, inside.1, begins), stays, is, kept_words p b begins is))
-        (cases_eq (kept p) 0)
+        (λ (some : kept address ≢ 0).
+        let begins : 0 < kept address = omega (arith, some) in
+        let inside = kept_inside address begins in
+        let is : block address ≡ Some piece = sym (cond-false (kept address == 0) (option_map left_piece (block address)) (block address) (ne_eqb (kept address) 0 some)) ∙ found in
+        let stays = new_shut config.region_words shut kept address (ap shut (sym (row_above config address inside.0)) ∙ closed) in
+        inl (address, begins, omega (arith, inside.1, begins), stays, is, kept_words address piece begins is))
+        (cases_eq (kept address) 0)
 
-    pub block_from : (p : ℕ) (b : Block) → new_block p ≡ Some b → IsFrom p b ⊎ IsLeft p b
-    block_from p b found = ⊎_elim
-        (λ (closed : shut (region_with c p + 1) ≡ true). from_stayed p b closed (sym (in_shut p closed) ∙ found))
-        (λ (opened : shut (region_with c p + 1) ≡ false). inl (from_origin p b (origin place kept p (heap_end c)) refl (sym (in_open p opened) ∙ found)))
-        (cases_Bool (shut (region_with c p + 1)))
+    pub block_from : (address : ℕ) (piece : Block) → new_block address ≡ Some piece → IsFrom address piece ⊎ IsLeft address piece
+    block_from address piece found = ⊎_elim
+        (λ (closed : shut (region_with config address + 1) ≡ true). from_stayed address piece closed (sym (in_shut address closed) ∙ found))
+        (λ (opened : shut (region_with config address + 1) ≡ false). inl (from_origin address piece (origin place kept address (heap_end config)) refl (sym (in_open address opened) ∙ found)))
+        (cases_Bool (shut (region_with config address + 1)))

@@ -17,137 +17,137 @@ use Rattle.image_graph.specs.Packing.{CanPack}
 use Rattle.image_graph.proofs.Origin as origins
 use Rattle.image_graph.proofs.Rows.{row_is}
 
-module _ (c : Config) (top heap : ℕ → ℕ) (block : Plot) (object : Name → Option Object) (now kept : ℕ → ℕ) (can : CanPack c top heap block object now kept)
-    (shut : ℕ → Bool) (parsed : AreParsed c shut top heap block) where
+module _ (config : Config) (top heap : ℕ → ℕ) (block : Plot) (object : Name → Option Object) (now kept : ℕ → ℕ) (can : CanPack config top heap block object now kept)
+    (shut : ℕ → Bool) (parsed : AreParsed config shut top heap block) where
   abbrev w : ℕ
-  w = c.region_words
+  w = config.region_words
 
   abbrev place : ℕ → ℕ
   place = new_place w shut kept
 
   abbrev new_block : Plot
-  new_block = packed_block c shut kept block
+  new_block = packed_block config shut kept block
 
   abbrev new_top : ℕ → ℕ
-  new_top r = cond (shut (r + 1)) (top r) (packed_top c shut kept r)
+  new_top r = cond (shut (r + 1)) (top r) (packed_top config shut kept r)
 
-  abbrev lie : LieApart c.region_words kept
-  lie = origins.lie_apart c top heap block object now kept can
+  abbrev lie : LieApart config.region_words kept
+  lie = origins.lie_apart config top heap block object now kept can
 
   abbrev IsFrom : ℕ → Block → Type 0
-  IsFrom p b = origins.IsFrom c top heap block object now kept can shut p b
+  IsFrom p piece = origins.IsFrom config top heap block object now kept can shut p piece
 
   abbrev IsLeft : ℕ → Block → Type 0
-  IsLeft p b = origins.IsLeft c top heap block object now kept can shut p b
+  IsLeft p piece = origins.IsLeft config top heap block object now kept can shut p piece
 
-  abbrev from : (p : ℕ) (b : Block) → new_block p ≡ Some b → IsFrom p b ⊎ IsLeft p b
-  from = origins.block_from c top heap block object now kept can shut
+  abbrev from : (p : ℕ) (piece : Block) → new_block p ≡ Some piece → IsFrom p piece ⊎ IsLeft p piece
+  from = origins.block_from config top heap block object now kept can shut
 
-  kept_inside : (a : ℕ) → 0 < kept a → (w ≤ a) × (a + kept a ≤ heap_end c)
-  kept_inside = origins.kept_inside c top heap block object now kept can
+  kept_inside : (a : ℕ) → 0 < kept a → (w ≤ a) × (a + kept a ≤ heap_end config)
+  kept_inside = origins.kept_inside config top heap block object now kept can
 
   kind : (a : ℕ) → 0 < kept a → shut (place a / w) ≡ shut (a / w)
-  kind = origins.kind c top heap block object now kept can shut
+  kind = origins.kind config top heap block object now kept can shut
 
   -- the top of a shut region stays, and that of another is what is placed there
   shut_top : (r : ℕ) → shut (r + 1) ≡ true → new_top r ≡ top r
-  shut_top r closed = cond-true (shut (r + 1)) (top r) (packed_top c shut kept r) closed
+  shut_top r closed = cond-true (shut (r + 1)) (top r) (packed_top config shut kept r) closed
 
-  open_top : (r : ℕ) → shut (r + 1) ≡ false → new_top r ≡ packed_top c shut kept r
-  open_top r opened = cond-false (shut (r + 1)) (top r) (packed_top c shut kept r) opened
+  open_top : (r : ℕ) → shut (r + 1) ≡ false → new_top r ≡ packed_top config shut kept r
+  open_top r opened = cond-false (shut (r + 1)) (top r) (packed_top config shut kept r) opened
 
-  tops_within : (r : ℕ) → r < c.regions → new_top r ≤ w
-  tops_within r inside = ⊎_elim
-      (λ (closed : shut (r + 1) ≡ true). omega (arith, shut_top r closed, can.plotted.tops r inside))
-      (λ (opened : shut (r + 1) ≡ false). omega (arith, open_top r opened, top_within w shut kept lie r (heap_end c)))
-      (cases_Bool (shut (r + 1)))
+  tops_within : (region : ℕ) → region < config.regions → new_top region ≤ w
+  tops_within region inside = ⊎_elim
+      (λ (closed : shut (region + 1) ≡ true). omega (arith, shut_top region closed, can.plotted.tops region inside))
+      (λ (opened : shut (region + 1) ≡ false). omega (arith, open_top region opened, top_within w shut kept lie region (heap_end config)))
+      (cases_Bool (shut (region + 1)))
 
   -- a piece of a shut region stays in the part in use
-  stayed_in_use : (p : ℕ) (x : Block) → shut (p / w) ≡ true → block p ≡ Some x → IsInUse c new_top p (words_of x)
-  stayed_in_use p x closed is =
-      let used = can.plotted.in_use p x is in
+  stayed_in_use : (address : ℕ) (piece : Block) → shut (address / w) ≡ true → block address ≡ Some piece → IsInUse config new_top address (words_of piece)
+  stayed_in_use address piece closed is =
+      let used = can.plotted.in_use address piece is in
       let most = can.plotted.tops used.region used.within in
-      let row = row_is w used.region p used.from_base (omega (arith, used.to_top, most, parsed.some p x is)) in
+      let row = row_is w used.region address used.from_base (omega (arith, used.to_top, most, parsed.some address piece is)) in
       let same = shut_top used.region (ap shut (sym row) ∙ closed) in
       record { region = used.region; within = used.within; from_base = used.from_base; to_top = omega (arith, used.to_top, same) }
 
   -- a kept object of an open region is placed in the part in use of one
-  placed_in_use : (a : ℕ) → 0 < kept a → shut (a / w) ≡ false → IsInUse c new_top (place a) (kept a)
+  placed_in_use : (a : ℕ) → 0 < kept a → shut (a / w) ≡ false → IsInUse config new_top (place a) (kept a)
   placed_in_use a some opened =
       let inside = kept_inside a some in
       let r = region_of_place w shut kept a in
       let here = in_region w shut kept lie a some in
       let counts = open_same w shut kept a opened in
       let at = at_top w shut kept lie r a (omega (arith, counts, some)) here in
-      let more : top_before w shut kept r (suc a) ≤ top_before w shut kept r (heap_end c) = sum_grows (words_in w shut kept r) (suc a) (heap_end c) (omega (arith, inside.1, some)) in
+      let more : top_before w shut kept r (suc a) ≤ top_before w shut kept r (heap_end config) = sum_grows (words_in w shut kept r) (suc a) (heap_end config) (omega (arith, inside.1, some)) in
       let step = sum_next (words_in w shut kept r) a in
       let added = added_here w shut kept r a here in
       let all = open_top r (ap shut (sym here) ∙ kind a some ∙ opened) in
       record {
         region = r;
-        within = place_in_range w shut kept lie c.regions a some (omega (arith, inside.1, some));
+        within = place_in_range w shut kept lie config.regions a some (omega (arith, inside.1, some));
         from_base = omega (arith, at);
         to_top = omega (arith, at, more, step, added, counts, all);
       }
 
   -- so is each
-  kept_in_use : (a : ℕ) → 0 < kept a → IsInUse c new_top (place a) (kept a)
+  kept_in_use : (a : ℕ) → 0 < kept a → IsInUse config new_top (place a) (kept a)
   kept_in_use a some = ⊎_elim
       (λ (closed : shut (a / w) ≡ true).
       let piece = can.things a some in
-      let used : IsInUse c new_top a (kept a) = subst (IsInUse c new_top a) (sym piece.4) (stayed_in_use a (thing piece.0 piece.1 piece.2) closed piece.3) in
-      subst (λ k. IsInUse c new_top k (kept a)) (sym (new_shut w shut kept a closed)) used)
+      let used : IsInUse config new_top a (kept a) = subst (IsInUse config new_top a) (sym piece.4) (stayed_in_use a (thing piece.0 piece.1 piece.2) closed piece.3) in
+      subst (λ k. IsInUse config new_top k (kept a)) (sym (new_shut w shut kept a closed)) used)
       (λ (opened : shut (a / w) ≡ false). placed_in_use a some opened)
       (cases_Bool (shut (a / w)))
 
-  in_use : (p : ℕ) (b : Block) → new_block p ≡ Some b → IsInUse c new_top p (words_of b)
-  in_use p b is = ⊎_elim
-      (λ (a : IsFrom p b). subst (λ k. IsInUse c new_top k (words_of b)) a.3 (subst (IsInUse c new_top (place a.0)) (sym a.5) (kept_in_use a.0 a.1)))
-      (λ (left : IsLeft p b). subst (IsInUse c new_top p) (ap words_of left.4) (stayed_in_use p left.0 left.1 left.3))
-      (from p b is)
+  in_use : (p : ℕ) (piece : Block) → new_block p ≡ Some piece → IsInUse config new_top p (words_of piece)
+  in_use p piece is = ⊎_elim
+      (λ (a : IsFrom p piece). subst (λ k. IsInUse config new_top k (words_of piece)) a.3 (subst (IsInUse config new_top (place a.0)) (sym a.5) (kept_in_use a.0 a.1)))
+      (λ (left : IsLeft p piece). subst (IsInUse config new_top p) (ap words_of left.4) (stayed_in_use p left.0 left.1 left.3))
+      (from p piece is)
 
   -- a piece has some word
-  pub slid_has_words : (p : ℕ) (b : Block) → new_block p ≡ Some b → 1 ≤ words_of b
-  slid_has_words p b is = ⊎_elim
-      (λ (a : IsFrom p b). omega (arith, a.1, a.5))
-      (λ (left : IsLeft p b). let same = ap words_of left.4 in omega (arith, same, parsed.some p left.0 left.3))
-      (from p b is)
+  pub slid_has_words : (p : ℕ) (piece : Block) → new_block p ≡ Some piece → 1 ≤ words_of piece
+  slid_has_words p piece is = ⊎_elim
+      (λ (a : IsFrom p piece). omega (arith, a.1, a.5))
+      (λ (left : IsLeft p piece). let same = ap words_of left.4 in omega (arith, same, parsed.some p left.0 left.3))
+      (from p piece is)
 
   -- so it lies in the row of its region
-  row_of_piece : (p : ℕ) (b : Block) (is : new_block p ≡ Some b) → p / w ≡ (in_use p b is).region + 1
-  row_of_piece p b is =
-      let used = in_use p b is in
-      row_is w used.region p used.from_base (omega (arith, used.to_top, tops_within used.region used.within, slid_has_words p b is))
+  row_of_piece : (p : ℕ) (piece : Block) (is : new_block p ≡ Some piece) → p / w ≡ (in_use p piece is).region + 1
+  row_of_piece p piece is =
+      let used = in_use p piece is in
+      row_is w used.region p used.from_base (omega (arith, used.to_top, tops_within used.region used.within, slid_has_words p piece is))
 
   -- in a shut region a piece stood there, of as many words
-  was_there : (p : ℕ) (b : Block) → new_block p ≡ Some b → shut (p / w) ≡ true → (x : Block) × (block p ≡ Some x) × (words_of x ≡ words_of b)
-  was_there p b is closed = ⊎_elim
-      (λ (a : IsFrom p b).
+  was_there : (address : ℕ) (piece : Block) → new_block address ≡ Some piece → shut (address / w) ≡ true → (other_piece : Block) × (block address ≡ Some other_piece) × (words_of other_piece ≡ words_of piece)
+  was_there address piece is closed = ⊎_elim
+      (λ (a : IsFrom address piece).
       let old : shut (a.0 / w) ≡ true = sym (kind a.0 a.1) ∙ ap (λ k. shut (k / w)) a.3 ∙ closed in
-      let same : a.0 ≡ p = sym (new_shut w shut kept a.0 old) ∙ a.3 in
-      (b, ap block (sym same) ∙ a.4, refl))
-      (λ (left : IsLeft p b). (left.0, left.3, ap words_of left.4))
-      (from p b is)
+      let same : a.0 ≡ address = sym (new_shut w shut kept a.0 old) ∙ a.3 in
+      (piece, ap block (sym same) ∙ a.4, refl))
+      (λ (left : IsLeft address piece). (left.0, left.3, ap words_of left.4))
+      (from address piece is)
 
   -- and in an open one it is that of a kept object of an open region
-  came_there : (p : ℕ) (b : Block) → new_block p ≡ Some b → shut (p / w) ≡ false → (a : ℕ) × (0 < kept a) × (shut (a / w) ≡ false) × (a < heap_end c) × (place a ≡ p) × (words_of b ≡ kept a)
-  came_there p b is opened = ⊎_elim
-      (λ (a : IsFrom p b). (a.0, a.1, sym (kind a.0 a.1) ∙ ap (λ k. shut (k / w)) a.3 ∙ opened, a.2, a.3, a.5))
-      (λ (left : IsLeft p b). absurd (true≢false (sym left.1 ∙ opened)))
-      (from p b is)
+  came_there : (p : ℕ) (piece : Block) → new_block p ≡ Some piece → shut (p / w) ≡ false → (a : ℕ) × (0 < kept a) × (shut (a / w) ≡ false) × (a < heap_end config) × (place a ≡ p) × (words_of piece ≡ kept a)
+  came_there p piece is opened = ⊎_elim
+      (λ (a : IsFrom p piece). (a.0, a.1, sym (kind a.0 a.1) ∙ ap (λ k. shut (k / w)) a.3 ∙ opened, a.2, a.3, a.5))
+      (λ (left : IsLeft p piece). absurd (true≢false (sym left.1 ∙ opened)))
+      (from p piece is)
 
   -- two pieces of shut regions lie apart, and two of open ones
-  apart_in_shut : (p q : ℕ) (x y : Block) → new_block p ≡ Some x → new_block q ≡ Some y → shut (p / w) ≡ true → shut (q / w) ≡ true → p < q → p + words_of x ≤ q
-  apart_in_shut p q x y is_x is_y closed_p closed_q less =
-      let a = was_there p x is_x closed_p in
-      let b = was_there q y is_y closed_q in
+  apart_in_shut : (p q : ℕ) (piece other_piece : Block) → new_block p ≡ Some piece → new_block q ≡ Some other_piece → shut (p / w) ≡ true → shut (q / w) ≡ true → p < q → p + words_of piece ≤ q
+  apart_in_shut p q piece other_piece is_x is_y closed_p closed_q less =
+      let a = was_there p piece is_x closed_p in
+      let b = was_there q other_piece is_y closed_q in
       let far = can.plotted.apart p q a.0 b.0 a.1 b.1 less in
       omega (arith, far, a.2)
 
-  apart_in_open : (p q : ℕ) (x y : Block) → new_block p ≡ Some x → new_block q ≡ Some y → shut (p / w) ≡ false → shut (q / w) ≡ false → p < q → p + words_of x ≤ q
-  apart_in_open p q x y is_x is_y open_p open_q less =
-      let a = came_there p x is_x open_p in
-      let b = came_there q y is_y open_q in
+  apart_in_open : (p q : ℕ) (piece other_piece : Block) → new_block p ≡ Some piece → new_block q ≡ Some other_piece → shut (p / w) ≡ false → shut (q / w) ≡ false → p < q → p + words_of piece ≤ q
+  apart_in_open p q piece other_piece is_x is_y open_p open_q less =
+      let a = came_there p piece is_x open_p in
+      let b = came_there q other_piece is_y open_q in
       ⊎_elim
       (λ (before : a.0 < b.0). let far = stays_apart w shut kept lie a.0 b.0 a.2 b.2 before in omega (arith, far, a.4, b.4, a.5))
       (λ (least : b.0 ≤ a.0). ⊎_elim
@@ -159,67 +159,67 @@ module _ (c : Config) (top heap : ℕ → ℕ) (block : Plot) (object : Name →
       (cases_lt b.0 a.0))
       (cases_lt a.0 b.0)
 
-  apart : (p q : ℕ) (x y : Block) → new_block p ≡ Some x → new_block q ≡ Some y → p < q → p + words_of x ≤ q
-  apart p q x y is_x is_y less =
-      let a = in_use p x is_x in
-      let b = in_use q y is_y in
+  apart : (p q : ℕ) (piece other_piece : Block) → new_block p ≡ Some piece → new_block q ≡ Some other_piece → p < q → p + words_of piece ≤ q
+  apart p q piece other_piece is_x is_y less =
+      let a = in_use p piece is_x in
+      let b = in_use q other_piece is_y in
       let most_a = tops_within a.region a.within in
       let most_b = tops_within b.region b.within in
       ⊎_elim
-      (λ (before : a.region < b.region). let far = behind c a.region b.region before in omega (arith, far, a.to_top, most_a, b.from_base))
+      (λ (before : a.region < b.region). let far = behind config a.region b.region before in omega (arith, far, a.to_top, most_a, b.from_base))
       (λ (least : b.region ≤ a.region). ⊎_elim
-      (λ (later : b.region < a.region). let far = behind c b.region a.region later in absurd (omega (arith, far, b.to_top, most_b, a.from_base, less)))
+      (λ (later : b.region < a.region). let far = behind config b.region a.region later in absurd (omega (arith, far, b.to_top, most_b, a.from_base, less)))
       (λ (most : a.region ≤ b.region).
-      let same : p / w ≡ q / w = omega (arith, least, most, row_of_piece p x is_x, row_of_piece q y is_y) in
+      let same : p / w ≡ q / w = omega (arith, least, most, row_of_piece p piece is_x, row_of_piece q other_piece is_y) in
       ⊎_elim
-      (λ (closed : shut (q / w) ≡ true). apart_in_shut p q x y is_x is_y (ap shut same ∙ closed) closed less)
-      (λ (opened : shut (q / w) ≡ false). apart_in_open p q x y is_x is_y (ap shut same ∙ opened) opened less)
+      (λ (closed : shut (q / w) ≡ true). apart_in_shut p q piece other_piece is_x is_y (ap shut same ∙ closed) closed less)
+      (λ (opened : shut (q / w) ≡ false). apart_in_open p q piece other_piece is_x is_y (ap shut same ∙ opened) opened less)
       (cases_Bool (shut (q / w))))
       (cases_lt b.region a.region))
       (cases_lt a.region b.region)
 
-  pub slid_is_plotted : IsPlotted c new_top new_block
+  pub slid_is_plotted : IsPlotted config new_top new_block
   slid_is_plotted = record { tops = tops_within; in_use = in_use; apart = apart }
 
   -- where a kept object is placed, a piece stands
-  some_at : (a p : ℕ) → 0 < kept a → place a ≡ p → (b : Block) × (new_block p ≡ Some b)
-  some_at a p some at =
-      let piece = can.things a some in
-      let there : new_block p ≡ block a = ap new_block (sym at) ∙ origins.block_at c top heap block object now kept can shut a some in
+  some_at : (address p : ℕ) → 0 < kept address → place address ≡ p → (b : Block) × (new_block p ≡ Some b)
+  some_at address p some at =
+      let piece = can.things address some in
+      let there : new_block p ≡ block address = ap new_block (sym at) ∙ origins.block_at config top heap block object now kept can shut address some in
       (thing piece.0 piece.1 piece.2, there ∙ piece.3)
 
   -- where a piece of a shut region stood, one stands
-  still_at : (p : ℕ) (x : Block) → shut (p / w) ≡ true → block p ≡ Some x → (b : Block) × (new_block p ≡ Some b)
-  still_at = origins.block_stays c top heap block object now kept can shut
+  still_at : (address : ℕ) (piece : Block) → shut (address / w) ≡ true → block address ≡ Some piece → (other_piece : Block) × (new_block address ≡ Some other_piece)
+  still_at = origins.block_stays config top heap block object now kept can shut
 
-  first : (r : ℕ) → r < c.regions → 0 < new_top r → (b : Block) × (new_block (base_of c r) ≡ Some b)
-  first r inside some = ⊎_elim
-      (λ (closed : shut (r + 1) ≡ true).
-      let old = parsed.filled.first r inside (omega (arith, some, shut_top r closed)) in
-      let row = row_is w r (base_of c r) (omega arith) (omega (arith, c.in_range.least_words)) in
-      still_at (base_of c r) old.0 (ap shut row ∙ closed) old.1)
-      (λ (opened : shut (r + 1) ≡ false).
-      let a = first_is_at_base w shut kept lie r (heap_end c) (omega (arith, some, open_top r opened)) in
-      some_at a.0 (base_of c r) (is_open w shut kept a.0 a.1.1).0 a.1.2)
-      (cases_Bool (shut (r + 1)))
+  first : (region : ℕ) → region < config.regions → 0 < new_top region → (piece : Block) × (new_block (base_of config region) ≡ Some piece)
+  first region inside some = ⊎_elim
+      (λ (closed : shut (region + 1) ≡ true).
+      let old = parsed.filled.first region inside (omega (arith, some, shut_top region closed)) in
+      let row = row_is w region (base_of config region) (omega arith) (omega (arith, config.in_range.least_words)) in
+      still_at (base_of config region) old.0 (ap shut row ∙ closed) old.1)
+      (λ (opened : shut (region + 1) ≡ false).
+      let a = first_is_at_base w shut kept lie region (heap_end config) (omega (arith, some, open_top region opened)) in
+      some_at a.0 (base_of config region) (is_open w shut kept a.0 a.1.1).0 a.1.2)
+      (cases_Bool (shut (region + 1)))
 
-  next : (r p : ℕ) (x : Block) → r < c.regions → base_of c r ≤ p → new_block p ≡ Some x → p + words_of x < base_of c r + new_top r → (b : Block) × (new_block (p + words_of x) ≡ Some b)
-  next r p x inside low is below =
-      let most = tops_within r inside in
-      let row = row_is w r p low (omega (arith, below, most)) in
+  next : (region p : ℕ) (piece : Block) → region < config.regions → base_of config region ≤ p → new_block p ≡ Some piece → p + words_of piece < base_of config region + new_top region → (b : Block) × (new_block (p + words_of piece) ≡ Some b)
+  next region p piece inside low is below =
+      let most = tops_within region inside in
+      let row = row_is w region p low (omega (arith, below, most)) in
       ⊎_elim
-      (λ (closed : shut (r + 1) ≡ true).
-      let old = was_there p x is (ap shut row ∙ closed) in
-      let later = parsed.filled.next r p old.0 inside low old.1 (omega (arith, below, old.2, shut_top r closed)) in
-      let there : p + words_of old.0 ≡ p + words_of x = omega (arith, old.2) in
-      let behind_row = row_is w r (p + words_of x) (omega (arith, low)) (omega (arith, below, most)) in
-      still_at (p + words_of x) later.0 (ap shut behind_row ∙ closed) (ap block (sym there) ∙ later.1))
-      (λ (opened : shut (r + 1) ≡ false).
-      let a = came_there p x is (ap shut row ∙ opened) in
+      (λ (closed : shut (region + 1) ≡ true).
+      let old = was_there p piece is (ap shut row ∙ closed) in
+      let later = parsed.filled.next region p old.0 inside low old.1 (omega (arith, below, old.2, shut_top region closed)) in
+      let there : p + words_of old.0 ≡ p + words_of piece = omega (arith, old.2) in
+      let behind_row = row_is w region (p + words_of piece) (omega (arith, low)) (omega (arith, below, most)) in
+      still_at (p + words_of piece) later.0 (ap shut behind_row ∙ closed) (ap block (sym there) ∙ later.1))
+      (λ (opened : shut (region + 1) ≡ false).
+      let a = came_there p piece is (ap shut row ∙ opened) in
       let counts = open_same w shut kept a.0 a.2 in
-      let b = next_is_behind w shut kept lie r a.0 (heap_end c) a.3 (omega (arith, counts, a.1)) (ap (λ k. k / w) a.4 ∙ row) (omega (arith, below, a.4, a.5, open_top r opened)) in
-      some_at b.0 (p + words_of x) (is_open w shut kept b.0 b.1.1).0 (omega (arith, b.1.2, a.4, a.5)))
-      (cases_Bool (shut (r + 1)))
+      let b = next_is_behind w shut kept lie region a.0 (heap_end config) a.3 (omega (arith, counts, a.1)) (ap (λ k. k / w) a.4 ∙ row) (omega (arith, below, a.4, a.5, open_top region opened)) in
+      some_at b.0 (p + words_of piece) (is_open w shut kept b.0 b.1.1).0 (omega (arith, b.1.2, a.4, a.5)))
+      (cases_Bool (shut (region + 1)))
 
-  pub slid_is_filled : IsFilled c new_top new_block
+  pub slid_is_filled : IsFilled config new_top new_block
   slid_is_filled = record { first = first; next = next }

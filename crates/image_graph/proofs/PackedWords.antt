@@ -22,17 +22,17 @@ use Rattle.image_graph.proofs.Rows.{row_above}
 use Rattle.image_graph.proofs.WalkedPieces.{begins_piece, piece_begins}
 use Rattle.image_graph.proofs.Origin as origins
 
-module _ (c : Config) (memory : Word → ℕ) (block : Plot) (object : Name → Option Object) (now kept : ℕ → ℕ)
-    (can : CanPack c (λ r. memory (Top r)) (λ a. memory (Heap a)) block object now kept) (shut : ℕ → Bool)
-    (parsed : AreParsed c shut (λ r. memory (Top r)) (λ a. memory (Heap a)) block) where
+module _ (config : Config) (memory : Word → ℕ) (block : Plot) (object : Name → Option Object) (now kept : ℕ → ℕ)
+    (can : CanPack config (λ r. memory (Top r)) (λ a. memory (Heap a)) block object now kept) (shut : ℕ → Bool)
+    (parsed : AreParsed config shut (λ r. memory (Top r)) (λ a. memory (Heap a)) block) where
   abbrev w : ℕ
-  w = c.region_words
+  w = config.region_words
 
   abbrev top : ℕ → ℕ
-  top r = memory (Top r)
+  top region = memory (Top region)
 
   abbrev heap : ℕ → ℕ
-  heap a = memory (Heap a)
+  heap address = memory (Heap address)
 
   abbrev place : ℕ → ℕ
   place = new_place w shut kept
@@ -41,34 +41,34 @@ module _ (c : Config) (memory : Word → ℕ) (block : Plot) (object : Name → 
   renew = renewed place now
 
   abbrev new_block : Plot
-  new_block = packed_block c shut kept block
+  new_block = packed_block config shut kept block
 
   abbrev after : ℕ → ℕ
-  after a = packed c shut now kept memory (Heap a)
+  after address = packed config shut now kept memory (Heap address)
 
   abbrev IsFrom : ℕ → Block → Type 0
-  IsFrom p b = origins.IsFrom c top heap block object now kept can shut p b
+  IsFrom p piece = origins.IsFrom config top heap block object now kept can shut p piece
 
   abbrev IsLeft : ℕ → Block → Type 0
-  IsLeft p b = origins.IsLeft c top heap block object now kept can shut p b
+  IsLeft p piece = origins.IsLeft config top heap block object now kept can shut p piece
 
-  abbrev lie : LieApart c.region_words kept
-  lie = origins.lie_apart c top heap block object now kept can
+  abbrev lie : LieApart config.region_words kept
+  lie = origins.lie_apart config top heap block object now kept can
 
   kind : (a : ℕ) → 0 < kept a → shut (place a / w) ≡ shut (a / w)
-  kind = origins.kind c top heap block object now kept can shut
+  kind = origins.kind config top heap block object now kept can shut
 
   -- whether an object is left over at an address
   abbrev is_left : ℕ → Bool
-  is_left a = shut (region_with c a + 1) && (begins c memory a && is_unkept kept memory a)
+  is_left address = shut (region_with config address + 1) && (begins config memory address && is_unkept kept memory address)
 
-  after_left : (a : ℕ) → is_left a ≡ true → after a ≡ filler_header (object_words (heap (a + 1)))
+  after_left : (address : ℕ) → is_left address ≡ true → after address ≡ filler_header (object_words (heap (address + 1)))
   unfolding packed
-  after_left a met = cond-true (is_left a) (filler_header (object_words (heap (a + 1)))) (moved_heap c shut now kept memory a) met
+  after_left address met = cond-true (is_left address) (filler_header (object_words (heap (address + 1)))) (moved_heap config shut now kept memory address) met
 
-  after_moved : (a : ℕ) → is_left a ≡ false → after a ≡ slid place kept renew heap (heap_end c) a
+  after_moved : (address : ℕ) → is_left address ≡ false → after address ≡ slid place kept renew heap (heap_end config) address
   unfolding packed moved_heap
-  after_moved a unmet = cond-false (is_left a) (filler_header (object_words (heap (a + 1)))) (moved_heap c shut now kept memory a) unmet
+  after_moved address unmet = cond-false (is_left address) (filler_header (object_words (heap (address + 1)))) (moved_heap config shut now kept memory address) unmet
 
   -- a word of a kept object of a shut region at which something begins is its first one
   first_word : (a i : ℕ) → i < kept a → shut (a / w) ≡ true → (b : Block) → block (a + i) ≡ Some b → i ≡ 0
@@ -86,72 +86,72 @@ module _ (c : Config) (memory : Word → ℕ) (block : Plot) (object : Name → 
       let x = place a + i in
       let begun : 0 < kept a = omega (arith, within) in
       let low = stays_above w shut kept lie a begun in
-      let row = row_above c x (omega (arith, low)) in
+      let row = row_above config x (omega (arith, low)) in
       let one = row_of_word w (place a) (kept a) x (stays_within w shut kept lie a begun) (omega arith) (omega (arith, within)) in
       ⊎_elim
-      (λ (closed : shut (region_with c x + 1) ≡ true). ⊎_elim
-      (λ (met : begins c memory x ≡ true).
+      (λ (closed : shut (region_with config x + 1) ≡ true). ⊎_elim
+      (λ (met : begins config memory x ≡ true).
       let there : shut (x / w) ≡ true = ap shut (sym row) ∙ closed in
       let old : shut (a / w) ≡ true = sym (kind a begun) ∙ ap shut (sym one) ∙ there in
       let stays : place a ≡ a = new_shut w shut kept a old in
       let at : x ≡ a + i = ap (λ k. k + i) stays in
-      let piece = begins_piece c shut memory block can.plotted parsed x there met in
+      let piece = begins_piece config shut memory block can.plotted parsed x there met in
       let start = first_word a i within old piece.0 (ap block (sym at) ∙ piece.1) in
       let same : kept x ≡ kept a = ap kept {x = x} {y = a} (omega (arith, at, start)) in
-      and_right (shut (region_with c x + 1)) (begins c memory x && is_unkept kept memory x)
-      (and_right (begins c memory x) (is_unkept kept memory x)
+      and_right (shut (region_with config x + 1)) (begins config memory x && is_unkept kept memory x)
+      (and_right (begins config memory x) (is_unkept kept memory x)
       (and_right (not (is_filler (heap x))) (kept x == 0) (ne_eqb (kept x) 0 (λ none. omega (arith, none, same, begun))))))
-      (λ (unmet : begins c memory x ≡ false).
-      and_right (shut (region_with c x + 1)) (begins c memory x && is_unkept kept memory x) (and_left (begins c memory x) (is_unkept kept memory x) unmet))
-      (cases_Bool (begins c memory x)))
-      (λ (opened : shut (region_with c x + 1) ≡ false). and_left (shut (region_with c x + 1)) (begins c memory x && is_unkept kept memory x) opened)
-      (cases_Bool (shut (region_with c x + 1)))
+      (λ (unmet : begins config memory x ≡ false).
+      and_right (shut (region_with config x + 1)) (begins config memory x && is_unkept kept memory x) (and_left (begins config memory x) (is_unkept kept memory x) unmet))
+      (cases_Bool (begins config memory x)))
+      (λ (opened : shut (region_with config x + 1) ≡ false). and_left (shut (region_with config x + 1)) (begins config memory x && is_unkept kept memory x) opened)
+      (cases_Bool (shut (region_with config x + 1)))
 
   -- so these are the words of the object
-  pub placed_words : (a i : ℕ) → i < kept a → after (place a + i) ≡ slid_word renew heap a i
-  placed_words a i within =
-      let inside = origins.kept_inside c top heap block object now kept can a (omega (arith, within)) in
-      after_moved (place a + i) (left_alone a i within)
-      ∙ (slid_is place kept renew heap (origins.places c top heap block object now kept can shut) 0 (heap_end c)).moved a i (omega (arith, inside.1, within)) within
+  pub placed_words : (address i : ℕ) → i < kept address → after (place address + i) ≡ slid_word renew heap address i
+  placed_words address i within =
+      let inside = origins.kept_inside config top heap block object now kept can address (omega (arith, within)) in
+      after_moved (place address + i) (left_alone address i within)
+      ∙ (slid_is place kept renew heap (origins.places config top heap block object now kept can shut) 0 (heap_end config)).moved address i (omega (arith, inside.1, within)) within
 
   -- the first word of another piece of a shut region is in no new place
-  uncovered : (p : ℕ) (x : Block) → shut (p / w) ≡ true → kept p ≡ 0 → block p ≡ Some x → slid place kept renew heap (heap_end c) p ≡ heap p
-  uncovered p x closed none is =
-      (slid_is place kept renew heap (origins.places c top heap block object now kept can shut) 0 (heap_end c)).others p (omega arith)
+  uncovered : (address : ℕ) (piece : Block) → shut (address / w) ≡ true → kept address ≡ 0 → block address ≡ Some piece → slid place kept renew heap (heap_end config) address ≡ heap address
+  uncovered address piece closed none is =
+      (slid_is place kept renew heap (origins.places config top heap block object now kept can shut) 0 (heap_end config)).others address (omega arith)
       (λ b i below inside same.
       let begun : 0 < kept b = omega (arith, inside) in
-      let one = row_of_word w (place b) (kept b) p (stays_within w shut kept lie b begun) (omega (arith, same)) (omega (arith, same, inside)) in
+      let one = row_of_word w (place b) (kept b) address (stays_within w shut kept lie b begun) (omega (arith, same)) (omega (arith, same, inside)) in
       let old : shut (b / w) ≡ true = sym (kind b begun) ∙ ap shut (sym one) ∙ closed in
       let stays : place b ≡ b = new_shut w shut kept b old in
-      let at : p ≡ b + i = omega (arith, same, stays) in
-      let start = first_word b i inside old x (ap block (sym at) ∙ is) in
-      let size : kept p ≡ kept b = ap kept {x = p} {y = b} (omega (arith, at, start)) in
+      let at : address ≡ b + i = omega (arith, same, stays) in
+      let start = first_word b i inside old piece (ap block (sym at) ∙ is) in
+      let size : kept address ≡ kept b = ap kept {x = address} {y = b} (omega (arith, at, start)) in
       omega (arith, size, none, begun))
 
   -- words that only fill say how many they are
-  left_says : (p words : ℕ) → IsLeft p (filler words) → after p ≡ filler_header words
-  left_says p words left =
+  left_says : (address words : ℕ) → IsLeft address (filler words) → after address ≡ filler_header words
+  left_says address words left =
       let size : words_of left.0 ≡ words = ap words_of left.4 in
-      let long : stride_at heap p ≡ words_of left.0 = parsed.sized p left.0 left.3 left.1 in
-      let row = row_above c p (piece_inside c top block can.plotted p left.0 left.3).0 in
-      let begun = piece_begins c shut memory block can.plotted parsed p left.0 left.3 left.1 in
+      let long : stride_at heap address ≡ words_of left.0 = parsed.sized address left.0 left.3 left.1 in
+      let row = row_above config address (piece_inside config top block can.plotted address left.0 left.3).0 in
+      let begun = piece_begins config shut memory block can.plotted parsed address left.0 left.3 left.1 in
       ⊎_elim
-      (λ (fills : is_filler (heap p) ≡ true).
-      let quotient = cond-true (is_filler (heap p)) (heap p / 4) (object_words (heap (p + 1))) fills in
-      let rest : heap p % 4 ≡ 2 = eqb-true (heap p % 4) 2 fills in
-      let unmet : is_left p ≡ false =
-      and_right (shut (region_with c p + 1)) (begins c memory p && is_unkept kept memory p)
-      (and_right (begins c memory p) (is_unkept kept memory p) (and_left (not (is_filler (heap p))) (kept p == 0) (not_from_true (is_filler (heap p)) fills))) in
-      let header : heap p ≡ filler_header words = omega (arith, quotient, rest, long, size) in
-      after_moved p unmet ∙ uncovered p left.0 left.1 left.2 left.3 ∙ header)
-      (λ (object_there : is_filler (heap p) ≡ false).
-      let shape = cond-false (is_filler (heap p)) (heap p / 4) (object_words (heap (p + 1))) object_there in
-      let met : is_left p ≡ true =
-      and_from (shut (region_with c p + 1)) (begins c memory p && is_unkept kept memory p) (ap shut row ∙ left.1)
-      (and_from (begins c memory p) (is_unkept kept memory p) begun
-      (and_from (not (is_filler (heap p))) (kept p == 0) (not_from_false (is_filler (heap p)) object_there) (eq-eqb (kept p) 0 left.2))) in
-      after_left p met ∙ ap filler_header (sym shape ∙ long ∙ size))
-      (cases_Bool (is_filler (heap p)))
+      (λ (fills : is_filler (heap address) ≡ true).
+      let quotient = cond-true (is_filler (heap address)) (heap address / 4) (object_words (heap (address + 1))) fills in
+      let rest : heap address % 4 ≡ 2 = eqb-true (heap address % 4) 2 fills in
+      let unmet : is_left address ≡ false =
+      and_right (shut (region_with config address + 1)) (begins config memory address && is_unkept kept memory address)
+      (and_right (begins config memory address) (is_unkept kept memory address) (and_left (not (is_filler (heap address))) (kept address == 0) (not_from_true (is_filler (heap address)) fills))) in
+      let header : heap address ≡ filler_header words = omega (arith, quotient, rest, long, size) in
+      after_moved address unmet ∙ uncovered address left.0 left.1 left.2 left.3 ∙ header)
+      (λ (object_there : is_filler (heap address) ≡ false).
+      let shape = cond-false (is_filler (heap address)) (heap address / 4) (object_words (heap (address + 1))) object_there in
+      let met : is_left address ≡ true =
+      and_from (shut (region_with config address + 1)) (begins config memory address && is_unkept kept memory address) (ap shut row ∙ left.1)
+      (and_from (begins config memory address) (is_unkept kept memory address) begun
+      (and_from (not (is_filler (heap address))) (kept address == 0) (not_from_false (is_filler (heap address)) object_there) (eq-eqb (kept address) 0 left.2))) in
+      after_left address met ∙ ap filler_header (sym shape ∙ long ∙ size))
+      (cases_Bool (is_filler (heap address)))
 
   pub fillers_say : FillersSay after new_block
   fillers_say p words is = ⊎_elim
@@ -160,4 +160,4 @@ module _ (c : Config) (memory : Word → ℕ) (block : Plot) (object : Name → 
       let same : Some (thing piece.0 piece.1 piece.2) ≡ Some (filler words) = sym piece.3 ∙ a.4 in
       absurd (cc))
       (λ (left : IsLeft p (filler words)). left_says p words left)
-      (origins.block_from c top heap block object now kept can shut p (filler words) is)
+      (origins.block_from config top heap block object now kept can shut p (filler words) is)

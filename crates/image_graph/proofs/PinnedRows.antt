@@ -24,56 +24,56 @@ any_in_range test first (suc n) is = ⊎_elim
     (or_cases (test first) (list_any test (range_with_len (first + 1) n)) is)
 
 -- and any does where one does
-pub range_has_any : (test : ℕ → Bool) (n i : ℕ) → i < n → test i ≡ true → list_any test (range_with_len 0 n) ≡ true
-range_has_any test n i below met =
-    let within : i < length (range_with_len 0 n) = omega (arith, below, length-range_with_len 0 n) in
-    let read : get_or (range_with_len 0 n) i 0 ≡ i = omega (arith, get_or-range_with_len 0 n i 0 below) in
-    list_any_at test (range_with_len 0 n) i 0 within (ap test read ∙ met)
+pub range_has_any : (test : ℕ → Bool) (n index : ℕ) → index < n → test index ≡ true → list_any test (range_with_len 0 n) ≡ true
+range_has_any test n index below met =
+    let within : index < length (range_with_len 0 n) = omega (arith, below, length-range_with_len 0 n) in
+    let read : get_or (range_with_len 0 n) index 0 ≡ index = omega (arith, get_or-range_with_len 0 n index 0 below) in
+    list_any_at test (range_with_len 0 n) index 0 within (ap test read ∙ met)
 
-module _ (c : Config) (memory : Word → ℕ) where
+module _ (config : Config) (memory : Word → ℕ) where
   -- the region of an address that a slot holds is pinned
-  pub pins_region : (r t i : ℕ) → t < c.mutators → i < 4 → base_of c r ≤ memory (Pin t i) → memory (Pin t i) < base_of c r + c.region_words → is_pinned c memory r ≡ true
-  pins_region r t i inside few low high =
-      let lies : lies_in c r (memory (Pin t i)) ≡ true =
-      and_from (nat_le (base_of c r) (memory (Pin t i))) (nat_lt (memory (Pin t i)) (base_of c r + c.region_words))
-      (le-leb (base_of c r) (memory (Pin t i)) low) (lt-ltb (memory (Pin t i)) (base_of c r + c.region_words) high) in
-      range_has_any (has_pin c memory r) c.mutators t inside (range_has_any (λ k. lies_in c r (memory (Pin t k))) 4 i few lies)
+  pub pins_region : (region mutator index : ℕ) → mutator < config.mutators → index < 4 → base_of config region ≤ memory (Pin mutator index) → memory (Pin mutator index) < base_of config region + config.region_words → is_pinned config memory region ≡ true
+  pins_region region mutator index inside few low high =
+      let lies : lies_in config region (memory (Pin mutator index)) ≡ true =
+      and_from (nat_le (base_of config region) (memory (Pin mutator index))) (nat_lt (memory (Pin mutator index)) (base_of config region + config.region_words))
+      (le-leb (base_of config region) (memory (Pin mutator index)) low) (lt-ltb (memory (Pin mutator index)) (base_of config region + config.region_words) high) in
+      range_has_any (has_pin config memory region) config.mutators mutator inside (range_has_any (λ k. lies_in config region (memory (Pin mutator k))) 4 index few lies)
 
   -- so is its row shut
-  pub row_pinned : (r : ℕ) → r < c.regions → is_pinned c memory r ≡ true → is_row_pinned c memory (r + 1) ≡ true
-  row_pinned r inside pinned =
-      let set = pinned_set c memory in
-      let back : r + 1 - 1 ≡ r = omega arith in
-      and_from (nat_le (r + 1) 64) (bit_at set (r + 1 - 1) == 1) (le-leb (r + 1) 64 (omega (arith, inside, c.in_range.most_regions)))
-      (eq-eqb (bit_at set (r + 1 - 1)) 1 (ap (bit_at set) back ∙ set_has (is_pinned c memory) c.regions r inside pinned))
+  pub row_pinned : (region : ℕ) → region < config.regions → is_pinned config memory region ≡ true → is_row_pinned config memory (region + 1) ≡ true
+  row_pinned region inside pinned =
+      let set = pinned_set config memory in
+      let back : region + 1 - 1 ≡ region = omega arith in
+      and_from (nat_le (region + 1) 64) (bit_at set (region + 1 - 1) == 1) (le-leb (region + 1) 64 (omega (arith, inside, config.in_range.most_regions)))
+      (eq-eqb (bit_at set (region + 1 - 1)) 1 (ap (bit_at set) back ∙ set_has (is_pinned config memory) config.regions region inside pinned))
 
-  pub word_pinned : (t i : ℕ) → t < c.mutators → i < 4 → c.region_words ≤ memory (Pin t i) → memory (Pin t i) < (c.regions + 1) * c.region_words
-      → is_row_pinned c memory (memory (Pin t i) / c.region_words) ≡ true
-  word_pinned t i inside few low high =
-      let word = memory (Pin t i) in
-      let r = region_with c word in
-      let row = row_above c word low in
-      let base : (r + 1) * c.region_words ≡ word / c.region_words * c.region_words = ap (λ k. k * c.region_words) row in
-      let end = mod_below word c.region_words (omega (arith, c.in_range.least_words)) in
-      let within : r < c.regions = ⊎_elim
-      (λ (below : r < c.regions). below)
-      (λ (least : c.regions ≤ r).
-      let far = mul-le (c.regions + 1) c.region_words (r + 1) c.region_words (omega (arith, least)) (omega arith) in
-      absurd (omega (arith, far, base, high, div-add-mod' word c.region_words)))
-      (cases_lt r c.regions) in
-      ap (is_row_pinned c memory) (sym row)
-      ∙ row_pinned r within (pins_region r t i inside few (base_below c word low) (omega (arith, base, end, div-add-mod' word c.region_words)))
+  pub word_pinned : (mutator index : ℕ) → mutator < config.mutators → index < 4 → config.region_words ≤ memory (Pin mutator index) → memory (Pin mutator index) < (config.regions + 1) * config.region_words
+      → is_row_pinned config memory (memory (Pin mutator index) / config.region_words) ≡ true
+  word_pinned mutator index inside few low high =
+      let word = memory (Pin mutator index) in
+      let r = region_with config word in
+      let row = row_above config word low in
+      let base : (r + 1) * config.region_words ≡ word / config.region_words * config.region_words = ap (λ k. k * config.region_words) row in
+      let end = mod_below word config.region_words (omega (arith, config.in_range.least_words)) in
+      let within : r < config.regions = ⊎_elim
+      (λ (below : r < config.regions). below)
+      (λ (least : config.regions ≤ r).
+      let far = mul-le (config.regions + 1) config.region_words (r + 1) config.region_words (omega (arith, least)) (omega arith) in
+      absurd (omega (arith, far, base, high, div-add-mod' word config.region_words)))
+      (cases_lt r config.regions) in
+      ap (is_row_pinned config memory) (sym row)
+      ∙ row_pinned r within (pins_region r mutator index inside few (base_below config word low) (omega (arith, base, end, div-add-mod' word config.region_words)))
 
   -- and a row of the heap that is shut has such a slot
-  pub has_slot : (r : ℕ) → r < c.regions → is_row_pinned c memory (r + 1) ≡ true
-      → (t : ℕ) × (i : ℕ) × (t < c.mutators) × (i < 4) × (base_of c r ≤ memory (Pin t i)) × (memory (Pin t i) < base_of c r + c.region_words)
-  has_slot r inside shut =
-      let set = pinned_set c memory in
-      let back : r + 1 - 1 ≡ r = omega arith in
-      let bit = eqb-true (bit_at set (r + 1 - 1)) 1 (and_parts (nat_le (r + 1) 64) (bit_at set (r + 1 - 1) == 1) shut).1 in
-      let pinned = set_is (is_pinned c memory) c.regions r inside (ap (bit_at set) (sym back) ∙ bit) in
-      let t = any_in_range (has_pin c memory r) 0 c.mutators pinned in
-      let i = any_in_range (λ k. lies_in c r (memory (Pin t.0 k))) 0 4 t.3 in
+  pub has_slot : (region : ℕ) → region < config.regions → is_row_pinned config memory (region + 1) ≡ true
+      → (t : ℕ) × (i : ℕ) × (t < config.mutators) × (i < 4) × (base_of config region ≤ memory (Pin t i)) × (memory (Pin t i) < base_of config region + config.region_words)
+  has_slot region inside shut =
+      let set = pinned_set config memory in
+      let back : region + 1 - 1 ≡ region = omega arith in
+      let bit = eqb-true (bit_at set (region + 1 - 1)) 1 (and_parts (nat_le (region + 1) 64) (bit_at set (region + 1 - 1) == 1) shut).1 in
+      let pinned = set_is (is_pinned config memory) config.regions region inside (ap (bit_at set) (sym back) ∙ bit) in
+      let t = any_in_range (has_pin config memory region) 0 config.mutators pinned in
+      let i = any_in_range (λ k. lies_in config region (memory (Pin t.0 k))) 0 4 t.3 in
       let word = memory (Pin t.0 i.0) in
-      let lies = and_parts (nat_le (base_of c r) word) (nat_lt word (base_of c r + c.region_words)) i.3 in
-      (t.0, i.0, omega (arith, t.2), omega (arith, i.2), leb-true (base_of c r) word lies.0, ltb-true word (base_of c r + c.region_words) lies.1)
+      let lies = and_parts (nat_le (base_of config region) word) (nat_lt word (base_of config region + config.region_words)) i.3 in
+      (t.0, i.0, omega (arith, t.2), omega (arith, i.2), leb-true (base_of config region) word lies.0, ltb-true word (base_of config region + config.region_words) lies.1)

@@ -18,133 +18,133 @@ use Rattle.image_graph.proofs.Live.{KeptOne, kept_one, one_name}
 use Rattle.image_graph.proofs.Rooted.{IsPromisedRoot, IsPinRoot, root_cases}
 
 -- two references that are a name's are one
-pub same_reference-true : (r : Reference) (n : Name) → same_reference r (Some n) ≡ true → r ≡ Some n
-same_reference-true None n is = absurd (false≢true is)
-same_reference-true (Some m) n is = ap Some (same_name-true m n is)
+pub same_reference-true : (reference : Reference) (name : Name) → same_reference reference (Some name) ≡ true → reference ≡ Some name
+same_reference-true None name is = absurd (false≢true is)
+same_reference-true (Some m) name is = ap Some (same_name-true m name is)
 
 -- a blank object has no reference but null
-blank_leads_nowhere : (refs field : ℕ) (n : Name) → slice_get (replicate refs None) field ≡ Some (Some n) → ⊥
-blank_leads_nowhere zero field n is = none-some (Some n) is
-blank_leads_nowhere (suc refs) zero n is = none-some n (same_Some None (Some n) is)
-blank_leads_nowhere (suc refs) (suc field) n is = blank_leads_nowhere refs field n is
+blank_leads_nowhere : (refs field : ℕ) (name : Name) → slice_get (replicate refs None) field ≡ Some (Some name) → ⊥
+blank_leads_nowhere zero field name is = none-some (Some name) is
+blank_leads_nowhere (suc refs) zero name is = none-some name (same_Some None (Some name) is)
+blank_leads_nowhere (suc refs) (suc field) name is = blank_leads_nowhere refs field name is
 
-module _ (threads : ℕ) (g : Graph) (p : Promises) (fresh : AreFresh threads g p) where
+module _ (threads : ℕ) (graph : Graph) (promises : Promises) (fresh : AreFresh threads graph promises) where
   abbrev more : Graph
-  more = with_promised g p
+  more = with_promised graph promises
 
   -- the object of a promised name, and of another
   abbrev is_promised : Name → Bool
-  is_promised n = same_reference (p.ref n.thread) (Some n)
+  is_promised name = same_reference (promises.ref name.thread) (Some name)
 
-  promised_object : (n : Name) → p.ref n.thread ≡ Some n → named more (Some n) ≡ blank (p.refs n.thread) (p.nums n.thread)
-  promised_object n is =
-      let test : is_promised n ≡ true = ap (λ r. same_reference r (Some n)) is ∙ same_name-itself n in
-      ap (λ (o : Option Object). unwrap_or o (record { refs = []; nums = [] }))
-      (cond-true (is_promised n) (Some (blank (p.refs n.thread) (p.nums n.thread))) (g.object n) test)
+  promised_object : (name : Name) → promises.ref name.thread ≡ Some name → named more (Some name) ≡ blank (promises.refs name.thread) (promises.nums name.thread)
+  promised_object name is =
+      let test : is_promised name ≡ true = ap (λ r. same_reference r (Some name)) is ∙ same_name-itself name in
+      ap (λ (found : Option Object). unwrap_or found (record { refs = []; nums = [] }))
+      (cond-true (is_promised name) (Some (blank (promises.refs name.thread) (promises.nums name.thread))) (graph.object name) test)
 
   -- an object that the graph reaches is no promised one
-  pub old_object : (n : Name) → IsReachable g n → named more (Some n) ≡ named g (Some n)
-  old_object n reached = ⊎_elim
-      (λ (is : is_promised n ≡ true). absurd (fresh.fresh n.thread n (same_reference-true (p.ref n.thread) n is) reached))
-      (λ (other : is_promised n ≡ false). ap (λ (o : Option Object). unwrap_or o (record { refs = []; nums = [] }))
-      (cond-false (is_promised n) (Some (blank (p.refs n.thread) (p.nums n.thread))) (g.object n) other))
-      (cases_Bool (is_promised n))
+  pub old_object : (name : Name) → IsReachable graph name → named more (Some name) ≡ named graph (Some name)
+  old_object name reached = ⊎_elim
+      (λ (is : is_promised name ≡ true). absurd (fresh.fresh name.thread name (same_reference-true (promises.ref name.thread) name is) reached))
+      (λ (other : is_promised name ≡ false). ap (λ (found : Option Object). unwrap_or found (record { refs = []; nums = [] }))
+      (cond-false (is_promised name) (Some (blank (promises.refs name.thread) (promises.nums name.thread))) (graph.object name) other))
+      (cases_Bool (is_promised name))
 
   -- promised to some thread
   abbrev IsPromised : Name → Type 0
-  IsPromised n = (t : ℕ) × (p.ref t ≡ Some n)
+  IsPromised name = (t : ℕ) × (promises.ref t ≡ Some name)
 
   -- the graph with the promised objects reaches what the graph reaches, and what is promised
-  pub reaches_promised : (n : Name) → IsReachable more n → IsReachable g n ⊎ IsPromised n
-  reaches_promised n (reach.from_root t i _ is) = ⊎_elim
-      (λ (extra : IsPromisedRoot g p t i n). inr (t, extra.1))
-      (λ (other : IsPinRoot g p t i n ⊎ (g.root t i ≡ Some n)). ⊎_elim
-      (λ (pin : IsPinRoot g p t i n). inl (subst (IsReachable g) pin.4 (reach.from_pin t (i - 17) pin.2 pin.3)))
-      (λ (plain : g.root t i ≡ Some n). inl (reach.from_root t i n plain))
+  pub reaches_promised : (name : Name) → IsReachable more name → IsReachable graph name ⊎ IsPromised name
+  reaches_promised name (reach.from_root t i _ is) = ⊎_elim
+      (λ (extra : IsPromisedRoot graph promises t i name). inr (t, extra.1))
+      (λ (other : IsPinRoot graph promises t i name ⊎ (graph.root t i ≡ Some name)). ⊎_elim
+      (λ (pin : IsPinRoot graph promises t i name). inl (subst (IsReachable graph) pin.4 (reach.from_pin t (i - 17) pin.2 pin.3)))
+      (λ (plain : graph.root t i ≡ Some name). inl (reach.from_root t i name plain))
       other)
-      (root_cases g p t i n is)
+      (root_cases graph promises t i name is)
   reaches_promised _ (reach.from_pin t slot held is) = absurd (none-some held is)
-  reaches_promised n (reach.from_field m _ field reached is) = ⊎_elim
-      (λ (old : IsReachable g m). inl (reach.from_field m n field old (sym (ap (λ (o : Object). slice_get o.refs field) (old_object m old)) ∙ is)))
+  reaches_promised name (reach.from_field m _ field reached is) = ⊎_elim
+      (λ (old : IsReachable graph m). inl (reach.from_field m name field old (sym (ap (λ (object : Object). slice_get object.refs field) (old_object m old)) ∙ is)))
       (λ (new : IsPromised m).
       let own : m.thread ≡ new.0 = fresh.own new.0 m new.1 in
-      let blank_is = promised_object m (ap p.ref own ∙ new.1) in
-      absurd (blank_leads_nowhere (p.refs m.thread) field n (sym (ap (λ (o : Object). slice_get o.refs field) blank_is) ∙ is)))
+      let blank_is = promised_object m (ap promises.ref own ∙ new.1) in
+      absurd (blank_leads_nowhere (promises.refs m.thread) field name (sym (ap (λ (object : Object). slice_get object.refs field) blank_is) ∙ is)))
       (reaches_promised m reached)
 
-module _ (c : Config) (top heap : ℕ → ℕ) (block : Plot) (now kept : ℕ → ℕ) (IsRoot : ℕ → Type 0) (g : Graph) (p : Promises)
-    (holds : HoldsGraph c top heap block now IsRoot (with_promised g p)) (are : AreHeldKept heap (IsLedTo now heap IsRoot) kept)
-    (fresh : AreFresh c.mutators g p) (names : List Name) (reach_is : IsReach g names) where
+module _ (config : Config) (top heap : ℕ → ℕ) (block : Plot) (now kept : ℕ → ℕ) (IsRoot : ℕ → Type 0) (graph : Graph) (promises : Promises)
+    (holds : HoldsGraph config top heap block now IsRoot (with_promised graph promises)) (are : AreHeldKept heap (IsLedTo now heap IsRoot) kept)
+    (fresh : AreFresh config.mutators graph promises) (names : List Name) (reach_is : IsReach graph names) where
   abbrev count : ℕ
   count = length names
 
   abbrev live_words : ℕ → ℕ
-  live_words k = size (named g (Some (get_or names k hub)))
+  live_words index = size (named graph (Some (get_or names index hub)))
 
   -- the names, and behind them the threads
   abbrev words : ℕ → ℕ
-  words k = cond (nat_lt k count) (live_words k) (promised_words p (k - count))
+  words k = cond (nat_lt k count) (live_words k) (promised_words promises (k - count))
 
   abbrev IsOf : ℕ → Name → Type 0
-  IsOf k n = ((k < count) × (get_or names k hub ≡ n)) ⊎ ((count ≤ k) × (p.ref (k - count) ≡ Some n))
+  IsOf index name = ((index < count) × (get_or names index hub ≡ name)) ⊎ ((count ≤ index) × (promises.ref (index - count) ≡ Some name))
 
   abbrev IsPlaced : Name → ℕ → Type 0
-  IsPlaced n k = (k < count + (c.mutators + 1)) × (size (named (with_promised g p) (Some n)) ≤ words k) × IsOf k n
+  IsPlaced name k = (k < count + (config.mutators + 1)) × (size (named (with_promised graph promises) (Some name)) ≤ words k) × IsOf k name
 
-  placed_old : (n : Name) → IsReachable g n → (k : ℕ) × IsPlaced n k
-  placed_old n reached =
-      let at = reach_is.all n reached in
-      let name : get_or names at.0 hub ≡ n = get_or_default names at.0 hub n at.1 ∙ at.2 in
-      let weight : words at.0 ≡ live_words at.0 = cond-true (nat_lt at.0 count) (live_words at.0) (promised_words p (at.0 - count)) (lt-ltb at.0 count at.1) in
-      let same : live_words at.0 ≡ size (named g (Some n)) = ap (λ (m : Name). size (named g (Some m))) name in
-      let old : size (named (with_promised g p) (Some n)) ≡ size (named g (Some n)) = ap size (old_object c.mutators g p fresh n reached) in
+  placed_old : (other_name : Name) → IsReachable graph other_name → (k : ℕ) × IsPlaced other_name k
+  placed_old other_name reached =
+      let at = reach_is.all other_name reached in
+      let name : get_or names at.0 hub ≡ other_name = get_or_default names at.0 hub other_name at.1 ∙ at.2 in
+      let weight : words at.0 ≡ live_words at.0 = cond-true (nat_lt at.0 count) (live_words at.0) (promised_words promises (at.0 - count)) (lt-ltb at.0 count at.1) in
+      let same : live_words at.0 ≡ size (named graph (Some other_name)) = ap (λ (name : Name). size (named graph (Some name))) name in
+      let old : size (named (with_promised graph promises) (Some other_name)) ≡ size (named graph (Some other_name)) = ap size (old_object config.mutators graph promises fresh other_name reached) in
       (at.0, (omega (arith, at.1), omega (arith, weight, same, old), inl (at.1, name)))
 
-  placed_new : (n : Name) (t : ℕ) → p.ref t ≡ Some n → (k : ℕ) × IsPlaced n k
-  placed_new n t is =
+  placed_new : (name : Name) (t : ℕ) → promises.ref t ≡ Some name → (k : ℕ) × IsPlaced name k
+  placed_new name t is =
       let back : count + t - count ≡ t = omega arith in
-      let weight : words (count + t) ≡ promised_words p t =
-      cond-false (nat_lt (count + t) count) (live_words (count + t)) (promised_words p (count + t - count)) (le-ltb (count + t) count (omega arith)) ∙ ap (promised_words p) back in
-      let given : promised_words p t ≡ 3 + p.refs t + p.nums t = ap (λ r. words_if r (3 + p.refs t + p.nums t)) is in
-      let own : n.thread ≡ t = fresh.own t n is in
-      let blank_is = promised_object c.mutators g p fresh n (ap p.ref own ∙ is) in
-      let new : size (named (with_promised g p) (Some n)) ≡ size (blank (p.refs n.thread) (p.nums n.thread)) = ap size blank_is in
-      let made : Object = blank (p.refs n.thread) (p.nums n.thread) in
+      let weight : words (count + t) ≡ promised_words promises t =
+      cond-false (nat_lt (count + t) count) (live_words (count + t)) (promised_words promises (count + t - count)) (le-ltb (count + t) count (omega arith)) ∙ ap (promised_words promises) back in
+      let given : promised_words promises t ≡ 3 + promises.refs t + promises.nums t = ap (λ r. words_if r (3 + promises.refs t + promises.nums t)) is in
+      let own : name.thread ≡ t = fresh.own t name is in
+      let blank_is = promised_object config.mutators graph promises fresh name (ap promises.ref own ∙ is) in
+      let new : size (named (with_promised graph promises) (Some name)) ≡ size (blank (promises.refs name.thread) (promises.nums name.thread)) = ap size blank_is in
+      let made : Object = blank (promises.refs name.thread) (promises.nums name.thread) in
       let null : Reference = None in
       let blank_number : ℕ = 0 in
-      let refs : length made.refs ≡ p.refs t = length-replicate (p.refs n.thread) null ∙ ap p.refs own in
-      let nums : length made.nums ≡ p.nums t = length-replicate (p.nums n.thread) blank_number ∙ ap p.nums own in
-      (count + t, (omega (arith, fresh.few t n is), omega (arith, weight, given, new, refs, nums), inr (omega arith, ap p.ref back ∙ is)))
+      let refs : length made.refs ≡ promises.refs t = length-replicate (promises.refs name.thread) null ∙ ap promises.refs own in
+      let nums : length made.nums ≡ promises.nums t = length-replicate (promises.nums name.thread) blank_number ∙ ap promises.nums own in
+      (count + t, (omega (arith, fresh.few t name is), omega (arith, weight, given, new, refs, nums), inr (omega arith, ap promises.ref back ∙ is)))
 
-  placed : (n : Name) → IsReachable (with_promised g p) n → (k : ℕ) × IsPlaced n k
-  placed n reached = ⊎_elim
-      (λ (old : IsReachable g n). placed_old n old)
-      (λ (new : (t : ℕ) × (p.ref t ≡ Some n)). placed_new n new.0 new.1)
-      (reaches_promised c.mutators g p fresh n reached)
+  placed : (name : Name) → IsReachable (with_promised graph promises) name → (k : ℕ) × IsPlaced name k
+  placed name reached = ⊎_elim
+      (λ (old : IsReachable graph name). placed_old name old)
+      (λ (new : (t : ℕ) × (promises.ref t ≡ Some name)). placed_new name new.0 new.1)
+      (reaches_promised config.mutators graph promises fresh name reached)
 
-  one_place : (k j : ℕ) (n m : Name) → IsOf k n → IsOf j m → k ≡ j → n ≡ m
-  one_place k j n m of_n of_m same = ⊎_elim
-      (λ (one : (k < count) × (get_or names k hub ≡ n)). ⊎_elim
-      (λ (other : (j < count) × (get_or names j hub ≡ m)). sym one.1 ∙ ap (λ i. get_or names i hub) same ∙ other.1)
-      (λ (other : (count ≤ j) × (p.ref (j - count) ≡ Some m)). absurd (omega (arith, one.0, other.0, same)))
+  one_place : (other_index index : ℕ) (name other_name : Name) → IsOf other_index name → IsOf index other_name → other_index ≡ index → name ≡ other_name
+  one_place other_index index name other_name of_n of_m same = ⊎_elim
+      (λ (one : (other_index < count) × (get_or names other_index hub ≡ name)). ⊎_elim
+      (λ (other : (index < count) × (get_or names index hub ≡ other_name)). sym one.1 ∙ ap (λ i. get_or names i hub) same ∙ other.1)
+      (λ (other : (count ≤ index) × (promises.ref (index - count) ≡ Some other_name)). absurd (omega (arith, one.0, other.0, same)))
       of_m)
-      (λ (one : (count ≤ k) × (p.ref (k - count) ≡ Some n)). ⊎_elim
-      (λ (other : (j < count) × (get_or names j hub ≡ m)). absurd (omega (arith, one.0, other.0, same)))
-      (λ (other : (count ≤ j) × (p.ref (j - count) ≡ Some m)). same_Some n m (sym one.1 ∙ ap (λ i. p.ref (i - count)) same ∙ other.1))
+      (λ (one : (count ≤ other_index) × (promises.ref (other_index - count) ≡ Some name)). ⊎_elim
+      (λ (other : (index < count) × (get_or names index hub ≡ other_name)). absurd (omega (arith, one.0, other.0, same)))
+      (λ (other : (count ≤ index) × (promises.ref (index - count) ≡ Some other_name)). same_Some name other_name (sym one.1 ∙ ap (λ i. promises.ref (i - count)) same ∙ other.1))
       of_m)
       of_n
 
-  pub kept_are_live_or_promised : (end : ℕ) → sum_below kept end ≤ sum_by (λ n. size (named g (Some n))) names + sum_below (promised_words p) (c.mutators + 1)
+  pub kept_are_live_or_promised : (end : ℕ) → sum_below kept end ≤ sum_by (λ n. size (named graph (Some n))) names + sum_below (promised_words promises) (config.mutators + 1)
   kept_are_live_or_promised end =
-      let one : (a : ℕ) → 0 < kept a → KeptOne block (with_promised g p) kept a = kept_one c top heap block now kept IsRoot (with_promised g p) holds are in
-      let less = sum_of_things kept words end (count + (c.mutators + 1))
+      let one : (a : ℕ) → 0 < kept a → KeptOne block (with_promised graph promises) kept a = kept_one config top heap block now kept IsRoot (with_promised graph promises) holds are in
+      let less = sum_of_things kept words end (count + (config.mutators + 1))
       (λ a below some.
       let at = placed (one a some).name (one a some).reached in
       (at.0, at.1.0, omega (arith, at.1.1, (one a some).words)))
       (λ a b less_a some_a less_b some_b same.
       let at = placed (one a some_a).name (one a some_a).reached in
       let bt = placed (one b some_b).name (one b some_b).reached in
-      one_name c top heap block now kept IsRoot (with_promised g p) holds are a b some_a some_b
+      one_name config top heap block now kept IsRoot (with_promised graph promises) holds are a b some_a some_b
       (one_place at.0 bt.0 (one a some_a).name (one b some_b).name at.1.2 bt.1.2 same))
       in
-      omega (arith, less, sum_of_two_rows live_words (promised_words p) count (c.mutators + 1), sum_by_index (λ n. size (named g (Some n))) names hub)
+      omega (arith, less, sum_of_two_rows live_words (promised_words promises) count (config.mutators + 1), sum_by_index (λ n. size (named graph (Some n))) names hub)

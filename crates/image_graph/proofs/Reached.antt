@@ -21,65 +21,65 @@ pub words_read : (refs nums : ℕ) → refs ≤ 16 → nums ≤ 16 → object_wo
 words_read refs nums few less = omega (arith, few, less)
 
 -- no piece is at 0
-pub none_at_0 : (c : Config) (top : ℕ → ℕ) (block : Plot) → IsPlotted c top block → (word : ℕ) (name : Name) → name_at (block word) ≡ Some name → word ≢ 0
-none_at_0 c top block plotted word name is is_zero =
+pub none_at_0 : (config : Config) (top : ℕ → ℕ) (block : Plot) → IsPlotted config top block → (word : ℕ) (name : Name) → name_at (block word) ≡ Some name → word ≢ 0
+none_at_0 config top block plotted word name is is_zero =
     let piece = named_piece (block word) name is in
-    let inside = piece_inside c top block plotted word piece.0 piece.1 in
-    omega (arith, inside.0, is_zero, c.in_range.least_words)
+    let inside = piece_inside config top block plotted word piece.0 piece.1 in
+    omega (arith, inside.0, is_zero, config.in_range.least_words)
 
 -- the object that a name names
-pub named_object : (g : Graph) (name : Name) (o : Object) → g.object name ≡ Some o → named g (Some name) ≡ o
-named_object g name o is = ap (λ (found : Option Object). unwrap_or found (record { refs = []; nums = [] })) is
+pub named_object : (graph : Graph) (name : Name) (object : Object) → graph.object name ≡ Some object → named graph (Some name) ≡ object
+named_object graph name object is = ap (λ (found : Option Object). unwrap_or found (record { refs = []; nums = [] })) is
 
-module _ (c : Config) (top heap : ℕ → ℕ) (block : Plot) (now : ℕ → ℕ) (IsRoot : ℕ → Type 0) (g : Graph) (holds : HoldsGraph c top heap block now IsRoot g) where
+module _ (config : Config) (top heap : ℕ → ℕ) (block : Plot) (now : ℕ → ℕ) (IsRoot : ℕ → Type 0) (graph : Graph) (holds : HoldsGraph config top heap block now IsRoot graph) where
   -- an object that is held, and that the graph reaches
   abbrev IsReached : ℕ → Type 0
-  IsReached a = (name : Name) × (refs : ℕ) × (nums : ℕ) × (block a ≡ Some (thing name refs nums)) × IsReachable g name
+  IsReached address = (name : Name) × (refs : ℕ) × (nums : ℕ) × (block address ≡ Some (thing name refs nums)) × IsReachable graph name
 
-  pub held_is_reached : (a : ℕ) → IsLedTo now heap IsRoot a → IsReached a
+  pub held_is_reached : (address : ℕ) → IsLedTo now heap IsRoot address → IsReached address
   held_is_reached _ (from_root word is other) =
       let root = holds.root_named word is other in
       let copy = holds.current word root.2 root.4 in
       (root.2, copy.0, copy.1, copy.2, reach.from_root root.0 root.1 root.2 root.3)
-  held_is_reached _ (from_field a i held few other) =
-      let at = held_is_reached a held in
-      let object = holds.each a at.1 at.2 at.0 held at.3 in
+  held_is_reached _ (from_field address i held few other) =
+      let at = held_is_reached address held in
+      let object = holds.each address at.1 at.2 at.0 held at.3 in
       let is = object.2 in
-      let shape : refs_in (heap (a + 1)) ≡ at.1 = ap refs_in is.shape ∙ refs_read at.1 at.2 is.few_refs is.few_nums in
+      let shape : refs_in (heap (address + 1)) ≡ at.1 = ap refs_in is.shape ∙ refs_read at.1 at.2 is.few_refs is.few_nums in
       let r : Reference = get_or object.0.refs i None in
       let there : slice_get object.0.refs i ≡ Some r = slice_get-get_or object.0.refs i None (omega (arith, few, shape, is.refs_are)) in
-      let to = named_if_not_0 c top block holds.plotted (heap (a + 3 + i)) r (is.references i r there) other in
-      let copy = holds.current (heap (a + 3 + i)) to.0 to.2 in
-      let field : slice_get (named g (Some at.0)).refs i ≡ Some (Some to.0) = ap (λ (o : Object). slice_get o.refs i) (named_object g at.0 object.0 object.1) ∙ there ∙ ap Some to.1 in
+      let to = named_if_not_0 config top block holds.plotted (heap (address + 3 + i)) r (is.references i r there) other in
+      let copy = holds.current (heap (address + 3 + i)) to.0 to.2 in
+      let field : slice_get (named graph (Some at.0)).refs i ≡ Some (Some to.0) = ap (λ (object : Object). slice_get object.refs i) (named_object graph at.0 object.0 object.1) ∙ there ∙ ap Some to.1 in
       (to.0, copy.0, copy.1, copy.2, reach.from_field at.0 to.0 i at.4 field)
 
   -- an object that the graph reaches, held
   abbrev HasHeld : Name → Type 0
-  HasHeld name = (a : ℕ) × (refs : ℕ) × (nums : ℕ) × IsLedTo now heap IsRoot a × (block a ≡ Some (thing name refs nums))
+  HasHeld name = (address : ℕ) × (refs : ℕ) × (nums : ℕ) × IsLedTo now heap IsRoot address × (block address ≡ Some (thing name refs nums))
 
-  pub reached_is_held : (name : Name) → IsReachable g name → HasHeld name
+  pub reached_is_held : (name : Name) → IsReachable graph name → HasHeld name
   reached_is_held name (reach.from_root t i _ is) =
       let root = holds.root_held t i name is in
       let copy = holds.current root.0 name root.2 in
-      (now root.0, copy.0, copy.1, from_root root.0 root.1 (none_at_0 c top block holds.plotted root.0 name root.2), copy.2)
+      (now root.0, copy.0, copy.1, from_root root.0 root.1 (none_at_0 config top block holds.plotted root.0 name root.2), copy.2)
   reached_is_held _ (reach.from_pin t slot held is) = absurd (holds.pinless t slot held is)
   reached_is_held name (reach.from_field m _ field reached is) =
       let at = reached_is_held m reached in
       let object = holds.each at.0 at.1 at.2 m at.3 at.4 in
       let facts = object.2 in
-      let there : slice_get object.0.refs field ≡ Some (Some name) = sym (ap (λ (o : Object). slice_get o.refs field) (named_object g m object.0 object.1)) ∙ is in
+      let there : slice_get object.0.refs field ≡ Some (Some name) = sym (ap (λ (object : Object). slice_get object.refs field) (named_object graph m object.0 object.1)) ∙ is in
       let word = heap (at.0 + 3 + field) in
       let points : name_at (block word) ≡ Some name = facts.references field (Some name) there in
       let shape : refs_in (heap (at.0 + 1)) ≡ at.1 = ap refs_in facts.shape ∙ refs_read at.1 at.2 facts.few_refs facts.few_nums in
       let few : field < refs_in (heap (at.0 + 1)) = omega (arith, slice_get_within object.0.refs field (Some name) there, shape, facts.refs_are) in
       let copy = holds.current word name points in
-      (now word, copy.0, copy.1, from_field at.0 field at.3 few (none_at_0 c top block holds.plotted word name points), copy.2)
+      (now word, copy.0, copy.1, from_field at.0 field at.3 few (none_at_0 config top block holds.plotted word name points), copy.2)
 
-  pub held_are_reachable : HeldAreReachable c top heap block now IsRoot g
+  pub held_are_reachable : HeldAreReachable config top heap block now IsRoot graph
   held_are_reachable = record { only = held_is_reached; all = reached_is_held }
 
   -- what is kept where exactly the held objects are kept
-  pub can_pack : (kept : ℕ → ℕ) → AreHeldKept heap (IsLedTo now heap IsRoot) kept → CanPack c top heap block g.object now kept
+  pub can_pack : (kept : ℕ → ℕ) → AreHeldKept heap (IsLedTo now heap IsRoot) kept → CanPack config top heap block graph.object now kept
   can_pack kept are = record {
     plotted = holds.plotted;
     things = λ a some.

@@ -6,27 +6,27 @@ use Rattle.heap_world.proofs.Updates.{updated}
 
 -- the memory
 abbrev pub refitted : (Word → ℕ) → (top heap current : ℕ → ℕ) → Word → ℕ
-refitted m top heap current (Top r) = top r
-refitted m top heap current (Heap a) = heap a
-refitted m top heap current (Current seat) = current seat
-refitted m top heap current word = m word
+refitted memory top heap current (Top r) = top r
+refitted memory top heap current (Heap a) = heap a
+refitted memory top heap current (Current seat) = current seat
+refitted memory top heap current word = memory word
 
-module _ (m : Word → ℕ) where
+module _ (memory : Word → ℕ) where
   -- its own tops, words of the heap, and buffers
   abbrev pub tops_of : ℕ → ℕ
-  tops_of r = m (Top r)
+  tops_of region = memory (Top region)
 
   abbrev pub heap_of : ℕ → ℕ
-  heap_of a = m (Heap a)
+  heap_of address = memory (Heap address)
 
   abbrev pub currents_of : ℕ → ℕ
-  currents_of seat = m (Current seat)
+  currents_of seat = memory (Current seat)
 
   -- with these it is the same
-  pub refit_same : m ≡ refitted m (λ r. m (Top r)) (λ a. m (Heap a)) (λ seat. m (Current seat))
+  pub refit_same : memory ≡ refitted memory (λ r. memory (Top r)) (λ a. memory (Heap a)) (λ seat. memory (Current seat))
   refit_same = fun_ext by_word
     where
-      by_word : (word : Word) → m word ≡ refitted m (λ r. m (Top r)) (λ a. m (Heap a)) (λ seat. m (Current seat)) word
+      by_word : (word : Word) → memory word ≡ refitted memory (λ r. memory (Top r)) (λ a. memory (Heap a)) (λ seat. memory (Current seat)) word
       by_word Pause = refl
       by_word Left = refl
       by_word End = refl
@@ -54,10 +54,10 @@ module _ (m : Word → ℕ) where
 
   module _ (top heap current : ℕ → ℕ) where
     -- others once more
-    pub refit_twice : (tops heaps currents : ℕ → ℕ) → refitted (refitted m top heap current) tops heaps currents ≡ refitted m tops heaps currents
+    pub refit_twice : (tops heaps currents : ℕ → ℕ) → refitted (refitted memory top heap current) tops heaps currents ≡ refitted memory tops heaps currents
     refit_twice tops heaps currents = fun_ext by_word
       where
-        by_word : (word : Word) → refitted (refitted m top heap current) tops heaps currents word ≡ refitted m tops heaps currents word
+        by_word : (word : Word) → refitted (refitted memory top heap current) tops heaps currents word ≡ refitted memory tops heaps currents word
         by_word Pause = refl
         by_word Left = refl
         by_word End = refl
@@ -84,10 +84,10 @@ module _ (m : Word → ℕ) where
         by_word (Pin t i) = refl
 
     -- a word of it is written
-    pub refit_heap : (at value : ℕ) → write (refitted m top heap current) (Heap at) value ≡ refitted m top (updated heap at value) current
+    pub refit_heap : (at value : ℕ) → write (refitted memory top heap current) (Heap at) value ≡ refitted memory top (updated heap at value) current
     refit_heap at value = fun_ext by_word
       where
-        by_word : (word : Word) → write (refitted m top heap current) (Heap at) value word ≡ refitted m top (updated heap at value) current word
+        by_word : (word : Word) → write (refitted memory top heap current) (Heap at) value word ≡ refitted memory top (updated heap at value) current word
         by_word Pause = refl
         by_word Left = refl
         by_word End = refl
@@ -113,10 +113,10 @@ module _ (m : Word → ℕ) where
         by_word Share = refl
         by_word (Pin t i) = refl
 
-    pub refit_top : (at value : ℕ) → write (refitted m top heap current) (Top at) value ≡ refitted m (updated top at value) heap current
+    pub refit_top : (at value : ℕ) → write (refitted memory top heap current) (Top at) value ≡ refitted memory (updated top at value) heap current
     refit_top at value = fun_ext by_word
       where
-        by_word : (word : Word) → write (refitted m top heap current) (Top at) value word ≡ refitted m (updated top at value) heap current word
+        by_word : (word : Word) → write (refitted memory top heap current) (Top at) value word ≡ refitted memory (updated top at value) heap current word
         by_word Pause = refl
         by_word Left = refl
         by_word End = refl
@@ -142,10 +142,10 @@ module _ (m : Word → ℕ) where
         by_word Share = refl
         by_word (Pin t i) = refl
 
-    pub refit_current : (at value : ℕ) → write (refitted m top heap current) (Current at) value ≡ refitted m top heap (updated current at value)
+    pub refit_current : (at value : ℕ) → write (refitted memory top heap current) (Current at) value ≡ refitted memory top heap (updated current at value)
     refit_current at value = fun_ext by_word
       where
-        by_word : (word : Word) → write (refitted m top heap current) (Current at) value word ≡ refitted m top heap (updated current at value) word
+        by_word : (word : Word) → write (refitted memory top heap current) (Current at) value word ≡ refitted memory top heap (updated current at value) word
         by_word Pause = refl
         by_word Left = refl
         by_word End = refl

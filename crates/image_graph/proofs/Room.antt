@@ -14,55 +14,55 @@ use Rattle.image_graph.specs.Full.{made_in}
 use Rattle.image_graph.specs.Make.{AreInHeap, AreWithin}
 
 -- where each region has less room than is asked for
-none_fits : (c : Config) (m : Word → ℕ) (tops : List ℕ) (words below : ℕ) → below ≤ c.regions
-    → ((r : ℕ) → r < c.regions → slice_index tops r ≡ m (Top r)) → AreWithin c m
-    → EachHasLess c tops 0 words below → (r : ℕ) → r < below → c.region_words < m (Top r) + words
-none_fits c m tops words below few is within less r lower =
-    omega (arith, is r (omega (arith, lower, few)), within r (omega (arith, lower, few)), less r lower (bit_at-zero r))
+none_fits : (config : Config) (memory : Word → ℕ) (tops : List ℕ) (words below : ℕ) → below ≤ config.regions
+    → ((region : ℕ) → region < config.regions → slice_index tops region ≡ memory (Top region)) → AreWithin config memory
+    → EachHasLess config tops 0 words below → (region : ℕ) → region < below → config.region_words < memory (Top region) + words
+none_fits config memory tops words below few is within less region lower =
+    omega (arith, is region (omega (arith, lower, few)), within region (omega (arith, lower, few)), less region lower (bit_at-zero region))
 
-pub room_found : (c : Config) (m : Word → ℕ) (tops : List ℕ) (words : ℕ) (result : Option ℕ)
-    → ((r : ℕ) → r < c.regions → slice_index tops r ≡ m (Top r)) → AreWithin c m
-    → IsNone result ↔ EachHasLess c tops 0 words c.regions → IfSome result (IsFirstWithRoom c tops 0 words)
-    → result ≡ lowest_room c.region_words (λ r. m (Top r)) words c.regions
-room_found c m tops words None is within none first =
-    sym (all_full c.region_words (λ r. m (Top r)) words c.regions (none_fits c m tops words c.regions (omega arith) is within (none.0 refl)))
-room_found c m tops words (Some r) is within none first =
-    sym (lowest_is c.region_words (λ q. m (Top q)) words c.regions r (record {
+pub room_found : (config : Config) (memory : Word → ℕ) (tops : List ℕ) (words : ℕ) (result : Option ℕ)
+    → ((region : ℕ) → region < config.regions → slice_index tops region ≡ memory (Top region)) → AreWithin config memory
+    → IsNone result ↔ EachHasLess config tops 0 words config.regions → IfSome result (IsFirstWithRoom config tops 0 words)
+    → result ≡ lowest_room config.region_words (λ region. memory (Top region)) words config.regions
+room_found config memory tops words None is within none first =
+    sym (all_full config.region_words (λ region. memory (Top region)) words config.regions (none_fits config memory tops words config.regions (omega arith) is within (none.0 refl)))
+room_found config memory tops words (Some region) is within none first =
+    sym (lowest_is config.region_words (λ q. memory (Top q)) words config.regions region (record {
       below = first.below;
-      room = omega (arith, first.room, is r first.below, within r first.below);
-      none_lower = none_fits c m tops words r (omega (arith, first.below)) is within first.none_lower;
+      room = omega (arith, first.room, is region first.below, within region first.below);
+      none_lower = none_fits config memory tops words region (omega (arith, first.below)) is within first.none_lower;
     }))
 
 -- the tops stay within their regions where the object has room
-pub made_within : (c : Config) (m : Word → ℕ) (t r : ℕ) → AreWithin c m → m (Top r) + object_words (request_shape_in (m (Wait t))) ≤ c.region_words
-    → AreWithin c (made_in c m t r)
+pub made_within : (config : Config) (memory : Word → ℕ) (mutator region : ℕ) → AreWithin config memory → memory (Top region) + object_words (request_shape_in (memory (Wait mutator))) ≤ config.region_words
+    → AreWithin config (made_in config memory mutator region)
 unfolding made_in
-made_within c m t r within room q below = ⊎_elim
-    (λ (here : r ≡ q).
-    let words = object_words (request_shape_in (m (Wait t))) in
-    let grown : made_in c m t r (Top q) ≡ m (Top r) + words = cond-true (r == q) (m (Top r) + words) (m (Top q)) (eq-eqb r q here) in
+made_within config memory mutator region within room q below = ⊎_elim
+    (λ (here : region ≡ q).
+    let words = object_words (request_shape_in (memory (Wait mutator))) in
+    let grown : made_in config memory mutator region (Top q) ≡ memory (Top region) + words = cond-true (region == q) (memory (Top region) + words) (memory (Top q)) (eq-eqb region q here) in
     omega (arith, grown, room))
-    (λ (other : r ≢ q).
-    let words = object_words (request_shape_in (m (Wait t))) in
-    let same : made_in c m t r (Top q) ≡ m (Top q) = cond-false (r == q) (m (Top r) + words) (m (Top q)) (ne_eqb r q other) in
+    (λ (other : region ≢ q).
+    let words = object_words (request_shape_in (memory (Wait mutator))) in
+    let same : made_in config memory mutator region (Top q) ≡ memory (Top q) = cond-false (region == q) (memory (Top region) + words) (memory (Top q)) (ne_eqb region q other) in
     omega (arith, same, within q below))
-    (cases_eq r q)
+    (cases_eq region q)
 
 -- what the answer for a request of a thread says
-pub found_room : (c : Config) (m : Word → ℕ) (words asked r : ℕ) (result : Option ℕ) → result ≡ lowest_room c.region_words (λ q. m (Top q)) words c.regions
-    → words ≡ asked → result ≡ Some r → IsLowestRoom c.region_words (λ q. m (Top q)) asked c.regions r
-found_room c m words asked r result is same found =
-    has_room c.region_words (λ q. m (Top q)) asked c.regions r
-    (ap (λ n. lowest_room c.region_words (λ q. m (Top q)) n c.regions) (sym same) ∙ sym is ∙ found)
+pub found_room : (config : Config) (memory : Word → ℕ) (words asked r : ℕ) (result : Option ℕ) → result ≡ lowest_room config.region_words (λ q. memory (Top q)) words config.regions
+    → words ≡ asked → result ≡ Some r → IsLowestRoom config.region_words (λ q. memory (Top q)) asked config.regions r
+found_room config memory words asked r result is same found =
+    has_room config.region_words (λ q. memory (Top q)) asked config.regions r
+    (ap (λ n. lowest_room config.region_words (λ q. memory (Top q)) n config.regions) (sym same) ∙ sym is ∙ found)
 
-pub found_none : (c : Config) (m : Word → ℕ) (words asked : ℕ) (result : Option ℕ) → result ≡ lowest_room c.region_words (λ q. m (Top q)) words c.regions
-    → words ≡ asked → result ≡ None → NoneHasRoom c.region_words (λ q. m (Top q)) asked c.regions
-found_none c m words asked result is same none =
-    none_has_room c.region_words (λ q. m (Top q)) asked c.regions
-    (ap (λ n. lowest_room c.region_words (λ q. m (Top q)) n c.regions) (sym same) ∙ sym is ∙ none)
+pub found_none : (config : Config) (memory : Word → ℕ) (words asked : ℕ) (result : Option ℕ) → result ≡ lowest_room config.region_words (λ q. memory (Top q)) words config.regions
+    → words ≡ asked → result ≡ None → NoneHasRoom config.region_words (λ q. memory (Top q)) asked config.regions
+found_none config memory words asked result is same none =
+    none_has_room config.region_words (λ q. memory (Top q)) asked config.regions
+    (ap (λ n. lowest_room config.region_words (λ q. memory (Top q)) n config.regions) (sym same) ∙ sym is ∙ none)
 
 -- what fits above a region's top is of the heap
-pub room_in_heap : (c : Config) (r top words : ℕ) → r < c.regions → top + words ≤ c.region_words → AreInHeap c (base_of c r + top) words
-room_in_heap c r top words below fits =
-    let last : (r + 2) * c.region_words ≤ (c.regions + 1) * c.region_words = mul-le-mul (omega (arith, below)) (omega arith) in
+pub room_in_heap : (config : Config) (region top words : ℕ) → region < config.regions → top + words ≤ config.region_words → AreInHeap config (base_of config region + top) words
+room_in_heap config region top words below fits =
+    let last : (region + 2) * config.region_words ≤ (config.regions + 1) * config.region_words = mul-le-mul (omega (arith, below)) (omega arith) in
     record { from = omega arith; to = omega (arith, last, fits) }

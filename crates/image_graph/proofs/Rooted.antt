@@ -13,50 +13,50 @@ pub named_pin : (held : Option Pinned) (name : Name) → name_in held ≡ Some n
 named_pin None name is = absurd (none-some name is)
 named_pin (Some pinned) name is = (pinned, refl, same_Some pinned.name name is)
 
-module _ (g : Graph) (p : Promises) where
+module _ (graph : Graph) (promises : Promises) where
   abbrev more : Graph
-  more = with_promised g p
+  more = with_promised graph promises
 
   -- whether a root stands for a pin slot, and what it stands for
   abbrev of_slot : ℕ → Bool
   of_slot i = nat_le 17 i && nat_lt i 21
 
   abbrev rest : ℕ → ℕ → Reference
-  rest t i = cond (of_slot i) (name_in (g.pin t (i - 17))) (g.root t i)
+  rest thread i = cond (of_slot i) (name_in (graph.pin thread (i - 17))) (graph.root thread i)
 
-  pub plain_root : (t i : ℕ) → i < 16 → more.root t i ≡ g.root t i
-  plain_root t i few =
-      cond-false (i == 16) (p.ref t) (rest t i) (ne_eqb i 16 (λ e. omega (arith, e, few)))
-      ∙ cond-false (of_slot i) (name_in (g.pin t (i - 17))) (g.root t i) (and_left (nat_le 17 i) (nat_lt i 21) (lt-leb 17 i (omega (arith, few))))
+  pub plain_root : (thread index : ℕ) → index < 16 → more.root thread index ≡ graph.root thread index
+  plain_root thread index few =
+      cond-false (index == 16) (promises.ref thread) (rest thread index) (ne_eqb index 16 (λ e. omega (arith, e, few)))
+      ∙ cond-false (of_slot index) (name_in (graph.pin thread (index - 17))) (graph.root thread index) (and_left (nat_le 17 index) (nat_lt index 21) (lt-leb 17 index (omega (arith, few))))
 
-  pub extra_root : (t : ℕ) → more.root t 16 ≡ p.ref t
-  extra_root t = cond-true (16 == 16) (p.ref t) (rest t 16) refl
+  pub extra_root : (thread : ℕ) → more.root thread 16 ≡ promises.ref thread
+  extra_root thread = cond-true (16 == 16) (promises.ref thread) (rest thread 16) refl
 
-  pub pin_root : (t i : ℕ) → i < 4 → more.root t (17 + i) ≡ name_in (g.pin t i)
-  pin_root t i few =
+  pub pin_root : (thread i : ℕ) → i < 4 → more.root thread (17 + i) ≡ name_in (graph.pin thread i)
+  pin_root thread i few =
       let back : 17 + i - 17 ≡ i = omega arith in
-      cond-false (17 + i == 16) (p.ref t) (rest t (17 + i)) (ne_eqb (17 + i) 16 (λ e. omega (arith, e)))
-      ∙ cond-true (of_slot (17 + i)) (name_in (g.pin t (17 + i - 17))) (g.root t (17 + i))
+      cond-false (17 + i == 16) (promises.ref thread) (rest thread (17 + i)) (ne_eqb (17 + i) 16 (λ e. omega (arith, e)))
+      ∙ cond-true (of_slot (17 + i)) (name_in (graph.pin thread (17 + i - 17))) (graph.root thread (17 + i))
       (and_from (nat_le 17 (17 + i)) (nat_lt (17 + i) 21) (le-leb 17 (17 + i) (omega arith)) (lt-ltb (17 + i) 21 (omega (arith, few))))
-      ∙ ap (λ k. name_in (g.pin t k)) back
+      ∙ ap (λ k. name_in (graph.pin thread k)) back
 
   -- a root of it is promised, or what a slot holds, or one of the program
   abbrev pub IsPromisedRoot : ℕ → ℕ → Name → Type 0
-  IsPromisedRoot t i name = (i ≡ 16) × (p.ref t ≡ Some name)
+  IsPromisedRoot t i name = (i ≡ 16) × (promises.ref t ≡ Some name)
 
   abbrev pub IsPinRoot : ℕ → ℕ → Name → Type 0
-  IsPinRoot t i name = (17 ≤ i) × (i < 21) × (pinned : Pinned) × (g.pin t (i - 17) ≡ Some pinned) × (pinned.name ≡ name)
+  IsPinRoot thread i name = (17 ≤ i) × (i < 21) × (pinned : Pinned) × (graph.pin thread (i - 17) ≡ Some pinned) × (pinned.name ≡ name)
 
-  pub root_cases : (t i : ℕ) (name : Name) → more.root t i ≡ Some name → IsPromisedRoot t i name ⊎ (IsPinRoot t i name ⊎ (g.root t i ≡ Some name))
-  root_cases t i name is = ⊎_elim
-      (λ (extra : i ≡ 16). inl (extra, sym (cond-true (i == 16) (p.ref t) (rest t i) (eq-eqb i 16 extra)) ∙ is))
+  pub root_cases : (thread i : ℕ) (name : Name) → more.root thread i ≡ Some name → IsPromisedRoot thread i name ⊎ (IsPinRoot thread i name ⊎ (graph.root thread i ≡ Some name))
+  root_cases thread i name is = ⊎_elim
+      (λ (extra : i ≡ 16). inl (extra, sym (cond-true (i == 16) (promises.ref thread) (rest thread i) (eq-eqb i 16 extra)) ∙ is))
       (λ (other : i ≢ 16).
-      let left : rest t i ≡ Some name = sym (cond-false (i == 16) (p.ref t) (rest t i) (ne_eqb i 16 other)) ∙ is in
+      let left : rest thread i ≡ Some name = sym (cond-false (i == 16) (promises.ref thread) (rest thread i) (ne_eqb i 16 other)) ∙ is in
       ⊎_elim
       (λ (slot : of_slot i ≡ true).
       let parts = and_parts (nat_le 17 i) (nat_lt i 21) slot in
-      let held = named_pin (g.pin t (i - 17)) name (sym (cond-true (of_slot i) (name_in (g.pin t (i - 17))) (g.root t i) slot) ∙ left) in
+      let held = named_pin (graph.pin thread (i - 17)) name (sym (cond-true (of_slot i) (name_in (graph.pin thread (i - 17))) (graph.root thread i) slot) ∙ left) in
       inr (inl (leb-true 17 i parts.0, ltb-true i 21 parts.1, held.0, held.1, held.2)))
-      (λ (plain : of_slot i ≡ false). inr (inr (sym (cond-false (of_slot i) (name_in (g.pin t (i - 17))) (g.root t i) plain) ∙ left)))
+      (λ (plain : of_slot i ≡ false). inr (inr (sym (cond-false (of_slot i) (name_in (graph.pin thread (i - 17))) (graph.root thread i) plain) ∙ left)))
       (cases_Bool (of_slot i)))
       (cases_eq i 16)

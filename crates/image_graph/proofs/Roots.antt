@@ -39,83 +39,83 @@ has_one x q is = ⊎_elim (λ (here : nat_eq q x ≡ true). eqb-true q x here) (
 
 module _ (memory : Word → ℕ) where
   -- the words of the roots
-  pub root_in : (n q : ℕ) → has (roots_below memory n) q ≡ true → (t : ℕ) × (i : ℕ) × (t < n) × (i < 16) × (memory (Root t i) ≡ q)
+  pub root_in : (mutator q : ℕ) → has (roots_below memory mutator) q ≡ true → (other_mutator : ℕ) × (index : ℕ) × (other_mutator < mutator) × (index < 16) × (memory (Root other_mutator index) ≡ q)
   root_in zero q is = absurd (false≢true is)
-  root_in (suc n) q is = ⊎_elim
-      (λ (earlier : has (roots_below memory n) q ≡ true). let at = root_in n q earlier in (at.0, at.1, omega (arith, at.2), at.3, at.4))
-      (λ (last : has (map (λ i. memory (Root n i)) (range_with_len 0 16)) q ≡ true).
-      let at = has_map (λ i. memory (Root n i)) (range_with_len 0 16) q last in
+  root_in (suc mutator) q is = ⊎_elim
+      (λ (earlier : has (roots_below memory mutator) q ≡ true). let at = root_in mutator q earlier in (at.0, at.1, omega (arith, at.2), at.3, at.4))
+      (λ (last : has (map (λ index. memory (Root mutator index)) (range_with_len 0 16)) q ≡ true).
+      let at = has_map (λ index. memory (Root mutator index)) (range_with_len 0 16) q last in
       let few = range_has 0 16 at.0 at.1 in
-      (n, at.0, omega arith, omega (arith, few.1), at.2))
-      (has_either (roots_below memory n) (map (λ i. memory (Root n i)) (range_with_len 0 16)) q is)
+      (mutator, at.0, omega arith, omega (arith, few.1), at.2))
+      (has_either (roots_below memory mutator) (map (λ index. memory (Root mutator index)) (range_with_len 0 16)) q is)
 
-  root_listed : (n t i : ℕ) → t < n → i < 16 → has (roots_below memory n) (memory (Root t i)) ≡ true
-  root_listed zero t i below few = absurd (omega (arith, below))
-  root_listed (suc n) t i below few = ⊎_elim
-      (λ (last : n ≡ t).
-      has_second (roots_below memory n) (map (λ k. memory (Root n k)) (range_with_len 0 16)) (memory (Root t i))
-      (subst (λ u. has (map (λ k. memory (Root n k)) (range_with_len 0 16)) (memory (Root u i)) ≡ true) last
-      (map_has (λ k. memory (Root n k)) (range_with_len 0 16) i (has-range 0 16 i (omega arith) (omega (arith, few))))))
-      (λ (other : n ≢ t).
-      has_first (roots_below memory n) (map (λ k. memory (Root n k)) (range_with_len 0 16)) (memory (Root t i)) (root_listed n t i (omega (arith, below, other)) few))
-      (cases_eq n t)
+  root_listed : (mutator other_mutator index : ℕ) → other_mutator < mutator → index < 16 → has (roots_below memory mutator) (memory (Root other_mutator index)) ≡ true
+  root_listed zero other_mutator index below few = absurd (omega (arith, below))
+  root_listed (suc mutator) other_mutator index below few = ⊎_elim
+      (λ (last : mutator ≡ other_mutator).
+      has_second (roots_below memory mutator) (map (λ k. memory (Root mutator k)) (range_with_len 0 16)) (memory (Root other_mutator index))
+      (subst (λ u. has (map (λ k. memory (Root mutator k)) (range_with_len 0 16)) (memory (Root u index)) ≡ true) last
+      (map_has (λ k. memory (Root mutator k)) (range_with_len 0 16) index (has-range 0 16 index (omega arith) (omega (arith, few))))))
+      (λ (other : mutator ≢ other_mutator).
+      has_first (roots_below memory mutator) (map (λ k. memory (Root mutator k)) (range_with_len 0 16)) (memory (Root other_mutator index)) (root_listed mutator other_mutator index (omega (arith, below, other)) few))
+      (cases_eq mutator other_mutator)
 
   -- the words of the pin slots
-  pub pin_in : (n q : ℕ) → has (pins_below memory n) q ≡ true → (t : ℕ) × (i : ℕ) × (t < n) × (i < 4) × (memory (Pin t i) ≡ q)
+  pub pin_in : (mutator q : ℕ) → has (pins_below memory mutator) q ≡ true → (other_mutator : ℕ) × (index : ℕ) × (other_mutator < mutator) × (index < 4) × (memory (Pin other_mutator index) ≡ q)
   pin_in zero q is = absurd (false≢true is)
-  pin_in (suc n) q is = ⊎_elim
-      (λ (earlier : has (pins_below memory n) q ≡ true). let at = pin_in n q earlier in (at.0, at.1, omega (arith, at.2), at.3, at.4))
-      (λ (last : has (map (λ i. memory (Pin n i)) (range_with_len 0 4)) q ≡ true).
-      let at = has_map (λ i. memory (Pin n i)) (range_with_len 0 4) q last in
+  pin_in (suc mutator) q is = ⊎_elim
+      (λ (earlier : has (pins_below memory mutator) q ≡ true). let at = pin_in mutator q earlier in (at.0, at.1, omega (arith, at.2), at.3, at.4))
+      (λ (last : has (map (λ index. memory (Pin mutator index)) (range_with_len 0 4)) q ≡ true).
+      let at = has_map (λ index. memory (Pin mutator index)) (range_with_len 0 4) q last in
       let few = range_has 0 4 at.0 at.1 in
-      (n, at.0, omega arith, omega (arith, few.1), at.2))
-      (has_either (pins_below memory n) (map (λ i. memory (Pin n i)) (range_with_len 0 4)) q is)
+      (mutator, at.0, omega arith, omega (arith, few.1), at.2))
+      (has_either (pins_below memory mutator) (map (λ index. memory (Pin mutator index)) (range_with_len 0 4)) q is)
 
-  pub pin_listed : (n t i : ℕ) → t < n → i < 4 → has (pins_below memory n) (memory (Pin t i)) ≡ true
-  pin_listed zero t i below few = absurd (omega (arith, below))
-  pin_listed (suc n) t i below few = ⊎_elim
-      (λ (last : n ≡ t).
-      has_second (pins_below memory n) (map (λ k. memory (Pin n k)) (range_with_len 0 4)) (memory (Pin t i))
-      (subst (λ u. has (map (λ k. memory (Pin n k)) (range_with_len 0 4)) (memory (Pin u i)) ≡ true) last
-      (map_has (λ k. memory (Pin n k)) (range_with_len 0 4) i (has-range 0 4 i (omega arith) (omega (arith, few))))))
-      (λ (other : n ≢ t).
-      has_first (pins_below memory n) (map (λ k. memory (Pin n k)) (range_with_len 0 4)) (memory (Pin t i)) (pin_listed n t i (omega (arith, below, other)) few))
-      (cases_eq n t)
+  pub pin_listed : (mutator other_mutator index : ℕ) → other_mutator < mutator → index < 4 → has (pins_below memory mutator) (memory (Pin other_mutator index)) ≡ true
+  pin_listed zero other_mutator index below few = absurd (omega (arith, below))
+  pin_listed (suc mutator) other_mutator index below few = ⊎_elim
+      (λ (last : mutator ≡ other_mutator).
+      has_second (pins_below memory mutator) (map (λ k. memory (Pin mutator k)) (range_with_len 0 4)) (memory (Pin other_mutator index))
+      (subst (λ u. has (map (λ k. memory (Pin mutator k)) (range_with_len 0 4)) (memory (Pin u index)) ≡ true) last
+      (map_has (λ k. memory (Pin mutator k)) (range_with_len 0 4) index (has-range 0 4 index (omega arith) (omega (arith, few))))))
+      (λ (other : mutator ≢ other_mutator).
+      has_first (pins_below memory mutator) (map (λ k. memory (Pin mutator k)) (range_with_len 0 4)) (memory (Pin other_mutator index)) (pin_listed mutator other_mutator index (omega (arith, below, other)) few))
+      (cases_eq mutator other_mutator)
 
   -- the answers that are addresses
   abbrev one_answer : ℕ → List ℕ
-  one_answer t = cond (nat_le (memory (Answer t)) 1) [] (memory (Answer t) ∷ [])
+  one_answer mutator = cond (nat_le (memory (Answer mutator)) 1) [] (memory (Answer mutator) ∷ [])
 
-  pub answer_in : (n q : ℕ) → has (answers_below memory n) q ≡ true → (t : ℕ) × (t < n) × (1 < memory (Answer t)) × (memory (Answer t) ≡ q)
+  pub answer_in : (mutator q : ℕ) → has (answers_below memory mutator) q ≡ true → (other_mutator : ℕ) × (other_mutator < mutator) × (1 < memory (Answer other_mutator)) × (memory (Answer other_mutator) ≡ q)
   answer_in zero q is = absurd (false≢true is)
-  answer_in (suc n) q is = ⊎_elim
-      (λ (earlier : has (answers_below memory n) q ≡ true). let at = answer_in n q earlier in (at.0, omega (arith, at.1), at.2, at.3))
-      (λ (last : has (one_answer n) q ≡ true). ⊎_elim
-      (λ (none : nat_le (memory (Answer n)) 1 ≡ true).
-      absurd (false≢true (ap (λ xs. has xs q) (sym (cond-true (nat_le (memory (Answer n)) 1) [] (memory (Answer n) ∷ []) none)) ∙ last)))
-      (λ (some : nat_le (memory (Answer n)) 1 ≡ false). (
-        n,
+  answer_in (suc mutator) q is = ⊎_elim
+      (λ (earlier : has (answers_below memory mutator) q ≡ true). let at = answer_in mutator q earlier in (at.0, omega (arith, at.1), at.2, at.3))
+      (λ (last : has (one_answer mutator) q ≡ true). ⊎_elim
+      (λ (none : nat_le (memory (Answer mutator)) 1 ≡ true).
+      absurd (false≢true (ap (λ xs. has xs q) (sym (cond-true (nat_le (memory (Answer mutator)) 1) [] (memory (Answer mutator) ∷ []) none)) ∙ last)))
+      (λ (some : nat_le (memory (Answer mutator)) 1 ≡ false). (
+        mutator,
         omega arith,
-        leb-false (memory (Answer n)) 1 some,
-        sym (has_one (memory (Answer n)) q (ap (λ xs. has xs q) (sym (cond-false (nat_le (memory (Answer n)) 1) [] (memory (Answer n) ∷ []) some)) ∙ last)),
+        leb-false (memory (Answer mutator)) 1 some,
+        sym (has_one (memory (Answer mutator)) q (ap (λ xs. has xs q) (sym (cond-false (nat_le (memory (Answer mutator)) 1) [] (memory (Answer mutator) ∷ []) some)) ∙ last)),
       ))
-      (cases_Bool (nat_le (memory (Answer n)) 1)))
-      (has_either (answers_below memory n) (one_answer n) q is)
+      (cases_Bool (nat_le (memory (Answer mutator)) 1)))
+      (has_either (answers_below memory mutator) (one_answer mutator) q is)
 
-  answer_listed : (n t : ℕ) → t < n → 1 < memory (Answer t) → has (answers_below memory n) (memory (Answer t)) ≡ true
-  answer_listed zero t below some = absurd (omega (arith, below))
-  answer_listed (suc n) t below some = ⊎_elim
-      (λ (last : n ≡ t).
-      let here : has (one_answer t) (memory (Answer t)) ≡ true =
-      ap (λ xs. has xs (memory (Answer t))) (cond-false (nat_le (memory (Answer t)) 1) [] (memory (Answer t) ∷ []) (lt-leb (memory (Answer t)) 1 some))
-      ∙ or_left (nat_eq (memory (Answer t)) (memory (Answer t))) (has [] (memory (Answer t))) (eq-eqb (memory (Answer t)) (memory (Answer t)) refl) in
-      has_second (answers_below memory n) (one_answer n) (memory (Answer t)) (subst (λ u. has (one_answer u) (memory (Answer t)) ≡ true) (sym last) here))
-      (λ (other : n ≢ t). has_first (answers_below memory n) (one_answer n) (memory (Answer t)) (answer_listed n t (omega (arith, below, other)) some))
-      (cases_eq n t)
+  answer_listed : (n mutator : ℕ) → mutator < n → 1 < memory (Answer mutator) → has (answers_below memory n) (memory (Answer mutator)) ≡ true
+  answer_listed zero mutator below some = absurd (omega (arith, below))
+  answer_listed (suc n) mutator below some = ⊎_elim
+      (λ (last : n ≡ mutator).
+      let here : has (one_answer mutator) (memory (Answer mutator)) ≡ true =
+      ap (λ xs. has xs (memory (Answer mutator))) (cond-false (nat_le (memory (Answer mutator)) 1) [] (memory (Answer mutator) ∷ []) (lt-leb (memory (Answer mutator)) 1 some))
+      ∙ or_left (nat_eq (memory (Answer mutator)) (memory (Answer mutator))) (has [] (memory (Answer mutator))) (eq-eqb (memory (Answer mutator)) (memory (Answer mutator)) refl) in
+      has_second (answers_below memory n) (one_answer n) (memory (Answer mutator)) (subst (λ u. has (one_answer u) (memory (Answer mutator)) ≡ true) (sym last) here))
+      (λ (other : n ≢ mutator). has_first (answers_below memory n) (one_answer n) (memory (Answer mutator)) (answer_listed n mutator (omega (arith, below, other)) some))
+      (cases_eq n mutator)
 
 -- where an object has its current copy, that stands for its name
-pub copy_named : (block : Plot) (a : ℕ) (name : Name) → IsCopy block a name → name_at (block a) ≡ Some name
-copy_named block a name copy = ap name_at copy.2
+pub copy_named : (block : Plot) (address : ℕ) (name : Name) → IsCopy block address name → name_at (block address) ≡ Some name
+copy_named block address name copy = ap name_at copy.2
 
 -- what a pin slot holds has its object where the word says
 pub pin_copy : (memory : Word → ℕ) (block : Plot) (word : ℕ) (held : Option Pinned) (pinned : Pinned) → PinWordStands memory block word held → held ≡ Some pinned
@@ -136,91 +136,91 @@ pin_stays memory later block plot word (Some pinned) stay stands =
     let now = stay pinned.name stands.1 stands.2 in
     (stands.0, now.0, now.1)
 
-module _ (c : Config) (top : ℕ → ℕ) (memory : Word → ℕ) (block : Plot) (g : Graph) (p : Promises) (plotted : IsPlotted c top block) (stand : RootsStand c memory block g p) where
+module _ (config : Config) (top : ℕ → ℕ) (memory : Word → ℕ) (block : Plot) (graph : Graph) (promises : Promises) (plotted : IsPlotted config top block) (stand : RootsStand config memory block graph promises) where
   abbrev more : Graph
-  more = with_promised g p
+  more = with_promised graph promises
 
   abbrev IsNamed : ℕ → Type 0
-  IsNamed word = (t : ℕ) × (i : ℕ) × (name : Name) × (more.root t i ≡ Some name) × (name_at (block word) ≡ Some name)
+  IsNamed word = (thread : ℕ) × (i : ℕ) × (name : Name) × (more.root thread i ≡ Some name) × (name_at (block word) ≡ Some name)
 
   abbrev HasWord : Name → Type 0
-  HasWord name = (word : ℕ) × IsAmong (held_words c memory) word × (name_at (block word) ≡ Some name)
+  HasWord name = (word : ℕ) × IsAmong (held_words config memory) word × (name_at (block word) ≡ Some name)
 
-  pub answer_names : (word : ℕ) (r : Reference) → 1 < word → AnswerStands block word r → (name : Name) × (r ≡ Some name) × (name_at (block word) ≡ Some name)
-  answer_names word r some stands = ⊎_elim
-      (λ (none : (word ≤ 1) × (r ≡ None)). absurd (omega (arith, none.0, some)))
-      (λ (is : (1 < word) × (name : Name) × (r ≡ Some name) × (name_at (block word) ≡ Some name)). (is.1, is.2, is.3))
+  pub answer_names : (word : ℕ) (reference : Reference) → 1 < word → AnswerStands block word reference → (name : Name) × (reference ≡ Some name) × (name_at (block word) ≡ Some name)
+  answer_names word reference some stands = ⊎_elim
+      (λ (none : (word ≤ 1) × (reference ≡ None)). absurd (omega (arith, none.0, some)))
+      (λ (is : (1 < word) × (name : Name) × (reference ≡ Some name) × (name_at (block word) ≡ Some name)). (is.1, is.2, is.3))
       stands
 
   -- the words that are roots, answers or pins are among those that hold objects
-  pub root_among : (t i : ℕ) → t < c.mutators → i < 16 → IsAmong (held_words c memory) (memory (Root t i))
-  root_among t i inside few =
-      has_first (root_words c memory) (pins_below memory c.mutators) (memory (Root t i))
-      (has_first (roots_below memory c.mutators) (answers_below memory c.mutators) (memory (Root t i)) (root_listed memory c.mutators t i inside few))
+  pub root_among : (mutator index : ℕ) → mutator < config.mutators → index < 16 → IsAmong (held_words config memory) (memory (Root mutator index))
+  root_among mutator index inside few =
+      has_first (root_words config memory) (pins_below memory config.mutators) (memory (Root mutator index))
+      (has_first (roots_below memory config.mutators) (answers_below memory config.mutators) (memory (Root mutator index)) (root_listed memory config.mutators mutator index inside few))
 
-  pub answer_among : (t : ℕ) → t < c.mutators → 1 < memory (Answer t) → IsAmong (held_words c memory) (memory (Answer t))
-  answer_among t inside some =
-      has_first (root_words c memory) (pins_below memory c.mutators) (memory (Answer t))
-      (has_second (roots_below memory c.mutators) (answers_below memory c.mutators) (memory (Answer t)) (answer_listed memory c.mutators t inside some))
+  pub answer_among : (mutator : ℕ) → mutator < config.mutators → 1 < memory (Answer mutator) → IsAmong (held_words config memory) (memory (Answer mutator))
+  answer_among mutator inside some =
+      has_first (root_words config memory) (pins_below memory config.mutators) (memory (Answer mutator))
+      (has_second (roots_below memory config.mutators) (answers_below memory config.mutators) (memory (Answer mutator)) (answer_listed memory config.mutators mutator inside some))
 
-  pub pin_among : (t i : ℕ) → t < c.mutators → i < 4 → IsAmong (held_words c memory) (memory (Pin t i))
-  pin_among t i inside few = has_second (root_words c memory) (pins_below memory c.mutators) (memory (Pin t i)) (pin_listed memory c.mutators t i inside few)
+  pub pin_among : (mutator index : ℕ) → mutator < config.mutators → index < 4 → IsAmong (held_words config memory) (memory (Pin mutator index))
+  pin_among mutator index inside few = has_second (root_words config memory) (pins_below memory config.mutators) (memory (Pin mutator index)) (pin_listed memory config.mutators mutator index inside few)
 
   -- a word of a pin slot is a root of the graph with promised objects
-  pin_named : (word : ℕ) → has (pins_below memory c.mutators) word ≡ true → word ≢ 0 → IsNamed word
+  pin_named : (word : ℕ) → has (pins_below memory config.mutators) word ≡ true → word ≢ 0 → IsNamed word
   pin_named word is other =
-      let at = pin_in memory c.mutators word is in
-      let stands : PinWordStands memory block word (g.pin (at.0 + 1) at.1) = subst (λ w. PinWordStands memory block w (g.pin (at.0 + 1) at.1)) at.4 (stand.pins at.0 at.1 at.2 at.3) in
-      let some = pin_some memory block word (g.pin (at.0 + 1) at.1) stands other in
-      let copy = (pin_copy memory block word (g.pin (at.0 + 1) at.1) some.0 stands some.1).1 in
-      (at.0 + 1, 17 + at.1, some.0.name, pin_root g p (at.0 + 1) at.1 at.3 ∙ ap name_in some.1, copy_named block word some.0.name copy)
+      let at = pin_in memory config.mutators word is in
+      let stands : PinWordStands memory block word (graph.pin (at.0 + 1) at.1) = subst (λ w. PinWordStands memory block w (graph.pin (at.0 + 1) at.1)) at.4 (stand.pins at.0 at.1 at.2 at.3) in
+      let some = pin_some memory block word (graph.pin (at.0 + 1) at.1) stands other in
+      let copy = (pin_copy memory block word (graph.pin (at.0 + 1) at.1) some.0 stands some.1).1 in
+      (at.0 + 1, 17 + at.1, some.0.name, pin_root graph promises (at.0 + 1) at.1 at.3 ∙ ap name_in some.1, copy_named block word some.0.name copy)
 
-  pub root_named : (word : ℕ) → IsAmong (held_words c memory) word → word ≢ 0 → IsNamed word
+  pub root_named : (word : ℕ) → IsAmong (held_words config memory) word → word ≢ 0 → IsNamed word
   root_named word is other = ⊎_elim
-      (λ (names : has (root_words c memory) word ≡ true). ⊎_elim
-      (λ (root : has (roots_below memory c.mutators) word ≡ true).
-      let at = root_in memory c.mutators word root in
-      let points : Points block word (g.root (at.0 + 1) at.1) = subst (λ w. Points block w (g.root (at.0 + 1) at.1)) at.4 (stand.roots at.0 at.1 at.2 at.3) in
-      let named = named_if_not_0 c top block plotted word (g.root (at.0 + 1) at.1) points other in
-      (at.0 + 1, at.1, named.0, plain_root g p (at.0 + 1) at.1 at.3 ∙ named.1, named.2))
-      (λ (answer : has (answers_below memory c.mutators) word ≡ true).
-      let at = answer_in memory c.mutators word answer in
-      let named = answer_names (memory (Answer at.0)) (p.ref (at.0 + 1)) at.2 (stand.answers at.0 at.1) in
-      (at.0 + 1, 16, named.0, extra_root g p (at.0 + 1) ∙ named.1, ap (λ w. name_at (block w)) (sym at.3) ∙ named.2))
-      (has_either (roots_below memory c.mutators) (answers_below memory c.mutators) word names))
-      (λ (pin : has (pins_below memory c.mutators) word ≡ true). pin_named word pin other)
-      (has_either (root_words c memory) (pins_below memory c.mutators) word is)
+      (λ (names : has (root_words config memory) word ≡ true). ⊎_elim
+      (λ (root : has (roots_below memory config.mutators) word ≡ true).
+      let at = root_in memory config.mutators word root in
+      let points : Points block word (graph.root (at.0 + 1) at.1) = subst (λ w. Points block w (graph.root (at.0 + 1) at.1)) at.4 (stand.roots at.0 at.1 at.2 at.3) in
+      let named = named_if_not_0 config top block plotted word (graph.root (at.0 + 1) at.1) points other in
+      (at.0 + 1, at.1, named.0, plain_root graph promises (at.0 + 1) at.1 at.3 ∙ named.1, named.2))
+      (λ (answer : has (answers_below memory config.mutators) word ≡ true).
+      let at = answer_in memory config.mutators word answer in
+      let named = answer_names (memory (Answer at.0)) (promises.ref (at.0 + 1)) at.2 (stand.answers at.0 at.1) in
+      (at.0 + 1, 16, named.0, extra_root graph promises (at.0 + 1) ∙ named.1, ap (λ w. name_at (block w)) (sym at.3) ∙ named.2))
+      (has_either (roots_below memory config.mutators) (answers_below memory config.mutators) word names))
+      (λ (pin : has (pins_below memory config.mutators) word ≡ true). pin_named word pin other)
+      (has_either (root_words config memory) (pins_below memory config.mutators) word is)
 
   -- what is promised has an answer that holds it
-  promised_held : (t : ℕ) (name : Name) → p.ref t ≡ Some name → HasWord name
+  promised_held : (t : ℕ) (name : Name) → promises.ref t ≡ Some name → HasWord name
   promised_held t name promised =
       let at = stand.no_more_promised t name promised in
-      let same : p.ref (at.0 + 1) ≡ Some name = ap p.ref (sym at.2) ∙ promised in
+      let same : promises.ref (at.0 + 1) ≡ Some name = ap promises.ref (sym at.2) ∙ promised in
       ⊎_elim
-      (λ (none : (memory (Answer at.0) ≤ 1) × (p.ref (at.0 + 1) ≡ None)). absurd (none-some name (sym none.1 ∙ same)))
-      (λ (some : (1 < memory (Answer at.0)) × (other : Name) × (p.ref (at.0 + 1) ≡ Some other) × (name_at (block (memory (Answer at.0))) ≡ Some other)).
+      (λ (none : (memory (Answer at.0) ≤ 1) × (promises.ref (at.0 + 1) ≡ None)). absurd (none-some name (sym none.1 ∙ same)))
+      (λ (some : (1 < memory (Answer at.0)) × (other : Name) × (promises.ref (at.0 + 1) ≡ Some other) × (name_at (block (memory (Answer at.0))) ≡ Some other)).
       (memory (Answer at.0), answer_among at.0 at.1 some.0, some.3 ∙ sym some.2 ∙ same))
       (stand.answers at.0 at.1)
 
   -- what a slot holds has a pin word
-  pinned_held : (t i : ℕ) (pinned : Pinned) → g.pin t i ≡ Some pinned → HasWord pinned.name
-  pinned_held t i pinned is =
-      let at = stand.no_more_pins t i pinned is in
-      let same : g.pin (at.0 + 1) i ≡ Some pinned = ap (λ u. g.pin u i) (sym at.2) ∙ is in
-      let copy = (pin_copy memory block (memory (Pin at.0 i)) (g.pin (at.0 + 1) i) pinned (stand.pins at.0 i at.1 at.3) same).1 in
+  pinned_held : (thread i : ℕ) (pinned : Pinned) → graph.pin thread i ≡ Some pinned → HasWord pinned.name
+  pinned_held thread i pinned is =
+      let at = stand.no_more_pins thread i pinned is in
+      let same : graph.pin (at.0 + 1) i ≡ Some pinned = ap (λ u. graph.pin u i) (sym at.2) ∙ is in
+      let copy = (pin_copy memory block (memory (Pin at.0 i)) (graph.pin (at.0 + 1) i) pinned (stand.pins at.0 i at.1 at.3) same).1 in
       (memory (Pin at.0 i), pin_among at.0 i at.1 at.3, copy_named block (memory (Pin at.0 i)) pinned.name copy)
 
-  pub root_held : (t i : ℕ) (name : Name) → more.root t i ≡ Some name → HasWord name
-  root_held t i name is = ⊎_elim
-      (λ (extra : IsPromisedRoot g p t i name). promised_held t name extra.1)
-      (λ (other : IsPinRoot g p t i name ⊎ (g.root t i ≡ Some name)). ⊎_elim
-      (λ (pin : IsPinRoot g p t i name). subst HasWord pin.4 (pinned_held t (i - 17) pin.2 pin.3))
-      (λ (root : g.root t i ≡ Some name).
-      let at = stand.no_more_roots t i name root in
-      let same : g.root (at.0 + 1) i ≡ Some name = ap (λ u. g.root u i) (sym at.2) ∙ root in
+  pub root_held : (thread i : ℕ) (name : Name) → more.root thread i ≡ Some name → HasWord name
+  root_held thread i name is = ⊎_elim
+      (λ (extra : IsPromisedRoot graph promises thread i name). promised_held thread name extra.1)
+      (λ (other : IsPinRoot graph promises thread i name ⊎ (graph.root thread i ≡ Some name)). ⊎_elim
+      (λ (pin : IsPinRoot graph promises thread i name). subst HasWord pin.4 (pinned_held thread (i - 17) pin.2 pin.3))
+      (λ (root : graph.root thread i ≡ Some name).
+      let at = stand.no_more_roots thread i name root in
+      let same : graph.root (at.0 + 1) i ≡ Some name = ap (λ u. graph.root u i) (sym at.2) ∙ root in
       (memory (Root at.0 i), root_among at.0 i at.1 at.3, subst (Points block (memory (Root at.0 i))) same (stand.roots at.0 i at.1 at.3)))
       other)
-      (root_cases g p t i name is)
+      (root_cases graph promises thread i name is)
 
-  pub no_pins : (t slot : ℕ) (held : Pinned) → more.pin t slot ≡ Some held → ⊥
-  no_pins t slot held is = none-some held is
+  pub no_pins : (thread slot : ℕ) (held : Pinned) → more.pin thread slot ≡ Some held → ⊥
+  no_pins thread slot held is = none-some held is

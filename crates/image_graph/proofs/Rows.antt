@@ -12,13 +12,13 @@ row_is w r x low high =
     ap (λ k. k / w) (sym back) ∙ div-mul-add (r + 1) w offset (omega (arith, low, high))
 
 -- the row of an address of the heap is that of its region
-pub row_above : (c : Config) (x : ℕ) → c.region_words ≤ x → region_with c x + 1 ≡ x / c.region_words
-row_above c x above =
-    let some : 1 ≤ x / c.region_words = le-div 1 x c.region_words (omega (arith, c.in_range.least_words)) (omega (arith, above)) in
+pub row_above : (config : Config) (address : ℕ) → config.region_words ≤ address → region_with config address + 1 ≡ address / config.region_words
+row_above config address above =
+    let some : 1 ≤ address / config.region_words = le-div 1 address config.region_words (omega (arith, config.in_range.least_words)) (omega (arith, above)) in
     omega (arith, some)
 
 -- and an address is not below the base of that
-pub base_below : (c : Config) (x : ℕ) → c.region_words ≤ x → base_of c (region_with c x) ≤ x
-base_below c x above =
-    let row : (region_with c x + 1) * c.region_words ≡ x / c.region_words * c.region_words = ap (λ k. k * c.region_words) (row_above c x above) in
-    omega (arith, row, div-add-mod' x c.region_words)
+pub base_below : (config : Config) (address : ℕ) → config.region_words ≤ address → base_of config (region_with config address) ≤ address
+base_below config address above =
+    let row : (region_with config address + 1) * config.region_words ≡ address / config.region_words * config.region_words = ap (λ k. k * config.region_words) (row_above config address above) in
+    omega (arith, row, div-add-mod' address config.region_words)

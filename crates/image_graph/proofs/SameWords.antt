@@ -27,24 +27,24 @@ same_range s a b u w low same =
     ap (λ k. drop k u) place ∙ drop_past s (a - s) u ∙ ap (drop (a - s)) same ∙ sym (drop_past s (a - s) w) ∙ ap (λ k. drop k w) (sym place) in
     ap (take (b - a)) both
 
-module _ (c : Config) (u w : List ℕ) (same : drop (image_start c) u ≡ drop (image_start c) w) where
-  same_heap : heap_in c u ≡ heap_in c w
-  same_heap = same_range (image_start c) (heap_start c) (heap_start c + heap_size c) u w (omega arith) same
+module _ (config : Config) (u w : List ℕ) (same : drop (image_start config) u ≡ drop (image_start config) w) where
+  same_heap : heap_in config u ≡ heap_in config w
+  same_heap = same_range (image_start config) (heap_start config) (heap_start config + heap_size config) u w (omega arith) same
 
-  same_roots : roots_in c u ≡ roots_in c w
-  same_roots = same_range (image_start c) (roots_start c) (roots_start c + 16 * c.mutators) u w (omega arith) same
+  same_roots : roots_in config u ≡ roots_in config w
+  same_roots = same_range (image_start config) (roots_start config) (roots_start config + 16 * config.mutators) u w (omega arith) same
 
-  same_pins : pins_in c u ≡ pins_in c w
-  same_pins = same_range (image_start c) (pins_start c) (pins_start c + 4 * c.mutators) u w (omega arith) same
+  same_pins : pins_in config u ≡ pins_in config w
+  same_pins = same_range (image_start config) (pins_start config) (pins_start config + 4 * config.mutators) u w (omega arith) same
 
-  stands_either : (v : List ℕ) (at : ℕ → Option Name) (g : Graph) → heap_in c v ≡ heap_in c u → roots_in c v ≡ roots_in c u → pins_in c v ≡ pins_in c u
-      → WordsStand c.region_words (heap_in c v) (roots_in c v) (pins_in c v) at g → WordsStand c.region_words (heap_in c u) (roots_in c u) (pins_in c u) at g
-  stands_either v at g heap roots pins stands =
-      subst (λ k. WordsStand c.region_words k (roots_in c u) (pins_in c u) at g) heap
-      (subst (λ k. WordsStand c.region_words (heap_in c v) k (pins_in c u) at g) roots (subst (λ k. WordsStand c.region_words (heap_in c v) (roots_in c v) k at g) pins stands))
+  stands_either : (v : List ℕ) (at : ℕ → Option Name) (graph : Graph) → heap_in config v ≡ heap_in config u → roots_in config v ≡ roots_in config u → pins_in config v ≡ pins_in config u
+      → WordsStand config.region_words (heap_in config v) (roots_in config v) (pins_in config v) at graph → WordsStand config.region_words (heap_in config u) (roots_in config u) (pins_in config u) at graph
+  stands_either v at graph heap roots pins stands =
+      subst (λ k. WordsStand config.region_words k (roots_in config u) (pins_in config u) at graph) heap
+      (subst (λ k. WordsStand config.region_words (heap_in config v) k (pins_in config u) at graph) roots (subst (λ k. WordsStand config.region_words (heap_in config v) (roots_in config v) k at graph) pins stands))
 
-  pub stands_same : StandsForSome c w → StandsForSome c u
+  pub stands_same : StandsForSome config w → StandsForSome config u
   stands_same some = ∥∥₁_map some (λ s. (s.0, (s.1.0, stands_either w s.0 s.1.0 (sym same_heap) (sym same_roots) (sym same_pins) s.1.1)))
 
-  pub shows_same : (text : Text) → ShowsTheGraph c u text → ShowsTheGraph c w text
+  pub shows_same : (text : Text) → ShowsTheGraph config u text → ShowsTheGraph config w text
   shows_same text shows at g stands = shows at g (stands_either w at g (sym same_heap) (sym same_roots) (sym same_pins) stands)

@@ -23,186 +23,186 @@ IsDropped current then_current seat = (then_current seat ≡ current seat) ⊎ (
 
 -- each buffer has free words
 abbrev pub AllHaveFree : (Word → ℕ) → Type 0
-AllHaveFree m = (s : ℕ) → m (Current s) ≢ 0 → next_in (m (Current s)) < end_in (m (Current s))
+AllHaveFree memory = (seat : ℕ) → memory (Current seat) ≢ 0 → next_in (memory (Current seat)) < end_in (memory (Current seat))
 
 -- What stands does so where buffers without free words are dropped, and where the free words of a buffer that does not end at the top are
 -- filled, and it goes; ..
-pub record KeepsFilling (c : Config) (Stand : (Word → ℕ) → Type 0) : Type 0 where
-  pub drops : (m : Word → ℕ) → Stand m → (current : ℕ → ℕ) → ((seat : ℕ) → IsDropped (currents_of m) current seat) → Stand (refitted m (tops_of m) (heap_of m) current)
-  pub fills : (m : Word → ℕ) → Stand m → (seat word : ℕ) → m (Current seat) ≡ word → word ≢ 0 → next_in word < end_in word → is_last c m word ≡ false
-      → Stand (refitted m (tops_of m) (updated (heap_of m) (next_in word) (filler_header (end_in word - next_in word))) (updated (currents_of m) seat 0))
+pub record KeepsFilling (config : Config) (Stand : (Word → ℕ) → Type 0) : Type 0 where
+  pub drops : (memory : Word → ℕ) → Stand memory → (current : ℕ → ℕ) → ((seat : ℕ) → IsDropped (currents_of memory) current seat) → Stand (refitted memory (tops_of memory) (heap_of memory) current)
+  pub fills : (memory : Word → ℕ) → Stand memory → (seat word : ℕ) → memory (Current seat) ≡ word → word ≢ 0 → next_in word < end_in word → is_last config memory word ≡ false
+      → Stand (refitted memory (tops_of memory) (updated (heap_of memory) (next_in word) (filler_header (end_in word - next_in word))) (updated (currents_of memory) seat 0))
 
 -- .. and where those that end at the top are given back, and it goes, while all buffers have some.
-pub record KeepsTurns (c : Config) (Stand : (Word → ℕ) → Type 0) : Type 0 where
-  pub filling : KeepsFilling c Stand
-  pub lies : (m : Word → ℕ) → Stand m → (seat word : ℕ) → m (Current seat) ≡ word → word ≢ 0 → IsInside c word
-  pub gives : (m : Word → ℕ) → Stand m → (seat word : ℕ) → m (Current seat) ≡ word → word ≢ 0 → next_in word < end_in word → is_last c m word ≡ true → AllHaveFree m
-      → Stand (refitted m (updated (tops_of m) (buffer_region c word) (next_in word - base_of c (buffer_region c word))) (heap_of m) (updated (currents_of m) seat 0))
+pub record KeepsTurns (config : Config) (Stand : (Word → ℕ) → Type 0) : Type 0 where
+  pub filling : KeepsFilling config Stand
+  pub lies : (memory : Word → ℕ) → Stand memory → (seat word : ℕ) → memory (Current seat) ≡ word → word ≢ 0 → IsInside config word
+  pub gives : (memory : Word → ℕ) → Stand memory → (seat word : ℕ) → memory (Current seat) ≡ word → word ≢ 0 → next_in word < end_in word → is_last config memory word ≡ true → AllHaveFree memory
+      → Stand (refitted memory (updated (tops_of memory) (buffer_region config word) (next_in word - base_of config (buffer_region config word))) (heap_of memory) (updated (currents_of memory) seat 0))
 
 -- no buffer ends before its free words begin
 abbrev AreOrdered : (Word → ℕ) → Type 0
-AreOrdered m = (seat : ℕ) → next_in (m (Current seat)) ≤ end_in (m (Current seat))
+AreOrdered memory = (seat : ℕ) → next_in (memory (Current seat)) ≤ end_in (memory (Current seat))
 
 -- Settling: the turn of a seat.
-module _ (c : Config) (Stand : (Word → ℕ) → Type 0) (keeps : KeepsFilling c Stand) where
-  module _ (m : Word → ℕ) (r : Stand m) (seat : ℕ) where
+module _ (config : Config) (Stand : (Word → ℕ) → Type 0) (keeps : KeepsFilling config Stand) where
+  module _ (memory : Word → ℕ) (r : Stand memory) (seat : ℕ) where
     abbrev its : ℕ
-    its = m (Current seat)
+    its = memory (Current seat)
 
     -- a buffer goes that is not the last
-    gone : its ≢ 0 → is_last c m its ≡ false → Stand (write (filled_over m its) (Current seat) 0)
+    gone : its ≢ 0 → is_last config memory its ≡ false → Stand (write (filled_over memory its) (Current seat) 0)
     gone some other = ⊎_elim
         (λ (more : next_in its < end_in its).
         subst Stand
-        (sym (ap (λ k. write k (Current seat) 0) (cond-true (nat_lt (next_in its) (end_in its)) (write m (Heap (next_in its)) (filler_header (end_in its - next_in its))) m (lt-ltb (next_in its) (end_in its) more))
-        ∙ fill_is m seat (next_in its) (filler_header (end_in its - next_in its))))
-        (keeps.fills m r seat its refl some more other))
+        (sym (ap (λ k. write k (Current seat) 0) (cond-true (nat_lt (next_in its) (end_in its)) (write memory (Heap (next_in its)) (filler_header (end_in its - next_in its))) memory (lt-ltb (next_in its) (end_in its) more))
+        ∙ fill_is memory seat (next_in its) (filler_header (end_in its - next_in its))))
+        (keeps.fills memory r seat its refl some more other))
         (λ (empty : end_in its ≤ next_in its).
         subst Stand
-        (sym (ap (λ k. write k (Current seat) 0) (cond-false (nat_lt (next_in its) (end_in its)) (write m (Heap (next_in its)) (filler_header (end_in its - next_in its))) m (le-ltb (next_in its) (end_in its) empty))
-        ∙ clear_is m seat))
-        (keeps.drops m r (updated (currents_of m) seat 0) (λ s. ⊎_elim
-        (λ (same : seat ≡ s). inr (updated_same (currents_of m) seat 0 s same, subst (λ k. end_in (m (Current k)) ≤ next_in (m (Current k))) same empty))
-        (λ (other : seat ≢ s). inl (updated_else (currents_of m) seat 0 s other))
+        (sym (ap (λ k. write k (Current seat) 0) (cond-false (nat_lt (next_in its) (end_in its)) (write memory (Heap (next_in its)) (filler_header (end_in its - next_in its))) memory (le-ltb (next_in its) (end_in its) empty))
+        ∙ clear_is memory seat))
+        (keeps.drops memory r (updated (currents_of memory) seat 0) (λ s. ⊎_elim
+        (λ (same : seat ≡ s). inr (updated_same (currents_of memory) seat 0 s same, subst (λ k. end_in (memory (Current k)) ≤ next_in (memory (Current k))) same empty))
+        (λ (other : seat ≢ s). inl (updated_else (currents_of memory) seat 0 s other))
         (cases_eq seat s))))
         (cases_lt (next_in its) (end_in its))
 
-    settling : Stand (settled_at c m seat)
+    settling : Stand (settled_at config memory seat)
     settling = ⊎_elim
-        (λ (stays : ((its == 0) || is_last c m its) ≡ true). subst Stand (sym (cond-true ((its == 0) || is_last c m its) m (write (filled_over m its) (Current seat) 0) stays)) r)
-        (λ (goes : ((its == 0) || is_last c m its) ≡ false).
-        subst Stand (sym (cond-false ((its == 0) || is_last c m its) m (write (filled_over m its) (Current seat) 0) goes)) (gone (eqb-false its 0 (or_parts (its == 0) (is_last c m its) goes).0) (or_parts (its == 0) (is_last c m its) goes).1))
-        (cases_Bool ((its == 0) || is_last c m its))
+        (λ (stays : ((its == 0) || is_last config memory its) ≡ true). subst Stand (sym (cond-true ((its == 0) || is_last config memory its) memory (write (filled_over memory its) (Current seat) 0) stays)) r)
+        (λ (goes : ((its == 0) || is_last config memory its) ≡ false).
+        subst Stand (sym (cond-false ((its == 0) || is_last config memory its) memory (write (filled_over memory its) (Current seat) 0) goes)) (gone (eqb-false its 0 (or_parts (its == 0) (is_last config memory its) goes).0) (or_parts (its == 0) (is_last config memory its) goes).1))
+        (cases_Bool ((its == 0) || is_last config memory its))
 
   -- after any number of turns
-  pub settled_by_turns : (m : Word → ℕ) → Stand m → (n : ℕ) → Stand (settled_below c m n)
+  pub settled_by_turns : (memory : Word → ℕ) → Stand memory → (n : ℕ) → Stand (settled_below config memory n)
   unfolding settled_below
-  settled_by_turns m r zero = r
-  settled_by_turns m r (suc n) = settling (settled_below c m n) (settled_by_turns m r n) n
+  settled_by_turns memory r zero = r
+  settled_by_turns memory r (suc n) = settling (settled_below config memory n) (settled_by_turns memory r n) n
 
 -- Letting go: the turn of a seat.
-module _ (c : Config) (Stand : (Word → ℕ) → Type 0) (keeps : KeepsTurns c Stand) where
-  module _ (m : Word → ℕ) (r : Stand (trim m)) (ordered : AreOrdered m) (seat : ℕ) where
+module _ (config : Config) (Stand : (Word → ℕ) → Type 0) (keeps : KeepsTurns config Stand) where
+  module _ (memory : Word → ℕ) (r : Stand (trim memory)) (ordered : AreOrdered memory) (seat : ℕ) where
     abbrev word : ℕ
-    word = m (Current seat)
+    word = memory (Current seat)
 
     abbrev region : ℕ
-    region = buffer_region c word
+    region = buffer_region config word
 
     -- what a buffer leaves that has free words
     module _ (some : word ≢ 0) (more : next_in word < end_in word) where
-      is_there : trimmed (currents_of m) seat ≡ word
-      is_there = trimmed_full (currents_of m) seat more
+      is_there : trimmed (currents_of memory) seat ≡ word
+      is_there = trimmed_full (currents_of memory) seat more
 
-      fills : is_last c m word ≡ false → Stand (trim (write (write m (Heap (next_in word)) (filler_header (end_in word - next_in word))) (Current seat) 0))
+      fills : is_last config memory word ≡ false → Stand (trim (write (write memory (Heap (next_in word)) (filler_header (end_in word - next_in word))) (Current seat) 0))
       fills other = subst Stand
-          (sym (ap trim (fill_is m seat (next_in word) (filler_header (end_in word - next_in word)))
-          ∙ trim_without m (tops_of m) (updated (heap_of m) (next_in word) (filler_header (end_in word - next_in word))) seat))
-          (keeps.filling.fills (trim m) r seat word is_there some more other)
+          (sym (ap trim (fill_is memory seat (next_in word) (filler_header (end_in word - next_in word)))
+          ∙ trim_without memory (tops_of memory) (updated (heap_of memory) (next_in word) (filler_header (end_in word - next_in word))) seat))
+          (keeps.filling.fills (trim memory) r seat word is_there some more other)
 
-      gives_back : is_last c m word ≡ true → Stand (trim (write (given_back c m word) (Current seat) 0))
+      gives_back : is_last config memory word ≡ true → Stand (trim (write (given_back config memory word) (Current seat) 0))
       gives_back last = subst Stand
-          (sym (ap trim (back_is c m seat word) ∙ trim_without m (updated (tops_of m) region (next_in word - base_of c region)) (heap_of m) seat))
-          (keeps.gives (trim m) r seat word is_there some more last (λ s is_some. all_full (currents_of m) s is_some))
+          (sym (ap trim (back_is config memory seat word) ∙ trim_without memory (updated (tops_of memory) region (next_in word - base_of config region)) (heap_of memory) seat))
+          (keeps.gives (trim memory) r seat word is_there some more last (λ s is_some. all_full (currents_of memory) s is_some))
 
     -- and one that has none
     module _ (empty : end_in word ≤ next_in word) where
-      same_tops : is_last c m word ≡ true → updated (tops_of m) region (next_in word - base_of c region) ≡ tops_of m
+      same_tops : is_last config memory word ≡ true → updated (tops_of memory) region (next_in word - base_of config region) ≡ tops_of memory
       same_tops last = fun_ext (λ q. ⊎_elim
           (λ (same : region ≡ q).
-          let end : end_in word ≡ base_of c region + m (Top region) = eqb-true (end_in word) (base_of c region + m (Top region)) last in
+          let end : end_in word ≡ base_of config region + memory (Top region) = eqb-true (end_in word) (base_of config region + memory (Top region)) last in
           let less = ordered seat in
-          updated_same (tops_of m) region (next_in word - base_of c region) q same ∙ (omega (arith, end, less, empty)) ∙ ap (tops_of m) same)
-          (λ (other : region ≢ q). updated_else (tops_of m) region (next_in word - base_of c region) q other)
+          updated_same (tops_of memory) region (next_in word - base_of config region) q same ∙ (omega (arith, end, less, empty)) ∙ ap (tops_of memory) same)
+          (λ (other : region ≢ q). updated_else (tops_of memory) region (next_in word - base_of config region) q other)
           (cases_eq region q))
 
-      back_same : is_last c m word ≡ true → trim (write (given_back c m word) (Current seat) 0) ≡ trim m
-      back_same last = ap trim (back_is c m seat word) ∙ trim_empty m (updated (tops_of m) region (next_in word - base_of c region)) seat empty (same_tops last)
+      back_same : is_last config memory word ≡ true → trim (write (given_back config memory word) (Current seat) 0) ≡ trim memory
+      back_same last = ap trim (back_is config memory seat word) ∙ trim_empty memory (updated (tops_of memory) region (next_in word - base_of config region)) seat empty (same_tops last)
 
-      fill_same : trim (write (filled_over m word) (Current seat) 0) ≡ trim m
+      fill_same : trim (write (filled_over memory word) (Current seat) 0) ≡ trim memory
       fill_same =
-          ap (λ k. trim (write k (Current seat) 0)) (cond-false (nat_lt (next_in word) (end_in word)) (write m (Heap (next_in word)) (filler_header (end_in word - next_in word))) m (le-ltb (next_in word) (end_in word) empty))
-          ∙ ap trim (clear_is m seat) ∙ trim_empty m (tops_of m) seat empty refl
+          ap (λ k. trim (write k (Current seat) 0)) (cond-false (nat_lt (next_in word) (end_in word)) (write memory (Heap (next_in word)) (filler_header (end_in word - next_in word))) memory (le-ltb (next_in word) (end_in word) empty))
+          ∙ ap trim (clear_is memory seat) ∙ trim_empty memory (tops_of memory) seat empty refl
 
-    gone_last : word ≢ 0 → is_last c m word ≡ true → Stand (trim (write (given_back c m word) (Current seat) 0))
+    gone_last : word ≢ 0 → is_last config memory word ≡ true → Stand (trim (write (given_back config memory word) (Current seat) 0))
     gone_last some last = ⊎_elim
         (λ (more : next_in word < end_in word). gives_back some more last)
         (λ (empty : end_in word ≤ next_in word). subst Stand (sym (back_same empty last)) r)
         (cases_lt (next_in word) (end_in word))
 
-    gone_else : word ≢ 0 → is_last c m word ≡ false → Stand (trim (write (filled_over m word) (Current seat) 0))
+    gone_else : word ≢ 0 → is_last config memory word ≡ false → Stand (trim (write (filled_over memory word) (Current seat) 0))
     gone_else some other = ⊎_elim
         (λ (more : next_in word < end_in word). subst (λ k. Stand (trim (write k (Current seat) 0)))
-        (sym (cond-true (nat_lt (next_in word) (end_in word)) (write m (Heap (next_in word)) (filler_header (end_in word - next_in word))) m (lt-ltb (next_in word) (end_in word) more))) (fills some more other))
+        (sym (cond-true (nat_lt (next_in word) (end_in word)) (write memory (Heap (next_in word)) (filler_header (end_in word - next_in word))) memory (lt-ltb (next_in word) (end_in word) more))) (fills some more other))
         (λ (empty : end_in word ≤ next_in word). subst Stand (sym (fill_same empty)) r)
         (cases_lt (next_in word) (end_in word))
 
     -- its words without the buffer
     abbrev rest : Word → ℕ
-    rest = if is_last c m word then given_back c m word else filled_over m word
+    rest = if is_last config memory word then given_back config memory word else filled_over memory word
 
     goes : word ≢ 0 → Stand (trim (write rest (Current seat) 0))
     goes some = ⊎_elim
-        (λ (last : is_last c m word ≡ true). subst (λ k. Stand (trim (write k (Current seat) 0))) (sym (cond-true (is_last c m word) (given_back c m word) (filled_over m word) last)) (gone_last some last))
-        (λ (other : is_last c m word ≡ false). subst (λ k. Stand (trim (write k (Current seat) 0))) (sym (cond-false (is_last c m word) (given_back c m word) (filled_over m word) other)) (gone_else some other))
-        (cases_Bool (is_last c m word))
+        (λ (last : is_last config memory word ≡ true). subst (λ k. Stand (trim (write k (Current seat) 0))) (sym (cond-true (is_last config memory word) (given_back config memory word) (filled_over memory word) last)) (gone_last some last))
+        (λ (other : is_last config memory word ≡ false). subst (λ k. Stand (trim (write k (Current seat) 0))) (sym (cond-false (is_last config memory word) (given_back config memory word) (filled_over memory word) other)) (gone_else some other))
+        (cases_Bool (is_last config memory word))
 
-    letting_go : Stand (trim (let_go_at c m seat))
+    letting_go : Stand (trim (let_go_at config memory seat))
     letting_go = ⊎_elim
-        (λ (none : word ≡ 0). subst (λ k. Stand (trim k)) (sym (cond-true (word == 0) m (write rest (Current seat) 0) (eq-eqb word 0 none))) r)
-        (λ (some : word ≢ 0). subst (λ k. Stand (trim k)) (sym (cond-false (word == 0) m (write rest (Current seat) 0) (ne_eqb word 0 some))) (goes some))
+        (λ (none : word ≡ 0). subst (λ k. Stand (trim k)) (sym (cond-true (word == 0) memory (write rest (Current seat) 0) (eq-eqb word 0 none))) r)
+        (λ (some : word ≢ 0). subst (λ k. Stand (trim k)) (sym (cond-false (word == 0) memory (write rest (Current seat) 0) (ne_eqb word 0 some))) (goes some))
         (cases_eq word 0)
 
   -- buffers are ordered still
-  ordered_still : (m : Word → ℕ) (seat : ℕ) → AreOrdered m → AreOrdered (let_go_at c m seat)
-  ordered_still m seat ordered s = ⊎_elim
-      (λ (same : seat ≡ s). subst (λ k. next_in (let_go_at c m seat (Current k)) ≤ end_in (let_go_at c m seat (Current k))) same (let none = turn_own c m seat in subst (λ k. next_in k ≤ end_in k) (sym none) (omega arith)))
-      (λ (other : seat ≢ s). subst (λ k. next_in k ≤ end_in k) (sym (turn_other c m seat s other)) (ordered s))
+  ordered_still : (memory : Word → ℕ) (seat : ℕ) → AreOrdered memory → AreOrdered (let_go_at config memory seat)
+  ordered_still memory seat ordered s = ⊎_elim
+      (λ (same : seat ≡ s). subst (λ k. next_in (let_go_at config memory seat (Current k)) ≤ end_in (let_go_at config memory seat (Current k))) same (let none = turn_own config memory seat in subst (λ k. next_in k ≤ end_in k) (sym none) (omega arith)))
+      (λ (other : seat ≢ s). subst (λ k. next_in k ≤ end_in k) (sym (turn_other config memory seat s other)) (ordered s))
       (cases_eq seat s)
 
-  ordered_below : (m : Word → ℕ) → AreOrdered m → (n : ℕ) → AreOrdered (let_go_below c m n)
+  ordered_below : (memory : Word → ℕ) → AreOrdered memory → (n : ℕ) → AreOrdered (let_go_below config memory n)
   unfolding let_go_below
-  ordered_below m ordered zero = ordered
-  ordered_below m ordered (suc n) = ordered_still (let_go_below c m n) n (ordered_below m ordered n)
+  ordered_below memory ordered zero = ordered
+  ordered_below memory ordered (suc n) = ordered_still (let_go_below config memory n) n (ordered_below memory ordered n)
 
   -- after any number of turns
-  let_go_trimmed : (m : Word → ℕ) → Stand (trim m) → AreOrdered m → (n : ℕ) → Stand (trim (let_go_below c m n))
+  let_go_trimmed : (memory : Word → ℕ) → Stand (trim memory) → AreOrdered memory → (n : ℕ) → Stand (trim (let_go_below config memory n))
   unfolding let_go_below
-  let_go_trimmed m r ordered zero = r
-  let_go_trimmed m r ordered (suc n) = letting_go (let_go_below c m n) (let_go_trimmed m r ordered n) (ordered_below m ordered n) n
+  let_go_trimmed memory r ordered zero = r
+  let_go_trimmed memory r ordered (suc n) = letting_go (let_go_below config memory n) (let_go_trimmed memory r ordered n) (ordered_below memory ordered n) n
 
   -- What stood stands after all turns, where buffers without free words count as none.
-  pub trimmed_by_turns : (m : Word → ℕ) → Stand m → Stand (trim (let_go c m))
-  trimmed_by_turns m r =
-      let ordered : AreOrdered m = λ seat. ⊎_elim
-      (λ (none : m (Current seat) ≡ 0). subst (λ k. next_in k ≤ end_in k) (sym none) (omega arith))
-      (λ (some : m (Current seat) ≢ 0). (keeps.lies m r seat (m (Current seat)) refl some).ordered)
-      (cases_eq (m (Current seat)) 0) in
-      let_go_trimmed m (keeps.filling.drops m r (trimmed (currents_of m)) (λ seat. ⊎_elim
-      (λ (more : next_in (m (Current seat)) < end_in (m (Current seat))). inl (trimmed_full (currents_of m) seat more))
-      (λ (empty : end_in (m (Current seat)) ≤ next_in (m (Current seat))). inr (trimmed_empty (currents_of m) seat empty, empty))
-      (cases_lt (next_in (m (Current seat))) (end_in (m (Current seat)))))) ordered (seat_count c.mutators c.helpers)
+  pub trimmed_by_turns : (memory : Word → ℕ) → Stand memory → Stand (trim (let_go config memory))
+  trimmed_by_turns memory r =
+      let ordered : AreOrdered memory = λ seat. ⊎_elim
+      (λ (none : memory (Current seat) ≡ 0). subst (λ k. next_in k ≤ end_in k) (sym none) (omega arith))
+      (λ (some : memory (Current seat) ≢ 0). (keeps.lies memory r seat (memory (Current seat)) refl some).ordered)
+      (cases_eq (memory (Current seat)) 0) in
+      let_go_trimmed memory (keeps.filling.drops memory r (trimmed (currents_of memory)) (λ seat. ⊎_elim
+      (λ (more : next_in (memory (Current seat)) < end_in (memory (Current seat))). inl (trimmed_full (currents_of memory) seat more))
+      (λ (empty : end_in (memory (Current seat)) ≤ next_in (memory (Current seat))). inr (trimmed_empty (currents_of memory) seat empty, empty))
+      (cases_lt (next_in (memory (Current seat))) (end_in (memory (Current seat)))))) ordered (seat_count config.mutators config.helpers)
 
   -- who is no seat has no buffer still
-  none_beyond : (m : Word → ℕ) (s : ℕ) → m (Current s) ≡ 0 → (n : ℕ) → let_go_below c m n (Current s) ≡ 0
+  none_beyond : (memory : Word → ℕ) (seat : ℕ) → memory (Current seat) ≡ 0 → (n : ℕ) → let_go_below config memory n (Current seat) ≡ 0
   unfolding let_go_below
-  none_beyond m s none zero = none
-  none_beyond m s none (suc n) = ⊎_elim
-      (λ (same : n ≡ s). subst (λ k. let_go_at c (let_go_below c m n) n (Current k) ≡ 0) same (turn_own c (let_go_below c m n) n))
-      (λ (other : n ≢ s). turn_other c (let_go_below c m n) n s other ∙ none_beyond m s none n)
-      (cases_eq n s)
+  none_beyond memory seat none zero = none
+  none_beyond memory seat none (suc n) = ⊎_elim
+      (λ (same : n ≡ seat). subst (λ k. let_go_at config (let_go_below config memory n) n (Current k) ≡ 0) same (turn_own config (let_go_below config memory n) n))
+      (λ (other : n ≢ seat). turn_other config (let_go_below config memory n) n seat other ∙ none_beyond memory seat none n)
+      (cases_eq n seat)
 
-  module _ (m : Word → ℕ) (beyond : (seat : ℕ) → seat_count c.mutators c.helpers ≤ seat → m (Current seat) ≡ 0) where
+  module _ (memory : Word → ℕ) (beyond : (seat : ℕ) → seat_count config.mutators config.helpers ≤ seat → memory (Current seat) ≡ 0) where
     -- nobody has a buffer
-    pub none_at_all : (seat : ℕ) → let_go c m (Current seat) ≡ 0
+    pub none_at_all : (seat : ℕ) → let_go config memory (Current seat) ≡ 0
     none_at_all seat = ⊎_elim
-        (λ (below : seat < seat_count c.mutators c.helpers). none_left c m (seat_count c.mutators c.helpers) seat below)
-        (λ (past : seat_count c.mutators c.helpers ≤ seat). none_beyond m seat (beyond seat past) (seat_count c.mutators c.helpers))
-        (cases_lt seat (seat_count c.mutators c.helpers))
+        (λ (below : seat < seat_count config.mutators config.helpers). none_left config memory (seat_count config.mutators config.helpers) seat below)
+        (λ (past : seat_count config.mutators config.helpers ≤ seat). none_beyond memory seat (beyond seat past) (seat_count config.mutators config.helpers))
+        (cases_lt seat (seat_count config.mutators config.helpers))
 
     -- What stood stands after all turns.
-    pub let_go_by_turns : Stand m → Stand (let_go c m)
+    pub let_go_by_turns : Stand memory → Stand (let_go config memory)
     let_go_by_turns r =
         subst Stand
-        (sym (refit_same (let_go c m) ∙ ap (refitted (let_go c m) (tops_of (let_go c m)) (heap_of (let_go c m))) (fun_ext (λ seat. none_at_all seat ∙ sym (trimmed_none (currents_of (let_go c m)) seat (none_at_all seat))))))
-        (trimmed_by_turns m r)
+        (sym (refit_same (let_go config memory) ∙ ap (refitted (let_go config memory) (tops_of (let_go config memory)) (heap_of (let_go config memory))) (fun_ext (λ seat. none_at_all seat ∙ sym (trimmed_none (currents_of (let_go config memory)) seat (none_at_all seat))))))
+        (trimmed_by_turns memory r)

@@ -6,5 +6,5 @@ use Rattle.heap_words.specs.Ranges.{seat_count}
 use Rattle.heap_words.specs.Words.{Current, view}
 use Rattle.heap_words.proofs.Stores.{view_none}
 
-pub no_seat : (c : Config) (words : List ℕ) (s : ℕ) → seat_count c.mutators c.helpers ≤ s → view c words (Current s) ≡ 0
-no_seat c words s past = view_none c words (Current s) (le-ltb s (seat_count c.mutators c.helpers) past)
+pub no_seat : (config : Config) (words : List ℕ) (seat : ℕ) → seat_count config.mutators config.helpers ≤ seat → view config words (Current seat) ≡ 0
+no_seat config words seat past = view_none config words (Current seat) (le-ltb seat (seat_count config.mutators config.helpers) past)

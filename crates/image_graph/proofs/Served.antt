@@ -14,209 +14,209 @@ use Rattle.image_graph.specs.Full.{asked_in, made_in, served_in, room_for, serve
 use Rattle.image_graph.specs.Served.{tops_at_turn, given_in, IsAnswered, RequestsAreAnswered}
 
 -- one turn
-pub served_first : (c : Config) (m : Word → ℕ) (word : Word) → served c m 0 word ≡ m word
+pub served_first : (config : Config) (memory : Word → ℕ) (word : Word) → served config memory 0 word ≡ memory word
 unfolding served
-served_first c m word = refl
+served_first config memory word = refl
 
-turn : (c : Config) (m : Word → ℕ) (t : ℕ) (word : Word)
-    → served c m (suc t) word ≡ cond (served c m t (Wait t) == 0) (served c m t word) (served_in c (served c m t) t (room_for c (served c m t) t) word)
+turn : (config : Config) (memory : Word → ℕ) (mutator : ℕ) (word : Word)
+    → served config memory (suc mutator) word ≡ cond (served config memory mutator (Wait mutator) == 0) (served config memory mutator word) (served_in config (served config memory mutator) mutator (room_for config (served config memory mutator) mutator) word)
 unfolding served
-turn c m t word = refl
+turn config memory mutator word = refl
 
-pub turn_idle : (c : Config) (m : Word → ℕ) (t : ℕ) (word : Word) → served c m t (Wait t) ≡ 0 → served c m (suc t) word ≡ served c m t word
-turn_idle c m t word none = turn c m t word ∙ cond-true (served c m t (Wait t) == 0) (served c m t word) (served_in c (served c m t) t (room_for c (served c m t) t) word) (eq-eqb (served c m t (Wait t)) 0 none)
+pub turn_idle : (config : Config) (memory : Word → ℕ) (mutator : ℕ) (word : Word) → served config memory mutator (Wait mutator) ≡ 0 → served config memory (suc mutator) word ≡ served config memory mutator word
+turn_idle config memory mutator word none = turn config memory mutator word ∙ cond-true (served config memory mutator (Wait mutator) == 0) (served config memory mutator word) (served_in config (served config memory mutator) mutator (room_for config (served config memory mutator) mutator) word) (eq-eqb (served config memory mutator (Wait mutator)) 0 none)
 
-pub turn_waits : (c : Config) (m : Word → ℕ) (t : ℕ) (word : Word) → served c m t (Wait t) ≢ 0
-    → served c m (suc t) word ≡ served_in c (served c m t) t (room_for c (served c m t) t) word
-turn_waits c m t word some = turn c m t word ∙ cond-false (served c m t (Wait t) == 0) (served c m t word) (served_in c (served c m t) t (room_for c (served c m t) t) word) (ne_eqb (served c m t (Wait t)) 0 some)
+pub turn_waits : (config : Config) (memory : Word → ℕ) (mutator : ℕ) (word : Word) → served config memory mutator (Wait mutator) ≢ 0
+    → served config memory (suc mutator) word ≡ served_in config (served config memory mutator) mutator (room_for config (served config memory mutator) mutator) word
+turn_waits config memory mutator word some = turn config memory mutator word ∙ cond-false (served config memory mutator (Wait mutator) == 0) (served config memory mutator word) (served_in config (served config memory mutator) mutator (room_for config (served config memory mutator) mutator) word) (ne_eqb (served config memory mutator (Wait mutator)) 0 some)
 
 -- what a turn does to the words of another thread: nothing
-wait_of_other : (c : Config) (m : Word → ℕ) (t u : ℕ) (o : Option ℕ) → u ≢ t → served_in c m t o (Wait u) ≡ m (Wait u)
+wait_of_other : (config : Config) (memory : Word → ℕ) (t mutator : ℕ) (found : Option ℕ) → mutator ≢ t → served_in config memory t found (Wait mutator) ≡ memory (Wait mutator)
 unfolding made_in
-wait_of_other c m t u None other = refl
-wait_of_other c m t u (Some r) other = cond-false (t == u) 0 (m (Wait u)) (ne_eqb t u (λ e. other (sym e)))
+wait_of_other config memory t mutator None other = refl
+wait_of_other config memory t mutator (Some r) other = cond-false (t == mutator) 0 (memory (Wait mutator)) (ne_eqb t mutator (λ e. other (sym e)))
 
-answer_of_other : (c : Config) (m : Word → ℕ) (t u : ℕ) (o : Option ℕ) → u ≢ t → served_in c m t o (Answer u) ≡ m (Answer u)
+answer_of_other : (config : Config) (memory : Word → ℕ) (t mutator : ℕ) (found : Option ℕ) → mutator ≢ t → served_in config memory t found (Answer mutator) ≡ memory (Answer mutator)
 unfolding made_in
-answer_of_other c m t u None other = refl
-answer_of_other c m t u (Some r) other = cond-false (t == u) (base_of c r + m (Top r)) (m (Answer u)) (ne_eqb t u (λ e. other (sym e)))
+answer_of_other config memory t mutator None other = refl
+answer_of_other config memory t mutator (Some r) other = cond-false (t == mutator) (base_of config r + memory (Top r)) (memory (Answer mutator)) (ne_eqb t mutator (λ e. other (sym e)))
 
 -- and to its own, where room is found
-pub own_wait : (c : Config) (m : Word → ℕ) (t r : ℕ) → served_in c m t (Some r) (Wait t) ≡ 0
+pub own_wait : (config : Config) (memory : Word → ℕ) (mutator r : ℕ) → served_in config memory mutator (Some r) (Wait mutator) ≡ 0
 unfolding made_in
-own_wait c m t r = cond-true (t == t) 0 (m (Wait t)) (eq-eqb t t refl)
+own_wait config memory mutator r = cond-true (mutator == mutator) 0 (memory (Wait mutator)) (eq-eqb mutator mutator refl)
 
-pub own_answer : (c : Config) (m : Word → ℕ) (t r : ℕ) → served_in c m t (Some r) (Answer t) ≡ base_of c r + m (Top r)
+pub own_answer : (config : Config) (memory : Word → ℕ) (mutator region : ℕ) → served_in config memory mutator (Some region) (Answer mutator) ≡ base_of config region + memory (Top region)
 unfolding made_in
-own_answer c m t r = cond-true (t == t) (base_of c r + m (Top r)) (m (Answer t)) (eq-eqb t t refl)
+own_answer config memory mutator region = cond-true (mutator == mutator) (base_of config region + memory (Top region)) (memory (Answer mutator)) (eq-eqb mutator mutator refl)
 
 -- what it does to the tops
-turn_top : (c : Config) (m : Word → ℕ) (t q : ℕ) (o : Option ℕ) → served_in c m t o (Top q) ≡ taken_in (λ r. m (Top r)) (object_words (request_shape_in (m (Wait t)))) o q
+turn_top : (config : Config) (memory : Word → ℕ) (mutator region : ℕ) (found : Option ℕ) → served_in config memory mutator found (Top region) ≡ taken_in (λ r. memory (Top r)) (object_words (request_shape_in (memory (Wait mutator)))) found region
 unfolding made_in
-turn_top c m t q None = refl
-turn_top c m t q (Some r) = refl
+turn_top config memory mutator region None = refl
+turn_top config memory mutator region (Some r) = refl
 
 -- another turn leaves the words of a thread as they were
-turn_of_other : (c : Config) (m : Word → ℕ) (t u : ℕ) → u ≢ t
-    → (served c m (suc t) (Wait u) ≡ served c m t (Wait u)) × (served c m (suc t) (Answer u) ≡ served c m t (Answer u))
-turn_of_other c m t u other = ⊎_elim
-    (λ (none : served c m t (Wait t) ≡ 0). (turn_idle c m t (Wait u) none, turn_idle c m t (Answer u) none))
-    (λ (some : served c m t (Wait t) ≢ 0). (
-      turn_waits c m t (Wait u) some ∙ wait_of_other c (served c m t) t u (room_for c (served c m t) t) other,
-      turn_waits c m t (Answer u) some ∙ answer_of_other c (served c m t) t u (room_for c (served c m t) t) other,
+turn_of_other : (config : Config) (memory : Word → ℕ) (mutator other_mutator : ℕ) → other_mutator ≢ mutator
+    → (served config memory (suc mutator) (Wait other_mutator) ≡ served config memory mutator (Wait other_mutator)) × (served config memory (suc mutator) (Answer other_mutator) ≡ served config memory mutator (Answer other_mutator))
+turn_of_other config memory mutator other_mutator other = ⊎_elim
+    (λ (none : served config memory mutator (Wait mutator) ≡ 0). (turn_idle config memory mutator (Wait other_mutator) none, turn_idle config memory mutator (Answer other_mutator) none))
+    (λ (some : served config memory mutator (Wait mutator) ≢ 0). (
+      turn_waits config memory mutator (Wait other_mutator) some ∙ wait_of_other config (served config memory mutator) mutator other_mutator (room_for config (served config memory mutator) mutator) other,
+      turn_waits config memory mutator (Answer other_mutator) some ∙ answer_of_other config (served config memory mutator) mutator other_mutator (room_for config (served config memory mutator) mutator) other,
     ))
-    (cases_eq (served c m t (Wait t)) 0)
+    (cases_eq (served config memory mutator (Wait mutator)) 0)
 
 -- so before its turn a thread's words are as they were
-pub before_turn : (c : Config) (m : Word → ℕ) (t u : ℕ) → t ≤ u → (served c m t (Wait u) ≡ m (Wait u)) × (served c m t (Answer u) ≡ m (Answer u))
-before_turn c m zero u later = (served_first c m (Wait u), served_first c m (Answer u))
-before_turn c m (suc t) u later =
-    let one = turn_of_other c m t u (λ same. omega (arith, same, later)) in
-    let rest = before_turn c m t u (omega (arith, later)) in
+pub before_turn : (config : Config) (memory : Word → ℕ) (t mutator : ℕ) → t ≤ mutator → (served config memory t (Wait mutator) ≡ memory (Wait mutator)) × (served config memory t (Answer mutator) ≡ memory (Answer mutator))
+before_turn config memory zero mutator later = (served_first config memory (Wait mutator), served_first config memory (Answer mutator))
+before_turn config memory (suc t) mutator later =
+    let one = turn_of_other config memory t mutator (λ same. omega (arith, same, later)) in
+    let rest = before_turn config memory t mutator (omega (arith, later)) in
     (one.0 ∙ rest.0, one.1 ∙ rest.1)
 
 -- and after it they stay
-pub after_turn : (c : Config) (m : Word → ℕ) (n u : ℕ) → u < n → (served c m n (Wait u) ≡ served c m (suc u) (Wait u)) × (served c m n (Answer u) ≡ served c m (suc u) (Answer u))
-after_turn c m zero u earlier = absurd (omega (arith, earlier))
-after_turn c m (suc n) u earlier = ⊎_elim
-    (λ (now : n ≡ u). (ap (λ k. served c m (suc k) (Wait u)) now, ap (λ k. served c m (suc k) (Answer u)) now))
-    (λ (other : n ≢ u).
-    let one = turn_of_other c m n u (λ same. other (sym same)) in
-    let rest = after_turn c m n u (omega (arith, earlier, other)) in
+pub after_turn : (config : Config) (memory : Word → ℕ) (n mutator : ℕ) → mutator < n → (served config memory n (Wait mutator) ≡ served config memory (suc mutator) (Wait mutator)) × (served config memory n (Answer mutator) ≡ served config memory (suc mutator) (Answer mutator))
+after_turn config memory zero mutator earlier = absurd (omega (arith, earlier))
+after_turn config memory (suc n) mutator earlier = ⊎_elim
+    (λ (now : n ≡ mutator). (ap (λ k. served config memory (suc k) (Wait mutator)) now, ap (λ k. served config memory (suc k) (Answer mutator)) now))
+    (λ (other : n ≢ mutator).
+    let one = turn_of_other config memory n mutator (λ same. other (sym same)) in
+    let rest = after_turn config memory n mutator (omega (arith, earlier, other)) in
     (one.0 ∙ rest.0, one.1 ∙ rest.1))
-    (cases_eq n u)
+    (cases_eq n mutator)
 
 -- 0 words change no top
-taken_none : (top : ℕ → ℕ) (o : Option ℕ) (q : ℕ) → taken_in top 0 o q ≡ top q
+taken_none : (top : ℕ → ℕ) (found : Option ℕ) (q : ℕ) → taken_in top 0 found q ≡ top q
 taken_none top None q = refl
 taken_none top (Some r) q = ⊎_elim
     (λ (here : r ≡ q). let one = cond-true (r == q) (top r + 0) (top q) (eq-eqb r q here) in let same : top r ≡ top q = ap top here in omega (arith, one, same))
     (λ (other : r ≢ q). cond-false (r == q) (top r + 0) (top q) (ne_eqb r q other))
     (cases_eq r q)
 
-module _ (c : Config) (m : Word → ℕ) where
+module _ (config : Config) (memory : Word → ℕ) where
   abbrev asked : ℕ → ℕ
-  asked = asked_in m
+  asked = asked_in memory
 
   abbrev top : ℕ → ℕ
-  top r = m (Top r)
+  top region = memory (Top region)
 
   abbrev tops : ℕ → ℕ → ℕ
-  tops = tops_served c.region_words c.regions asked top
+  tops = tops_served config.region_words config.regions asked top
 
   -- who waits asks for the words of the object
-  asks : (t : ℕ) → m (Wait t) ≢ 0 → asked t ≡ object_words (request_shape_in (served c m t (Wait t)))
-  asks t some =
-      cond-false (m (Wait t) == 0) 0 (object_words (request_shape_in (m (Wait t)))) (ne_eqb (m (Wait t)) 0 some)
-      ∙ ap (λ word. object_words (request_shape_in word)) (sym (before_turn c m t t (omega arith)).0)
+  asks : (mutator : ℕ) → memory (Wait mutator) ≢ 0 → asked mutator ≡ object_words (request_shape_in (served config memory mutator (Wait mutator)))
+  asks mutator some =
+      cond-false (memory (Wait mutator) == 0) 0 (object_words (request_shape_in (memory (Wait mutator)))) (ne_eqb (memory (Wait mutator)) 0 some)
+      ∙ ap (λ word. object_words (request_shape_in word)) (sym (before_turn config memory mutator mutator (omega arith)).0)
 
-  asks_nothing : (t : ℕ) → m (Wait t) ≡ 0 → asked t ≡ 0
-  asks_nothing t none = cond-true (m (Wait t) == 0) 0 (object_words (request_shape_in (m (Wait t)))) (eq-eqb (m (Wait t)) 0 none)
+  asks_nothing : (mutator : ℕ) → memory (Wait mutator) ≡ 0 → asked mutator ≡ 0
+  asks_nothing mutator none = cond-true (memory (Wait mutator) == 0) 0 (object_words (request_shape_in (memory (Wait mutator)))) (eq-eqb (memory (Wait mutator)) 0 none)
 
   -- the tops are those of so many requests served one after the other
-  pub tops_are_served : (t q : ℕ) → served c m t (Top q) ≡ tops t q
-  tops_are_served zero q = served_first c m (Top q) ∙ sym (served_none c.region_words c.regions asked top q)
-  tops_are_served (suc t) q =
-      let wait = (before_turn c m t t (omega arith)).0 in
+  pub tops_are_served : (mutator region : ℕ) → served config memory mutator (Top region) ≡ tops mutator region
+  tops_are_served zero region = served_first config memory (Top region) ∙ sym (served_none config.region_words config.regions asked top region)
+  tops_are_served (suc mutator) region =
+      let wait = (before_turn config memory mutator mutator (omega arith)).0 in
       ⊎_elim
-      (λ (none : m (Wait t) ≡ 0).
-      turn_idle c m t (Top q) (wait ∙ none) ∙ tops_are_served t q
-      ∙ sym (served_next c.region_words c.regions asked top t q
-      ∙ ap (λ n. taken_in (tops t) n (room_at_turn c.region_words c.regions asked top t) q) (asks_nothing t none)
-      ∙ taken_none (tops t) (room_at_turn c.region_words c.regions asked top t) q))
-      (λ (some : m (Wait t) ≢ 0).
-      turn_waits c m t (Top q) (λ is_zero. some (sym wait ∙ is_zero))
-      ∙ turn_top c (served c m t) t q (room_for c (served c m t) t)
-      ∙ ap (λ n. taken_in (λ r. served c m t (Top r)) n (room_for c (served c m t) t) q) (sym (asks t some))
-      ∙ taken_same (λ r. served c m t (Top r)) (tops t) (asked t) (room_for c (served c m t) t) q (λ r. tops_are_served t r)
-      ∙ ap (λ o. taken_in (tops t) (asked t) o q) (found t some (λ r. tops_are_served t r))
-      ∙ sym (served_next c.region_words c.regions asked top t q))
-      (cases_eq (m (Wait t)) 0)
+      (λ (none : memory (Wait mutator) ≡ 0).
+      turn_idle config memory mutator (Top region) (wait ∙ none) ∙ tops_are_served mutator region
+      ∙ sym (served_next config.region_words config.regions asked top mutator region
+      ∙ ap (λ n. taken_in (tops mutator) n (room_at_turn config.region_words config.regions asked top mutator) region) (asks_nothing mutator none)
+      ∙ taken_none (tops mutator) (room_at_turn config.region_words config.regions asked top mutator) region))
+      (λ (some : memory (Wait mutator) ≢ 0).
+      turn_waits config memory mutator (Top region) (λ is_zero. some (sym wait ∙ is_zero))
+      ∙ turn_top config (served config memory mutator) mutator region (room_for config (served config memory mutator) mutator)
+      ∙ ap (λ n. taken_in (λ other_region. served config memory mutator (Top other_region)) n (room_for config (served config memory mutator) mutator) region) (sym (asks mutator some))
+      ∙ taken_same (λ other_region. served config memory mutator (Top other_region)) (tops mutator) (asked mutator) (room_for config (served config memory mutator) mutator) region (λ other_region. tops_are_served mutator other_region)
+      ∙ ap (λ o. taken_in (tops mutator) (asked mutator) o region) (found mutator some (λ other_region. tops_are_served mutator other_region))
+      ∙ sym (served_next config.region_words config.regions asked top mutator region))
+      (cases_eq (memory (Wait mutator)) 0)
     where
-      taken_same : (one other : ℕ → ℕ) (n : ℕ) (o : Option ℕ) (k : ℕ) → ((r : ℕ) → one r ≡ other r) → taken_in one n o k ≡ taken_in other n o k
+      taken_same : (one other : ℕ → ℕ) (n : ℕ) (o : Option ℕ) (k : ℕ) → ((other_region : ℕ) → one other_region ≡ other other_region) → taken_in one n o k ≡ taken_in other n o k
       taken_same one other n None k same = same k
-      taken_same one other n (Some r) k same = ap (λ j. cond (r == k) (j + n) (one k)) (same r) ∙ ap (λ j. cond (r == k) (other r + n) j) (same k)
+      taken_same one other n (Some other_region) k same = ap (λ j. cond (other_region == k) (j + n) (one k)) (same other_region) ∙ ap (λ j. cond (other_region == k) (other other_region + n) j) (same k)
 
-      found : (u : ℕ) → m (Wait u) ≢ 0 → ((r : ℕ) → served c m u (Top r) ≡ tops u r) → room_for c (served c m u) u ≡ room_at_turn c.region_words c.regions asked top u
-      found u some same =
-          ap (λ n. lowest_room c.region_words (λ r. served c m u (Top r)) n c.regions) (sym (asks u some))
-          ∙ same_room c.region_words (λ r. served c m u (Top r)) (tops u) (asked u) c.regions (λ r _. same r)
+      found : (other_mutator : ℕ) → memory (Wait other_mutator) ≢ 0 → ((other_region : ℕ) → served config memory other_mutator (Top other_region) ≡ tops other_mutator other_region) → room_for config (served config memory other_mutator) other_mutator ≡ room_at_turn config.region_words config.regions asked top other_mutator
+      found other_mutator some same =
+          ap (λ n. lowest_room config.region_words (λ other_region. served config memory other_mutator (Top other_region)) n config.regions) (sym (asks other_mutator some))
+          ∙ same_room config.region_words (λ other_region. served config memory other_mutator (Top other_region)) (tops other_mutator) (asked other_mutator) config.regions (λ other_region _. same other_region)
 
   -- a thread's words at the end are those after its own turn
-  final_answer : (t : ℕ) → refused (served c m c.mutators) (Answer t) ≡ cond (served c m c.mutators (Wait t) == 0) (served c m c.mutators (Answer t)) 1
+  final_answer : (mutator : ℕ) → refused (served config memory config.mutators) (Answer mutator) ≡ cond (served config memory config.mutators (Wait mutator) == 0) (served config memory config.mutators (Answer mutator)) 1
   unfolding refused
-  final_answer t = refl
+  final_answer mutator = refl
 
-  nobody_waits : (t : ℕ) → refused (served c m c.mutators) (Wait t) ≡ 0
+  nobody_waits : (mutator : ℕ) → refused (served config memory config.mutators) (Wait mutator) ≡ 0
   unfolding refused
-  nobody_waits t = refl
+  nobody_waits mutator = refl
 
-  answered_as : (t answer : ℕ) → served c m c.mutators (Wait t) ≡ 0 → served c m c.mutators (Answer t) ≡ answer → refused (served c m c.mutators) (Answer t) ≡ answer
-  answered_as t answer none is =
-      final_answer t ∙ cond-true (served c m c.mutators (Wait t) == 0) (served c m c.mutators (Answer t)) 1 (eq-eqb (served c m c.mutators (Wait t)) 0 none) ∙ is
+  answered_as : (mutator answer : ℕ) → served config memory config.mutators (Wait mutator) ≡ 0 → served config memory config.mutators (Answer mutator) ≡ answer → refused (served config memory config.mutators) (Answer mutator) ≡ answer
+  answered_as mutator answer none is =
+      final_answer mutator ∙ cond-true (served config memory config.mutators (Wait mutator) == 0) (served config memory config.mutators (Answer mutator)) 1 (eq-eqb (served config memory config.mutators (Wait mutator)) 0 none) ∙ is
 
-  module _ (t : ℕ) (inside : t < c.mutators) where
+  module _ (mutator : ℕ) (inside : mutator < config.mutators) where
     -- who does not wait is passed over
-    passed_over : m (Wait t) ≡ 0 → refused (served c m c.mutators) (Answer t) ≡ m (Answer t)
+    passed_over : memory (Wait mutator) ≡ 0 → refused (served config memory config.mutators) (Answer mutator) ≡ memory (Answer mutator)
     passed_over none =
-        let before = before_turn c m t t (omega arith) in
-        let after = after_turn c m c.mutators t inside in
-        answered_as t (m (Answer t))
-        (after.0 ∙ turn_idle c m t (Wait t) (before.0 ∙ none) ∙ before.0 ∙ none)
-        (after.1 ∙ turn_idle c m t (Answer t) (before.0 ∙ none) ∙ before.1)
+        let before = before_turn config memory mutator mutator (omega arith) in
+        let after = after_turn config memory config.mutators mutator inside in
+        answered_as mutator (memory (Answer mutator))
+        (after.0 ∙ turn_idle config memory mutator (Wait mutator) (before.0 ∙ none) ∙ before.0 ∙ none)
+        (after.1 ∙ turn_idle config memory mutator (Answer mutator) (before.0 ∙ none) ∙ before.1)
 
-    module _ (some : m (Wait t) ≢ 0) where
-      waits : served c m t (Wait t) ≢ 0
-      waits none = some (sym (before_turn c m t t (omega arith)).0 ∙ none)
+    module _ (some : memory (Wait mutator) ≢ 0) where
+      waits : served config memory mutator (Wait mutator) ≢ 0
+      waits none = some (sym (before_turn config memory mutator mutator (omega arith)).0 ∙ none)
 
       -- the region that is found at the turn
-      finds : (o : Option ℕ) → lowest_room c.region_words (tops_at_turn c m t) (asked t) c.regions ≡ o → room_for c (served c m t) t ≡ o
-      finds o is = ap (λ n. lowest_room c.region_words (tops_at_turn c m t) n c.regions) (sym (asks t some)) ∙ is
+      finds : (found : Option ℕ) → lowest_room config.region_words (tops_at_turn config memory mutator) (asked mutator) config.regions ≡ found → room_for config (served config memory mutator) mutator ≡ found
+      finds found is = ap (λ n. lowest_room config.region_words (tops_at_turn config memory mutator) n config.regions) (sym (asks mutator some)) ∙ is
 
       -- a request that finds room is answered by the address
-      given_room : (r : ℕ) → IsLowestRoom c.region_words (tops_at_turn c m t) (asked t) c.regions r → refused (served c m c.mutators) (Answer t) ≡ base_of c r + tops_at_turn c m t r
-      given_room r lowest =
-          let room = finds (Some r) (lowest_is c.region_words (tops_at_turn c m t) (asked t) c.regions r lowest) in
-          let after = after_turn c m c.mutators t inside in
-          answered_as t (base_of c r + tops_at_turn c m t r)
-          (after.0 ∙ turn_waits c m t (Wait t) waits ∙ ap (λ o. served_in c (served c m t) t o (Wait t)) room ∙ own_wait c (served c m t) t r)
-          (after.1 ∙ turn_waits c m t (Answer t) waits ∙ ap (λ o. served_in c (served c m t) t o (Answer t)) room ∙ own_answer c (served c m t) t r)
+      given_room : (region : ℕ) → IsLowestRoom config.region_words (tops_at_turn config memory mutator) (asked mutator) config.regions region → refused (served config memory config.mutators) (Answer mutator) ≡ base_of config region + tops_at_turn config memory mutator region
+      given_room region lowest =
+          let room = finds (Some region) (lowest_is config.region_words (tops_at_turn config memory mutator) (asked mutator) config.regions region lowest) in
+          let after = after_turn config memory config.mutators mutator inside in
+          answered_as mutator (base_of config region + tops_at_turn config memory mutator region)
+          (after.0 ∙ turn_waits config memory mutator (Wait mutator) waits ∙ ap (λ o. served_in config (served config memory mutator) mutator o (Wait mutator)) room ∙ own_wait config (served config memory mutator) mutator region)
+          (after.1 ∙ turn_waits config memory mutator (Answer mutator) waits ∙ ap (λ o. served_in config (served config memory mutator) mutator o (Answer mutator)) room ∙ own_answer config (served config memory mutator) mutator region)
 
       -- a request that finds none is refused
-      refused_room : NoneHasRoom c.region_words (tops_at_turn c m t) (asked t) c.regions → refused (served c m c.mutators) (Answer t) ≡ 1
+      refused_room : NoneHasRoom config.region_words (tops_at_turn config memory mutator) (asked mutator) config.regions → refused (served config memory config.mutators) (Answer mutator) ≡ 1
       refused_room full =
-          let room = finds None (all_full c.region_words (tops_at_turn c m t) (asked t) c.regions full) in
-          let after = after_turn c m c.mutators t inside in
-          let left : served c m c.mutators (Wait t) ≡ m (Wait t) =
-          after.0 ∙ turn_waits c m t (Wait t) waits ∙ ap (λ o. served_in c (served c m t) t o (Wait t)) room ∙ (before_turn c m t t (omega arith)).0 in
-          final_answer t ∙ cond-false (served c m c.mutators (Wait t) == 0) (served c m c.mutators (Answer t)) 1
-          (ne_eqb (served c m c.mutators (Wait t)) 0 (λ is_zero. some (sym left ∙ is_zero)))
+          let room = finds None (all_full config.region_words (tops_at_turn config memory mutator) (asked mutator) config.regions full) in
+          let after = after_turn config memory config.mutators mutator inside in
+          let left : served config memory config.mutators (Wait mutator) ≡ memory (Wait mutator) =
+          after.0 ∙ turn_waits config memory mutator (Wait mutator) waits ∙ ap (λ o. served_in config (served config memory mutator) mutator o (Wait mutator)) room ∙ (before_turn config memory mutator mutator (omega arith)).0 in
+          final_answer mutator ∙ cond-false (served config memory config.mutators (Wait mutator) == 0) (served config memory config.mutators (Answer mutator)) 1
+          (ne_eqb (served config memory config.mutators (Wait mutator)) 0 (λ is_zero. some (sym left ∙ is_zero)))
 
       -- it finds one or none
-      one_or_none : (o : Option ℕ) → lowest_room c.region_words (tops_at_turn c m t) (asked t) c.regions ≡ o
-          → ((r : ℕ) × IsLowestRoom c.region_words (tops_at_turn c m t) (asked t) c.regions r) ⊎ NoneHasRoom c.region_words (tops_at_turn c m t) (asked t) c.regions
-      one_or_none None is = inr (none_has_room c.region_words (tops_at_turn c m t) (asked t) c.regions is)
-      one_or_none (Some r) is = inl (r, has_room c.region_words (tops_at_turn c m t) (asked t) c.regions r is)
+      one_or_none : (found : Option ℕ) → lowest_room config.region_words (tops_at_turn config memory mutator) (asked mutator) config.regions ≡ found
+          → ((r : ℕ) × IsLowestRoom config.region_words (tops_at_turn config memory mutator) (asked mutator) config.regions r) ⊎ NoneHasRoom config.region_words (tops_at_turn config memory mutator) (asked mutator) config.regions
+      one_or_none None is = inr (none_has_room config.region_words (tops_at_turn config memory mutator) (asked mutator) config.regions is)
+      one_or_none (Some r) is = inl (r, has_room config.region_words (tops_at_turn config memory mutator) (asked mutator) config.regions r is)
 
       -- a request that is left is crowded out
-      left_among_granted : (test : ℕ → Bool) → NoneHasRoom c.region_words (tops_at_turn c m t) (asked t) c.regions → asked t ≤ c.region_words
-          → count_where test c.regions * (c.region_words - asked t + 1) ≤ tops_where test top c.regions + sum_below (given_in c m) t
+      left_among_granted : (test : ℕ → Bool) → NoneHasRoom config.region_words (tops_at_turn config memory mutator) (asked mutator) config.regions → asked mutator ≤ config.region_words
+          → count_where test config.regions * (config.region_words - asked mutator + 1) ≤ tops_where test top config.regions + sum_below (given_in config memory) mutator
       left_among_granted test full short =
-          refused_among_granted c.region_words c.regions asked top t test short
-          (all_full c.region_words (tops t) (asked t) c.regions (λ r below. let same = tops_are_served t r in omega (arith, full r below, same)))
+          refused_among_granted config.region_words config.regions asked top mutator test short
+          (all_full config.region_words (tops mutator) (asked mutator) config.regions (λ r below. let same = tops_are_served mutator r in omega (arith, full r below, same)))
 
-      is_answered : IsAnswered c m t
+      is_answered : IsAnswered config memory mutator
       is_answered = record {
         given = given_room;
         full = refused_room;
-        either = one_or_none (lowest_room c.region_words (tops_at_turn c m t) (asked t) c.regions) refl;
+        either = one_or_none (lowest_room config.region_words (tops_at_turn config memory mutator) (asked mutator) config.regions) refl;
         crowded = left_among_granted;
       }
 
-  pub requests_are_answered : RequestsAreAnswered c m
+  pub requests_are_answered : RequestsAreAnswered config memory
   requests_are_answered = record {
     answered = is_answered;
     others = passed_over;
     none_waits = nobody_waits;
-    sum = λ t. sum_same (tops_at_turn c m t) (tops t) c.regions (λ q _. tops_are_served t q) ∙ served_is c.region_words c.regions asked top t;
+    sum = λ mutator. sum_same (tops_at_turn config memory mutator) (tops mutator) config.regions (λ q _. tops_are_served mutator q) ∙ served_is config.region_words config.regions asked top mutator;
   }

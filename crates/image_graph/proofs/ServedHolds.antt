@@ -15,32 +15,32 @@ use Rattle.image_graph.specs.Left.{HoldsServed}
 use Rattle.image_graph.proofs.ObjectMade.{made_holds, made_sized}
 
 -- what is kept from some words and pieces on
-record KeptInTurn (c : Config) (m : Word → ℕ) (block : Plot) (owner : ℕ → Option ℕ) (g : Graph) (n : Word → ℕ) (plot : Plot) (p : Promises) : Type 0 where
-  holds : HoldsBy c n plot owner p g
-  sized : AreSized m block → AreSized n plot
+record KeptInTurn (config : Config) (memory : Word → ℕ) (block : Plot) (owner : ℕ → Option ℕ) (graph : Graph) (other_memory : Word → ℕ) (plot : Plot) (promises : Promises) : Type 0 where
+  holds : HoldsBy config other_memory plot owner promises graph
+  sized : AreSized memory block → AreSized other_memory plot
 
-one_turn : (c : Config) (first : Word → ℕ) (start : Plot) (owner : ℕ → Option ℕ) (g : Graph) (m : Word → ℕ) (block : Plot) (p : Promises) (n : ℕ) (o : Option ℕ) → n < c.mutators
-    → KeptInTurn c first start owner g m block p → turn_room c m n ≡ o
-    → KeptInTurn c first start owner g (served_in c m n o) (made_block c m block n o) (made_promise m p n o)
-one_turn c first start owner g m block p n None below still is = record { holds = still.holds; sized = still.sized }
-one_turn c first start owner g m block p n (Some r) below still is =
-    let room = finds_room c m n r is in
+one_turn : (config : Config) (first : Word → ℕ) (start : Plot) (owner : ℕ → Option ℕ) (graph : Graph) (memory : Word → ℕ) (block : Plot) (promises : Promises) (n : ℕ) (found : Option ℕ) → n < config.mutators
+    → KeptInTurn config first start owner graph memory block promises → turn_room config memory n ≡ found
+    → KeptInTurn config first start owner graph (served_in config memory n found) (made_block config memory block n found) (made_promise memory promises n found)
+one_turn config first start owner graph memory block promises n None below still is = record { holds = still.holds; sized = still.sized }
+one_turn config first start owner graph memory block promises n (Some r) below still is =
+    let room = finds_room config memory n r is in
     record {
-      holds = made_holds c m block owner p g still.holds n r below room.0 room.1 room.2;
-      sized = λ sized. made_sized c m block owner p g still.holds n r below room.0 room.1 room.2 (still.sized sized);
+      holds = made_holds config memory block owner promises graph still.holds n r below room.0 room.1 room.2;
+      sized = λ sized. made_sized config memory block owner promises graph still.holds n r below room.0 room.1 room.2 (still.sized sized);
     }
 
-module _ (c : Config) (m : Word → ℕ) (block : Plot) (owner : ℕ → Option ℕ) (p : Promises) (g : Graph) (holds : HoldsBy c m block owner p g) where
-  in_turn : (n : ℕ) → n ≤ c.mutators → KeptInTurn c m block owner g (served c m n) (served_block c m block n) (served_promises c m p n)
+module _ (config : Config) (memory : Word → ℕ) (block : Plot) (owner : ℕ → Option ℕ) (promises : Promises) (graph : Graph) (holds : HoldsBy config memory block owner promises graph) where
+  in_turn : (n : ℕ) → n ≤ config.mutators → KeptInTurn config memory block owner graph (served config memory n) (served_block config memory block n) (served_promises config memory promises n)
   unfolding served_block served_promises
   in_turn zero below =
-      let same : m ≡ served c m 0 = fun_ext (λ word. sym (served_first c m word)) in
-      subst (λ k. KeptInTurn c m block owner g k block p) same (record { holds = holds; sized = λ sized. sized })
+      let same : memory ≡ served config memory 0 = fun_ext (λ word. sym (served_first config memory word)) in
+      subst (λ k. KeptInTurn config memory block owner graph k block promises) same (record { holds = holds; sized = λ sized. sized })
   in_turn (suc n) below =
       let before = in_turn n (omega (arith, below)) in
-      let next = one_turn c m block owner g (served c m n) (served_block c m block n) (served_promises c m p n) n (turn_room c (served c m n) n) (omega (arith, below)) before refl in
-      subst (λ k. KeptInTurn c m block owner g k (made_block c (served c m n) (served_block c m block n) n (turn_room c (served c m n) n))
-      (made_promise (served c m n) (served_promises c m p n) n (turn_room c (served c m n) n))) (sym (turn_is c m n)) next
+      let next = one_turn config memory block owner graph (served config memory n) (served_block config memory block n) (served_promises config memory promises n) n (turn_room config (served config memory n) n) (omega (arith, below)) before refl in
+      subst (λ k. KeptInTurn config memory block owner graph k (made_block config (served config memory n) (served_block config memory block n) n (turn_room config (served config memory n) n))
+      (made_promise (served config memory n) (served_promises config memory promises n) n (turn_room config (served config memory n) n))) (sym (turn_is config memory n)) next
 
-  pub serving_holds : HoldsServed c m (served c m c.mutators) block owner p g
-  serving_holds = let all = in_turn c.mutators (omega arith) in record { holds = all.holds; sized = all.sized }
+  pub serving_holds : HoldsServed config memory (served config memory config.mutators) block owner promises graph
+  serving_holds = let all = in_turn config.mutators (omega arith) in record { holds = all.holds; sized = all.sized }

@@ -24,79 +24,79 @@ use Rattle.image_graph.proofs.Made.{can_make, made_stands, other_words, other_as
 
 -- the words of an image stand for the graph, and who has not had a turn asks for an object that can be
 abbrev Stands : Config → Graph → (Word → ℕ) → Plot → Promises → ℕ → Type 0
-Stands c g m block p n = ImageStands c m block g p × AreAsking c m g p n
+Stands config graph memory block promises n = ImageStands config memory block graph promises × AreAsking config memory graph promises n
 
 -- a thread that finds a region waits, and the region has room
-pub finds_room : (c : Config) (m : Word → ℕ) (t r : ℕ) → turn_room c m t ≡ Some r
-    → (m (Wait t) ≢ 0) × (r < c.regions) × (m (Top r) + object_words (asked_shape m t) ≤ c.region_words)
-finds_room c m t r is = ⊎_elim
-    (λ (none : m (Wait t) ≡ 0). absurd (none-some r (sym (cond-true (m (Wait t) == 0) None (room_for c m t) (eq-eqb (m (Wait t)) 0 none)) ∙ is)))
-    (λ (some : m (Wait t) ≢ 0).
-    let lowest = has_room c.region_words (λ q. m (Top q)) (object_words (asked_shape m t)) c.regions r (sym (cond-false (m (Wait t) == 0) None (room_for c m t) (ne_eqb (m (Wait t)) 0 some)) ∙ is) in
+pub finds_room : (config : Config) (memory : Word → ℕ) (mutator region : ℕ) → turn_room config memory mutator ≡ Some region
+    → (memory (Wait mutator) ≢ 0) × (region < config.regions) × (memory (Top region) + object_words (asked_shape memory mutator) ≤ config.region_words)
+finds_room config memory mutator region is = ⊎_elim
+    (λ (none : memory (Wait mutator) ≡ 0). absurd (none-some region (sym (cond-true (memory (Wait mutator) == 0) None (room_for config memory mutator) (eq-eqb (memory (Wait mutator)) 0 none)) ∙ is)))
+    (λ (some : memory (Wait mutator) ≢ 0).
+    let lowest = has_room config.region_words (λ q. memory (Top q)) (object_words (asked_shape memory mutator)) config.regions region (sym (cond-false (memory (Wait mutator) == 0) None (room_for config memory mutator) (ne_eqb (memory (Wait mutator)) 0 some)) ∙ is) in
     (some, lowest.below, lowest.room))
-    (cases_eq (m (Wait t)) 0)
+    (cases_eq (memory (Wait mutator)) 0)
 
 -- one turn keeps that
-one_turn : (c : Config) (g : Graph) (m : Word → ℕ) (block : Plot) (p : Promises) (n : ℕ) (o : Option ℕ) → n < c.mutators → Stands c g m block p n → turn_room c m n ≡ o
-    → Stands c g (served_in c m n o) (made_block c m block n o) (made_promise m p n o) (suc n)
-one_turn c g m block p n None below stands is = (stands.0, λ t later inside some. stands.1 t (omega (arith, later)) inside some)
-one_turn c g m block p n (Some r) below stands is =
-    let room = finds_room c m n r is in
+one_turn : (config : Config) (graph : Graph) (memory : Word → ℕ) (block : Plot) (promises : Promises) (n : ℕ) (found : Option ℕ) → n < config.mutators → Stands config graph memory block promises n → turn_room config memory n ≡ found
+    → Stands config graph (served_in config memory n found) (made_block config memory block n found) (made_promise memory promises n found) (suc n)
+one_turn config graph memory block promises n None below stands is = (stands.0, λ t later inside some. stands.1 t (omega (arith, later)) inside some)
+one_turn config graph memory block promises n (Some r) below stands is =
+    let room = finds_room config memory n r is in
     let asking = stands.1 n (omega arith) below room.0 in (
-      made_stands c m block g p (can_make c m block g p stands.0) n r below asking room.1 room.2 stands.0,
+      made_stands config memory block graph promises (can_make config memory block graph promises stands.0) n r below asking room.1 room.2 stands.0,
       λ t later inside some.
           let other : n ≢ t = λ same. omega (arith, same, later) in
-          let words = other_words c m block g p (can_make c m block g p stands.0) n r below asking room.1 room.2 t other in
-          other_asks c m block g p (can_make c m block g p stands.0) n r below asking room.1 room.2 t other (stands.1 t (omega (arith, later)) inside (λ is_zero. some (words.0 ∙ is_zero))),
+          let words = other_words config memory block graph promises (can_make config memory block graph promises stands.0) n r below asking room.1 room.2 t other in
+          other_asks config memory block graph promises (can_make config memory block graph promises stands.0) n r below asking room.1 room.2 t other (stands.1 t (omega (arith, later)) inside (λ is_zero. some (words.0 ∙ is_zero))),
     )
 
 -- the words after a turn, by the region that was found
-pub turn_is : (c : Config) (m : Word → ℕ) (n : ℕ) → served c m (suc n) ≡ served_in c (served c m n) n (turn_room c (served c m n) n)
-turn_is c m n = fun_ext (λ word. ⊎_elim
-    (λ (none : served c m n (Wait n) ≡ 0).
-    turn_idle c m n word none
-    ∙ sym (ap (λ o. served_in c (served c m n) n o word) (cond-true (served c m n (Wait n) == 0) None (room_for c (served c m n) n) (eq-eqb (served c m n (Wait n)) 0 none))))
-    (λ (some : served c m n (Wait n) ≢ 0).
-    turn_waits c m n word some
-    ∙ sym (ap (λ o. served_in c (served c m n) n o word) (cond-false (served c m n (Wait n) == 0) None (room_for c (served c m n) n) (ne_eqb (served c m n (Wait n)) 0 some))))
-    (cases_eq (served c m n (Wait n)) 0))
+pub turn_is : (config : Config) (memory : Word → ℕ) (mutator : ℕ) → served config memory (suc mutator) ≡ served_in config (served config memory mutator) mutator (turn_room config (served config memory mutator) mutator)
+turn_is config memory mutator = fun_ext (λ word. ⊎_elim
+    (λ (none : served config memory mutator (Wait mutator) ≡ 0).
+    turn_idle config memory mutator word none
+    ∙ sym (ap (λ o. served_in config (served config memory mutator) mutator o word) (cond-true (served config memory mutator (Wait mutator) == 0) None (room_for config (served config memory mutator) mutator) (eq-eqb (served config memory mutator (Wait mutator)) 0 none))))
+    (λ (some : served config memory mutator (Wait mutator) ≢ 0).
+    turn_waits config memory mutator word some
+    ∙ sym (ap (λ o. served_in config (served config memory mutator) mutator o word) (cond-false (served config memory mutator (Wait mutator) == 0) None (room_for config (served config memory mutator) mutator) (ne_eqb (served config memory mutator (Wait mutator)) 0 some))))
+    (cases_eq (served config memory mutator (Wait mutator)) 0))
 
-module _ (c : Config) (g : Graph) (m : Word → ℕ) (block : Plot) (p : Promises) (stands : ImageStands c m block g p) (asking : AreAsking c m g p 0) where
-  served_is : (n : ℕ) → n ≤ c.mutators → Stands c g (served c m n) (served_block c m block n) (served_promises c m p n) n
+module _ (config : Config) (graph : Graph) (memory : Word → ℕ) (block : Plot) (promises : Promises) (stands : ImageStands config memory block graph promises) (asking : AreAsking config memory graph promises 0) where
+  served_is : (n : ℕ) → n ≤ config.mutators → Stands config graph (served config memory n) (served_block config memory block n) (served_promises config memory promises n) n
   unfolding served_block served_promises
   served_is zero below =
-      let same : m ≡ served c m 0 = fun_ext (λ word. sym (served_first c m word)) in
-      subst (λ k. Stands c g k block p 0) same (stands, asking)
+      let same : memory ≡ served config memory 0 = fun_ext (λ word. sym (served_first config memory word)) in
+      subst (λ k. Stands config graph k block promises 0) same (stands, asking)
   served_is (suc n) below =
       let before = served_is n (omega (arith, below)) in
-      let next = one_turn c g (served c m n) (served_block c m block n) (served_promises c m p n) n (turn_room c (served c m n) n) (omega (arith, below)) before refl in
-      subst (λ k. Stands c g k (made_block c (served c m n) (served_block c m block n) n (turn_room c (served c m n) n))
-      (made_promise (served c m n) (served_promises c m p n) n (turn_room c (served c m n) n)) (suc n)) (sym (turn_is c m n)) next
+      let next = one_turn config graph (served config memory n) (served_block config memory block n) (served_promises config memory promises n) n (turn_room config (served config memory n) n) (omega (arith, below)) before refl in
+      subst (λ k. Stands config graph k (made_block config (served config memory n) (served_block config memory block n) n (turn_room config (served config memory n) n))
+      (made_promise (served config memory n) (served_promises config memory promises n) n (turn_room config (served config memory n) n)) (suc n)) (sym (turn_is config memory n)) next
 
-  pub served_stands : (n : ℕ) → n ≤ c.mutators → ImageStands c (served c m n) (served_block c m block n) g (served_promises c m p n)
+  pub served_stands : (n : ℕ) → n ≤ config.mutators → ImageStands config (served config memory n) (served_block config memory block n) graph (served_promises config memory promises n)
   served_stands n below = (served_is n below).0
 
   -- who still waits at the end has no answer
-  left_unanswered : (t : ℕ) → t < c.mutators → served c m c.mutators (Wait t) ≢ 0 → served c m c.mutators (Answer t) ≡ 0
-  left_unanswered t inside some = by_room (turn_room c (served c m t) t) refl
+  left_unanswered : (mutator : ℕ) → mutator < config.mutators → served config memory config.mutators (Wait mutator) ≢ 0 → served config memory config.mutators (Answer mutator) ≡ 0
+  left_unanswered mutator inside some = by_room (turn_room config (served config memory mutator) mutator) refl
     where
-      end : (served c m c.mutators (Wait t) ≡ served c m (suc t) (Wait t)) × (served c m c.mutators (Answer t) ≡ served c m (suc t) (Answer t))
-      end = after_turn c m c.mutators t inside
+      end : (served config memory config.mutators (Wait mutator) ≡ served config memory (suc mutator) (Wait mutator)) × (served config memory config.mutators (Answer mutator) ≡ served config memory (suc mutator) (Answer mutator))
+      end = after_turn config memory config.mutators mutator inside
 
-      by_room : (o : Option ℕ) → turn_room c (served c m t) t ≡ o → served c m c.mutators (Answer t) ≡ 0
+      by_room : (found : Option ℕ) → turn_room config (served config memory mutator) mutator ≡ found → served config memory config.mutators (Answer mutator) ≡ 0
       by_room None is =
-          let same : (word : Word) → served c m (suc t) word ≡ served c m t word = λ word. ap (λ f. f word) (turn_is c m t) ∙ ap (λ o. served_in c (served c m t) t o word) is in
-          let before = before_turn c m t t (omega arith) in
-          let waits : m (Wait t) ≢ 0 = λ is_zero. some (end.0 ∙ same (Wait t) ∙ before.0 ∙ is_zero) in
-          end.1 ∙ same (Answer t) ∙ before.1 ∙ (asking t (omega arith) inside waits).unanswered
+          let same : (word : Word) → served config memory (suc mutator) word ≡ served config memory mutator word = λ word. ap (λ f. f word) (turn_is config memory mutator) ∙ ap (λ found. served_in config (served config memory mutator) mutator found word) is in
+          let before = before_turn config memory mutator mutator (omega arith) in
+          let waits : memory (Wait mutator) ≢ 0 = λ is_zero. some (end.0 ∙ same (Wait mutator) ∙ before.0 ∙ is_zero) in
+          end.1 ∙ same (Answer mutator) ∙ before.1 ∙ (asking mutator (omega arith) inside waits).unanswered
       by_room (Some r) is =
-          absurd (some (end.0 ∙ ap (λ f. f (Wait t)) (turn_is c m t) ∙ ap (λ o. served_in c (served c m t) t o (Wait t)) is ∙ own_wait c (served c m t) t r))
+          absurd (some (end.0 ∙ ap (λ f. f (Wait mutator)) (turn_is config memory mutator) ∙ ap (λ found. served_in config (served config memory mutator) mutator found (Wait mutator)) is ∙ own_wait config (served config memory mutator) mutator r))
 
 -- refusing keeps the graph, where who waits has no answer
-refused_stands : (c : Config) (m : Word → ℕ) (block : Plot) (g : Graph) (p : Promises) → ImageStands c m block g p
-    → ((t : ℕ) → t < c.mutators → m (Wait t) ≢ 0 → m (Answer t) ≡ 0) → ImageStands c (refused m) block g p
+refused_stands : (config : Config) (memory : Word → ℕ) (block : Plot) (graph : Graph) (promises : Promises) → ImageStands config memory block graph promises
+    → ((mutator : ℕ) → mutator < config.mutators → memory (Wait mutator) ≢ 0 → memory (Answer mutator) ≡ 0) → ImageStands config (refused memory) block graph promises
 unfolding refused
-refused_stands c m block g p stands unanswered = record {
+refused_stands config memory block graph promises stands unanswered = record {
   plotted = stands.plotted;
   filled = stands.filled;
   objects = stands.objects;
@@ -105,49 +105,49 @@ refused_stands c m block g p stands unanswered = record {
   free_word = stands.free_word;
   rooted = record {
     roots = stands.rooted.roots;
-    answers = λ t inside. ⊎_elim
-        (λ (none : m (Wait t) ≡ 0). subst (λ k. AnswerStands block k (p.ref (t + 1))) (sym (cond-true (m (Wait t) == 0) (m (Answer t)) 1 (eq-eqb (m (Wait t)) 0 none))) (stands.rooted.answers t inside))
-        (λ (some : m (Wait t) ≢ 0).
-        let one : cond (m (Wait t) == 0) (m (Answer t)) 1 ≡ 1 = cond-false (m (Wait t) == 0) (m (Answer t)) 1 (ne_eqb (m (Wait t)) 0 some) in
-        let is_zero = unanswered t inside some in
-        let nothing : p.ref (t + 1) ≡ None = ⊎_elim
-        (λ (none : (m (Answer t) ≤ 1) × (p.ref (t + 1) ≡ None)). none.1)
-        (λ (given : (1 < m (Answer t)) × (name : Name) × (p.ref (t + 1) ≡ Some name) × (name_at (block (m (Answer t))) ≡ Some name)). absurd (omega (arith, given.0, is_zero)))
-        (stands.rooted.answers t inside) in
+    answers = λ mutator inside. ⊎_elim
+        (λ (none : memory (Wait mutator) ≡ 0). subst (λ k. AnswerStands block k (promises.ref (mutator + 1))) (sym (cond-true (memory (Wait mutator) == 0) (memory (Answer mutator)) 1 (eq-eqb (memory (Wait mutator)) 0 none))) (stands.rooted.answers mutator inside))
+        (λ (some : memory (Wait mutator) ≢ 0).
+        let one : cond (memory (Wait mutator) == 0) (memory (Answer mutator)) 1 ≡ 1 = cond-false (memory (Wait mutator) == 0) (memory (Answer mutator)) 1 (ne_eqb (memory (Wait mutator)) 0 some) in
+        let is_zero = unanswered mutator inside some in
+        let nothing : promises.ref (mutator + 1) ≡ None = ⊎_elim
+        (λ (none : (memory (Answer mutator) ≤ 1) × (promises.ref (mutator + 1) ≡ None)). none.1)
+        (λ (given : (1 < memory (Answer mutator)) × (name : Name) × (promises.ref (mutator + 1) ≡ Some name) × (name_at (block (memory (Answer mutator))) ≡ Some name)). absurd (omega (arith, given.0, is_zero)))
+        (stands.rooted.answers mutator inside) in
         inl (omega (arith, one), nothing))
-        (cases_eq (m (Wait t)) 0);
+        (cases_eq (memory (Wait mutator)) 0);
     no_more_roots = stands.rooted.no_more_roots;
-    pins = λ t i inside few. pin_stays m (refused m) block block (m (Pin t i)) (g.pin (t + 1) i) (λ name copy plain. (copy, plain)) (stands.rooted.pins t i inside few);
+    pins = λ mutator i inside few. pin_stays memory (refused memory) block block (memory (Pin mutator i)) (graph.pin (mutator + 1) i) (λ name copy plain. (copy, plain)) (stands.rooted.pins mutator i inside few);
     no_more_pins = stands.rooted.no_more_pins;
     no_more_promised = stands.rooted.no_more_promised;
   };
 }
 
 -- packing leaves requests as they are
-packed_asks : (c : Config) (m : Word → ℕ) (shut : ℕ → Bool) (now kept : ℕ → ℕ) (g : Graph) (p : Promises) → AreAsking c m g p 0 → AreAsking c (packed c shut now kept m) g p 0
+packed_asks : (config : Config) (memory : Word → ℕ) (shut : ℕ → Bool) (now kept : ℕ → ℕ) (graph : Graph) (promises : Promises) → AreAsking config memory graph promises 0 → AreAsking config (packed config shut now kept memory) graph promises 0
 unfolding packed
-packed_asks c m shut now kept g p asking t later inside some =
+packed_asks config memory shut now kept graph promises asking t later inside some =
     let asks = asking t later inside some in
     record {
       shape = asks.shape;
       few_refs = asks.few_refs;
       few_nums = asks.few_nums;
       unanswered =
-          cond-true (nat_le (m (Answer t)) 1) (m (Answer t)) (place_in c shut kept (now (m (Answer t)))) (le-leb (m (Answer t)) 1 (omega (arith, asks.unanswered))) ∙ asks.unanswered;
+          cond-true (nat_le (memory (Answer t)) 1) (memory (Answer t)) (place_in config shut kept (now (memory (Answer t)))) (le-leb (memory (Answer t)) 1 (omega (arith, asks.unanswered))) ∙ asks.unanswered;
       new = asks.new;
     }
 
 -- a full collection keeps the graph
-pub full_stands : (c : Config) (m : Word → ℕ) (block : Plot) (g : Graph) (p : Promises)
-    → HoldsGraph c (λ r. m (Top r)) (λ a. m (Heap a)) block (now_in m) (IsAmong (held_words c m)) (with_promised g p)
-    → RootsStand c m block g p → AreParsed c (is_row_pinned c m) (λ r. m (Top r)) (λ a. m (Heap a)) block → AreAsking c m g p 0
-    → ImageStands c (full_from c m) (served_block c (packed c (is_row_pinned c m) (now_in m) (kept_in c m) m) (packed_block c (is_row_pinned c m) (kept_in c m) block) c.mutators) g
-    (served_promises c (packed c (is_row_pinned c m) (now_in m) (kept_in c m) m) p c.mutators)
-full_stands c m block g p holds rooted parsed asking =
-    let after : Word → ℕ = packed c (is_row_pinned c m) (now_in m) (kept_in c m) m in
-    let plot : Plot = packed_block c (is_row_pinned c m) (kept_in c m) block in
-    let packed_is = packed_stands c m block g p holds rooted parsed in
-    let asks = packed_asks c m (is_row_pinned c m) (now_in m) (kept_in c m) g p asking in
-    refused_stands c (served c after c.mutators) (served_block c after plot c.mutators) g (served_promises c after p c.mutators)
-    (served_stands c g after plot p packed_is asks c.mutators (omega arith))
-    (left_unanswered c g after plot p packed_is asks)
+pub full_stands : (config : Config) (memory : Word → ℕ) (block : Plot) (graph : Graph) (promises : Promises)
+    → HoldsGraph config (λ r. memory (Top r)) (λ a. memory (Heap a)) block (now_in memory) (IsAmong (held_words config memory)) (with_promised graph promises)
+    → RootsStand config memory block graph promises → AreParsed config (is_row_pinned config memory) (λ r. memory (Top r)) (λ a. memory (Heap a)) block → AreAsking config memory graph promises 0
+    → ImageStands config (full_from config memory) (served_block config (packed config (is_row_pinned config memory) (now_in memory) (kept_in config memory) memory) (packed_block config (is_row_pinned config memory) (kept_in config memory) block) config.mutators) graph
+    (served_promises config (packed config (is_row_pinned config memory) (now_in memory) (kept_in config memory) memory) promises config.mutators)
+full_stands config memory block graph promises holds rooted parsed asking =
+    let after : Word → ℕ = packed config (is_row_pinned config memory) (now_in memory) (kept_in config memory) memory in
+    let plot : Plot = packed_block config (is_row_pinned config memory) (kept_in config memory) block in
+    let packed_is = packed_stands config memory block graph promises holds rooted parsed in
+    let asks = packed_asks config memory (is_row_pinned config memory) (now_in memory) (kept_in config memory) graph promises asking in
+    refused_stands config (served config after config.mutators) (served_block config after plot config.mutators) graph (served_promises config after promises config.mutators)
+    (served_stands config graph after plot promises packed_is asks config.mutators (omega arith))
+    (left_unanswered config graph after plot promises packed_is asks)

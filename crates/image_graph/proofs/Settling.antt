@@ -12,60 +12,60 @@ use Rattle.image_graph.proofs.OneTurn.{if_at, own_current, other_current, filled
 
 -- a seat has no buffer, or one that is the last of its region
 abbrev IsLeft : Config → (Word → ℕ) → ℕ → Type 0
-IsLeft c m seat = (m (Current seat) ≡ 0) ⊎ (is_last c m (m (Current seat)) ≡ true)
+IsLeft config memory seat = (memory (Current seat) ≡ 0) ⊎ (is_last config memory (memory (Current seat)) ≡ true)
 
-module _ (c : Config) (m : Word → ℕ) (seat : ℕ) where
+module _ (config : Config) (memory : Word → ℕ) (seat : ℕ) where
   -- the words without the buffer
   abbrev gone : Word → ℕ
-  gone = write (filled_over m (m (Current seat))) (Current seat) 0
+  gone = write (filled_over memory (memory (Current seat))) (Current seat) 0
 
   -- whether it stays
   abbrev stays : Bool
-  stays = (m (Current seat) == 0) || is_last c m (m (Current seat))
+  stays = (memory (Current seat) == 0) || is_last config memory (memory (Current seat))
 
   -- no turn changes a top
-  pub turn_top : (r : ℕ) → settled_at c m seat (Top r) ≡ m (Top r)
-  turn_top r = if_at stays m gone (Top r) (m (Top r)) refl (filled_top m (m (Current seat)) r)
+  pub turn_top : (region : ℕ) → settled_at config memory seat (Top region) ≡ memory (Top region)
+  turn_top region = if_at stays memory gone (Top region) (memory (Top region)) refl (filled_top memory (memory (Current seat)) region)
 
   -- or another's buffer
-  pub turn_other : (other : ℕ) → seat ≢ other → settled_at c m seat (Current other) ≡ m (Current other)
-  turn_other other differs = if_at stays m gone (Current other) (m (Current other)) refl (other_current (filled_over m (m (Current seat))) seat 0 other differs ∙ filled_current m (m (Current seat)) other)
+  pub turn_other : (other : ℕ) → seat ≢ other → settled_at config memory seat (Current other) ≡ memory (Current other)
+  turn_other other differs = if_at stays memory gone (Current other) (memory (Current other)) refl (other_current (filled_over memory (memory (Current seat))) seat 0 other differs ∙ filled_current memory (memory (Current seat)) other)
 
   -- what it leaves of the seat's
-  by_case : (b : Bool) → b ≡ stays → ((if b then m else gone) (Current seat) ≡ 0) ⊎ (is_last c m ((if b then m else gone) (Current seat)) ≡ true)
-  by_case true is = ⊎_elim (λ none. inl (eqb-true (m (Current seat)) 0 none)) (λ last. inr last) (or_cases (m (Current seat) == 0) (is_last c m (m (Current seat))) (sym is))
-  by_case false is = inl (own_current (filled_over m (m (Current seat))) seat 0)
+  by_case : (holds : Bool) → holds ≡ stays → ((if holds then memory else gone) (Current seat) ≡ 0) ⊎ (is_last config memory ((if holds then memory else gone) (Current seat)) ≡ true)
+  by_case true is = ⊎_elim (λ none. inl (eqb-true (memory (Current seat)) 0 none)) (λ last. inr last) (or_cases (memory (Current seat) == 0) (is_last config memory (memory (Current seat))) (sym is))
+  by_case false is = inl (own_current (filled_over memory (memory (Current seat))) seat 0)
 
-  pub turn_own : IsLeft c (settled_at c m seat) seat
-  turn_own = ⊎_elim (λ none. inl none) (λ last. inr (last_same c m (settled_at c m seat) (settled_at c m seat (Current seat)) turn_top ∙ last)) (by_case stays refl)
+  pub turn_own : IsLeft config (settled_at config memory seat) seat
+  turn_own = ⊎_elim (λ none. inl none) (λ last. inr (last_same config memory (settled_at config memory seat) (settled_at config memory seat (Current seat)) turn_top ∙ last)) (by_case stays refl)
 
-module _ (c : Config) (m : Word → ℕ) where
+module _ (config : Config) (memory : Word → ℕ) where
   -- one turn more
-  turn_is : (n : ℕ) → settled_below c m (suc n) ≡ settled_at c (settled_below c m n) n
+  turn_is : (n : ℕ) → settled_below config memory (suc n) ≡ settled_at config (settled_below config memory n) n
   unfolding settled_below
   turn_is n = refl
 
   -- tops stay
-  pub settled_top : (n r : ℕ) → settled_below c m n (Top r) ≡ m (Top r)
+  pub settled_top : (n region : ℕ) → settled_below config memory n (Top region) ≡ memory (Top region)
   unfolding settled_below
-  settled_top zero r = refl
-  settled_top (suc n) r = turn_top c (settled_below c m n) n r ∙ settled_top n r
+  settled_top zero region = refl
+  settled_top (suc n) region = turn_top config (settled_below config memory n) n region ∙ settled_top n region
 
   -- and who had a turn is left so
-  pub settled_left : (n seat : ℕ) → seat < n → IsLeft c (settled_below c m n) seat
+  pub settled_left : (n seat : ℕ) → seat < n → IsLeft config (settled_below config memory n) seat
   settled_left zero seat below = absurd (omega (arith, below))
-  settled_left (suc n) seat below = subst (λ k. IsLeft c k seat) (sym (turn_is n)) (⊎_elim
-      (λ (same : seat ≡ n). subst (λ k. IsLeft c (settled_at c (settled_below c m n) n) k) (sym same) (turn_own c (settled_below c m n) n))
+  settled_left (suc n) seat below = subst (λ k. IsLeft config k seat) (sym (turn_is n)) (⊎_elim
+      (λ (same : seat ≡ n). subst (λ k. IsLeft config (settled_at config (settled_below config memory n) n) k) (sym same) (turn_own config (settled_below config memory n) n))
       (λ (other : seat ≢ n).
-      let word = turn_other c (settled_below c m n) n seat (λ same. other (sym same)) in
+      let word = turn_other config (settled_below config memory n) n seat (λ same. other (sym same)) in
       ⊎_elim
       (λ none. inl (word ∙ none))
-      (λ last. inr (ap (λ k. is_last c (settled_at c (settled_below c m n) n) k) word ∙ last_same c (settled_below c m n) (settled_at c (settled_below c m n) n) (settled_below c m n (Current seat)) (turn_top c (settled_below c m n) n) ∙ last))
+      (λ last. inr (ap (λ k. is_last config (settled_at config (settled_below config memory n) n) k) word ∙ last_same config (settled_below config memory n) (settled_at config (settled_below config memory n) n) (settled_below config memory n (Current seat)) (turn_top config (settled_below config memory n) n) ∙ last))
       (settled_left n seat (omega (arith, below, other))))
       (cases_eq seat n))
 
-pub settling_leaves : (c : Config) (m : Word → ℕ) → SettlingLeaves c m
-settling_leaves c m = record {
-  last = λ seat below. settled_left c m (seat_count c.mutators c.helpers) seat below;
-  tops = λ r. settled_top c m (seat_count c.mutators c.helpers) r;
+pub settling_leaves : (config : Config) (memory : Word → ℕ) → SettlingLeaves config memory
+settling_leaves config memory = record {
+  last = λ seat below. settled_left config memory (seat_count config.mutators config.helpers) seat below;
+  tops = λ r. settled_top config memory (seat_count config.mutators config.helpers) r;
 }

@@ -12,22 +12,22 @@ use Rattle.image_graph.proofs.Refitted.{refitted}
 
 -- What is asked of the root words besides does not speak of tops, buffers or the heap, and stays where all pieces but loose ones do.
 pub record IsOfRoots (Asks : (Word → ℕ) → Plot → Type 0) : Type 0 where
-  pub refits : (m : Word → ℕ) (top heap current : ℕ → ℕ) (block : Plot) → Asks m block → Asks (refitted m top heap current) block
-  pub stays : (m : Word → ℕ) (u w : Plot) → SameButLoose u w → Asks m u → Asks m w
+  pub refits : (memory : Word → ℕ) (top heap current : ℕ → ℕ) (block : Plot) → Asks memory block → Asks (refitted memory top heap current) block
+  pub stays : (memory : Word → ℕ) (plot other_plot : Plot) → SameButLoose plot other_plot → Asks memory plot → Asks memory other_plot
 
-module _ (Asks : (Word → ℕ) → Plot → Type 0) (of_roots : IsOfRoots Asks) (c : Config) (m : Word → ℕ) (g : Graph) (asking : ℕ → Asking) (r : RepresentsWith (Asks m) c m g asking) where
+module _ (Asks : (Word → ℕ) → Plot → Type 0) (of_roots : IsOfRoots Asks) (config : Config) (memory : Word → ℕ) (graph : Graph) (asking : ℕ → Asking) (r : RepresentsWith (Asks memory) config memory graph asking) where
   -- the world that there is
   abbrev pub standing : World
-  standing = record { memory = m; block = r.block; ghost = r.ghost; graph = g }
+  standing = record { memory = memory; block = r.block; ghost = r.ghost; graph = graph }
 
   -- Other pieces, tops, words of the heap and buffers, where what is shared stands with them, no room comes, and promised objects keep their words.
   module _ (top heap current : ℕ → ℕ) (block : Plot) (same : SameButLoose r.block block)
       (hands : (a seat words : ℕ) → block a ≡ Some (hand seat words) → r.block a ≡ Some (hand seat words))
       (carveds : (a seat words : ℕ) → block a ≡ Some (carved seat words) → r.block a ≡ Some (carved seat words))
-      (kept : (a k seat words : ℕ) → r.block a ≡ Some (promised seat words) → k < words → heap (a + k) ≡ m (Heap (a + k)))
-      (shared : Shared c (record { memory = refitted m top heap current; block = block; ghost = r.ghost; graph = g })) where
+      (kept : (a k seat words : ℕ) → r.block a ≡ Some (promised seat words) → k < words → heap (a + k) ≡ memory (Heap (a + k)))
+      (shared : Shared config (record { memory = refitted memory top heap current; block = block; ghost = r.ghost; graph = graph })) where
     -- who waits has asked for what it had
-    asked_still : (t : ℕ) (k : Asking) → IsAsked m r.block g.count t k → IsAsked (refitted m top heap current) block g.count t k
+    asked_still : (t : ℕ) (asking : Asking) → IsAsked memory r.block graph.count t asking → IsAsked (refitted memory top heap current) block graph.count t asking
     asked_still t nothing asked = (asked.0, asked.1, λ a words is. asked.2 a words (same.came a (promised t words) refl is))
     asked_still t (asks refs nums) asked = (
       record { wait_is = asked.0.wait_is; few_refs = asked.0.few_refs; few_nums = asked.0.few_nums; few = asked.0.few },
@@ -40,7 +40,7 @@ module _ (Asks : (Word → ℕ) → Plot → Type 0) (of_roots : IsOfRoots Asks)
       asked.1,
       record {
         here = same.stays _ (promised t (3 + refs + nums)) refl asked.2.here;
-        words = λ k below. kept _ k t (3 + refs + nums) asked.2.here below ∙ asked.2.words k below;
+        words = λ asking below. kept _ asking t (3 + refs + nums) asked.2.here below ∙ asked.2.words asking below;
         only = λ b more is. asked.2.only b more (same.came b (promised t more) refl is);
         few_refs = asked.2.few_refs;
         few_nums = asked.2.few_nums;
@@ -48,13 +48,13 @@ module _ (Asks : (Word → ℕ) → Plot → Type 0) (of_roots : IsOfRoots Asks)
       },
     )
 
-    pub stands_still : RepresentsWith (Asks (refitted m top heap current)) c (refitted m top heap current) g asking
+    pub stands_still : RepresentsWith (Asks (refitted memory top heap current)) config (refitted memory top heap current) graph asking
     stands_still = record {
       block = block;
       ghost = r.ghost;
       shared = shared;
-      roots = λ t i below small. points_stay r.block block (names_stay c r.block block same) (m (Root t i)) (g.root (t + 1) i) (r.roots t i below small);
-      usable = of_roots.refits m top heap current block (of_roots.stays m r.block block same r.usable);
+      roots = λ t i below small. points_stay r.block block (names_stay config r.block block same) (memory (Root t i)) (graph.root (t + 1) i) (r.roots t i below small);
+      usable = of_roots.refits memory top heap current block (of_roots.stays memory r.block block same r.usable);
       none = λ a seat words is. r.none a seat words (hands a seat words is);
       uncarved = λ a seat words is. r.uncarved a seat words (carveds a seat words is);
       asked = λ t below. asked_still t (asking t) (r.asked t below);

@@ -6,47 +6,47 @@ use Rattle.heap_words.specs.Words.{Word, Phase, Cset, Evac, Current, Wait, Share
 use Rattle.image_graph.specs.Full.{packed, packed_in, made_in, served_in, room_for, served, refused, full_from}
 use Rattle.image_graph.proofs.Served.{served_first, turn_idle, turn_waits}
 
-module _ (c : Config) (word : Word) (made : (m : Word → ℕ) (t r : ℕ) → made_in c m t r word ≡ m word) where
-  turn_still : (m : Word → ℕ) (t : ℕ) (o : Option ℕ) → served_in c m t o word ≡ m word
-  turn_still m t None = refl
-  turn_still m t (Some r) = made m t r
+module _ (config : Config) (word : Word) (made : (m : Word → ℕ) (t r : ℕ) → made_in config m t r word ≡ m word) where
+  turn_still : (memory : Word → ℕ) (t : ℕ) (found : Option ℕ) → served_in config memory t found word ≡ memory word
+  turn_still memory t None = refl
+  turn_still memory t (Some r) = made memory t r
 
-  pub served_still : (m : Word → ℕ) (n : ℕ) → served c m n word ≡ m word
-  served_still m zero = served_first c m word
-  served_still m (suc n) = ⊎_elim
-      (λ (none : served c m n (Wait n) ≡ 0). turn_idle c m n word none ∙ served_still m n)
-      (λ (some : served c m n (Wait n) ≢ 0). turn_waits c m n word some ∙ turn_still (served c m n) n (room_for c (served c m n) n) ∙ served_still m n)
-      (cases_eq (served c m n (Wait n)) 0)
+  pub served_still : (memory : Word → ℕ) (mutator : ℕ) → served config memory mutator word ≡ memory word
+  served_still memory zero = served_first config memory word
+  served_still memory (suc mutator) = ⊎_elim
+      (λ (none : served config memory mutator (Wait mutator) ≡ 0). turn_idle config memory mutator word none ∙ served_still memory mutator)
+      (λ (some : served config memory mutator (Wait mutator) ≢ 0). turn_waits config memory mutator word some ∙ turn_still (served config memory mutator) mutator (room_for config (served config memory mutator) mutator) ∙ served_still memory mutator)
+      (cases_eq (served config memory mutator (Wait mutator)) 0)
 
-  pub full_still : (m : Word → ℕ) → ((w : Word → ℕ) → refused w word ≡ w word) → full_from c m word ≡ packed_in c m word
-  full_still m left = left (served c (packed_in c m) c.mutators) ∙ served_still (packed_in c m) c.mutators
+  pub full_still : (memory : Word → ℕ) → ((other_memory : Word → ℕ) → refused other_memory word ≡ other_memory word) → full_from config memory word ≡ packed_in config memory word
+  full_still memory left = left (served config (packed_in config memory) config.mutators) ∙ served_still (packed_in config memory) config.mutators
 
-pub full_phase : (c : Config) (m : Word → ℕ) → full_from c m Phase ≡ 0
+pub full_phase : (config : Config) (memory : Word → ℕ) → full_from config memory Phase ≡ 0
 unfolding packed made_in refused
-full_phase c m = full_still c Phase (λ w t r. refl) m (λ w. refl)
+full_phase config memory = full_still config Phase (λ w t r. refl) memory (λ w. refl)
 
-pub full_cset : (c : Config) (m : Word → ℕ) → full_from c m Cset ≡ 0
+pub full_cset : (config : Config) (memory : Word → ℕ) → full_from config memory Cset ≡ 0
 unfolding packed made_in refused
-full_cset c m = full_still c Cset (λ w t r. refl) m (λ w. refl)
+full_cset config memory = full_still config Cset (λ w t r. refl) memory (λ w. refl)
 
-pub full_evac : (c : Config) (m : Word → ℕ) → full_from c m Evac ≡ 0
+pub full_evac : (config : Config) (memory : Word → ℕ) → full_from config memory Evac ≡ 0
 unfolding packed made_in refused
-full_evac c m = full_still c Evac (λ w t r. refl) m (λ w. refl)
+full_evac config memory = full_still config Evac (λ w t r. refl) memory (λ w. refl)
 
-pub full_current : (c : Config) (m : Word → ℕ) (s : ℕ) → full_from c m (Current s) ≡ 0
+pub full_current : (config : Config) (memory : Word → ℕ) (seat : ℕ) → full_from config memory (Current seat) ≡ 0
 unfolding packed made_in refused
-full_current c m s = full_still c (Current s) (λ w t r. refl) m (λ w. refl)
+full_current config memory seat = full_still config (Current seat) (λ w t r. refl) memory (λ w. refl)
 
-pub full_share : (c : Config) (m : Word → ℕ) → full_from c m Share ≡ 0
+pub full_share : (config : Config) (memory : Word → ℕ) → full_from config memory Share ≡ 0
 unfolding packed made_in refused
-full_share c m = full_still c Share (λ w t r. refl) m (λ w. refl)
+full_share config memory = full_still config Share (λ w t r. refl) memory (λ w. refl)
 
 -- nobody waits
-pub full_wait : (c : Config) (m : Word → ℕ) (t : ℕ) → full_from c m (Wait t) ≡ 0
+pub full_wait : (config : Config) (memory : Word → ℕ) (mutator : ℕ) → full_from config memory (Wait mutator) ≡ 0
 unfolding refused
-full_wait c m t = refl
+full_wait config memory mutator = refl
 
 -- packing changes no request
-pub packed_wait : (c : Config) (m : Word → ℕ) (t : ℕ) → packed_in c m (Wait t) ≡ m (Wait t)
+pub packed_wait : (config : Config) (memory : Word → ℕ) (mutator : ℕ) → packed_in config memory (Wait mutator) ≡ memory (Wait mutator)
 unfolding packed
-packed_wait c m t = refl
+packed_wait config memory mutator = refl

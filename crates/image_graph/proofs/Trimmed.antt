@@ -18,7 +18,7 @@ trimmed current seat = if nat_lt (next_in (current seat)) (end_in (current seat)
 
 -- the memory with these alone
 abbrev pub trim : (Word → ℕ) → Word → ℕ
-trim m = refitted m (tops_of m) (heap_of m) (trimmed (currents_of m))
+trim memory = refitted memory (tops_of memory) (heap_of memory) (trimmed (currents_of memory))
 
 -- with free words it is there
 pub trimmed_full : (current : ℕ → ℕ) (seat : ℕ) → next_in (current seat) < end_in (current seat) → trimmed current seat ≡ current seat
@@ -47,37 +47,37 @@ trimmed_without current seat = fun_ext (λ s. ⊎_elim
     (cases_eq seat s))
 
 -- after a seat's buffer went
-pub trim_without : (m : Word → ℕ) (top heap : ℕ → ℕ) (seat : ℕ) → trim (refitted m top heap (updated (currents_of m) seat 0)) ≡ refitted (trim m) top heap (updated (trimmed (currents_of m)) seat 0)
-trim_without m top heap seat =
-    refit_twice m top heap (updated (currents_of m) seat 0) top heap (trimmed (updated (currents_of m) seat 0))
-    ∙ ap (refitted m top heap) (trimmed_without (currents_of m) seat)
-    ∙ sym (refit_twice m (tops_of m) (heap_of m) (trimmed (currents_of m)) top heap (updated (trimmed (currents_of m)) seat 0))
+pub trim_without : (memory : Word → ℕ) (top heap : ℕ → ℕ) (seat : ℕ) → trim (refitted memory top heap (updated (currents_of memory) seat 0)) ≡ refitted (trim memory) top heap (updated (trimmed (currents_of memory)) seat 0)
+trim_without memory top heap seat =
+    refit_twice memory top heap (updated (currents_of memory) seat 0) top heap (trimmed (updated (currents_of memory) seat 0))
+    ∙ ap (refitted memory top heap) (trimmed_without (currents_of memory) seat)
+    ∙ sym (refit_twice memory (tops_of memory) (heap_of memory) (trimmed (currents_of memory)) top heap (updated (trimmed (currents_of memory)) seat 0))
 
 -- the seat's, which had no free words, is none before and after
-pub trim_empty : (m : Word → ℕ) (top : ℕ → ℕ) (seat : ℕ) → end_in (m (Current seat)) ≤ next_in (m (Current seat)) → top ≡ tops_of m → trim (refitted m top (heap_of m) (updated (currents_of m) seat 0)) ≡ trim m
-trim_empty m top seat empty same =
-    refit_twice m top (heap_of m) (updated (currents_of m) seat 0) top (heap_of m) (trimmed (updated (currents_of m) seat 0))
-    ∙ ap (λ t. refitted m t (heap_of m) (trimmed (updated (currents_of m) seat 0))) same
-    ∙ ap (refitted m (tops_of m) (heap_of m)) (fun_ext (λ s. ⊎_elim
-    (λ (at : seat ≡ s). trimmed_none (updated (currents_of m) seat 0) s (updated_same (currents_of m) seat 0 s at) ∙ sym (trimmed_empty (currents_of m) seat empty) ∙ ap (trimmed (currents_of m)) at)
-    (λ (other : seat ≢ s). ap (λ word. if nat_lt (next_in word) (end_in word) then word else 0) (updated_else (currents_of m) seat 0 s other))
+pub trim_empty : (memory : Word → ℕ) (top : ℕ → ℕ) (seat : ℕ) → end_in (memory (Current seat)) ≤ next_in (memory (Current seat)) → top ≡ tops_of memory → trim (refitted memory top (heap_of memory) (updated (currents_of memory) seat 0)) ≡ trim memory
+trim_empty memory top seat empty same =
+    refit_twice memory top (heap_of memory) (updated (currents_of memory) seat 0) top (heap_of memory) (trimmed (updated (currents_of memory) seat 0))
+    ∙ ap (λ t. refitted memory t (heap_of memory) (trimmed (updated (currents_of memory) seat 0))) same
+    ∙ ap (refitted memory (tops_of memory) (heap_of memory)) (fun_ext (λ s. ⊎_elim
+    (λ (at : seat ≡ s). trimmed_none (updated (currents_of memory) seat 0) s (updated_same (currents_of memory) seat 0 s at) ∙ sym (trimmed_empty (currents_of memory) seat empty) ∙ ap (trimmed (currents_of memory)) at)
+    (λ (other : seat ≢ s). ap (λ word. if nat_lt (next_in word) (end_in word) then word else 0) (updated_else (currents_of memory) seat 0 s other))
     (cases_eq seat s)))
 
 -- a filler is stored, and the buffer goes
-pub fill_is : (m : Word → ℕ) (seat at value : ℕ) → write (write m (Heap at) value) (Current seat) 0 ≡ refitted m (tops_of m) (updated (heap_of m) at value) (updated (currents_of m) seat 0)
-fill_is m seat at value =
-    ap (λ k. write (write k (Heap at) value) (Current seat) 0) (refit_same m)
-    ∙ ap (λ k. write k (Current seat) 0) (refit_heap m (tops_of m) (heap_of m) (currents_of m) at value)
-    ∙ refit_current m (tops_of m) (updated (heap_of m) at value) (currents_of m) seat 0
+pub fill_is : (memory : Word → ℕ) (seat at value : ℕ) → write (write memory (Heap at) value) (Current seat) 0 ≡ refitted memory (tops_of memory) (updated (heap_of memory) at value) (updated (currents_of memory) seat 0)
+fill_is memory seat at value =
+    ap (λ k. write (write k (Heap at) value) (Current seat) 0) (refit_same memory)
+    ∙ ap (λ k. write k (Current seat) 0) (refit_heap memory (tops_of memory) (heap_of memory) (currents_of memory) at value)
+    ∙ refit_current memory (tops_of memory) (updated (heap_of memory) at value) (currents_of memory) seat 0
 
 -- the buffer goes alone
-pub clear_is : (m : Word → ℕ) (seat : ℕ) → write m (Current seat) 0 ≡ refitted m (tops_of m) (heap_of m) (updated (currents_of m) seat 0)
-clear_is m seat = ap (λ k. write k (Current seat) 0) (refit_same m) ∙ refit_current m (tops_of m) (heap_of m) (currents_of m) seat 0
+pub clear_is : (memory : Word → ℕ) (seat : ℕ) → write memory (Current seat) 0 ≡ refitted memory (tops_of memory) (heap_of memory) (updated (currents_of memory) seat 0)
+clear_is memory seat = ap (λ k. write k (Current seat) 0) (refit_same memory) ∙ refit_current memory (tops_of memory) (heap_of memory) (currents_of memory) seat 0
 
 -- free words are given back, and the buffer goes
-pub back_is : (c : Config) (m : Word → ℕ) (seat word : ℕ) → write (given_back c m word) (Current seat) 0
-    ≡ refitted m (updated (tops_of m) (buffer_region c word) (next_in word - base_of c (buffer_region c word))) (heap_of m) (updated (currents_of m) seat 0)
-back_is c m seat word =
-    ap (λ k. write (write k (Top (buffer_region c word)) (next_in word - base_of c (buffer_region c word))) (Current seat) 0) (refit_same m)
-    ∙ ap (λ k. write k (Current seat) 0) (refit_top m (tops_of m) (heap_of m) (currents_of m) (buffer_region c word) (next_in word - base_of c (buffer_region c word)))
-    ∙ refit_current m (updated (tops_of m) (buffer_region c word) (next_in word - base_of c (buffer_region c word))) (heap_of m) (currents_of m) seat 0
+pub back_is : (config : Config) (memory : Word → ℕ) (seat word : ℕ) → write (given_back config memory word) (Current seat) 0
+    ≡ refitted memory (updated (tops_of memory) (buffer_region config word) (next_in word - base_of config (buffer_region config word))) (heap_of memory) (updated (currents_of memory) seat 0)
+back_is config memory seat word =
+    ap (λ k. write (write k (Top (buffer_region config word)) (next_in word - base_of config (buffer_region config word))) (Current seat) 0) (refit_same memory)
+    ∙ ap (λ k. write k (Current seat) 0) (refit_top memory (tops_of memory) (heap_of memory) (currents_of memory) (buffer_region config word) (next_in word - base_of config (buffer_region config word)))
+    ∙ refit_current memory (updated (tops_of memory) (buffer_region config word) (next_in word - base_of config (buffer_region config word))) (heap_of memory) (currents_of memory) seat 0

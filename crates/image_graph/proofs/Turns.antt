@@ -15,77 +15,77 @@ use Rattle.image_graph.specs.Left.{IsLeft}
 use Rattle.image_graph.specs.Make.{AreWithin}
 
 -- where an image holds a graph no region uses more words than it has
-pub holds_within : (c : Config) (m : Word → ℕ) → HoldsSome c m → AreWithin c m
-holds_within c m holds = ∥∥₁_elim holds (λ one other i r below. le_prop (one r below) (other r below) i)
+pub holds_within : (config : Config) (memory : Word → ℕ) → HoldsSome config memory → AreWithin config memory
+holds_within config memory holds = ∥∥₁_elim holds (λ one other i r below. le_prop (one r below) (other r below) i)
     (λ h. h.1.3.objects.plotted.tops)
 
-pub served_none : (c : Config) (m : Word → ℕ) → m ≡ served c m 0
+pub served_none : (config : Config) (memory : Word → ℕ) → memory ≡ served config memory 0
 unfolding served
-served_none c m = refl
+served_none config memory = refl
 
 -- what a turn makes of the words is what the definition says
-served_more : (c : Config) (m : Word → ℕ) (t : ℕ)
-    → served c m (suc t) ≡ (λ w. cond (served c m t (Wait t) == 0) (served c m t w) (served_in c (served c m t) t (room_for c (served c m t) t) w))
+served_more : (config : Config) (memory : Word → ℕ) (mutator : ℕ)
+    → served config memory (suc mutator) ≡ (λ w. cond (served config memory mutator (Wait mutator) == 0) (served config memory mutator w) (served_in config (served config memory mutator) mutator (room_for config (served config memory mutator) mutator) w))
 unfolding served
-served_more c m t = refl
+served_more config memory mutator = refl
 
-pub turned : (c : Config) (m after : Word → ℕ) (t : ℕ) → (served c m t (Wait t) ≡ 0 → after ≡ served c m t)
-    → (served c m t (Wait t) ≢ 0 → after ≡ served_in c (served c m t) t (room_for c (served c m t) t)) → after ≡ served c m (t + 1)
-turned c m after t idle waits =
-    let now = served c m t in
-    let more : served c m (suc t) ≡ (λ w. cond (now (Wait t) == 0) (now w) (served_in c now t (room_for c now t) w)) = served_more c m t in
-    let next : suc t ≡ t + 1 = omega arith in
+pub turned : (config : Config) (memory after : Word → ℕ) (mutator : ℕ) → (served config memory mutator (Wait mutator) ≡ 0 → after ≡ served config memory mutator)
+    → (served config memory mutator (Wait mutator) ≢ 0 → after ≡ served_in config (served config memory mutator) mutator (room_for config (served config memory mutator) mutator)) → after ≡ served config memory (mutator + 1)
+turned config memory after mutator idle waits =
+    let now = served config memory mutator in
+    let more : served config memory (suc mutator) ≡ (λ w. cond (now (Wait mutator) == 0) (now w) (served_in config now mutator (room_for config now mutator) w)) = served_more config memory mutator in
+    let next : suc mutator ≡ mutator + 1 = omega arith in
     ⊎_elim
-    (λ (none : now (Wait t) ≡ 0).
-    idle none ∙ fun_ext (λ w. sym (cond-true (now (Wait t) == 0) (now w) (served_in c now t (room_for c now t) w) (eq-eqb (now (Wait t)) 0 none)))
-    ∙ sym more ∙ ap (λ k. served c m k) next)
-    (λ (some : now (Wait t) ≢ 0).
-    waits some ∙ fun_ext (λ w. sym (cond-false (now (Wait t) == 0) (now w) (served_in c now t (room_for c now t) w) (ne_eqb (now (Wait t)) 0 some)))
-    ∙ sym more ∙ ap (λ k. served c m k) next)
-    (cases_eq (now (Wait t)) 0)
+    (λ (none : now (Wait mutator) ≡ 0).
+    idle none ∙ fun_ext (λ w. sym (cond-true (now (Wait mutator) == 0) (now w) (served_in config now mutator (room_for config now mutator) w) (eq-eqb (now (Wait mutator)) 0 none)))
+    ∙ sym more ∙ ap (λ k. served config memory k) next)
+    (λ (some : now (Wait mutator) ≢ 0).
+    waits some ∙ fun_ext (λ w. sym (cond-false (now (Wait mutator) == 0) (now w) (served_in config now mutator (room_for config now mutator) w) (ne_eqb (now (Wait mutator)) 0 some)))
+    ∙ sym more ∙ ap (λ k. served config memory k) next)
+    (cases_eq (now (Wait mutator)) 0)
 
 -- who waits at its turn waited before, and asks for the same
-wait_is : (c : Config) (m : Word → ℕ) (t : ℕ) → served c m t (Wait t) ≡ m (Wait t)
-wait_is c m t = (before_turn c m t t (omega arith)).0
+wait_is : (config : Config) (memory : Word → ℕ) (mutator : ℕ) → served config memory mutator (Wait mutator) ≡ memory (Wait mutator)
+wait_is config memory mutator = (before_turn config memory mutator mutator (omega arith)).0
 
-asks : (c : Config) (m : Word → ℕ) (t : ℕ) → m (Wait t) ≢ 0 → object_words (request_shape_in (served c m t (Wait t))) ≡ asked_in m t
-asks c m t some =
-    ap (λ w. object_words (request_shape_in w)) (wait_is c m t)
-    ∙ sym (cond-false (m (Wait t) == 0) 0 (object_words (request_shape_in (m (Wait t)))) (ne_eqb (m (Wait t)) 0 some))
+asks : (config : Config) (memory : Word → ℕ) (mutator : ℕ) → memory (Wait mutator) ≢ 0 → object_words (request_shape_in (served config memory mutator (Wait mutator))) ≡ asked_in memory mutator
+asks config memory mutator some =
+    ap (λ w. object_words (request_shape_in w)) (wait_is config memory mutator)
+    ∙ sym (cond-false (memory (Wait mutator) == 0) 0 (object_words (request_shape_in (memory (Wait mutator)))) (ne_eqb (memory (Wait mutator)) 0 some))
 
 -- what it means for a request to be left at its turn
-pub left_at : (c : Config) (m : Word → ℕ) (t : ℕ) → t < c.mutators → served c m t (Wait t) ≢ 0
-    → NoneHasRoom c.region_words (λ r. served c m t (Top r)) (object_words (request_shape_in (served c m t (Wait t)))) c.regions → IsLeft c m t
-left_at c m t below some none =
-    let waits : m (Wait t) ≢ 0 = λ e. some (wait_is c m t ∙ e) in
+pub left_at : (config : Config) (memory : Word → ℕ) (mutator : ℕ) → mutator < config.mutators → served config memory mutator (Wait mutator) ≢ 0
+    → NoneHasRoom config.region_words (λ r. served config memory mutator (Top r)) (object_words (request_shape_in (served config memory mutator (Wait mutator)))) config.regions → IsLeft config memory mutator
+left_at config memory mutator below some none =
+    let waits : memory (Wait mutator) ≢ 0 = λ e. some (wait_is config memory mutator ∙ e) in
     record {
       below = below;
       waits = waits;
-      no_room = subst (λ n. NoneHasRoom c.region_words (λ r. served c m t (Top r)) n c.regions) (asks c m t waits) none;
+      no_room = subst (λ n. NoneHasRoom config.region_words (λ r. served config memory mutator (Top r)) n config.regions) (asks config memory mutator waits) none;
     }
 
-pub left_from : (c : Config) (m : Word → ℕ) (t : ℕ) → IsLeft c m t → (served c m t (Wait t) ≢ 0)
-    × NoneHasRoom c.region_words (λ r. served c m t (Top r)) (object_words (request_shape_in (served c m t (Wait t)))) c.regions
-left_from c m t left = (
-  λ e. left.waits (sym (wait_is c m t) ∙ e),
-  subst (λ n. NoneHasRoom c.region_words (λ r. served c m t (Top r)) n c.regions) (sym (asks c m t left.waits)) left.no_room,
+pub left_from : (config : Config) (memory : Word → ℕ) (mutator : ℕ) → IsLeft config memory mutator → (served config memory mutator (Wait mutator) ≢ 0)
+    × NoneHasRoom config.region_words (λ r. served config memory mutator (Top r)) (object_words (request_shape_in (served config memory mutator (Wait mutator)))) config.regions
+left_from config memory mutator left = (
+  λ e. left.waits (sym (wait_is config memory mutator) ∙ e),
+  subst (λ n. NoneHasRoom config.region_words (λ r. served config memory mutator (Top r)) n config.regions) (sym (asks config memory mutator left.waits)) left.no_room,
 )
 
 -- whether a request is left of the threads that had their turn
-pub record IsTold (c : Config) (m : Word → ℕ) (t : ℕ) (all : Bool) : Type 0 where
-  pub left : all ≡ false → (u : ℕ) × IsLeft c m u
-  pub served : all ≡ true → (u : ℕ) → u < t → IsLeft c m u → ⊥
+pub record IsTold (config : Config) (memory : Word → ℕ) (t : ℕ) (all : Bool) : Type 0 where
+  pub left : all ≡ false → (u : ℕ) × IsLeft config memory u
+  pub served : all ≡ true → (u : ℕ) → u < t → IsLeft config memory u → ⊥
 
 -- after a turn that found no room, ..
-pub told_left : (c : Config) (m : Word → ℕ) (t : ℕ) → IsLeft c m t → IsTold c m (t + 1) false
-told_left c m t left = record { left = λ _. (t, left); served = λ never. absurd (false≢true never) }
+pub told_left : (config : Config) (memory : Word → ℕ) (t : ℕ) → IsLeft config memory t → IsTold config memory (t + 1) false
+told_left config memory t left = record { left = λ _. (t, left); served = λ never. absurd (false≢true never) }
 
 -- .. and after another
-pub told_served : (c : Config) (m : Word → ℕ) (t : ℕ) (all : Bool) → (IsLeft c m t → ⊥) → IsTold c m t all → IsTold c m (t + 1) all
-told_served c m t all here before = record {
+pub told_served : (config : Config) (memory : Word → ℕ) (t : ℕ) (all : Bool) → (IsLeft config memory t → ⊥) → IsTold config memory t all → IsTold config memory (t + 1) all
+told_served config memory t all here before = record {
   left = before.left;
   served = λ yes u below left. ⊎_elim
-      (λ (now : u ≡ t). here (subst (IsLeft c m) now left))
+      (λ (now : u ≡ t). here (subst (IsLeft config memory) now left))
       (λ (other : u ≢ t). before.served yes u (omega (arith, below, other)) left)
       (cases_eq u t);
 }

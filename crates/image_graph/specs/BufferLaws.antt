@@ -10,15 +10,15 @@ use Rattle.image_graph.specs.LetGo.{let_go, HasNoBuffers}
 use Rattle.image_graph.specs.Edge.{is_last_in, edge}
 
 -- After settling each buffer is the last of its region, and no top is another.
-pub record SettlingLeaves (c : Config) (memory : Word → ℕ) : Type 0 where
-  pub last : AreLast c (buffers_settled c memory)
-  pub tops : (r : ℕ) → buffers_settled c memory (Top r) ≡ memory (Top r)
+pub record SettlingLeaves (config : Config) (memory : Word → ℕ) : Type 0 where
+  pub last : AreLast config (buffers_settled config memory)
+  pub tops : (region : ℕ) → buffers_settled config memory (Top region) ≡ memory (Top region)
 
 -- After letting go nobody has a buffer.
 abbrev pub LettingGoLeaves : Config → (Word → ℕ) → Type 0
-LettingGoLeaves c memory = HasNoBuffers c (let_go c memory)
+LettingGoLeaves config memory = HasNoBuffers config (let_go config memory)
 
 -- No edge lies above the top, nor above the free words of a buffer that ends there.
-pub record EdgesLie (c : Config) (memory : Word → ℕ) (r : ℕ) : Type 0 where
-  pub below_top : edge c memory r ≤ memory (Top r)
-  pub below_free : (seat : ℕ) → seat < seat_count c.mutators c.helpers → is_last_in c memory r seat ≡ true → edge c memory r ≤ next_in (memory (Current seat)) - base_of c r
+pub record EdgesLie (config : Config) (memory : Word → ℕ) (region : ℕ) : Type 0 where
+  pub below_top : edge config memory region ≤ memory (Top region)
+  pub below_free : (seat : ℕ) → seat < seat_count config.mutators config.helpers → is_last_in config memory region seat ≡ true → edge config memory region ≤ next_in (memory (Current seat)) - base_of config region

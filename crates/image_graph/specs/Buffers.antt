@@ -12,35 +12,35 @@ use Rattle.image_graph.specs.Holds.{HoldsBy, AreSized}
 
 -- no seat but those of the heap has a buffer
 abbrev pub HasNoMoreSeats : Config → (Word → ℕ) → Type 0
-HasNoMoreSeats c memory = (seat : ℕ) → seat_count c.mutators c.helpers ≤ seat → memory (Current seat) ≡ 0
+HasNoMoreSeats config memory = (seat : ℕ) → seat_count config.mutators config.helpers ≤ seat → memory (Current seat) ≡ 0
 
 -- the pieces once buffers were settled: the free words of one that does not end at the top of its region only fill
 abbrev pub settled_piece : Config → (Word → ℕ) → Block → Block
-settled_piece c memory (spare seat words) = if is_last c memory (memory (Current seat)) then spare seat words else filler words
-settled_piece c memory piece = piece
+settled_piece config memory (spare seat words) = if is_last config memory (memory (Current seat)) then spare seat words else filler words
+settled_piece config memory piece = piece
 
 abbrev pub settled_block : Config → (Word → ℕ) → Plot → Plot
-settled_block c memory block a = option_map (settled_piece c memory) (block a)
+settled_block config memory block a = option_map (settled_piece config memory) (block a)
 
 -- Whatever graph the words held, in whatever way, they hold it once buffers were settled, by the pieces that are left; and where each piece
 -- said how many words it has, each does.
-pub record HoldsSettled (c : Config) (before after : Word → ℕ) (block : Plot) (owner : ℕ → Option ℕ) (p : Promises) (g : Graph) : Type 0 where
-  pub holds : HoldsBy c after (settled_block c before block) owner p g
-  pub sized : AreSized before block → AreSized after (settled_block c before block)
+pub record HoldsSettled (config : Config) (before after : Word → ℕ) (block : Plot) (owner : ℕ → Option ℕ) (promises : Promises) (graph : Graph) : Type 0 where
+  pub holds : HoldsBy config after (settled_block config before block) owner promises graph
+  pub sized : AreSized before block → AreSized after (settled_block config before block)
 
 abbrev pub SettlingHolds : Config → (before after : Word → ℕ) → Type 0
-SettlingHolds c before after = (block : Plot) (owner : ℕ → Option ℕ) (p : Promises) (g : Graph) → HoldsBy c before block owner p g
-    → HoldsSettled c before after block owner p g
+SettlingHolds config before after = (block : Plot) (owner : ℕ → Option ℕ) (promises : Promises) (graph : Graph) → HoldsBy config before block owner promises graph
+    → HoldsSettled config before after block owner promises graph
 
 -- They hold it once buffers were let go, by pieces of which none is room, and in which each object stays where it is.
-pub record HoldsLetGo (c : Config) (before after : Word → ℕ) (block : Plot) (owner : ℕ → Option ℕ) (p : Promises) (g : Graph) : Type 0 where
+pub record HoldsLetGo (config : Config) (before after : Word → ℕ) (block : Plot) (owner : ℕ → Option ℕ) (promises : Promises) (graph : Graph) : Type 0 where
   pub pieces : Plot
-  pub holds : HoldsBy c after pieces owner p g
+  pub holds : HoldsBy config after pieces owner promises graph
   pub none : HasNoRoom pieces
-  pub stays : (a : ℕ) (b : Block) → is_loose b ≡ false → block a ≡ Some b → pieces a ≡ Some b
-  pub came : (a : ℕ) (b : Block) → is_loose b ≡ false → pieces a ≡ Some b → block a ≡ Some b
+  pub stays : (address : ℕ) (piece : Block) → is_loose piece ≡ false → block address ≡ Some piece → pieces address ≡ Some piece
+  pub came : (address : ℕ) (piece : Block) → is_loose piece ≡ false → pieces address ≡ Some piece → block address ≡ Some piece
   pub sized : AreSized before block → AreSized after pieces
 
 abbrev pub LettingGoHolds : Config → (before after : Word → ℕ) → Type 0
-LettingGoHolds c before after = (block : Plot) (owner : ℕ → Option ℕ) (p : Promises) (g : Graph) → HoldsBy c before block owner p g
-    → HoldsLetGo c before after block owner p g
+LettingGoHolds config before after = (block : Plot) (owner : ℕ → Option ℕ) (promises : Promises) (graph : Graph) → HoldsBy config before block owner promises graph
+    → HoldsLetGo config before after block owner promises graph

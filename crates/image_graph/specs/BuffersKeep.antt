@@ -12,22 +12,22 @@ use Rattle.image_graph.specs.LetGo.{let_go, HasNoBuffers}
 use Rattle.image_graph.specs.Divided.{AreDivided}
 
 -- What words represent they represent after buffers were settled, ..
-pub record SettlingKeeps (c : Config) (memory : Word → ℕ) (g : Graph) (asking : ℕ → Asking) : Type 0 where
-  pub represents : Represents c memory g asking → Represents c (buffers_settled c memory) g asking
-  pub by_copies : RepresentsByCopies c memory g asking → RepresentsByCopies c (buffers_settled c memory) g asking
+pub record SettlingKeeps (config : Config) (memory : Word → ℕ) (graph : Graph) (asking : ℕ → Asking) : Type 0 where
+  pub represents : Represents config memory graph asking → Represents config (buffers_settled config memory) graph asking
+  pub by_copies : RepresentsByCopies config memory graph asking → RepresentsByCopies config (buffers_settled config memory) graph asking
 
 -- .. and after they were let go, where there are no words of buffers but the seats'.
-pub record LettingGoKeeps (c : Config) (memory : Word → ℕ) (g : Graph) (asking : ℕ → Asking) : Type 0 where
-  pub represents : Represents c memory g asking → Represents c (let_go c memory) g asking
-  pub by_copies : RepresentsByCopies c memory g asking → RepresentsByCopies c (let_go c memory) g asking
+pub record LettingGoKeeps (config : Config) (memory : Word → ℕ) (graph : Graph) (asking : ℕ → Asking) : Type 0 where
+  pub represents : Represents config memory graph asking → Represents config (let_go config memory) graph asking
+  pub by_copies : RepresentsByCopies config memory graph asking → RepresentsByCopies config (let_go config memory) graph asking
 
 abbrev pub HasNoOtherBuffers : Config → (Word → ℕ) → Type 0
-HasNoOtherBuffers c memory = (seat : ℕ) → seat_count c.mutators c.helpers ≤ seat → memory (Current seat) ≡ 0
+HasNoOtherBuffers config memory = (seat : ℕ) → seat_count config.mutators config.helpers ≤ seat → memory (Current seat) ≡ 0
 
 -- Where each buffer is the last of its region, edges divide the pieces, ..
 abbrev pub LastDivide : Type 0
-LastDivide = (c : Config) (memory : Word → ℕ) (g : Graph) (asking : ℕ → Asking) (r : RepresentsByCopies c memory g asking) → AreLast c memory → AreDivided c memory r.block
+LastDivide = (config : Config) (memory : Word → ℕ) (graph : Graph) (asking : ℕ → Asking) (r : RepresentsByCopies config memory graph asking) → AreLast config memory → AreDivided config memory r.block
 
 -- .. and where nobody has a buffer, no piece is room.
 abbrev pub NoneHaveRoom : Type 0
-NoneHaveRoom = (c : Config) (memory : Word → ℕ) (g : Graph) (asking : ℕ → Asking) (r : RepresentsByCopies c memory g asking) → HasNoBuffers c memory → HasNoRoom r.block
+NoneHaveRoom = (config : Config) (memory : Word → ℕ) (graph : Graph) (asking : ℕ → Asking) (r : RepresentsByCopies config memory graph asking) → HasNoBuffers config memory → HasNoRoom r.block

@@ -7,7 +7,7 @@ use Rattle.image_graph.specs.Edge.{edge}
 
 -- All room lies at or above the edge of its region, all else below it, and no edge is above the top: what is allocated from now on is young
 -- by the edges.
-pub record AreDivided (c : Config) (memory : Word → ℕ) (block : Plot) : Type 0 where
-  pub rooms : AreYoungRooms c (edge c memory) block
-  pub others : (a : ℕ) (x : Block) → block a ≡ Some x → room_of x ≡ None → IsYoung c (edge c memory) a → ⊥
-  pub tops : (r : ℕ) → edge c memory r ≤ memory (Top r)
+pub record AreDivided (config : Config) (memory : Word → ℕ) (block : Plot) : Type 0 where
+  pub rooms : AreYoungRooms config (edge config memory) block
+  pub others : (address : ℕ) (piece : Block) → block address ≡ Some piece → room_of piece ≡ None → IsYoung config (edge config memory) address → ⊥
+  pub tops : (region : ℕ) → edge config memory region ≤ memory (Top region)

@@ -9,16 +9,16 @@ use Rattle.image_graph.specs.SeatBuffers.{buffer_region, is_last}
 
 -- a seat has a buffer in a region that ends at its top
 abbrev pub is_last_in : Config → (Word → ℕ) → (region seat : ℕ) → Bool
-is_last_in c memory r seat = not (memory (Current seat) == 0) && (buffer_region c (memory (Current seat)) == r) && is_last c memory (memory (Current seat))
+is_last_in config memory r seat = not (memory (Current seat) == 0) && (buffer_region config (memory (Current seat)) == r) && is_last config memory (memory (Current seat))
 
 -- the lesser of a number, and of where the free words of so many seats begin that end at the top
 unfoldable pub edge_below : Config → (Word → ℕ) → (region : ℕ) → ℕ → ℕ
-edge_below c memory r zero = memory (Top r)
-edge_below c memory r (suc seat) =
-    if is_last_in c memory r seat && nat_lt (next_in (memory (Current seat)) - base_of c r) (edge_below c memory r seat)
-    then next_in (memory (Current seat)) - base_of c r
-    else edge_below c memory r seat
+edge_below config memory other_region zero = memory (Top other_region)
+edge_below config memory other_region (suc seat) =
+    if is_last_in config memory other_region seat && nat_lt (next_in (memory (Current seat)) - base_of config other_region) (edge_below config memory other_region seat)
+    then next_in (memory (Current seat)) - base_of config other_region
+    else edge_below config memory other_region seat
 
 -- The words of a region from its base that are in use, but for the free words of a buffer that ends at its top: the least, where several do.
 abbrev pub edge : Config → (Word → ℕ) → ℕ → ℕ
-edge c memory r = edge_below c memory r (seat_count c.mutators c.helpers)
+edge config memory r = edge_below config memory r (seat_count config.mutators config.helpers)

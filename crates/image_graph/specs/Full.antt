@@ -21,7 +21,7 @@ use Rattle.image_graph.specs.Plot.{heap_end, packed_top}
 
 -- the address of the current copy of what begins at an address, by its header
 abbrev pub now_in : (Word → ℕ) → ℕ → ℕ
-now_in memory a = if is_forwarded (memory (Heap a)) then forwardee_in (memory (Heap a)) else a
+now_in memory address = if is_forwarded (memory (Heap address)) then forwardee_in (memory (Heap address)) else address
 
 -- Which objects are kept.
 
@@ -37,15 +37,15 @@ answers_below memory (suc t) = answers_below memory t ++ (if nat_le (memory (Ans
 
 -- the words that name objects, and are renewed when these move: roots, and answers that nobody has taken yet
 abbrev pub root_words : Config → (Word → ℕ) → List ℕ
-root_words c memory = roots_below memory c.mutators ++ answers_below memory c.mutators
+root_words config memory = roots_below memory config.mutators ++ answers_below memory config.mutators
 
 -- the words that hold objects: these and the pin slots, whose objects do not move
 abbrev pub held_words : Config → (Word → ℕ) → List ℕ
-held_words c memory = root_words c memory ++ pins_below memory c.mutators
+held_words config memory = root_words config memory ++ pins_below memory config.mutators
 
 -- the references of the object at an address
 abbrev pub field_words : (Word → ℕ) → ℕ → List ℕ
-field_words memory a = map (λ i. memory (Heap (a + 3 + i))) (range_with_len 0 (refs_in (memory (Heap (a + 1)))))
+field_words memory address = map (λ i. memory (Heap (address + 3 + i))) (range_with_len 0 (refs_in (memory (Heap (address + 1)))))
 
 -- the current copies of what some words hold; null stays null
 abbrev pub copies_of : (Word → ℕ) → List ℕ → List ℕ
@@ -53,11 +53,11 @@ copies_of memory = map (λ word. if word == 0 then 0 else now_in memory word)
 
 -- the addresses of all objects that these lead to, by current copies: as many turns as the heap has words are enough
 abbrev pub held_in : Config → (Word → ℕ) → List ℕ
-held_in c memory = found_in (λ a. copies_of memory (field_words memory a)) (copies_of memory (held_words c memory)) (c.regions * c.region_words)
+held_in config memory = found_in (λ a. copies_of memory (field_words memory a)) (copies_of memory (held_words config memory)) (config.regions * config.region_words)
 
 -- how many words each of them has, and 0 for each other address
 abbrev pub kept_in : Config → (Word → ℕ) → ℕ → ℕ
-kept_in c memory a = if has (held_in c memory) a then object_words (memory (Heap (a + 1))) else 0
+kept_in config memory address = if has (held_in config memory) address then object_words (memory (Heap (address + 1))) else 0
 
 -- Packing.
 
@@ -67,7 +67,7 @@ empty_regions top = set_of (λ r. top r == 0)
 
 -- the new place of a kept object: in a pinned region, by the row, it stays
 abbrev pub place_in : Config → (shut : ℕ → Bool) (kept : ℕ → ℕ) → ℕ → ℕ
-place_in c shut kept = new_place c.region_words shut kept
+place_in config shut kept = new_place config.region_words shut kept
 
 -- an answer that is an address is renewed as a root is
 abbrev pub renewed_answer : (place now : ℕ → ℕ) → ℕ → ℕ
@@ -75,55 +75,55 @@ renewed_answer place now word = if nat_le word 1 then word else place (now word)
 
 -- what is left over in pinned regions: objects that are not kept. Words that only fill are none
 abbrev pub is_unkept : (kept : ℕ → ℕ) → (Word → ℕ) → ℕ → Bool
-is_unkept kept memory a = not (is_filler (memory (Heap a))) && (kept a == 0)
+is_unkept kept memory address = not (is_filler (memory (Heap address))) && (kept address == 0)
 
 -- the top of each region then: that of a pinned region stays
 abbrev pub top_then : Config → (shut : ℕ → Bool) (kept : ℕ → ℕ) → (Word → ℕ) → ℕ → ℕ
-top_then c shut kept memory r = if shut (r + 1) then memory (Top r) else packed_top c shut kept r
+top_then config shut kept memory region = if shut (region + 1) then memory (Top region) else packed_top config shut kept region
 
 -- the heap after the kept objects were moved
 unfoldable pub moved_heap : Config → (shut : ℕ → Bool) (now kept : ℕ → ℕ) → (Word → ℕ) → ℕ → ℕ
-moved_heap c shut now kept memory a = slid (place_in c shut kept) kept (renewed (place_in c shut kept) now) (λ x. memory (Heap x)) (heap_end c) a
+moved_heap config shut now kept memory a = slid (place_in config shut kept) kept (renewed (place_in config shut kept) now) (λ x. memory (Heap x)) (heap_end config) a
 
 -- The words after the kept objects were packed: objects at their new places, references renewed, what is left over in pinned regions
 -- only fills, tops and the free word by what was placed. Nothing of a collection in progress is left. Words that no object covers stay,
 -- and so do requests, pin slots, what SATB buffers had in them, and the words of the machines themselves.
 unfoldable pub packed : Config → (shut : ℕ → Bool) (now kept : ℕ → ℕ) → (Word → ℕ) → Word → ℕ
-packed c shut now kept memory (Heap a) =
-    if shut (region_with c a + 1) && (begins c memory a && is_unkept kept memory a) then filler_header (object_words (memory (Heap (a + 1)))) else moved_heap c shut now kept memory a
-packed c shut now kept memory (Root t i) = renewed (place_in c shut kept) now (memory (Root t i))
-packed c shut now kept memory (Answer t) = renewed_answer (place_in c shut kept) now (memory (Answer t))
-packed c shut now kept memory (Pin t i) = memory (Pin t i)
-packed c shut now kept memory (Top r) = top_then c shut kept memory r
-packed c shut now kept memory Free = empty_regions (top_then c shut kept memory) c.regions
-packed c shut now kept memory Phase = idle_phase
-packed c shut now kept memory Cset = 0
-packed c shut now kept memory Evac = 0
-packed c shut now kept memory Claim = 0
-packed c shut now kept memory Ask = 0
-packed c shut now kept memory (Tams r) = 0
-packed c shut now kept memory (Limit r) = 0
-packed c shut now kept memory (Current seat) = 0
-packed c shut now kept memory Share = 0
-packed c shut now kept memory (Count t) = 0
-packed c shut now kept memory (Grey n) = 0
-packed c shut now kept memory (Black n) = 0
-packed c shut now kept memory (Wait t) = memory (Wait t)
-packed c shut now kept memory (Buffer t i) = memory (Buffer t i)
-packed c shut now kept memory (State seat) = memory (State seat)
-packed c shut now kept memory Pause = memory Pause
-packed c shut now kept memory Left = memory Left
-packed c shut now kept memory End = memory End
+packed config shut now kept memory (Heap a) =
+    if shut (region_with config a + 1) && (begins config memory a && is_unkept kept memory a) then filler_header (object_words (memory (Heap (a + 1)))) else moved_heap config shut now kept memory a
+packed config shut now kept memory (Root t i) = renewed (place_in config shut kept) now (memory (Root t i))
+packed config shut now kept memory (Answer t) = renewed_answer (place_in config shut kept) now (memory (Answer t))
+packed config shut now kept memory (Pin t i) = memory (Pin t i)
+packed config shut now kept memory (Top r) = top_then config shut kept memory r
+packed config shut now kept memory Free = empty_regions (top_then config shut kept memory) config.regions
+packed config shut now kept memory Phase = idle_phase
+packed config shut now kept memory Cset = 0
+packed config shut now kept memory Evac = 0
+packed config shut now kept memory Claim = 0
+packed config shut now kept memory Ask = 0
+packed config shut now kept memory (Tams r) = 0
+packed config shut now kept memory (Limit r) = 0
+packed config shut now kept memory (Current seat) = 0
+packed config shut now kept memory Share = 0
+packed config shut now kept memory (Count t) = 0
+packed config shut now kept memory (Grey n) = 0
+packed config shut now kept memory (Black n) = 0
+packed config shut now kept memory (Wait t) = memory (Wait t)
+packed config shut now kept memory (Buffer t i) = memory (Buffer t i)
+packed config shut now kept memory (State seat) = memory (State seat)
+packed config shut now kept memory Pause = memory Pause
+packed config shut now kept memory Left = memory Left
+packed config shut now kept memory End = memory End
 
 -- the words after packing, before requests are served
 abbrev pub packed_in : Config → (Word → ℕ) → Word → ℕ
-packed_in c memory = packed c (is_row_pinned c memory) (now_in memory) (kept_in c memory) memory
+packed_in config memory = packed config (is_row_pinned config memory) (now_in memory) (kept_in config memory) memory
 
 -- Serving.
 
 -- the words that the request of a thread asks for; 0 where it does not wait
 abbrev pub asked_in : (Word → ℕ) → ℕ → ℕ
-asked_in memory t = if memory (Wait t) == 0 then 0 else object_words (request_shape_in (memory (Wait t)))
+asked_in memory mutator = if memory (Wait mutator) == 0 then 0 else object_words (request_shape_in (memory (Wait mutator)))
 
 -- what a word of the heap is after an object of a shape and a name word was made at an address: its fields are null and 0
 abbrev pub made_word : (address shape name before x : ℕ) → ℕ
@@ -134,28 +134,28 @@ made_word address shape name before x =
 
 -- the words after the object that a thread asks for was made at the top of a region
 unfoldable pub made_in : Config → (Word → ℕ) → (thread region : ℕ) → Word → ℕ
-made_in c memory t r (Heap x) =
-    made_word (base_of c r + memory (Top r)) (request_shape_in (memory (Wait t))) (name_code (t + 1) (request_count_in (memory (Wait t)))) (memory (Heap x)) x
-made_in c memory t r (Top q) = if r == q then memory (Top r) + object_words (request_shape_in (memory (Wait t))) else memory (Top q)
-made_in c memory t r Free = bit_and (memory Free) (all_but r)
-made_in c memory t r (Answer u) = if t == u then base_of c r + memory (Top r) else memory (Answer u)
-made_in c memory t r (Wait u) = if t == u then 0 else memory (Wait u)
-made_in c memory t r word = memory word
+made_in config memory mutator other_region (Heap x) =
+    made_word (base_of config other_region + memory (Top other_region)) (request_shape_in (memory (Wait mutator))) (name_code (mutator + 1) (request_count_in (memory (Wait mutator)))) (memory (Heap x)) x
+made_in config memory mutator other_region (Top q) = if other_region == q then memory (Top other_region) + object_words (request_shape_in (memory (Wait mutator))) else memory (Top q)
+made_in config memory mutator other_region Free = bit_and (memory Free) (all_but other_region)
+made_in config memory mutator other_region (Answer u) = if mutator == u then base_of config other_region + memory (Top other_region) else memory (Answer u)
+made_in config memory mutator other_region (Wait u) = if mutator == u then 0 else memory (Wait u)
+made_in config memory mutator other_region word = memory word
 
 -- and where no region was found, as they were
 abbrev pub served_in : Config → (Word → ℕ) → (thread : ℕ) → Option ℕ → Word → ℕ
-served_in c memory t None word = memory word
-served_in c memory t (Some r) word = made_in c memory t r word
+served_in config memory t None word = memory word
+served_in config memory t (Some r) word = made_in config memory t r word
 
 -- the region that the request of a thread finds: the lowest one that has room for it
 abbrev pub room_for : Config → (Word → ℕ) → ℕ → Option ℕ
-room_for c memory t = lowest_room c.region_words (λ r. memory (Top r)) (object_words (request_shape_in (memory (Wait t)))) c.regions
+room_for config memory mutator = lowest_room config.region_words (λ r. memory (Top r)) (object_words (request_shape_in (memory (Wait mutator)))) config.regions
 
 -- the words after each of so many threads had its turn, in their order; who does not wait has none
 unfoldable pub served : Config → (Word → ℕ) → ℕ → Word → ℕ
-served c memory zero word = memory word
-served c memory (suc t) word =
-    if served c memory t (Wait t) == 0 then served c memory t word else served_in c (served c memory t) t (room_for c (served c memory t) t) word
+served config memory zero word = memory word
+served config memory (suc t) word =
+    if served config memory t (Wait t) == 0 then served config memory t word else served_in config (served config memory t) t (room_for config (served config memory t) t) word
 
 -- the words after each request that is left was answered: the heap is full
 unfoldable pub refused : (Word → ℕ) → Word → ℕ
@@ -165,8 +165,8 @@ refused memory word = memory word
 
 -- the words after a full collection, from words in which no seat has a buffer
 abbrev pub full_from : Config → (Word → ℕ) → Word → ℕ
-full_from c memory = refused (served c (packed_in c memory) c.mutators)
+full_from config memory = refused (served config (packed_in config memory) config.mutators)
 
 -- The words after a full collection: buffers are let go first.
 abbrev pub full : Config → (Word → ℕ) → Word → ℕ
-full c memory = full_from c (let_go c memory)
+full config memory = full_from config (let_go config memory)

@@ -11,7 +11,7 @@ use Rattle.heap_world.specs.World.{Plot, thing, name_at, IsPlotted, IsThing}
 -- The addresses of the objects that some words lead to. `now` gives the address of an object's current copy.
 pub data IsLedTo (now heap : ℕ → ℕ) (IsRoot : ℕ → Type 0) : ℕ → Type 0 where
   from_root : (word : ℕ) → IsRoot word → word ≢ 0 → IsLedTo now heap IsRoot (now word)
-  from_field : (a i : ℕ) → IsLedTo now heap IsRoot a → i < refs_in (heap (a + 1)) → heap (a + 3 + i) ≢ 0 → IsLedTo now heap IsRoot (now (heap (a + 3 + i)))
+  from_field : (address i : ℕ) → IsLedTo now heap IsRoot address → i < refs_in (heap (address + 1)) → heap (address + 3 + i) ≢ 0 → IsLedTo now heap IsRoot (now (heap (address + 3 + i)))
 
 -- a word is one of a list
 abbrev pub IsAmong : List ℕ → ℕ → Type 0
@@ -19,8 +19,8 @@ IsAmong roots word = has roots word ≡ true
 
 -- how many words each held object has, and 0 for each other address
 pub record AreHeldKept (heap : ℕ → ℕ) (Held : ℕ → Type 0) (kept : ℕ → ℕ) : Type 0 where
-  pub words : (a : ℕ) → Held a → kept a ≡ object_words (heap (a + 1))
-  pub only : (a : ℕ) → 0 < kept a → Held a
+  pub words : (address : ℕ) → Held address → kept address ≡ object_words (heap (address + 1))
+  pub only : (address : ℕ) → 0 < kept address → Held address
 
 -- the list with the fields of an object at its end, if there is one
 abbrev pub with_fields : (ℕ → List ℕ) → List ℕ → Option ℕ → List ℕ
@@ -34,18 +34,18 @@ found_in fields roots (suc n) = with_fields fields (found_in fields roots n) (sl
 
 -- an object of a name is at an address, and is its current copy
 abbrev pub IsCopy : Plot → ℕ → Name → Type 0
-IsCopy block a name = (refs : ℕ) × (nums : ℕ) × (block a ≡ Some (thing name refs nums))
+IsCopy block address name = (refs : ℕ) × (nums : ℕ) × (block address ≡ Some (thing name refs nums))
 
 -- The words of a heap stand for a graph, where objects may have old copies: whatever stands for a name has its current
 -- copy, each object that is held is one of the graph, and root words stand for the roots, which are all that the graph's objects are
 -- reached from: it has no pins. Nothing is asked of objects that are not held.
-pub record HoldsGraph (c : Config) (top heap : ℕ → ℕ) (block : Plot) (now : ℕ → ℕ) (IsRoot : ℕ → Type 0) (g : Graph) : Type 0 where
-  pub plotted : IsPlotted c top block
+pub record HoldsGraph (config : Config) (top heap : ℕ → ℕ) (block : Plot) (now : ℕ → ℕ) (IsRoot : ℕ → Type 0) (graph : Graph) : Type 0 where
+  pub plotted : IsPlotted config top block
   pub current : (word : ℕ) (name : Name) → name_at (block word) ≡ Some name → IsCopy block (now word) name
-  pub each : (a refs nums : ℕ) (name : Name) → IsLedTo now heap IsRoot a → block a ≡ Some (thing name refs nums)
-      → (o : Object) × (g.object name ≡ Some o) × IsThing heap block a refs nums name o
-  pub once : (a b refs nums more_refs more_nums : ℕ) (name : Name) → IsLedTo now heap IsRoot a → IsLedTo now heap IsRoot b
-      → block a ≡ Some (thing name refs nums) → block b ≡ Some (thing name more_refs more_nums) → a ≡ b
-  pub root_named : (word : ℕ) → IsRoot word → word ≢ 0 → (t : ℕ) × (i : ℕ) × (name : Name) × (g.root t i ≡ Some name) × (name_at (block word) ≡ Some name)
-  pub root_held : (t i : ℕ) (name : Name) → g.root t i ≡ Some name → (word : ℕ) × IsRoot word × (name_at (block word) ≡ Some name)
-  pub pinless : (t slot : ℕ) (held : Pinned) → g.pin t slot ≡ Some held → ⊥
+  pub each : (address refs nums : ℕ) (name : Name) → IsLedTo now heap IsRoot address → block address ≡ Some (thing name refs nums)
+      → (object : Object) × (graph.object name ≡ Some object) × IsThing heap block address refs nums name object
+  pub once : (address other_address refs nums more_refs more_nums : ℕ) (name : Name) → IsLedTo now heap IsRoot address → IsLedTo now heap IsRoot other_address
+      → block address ≡ Some (thing name refs nums) → block other_address ≡ Some (thing name more_refs more_nums) → address ≡ other_address
+  pub root_named : (word : ℕ) → IsRoot word → word ≢ 0 → (thread : ℕ) × (i : ℕ) × (name : Name) × (graph.root thread i ≡ Some name) × (name_at (block word) ≡ Some name)
+  pub root_held : (thread i : ℕ) (name : Name) → graph.root thread i ≡ Some name → (word : ℕ) × IsRoot word × (name_at (block word) ≡ Some name)
+  pub pinless : (thread slot : ℕ) (held : Pinned) → graph.pin thread slot ≡ Some held → ⊥

@@ -15,7 +15,7 @@ use Rattle.image_graph.specs.Promised.{Promises, with_promised}
 
 -- an answer stands for what a thread is promised: 0 and 1 for nothing, and else the object's address
 abbrev pub AnswerStands : Plot → ℕ → Reference → Type 0
-AnswerStands block word r = ((word ≤ 1) × (r ≡ None)) ⊎ ((1 < word) × (name : Name) × (r ≡ Some name) × (name_at (block word) ≡ Some name))
+AnswerStands block word reference = ((word ≤ 1) × (reference ≡ None)) ⊎ ((1 < word) × (name : Name) × (reference ≡ Some name) × (name_at (block word) ≡ Some name))
 
 -- A pin word stands for what its slot holds: 0 for nothing, and else it is the object's place, where its current copy is.
 abbrev pub PinWordStands : (Word → ℕ) → Plot → ℕ → Option Pinned → Type 0
@@ -24,33 +24,33 @@ PinWordStands memory block word (Some p) = (word ≡ p.place) × IsCopy block wo
 
 -- The root words stand for the roots, the pin words for what pin slots hold, and the answers for what is promised; there are no other
 -- roots, pins and promises.
-pub record RootsStand (c : Config) (memory : Word → ℕ) (block : Plot) (g : Graph) (p : Promises) : Type 0 where
-  pub roots : (t i : ℕ) → t < c.mutators → i < 16 → Points block (memory (Root t i)) (g.root (t + 1) i)
-  pub answers : (t : ℕ) → t < c.mutators → AnswerStands block (memory (Answer t)) (p.ref (t + 1))
-  pub no_more_roots : (t i : ℕ) (name : Name) → g.root t i ≡ Some name → (u : ℕ) × (u < c.mutators) × (t ≡ u + 1) × (i < 16)
-  pub pins : (t i : ℕ) → t < c.mutators → i < 4 → PinWordStands memory block (memory (Pin t i)) (g.pin (t + 1) i)
-  pub no_more_pins : (t i : ℕ) (p : Pinned) → g.pin t i ≡ Some p → (u : ℕ) × (u < c.mutators) × (t ≡ u + 1) × (i < 4)
-  pub no_more_promised : (t : ℕ) (name : Name) → p.ref t ≡ Some name → (u : ℕ) × (u < c.mutators) × (t ≡ u + 1)
+pub record RootsStand (config : Config) (memory : Word → ℕ) (block : Plot) (graph : Graph) (p : Promises) : Type 0 where
+  pub roots : (mutator index : ℕ) → mutator < config.mutators → index < 16 → Points block (memory (Root mutator index)) (graph.root (mutator + 1) index)
+  pub answers : (mutator : ℕ) → mutator < config.mutators → AnswerStands block (memory (Answer mutator)) (p.ref (mutator + 1))
+  pub no_more_roots : (mutator index : ℕ) (name : Name) → graph.root mutator index ≡ Some name → (other_mutator : ℕ) × (other_mutator < config.mutators) × (mutator ≡ other_mutator + 1) × (index < 16)
+  pub pins : (mutator index : ℕ) → mutator < config.mutators → index < 4 → PinWordStands memory block (memory (Pin mutator index)) (graph.pin (mutator + 1) index)
+  pub no_more_pins : (mutator index : ℕ) (p : Pinned) → graph.pin mutator index ≡ Some p → (other_mutator : ℕ) × (other_mutator < config.mutators) × (mutator ≡ other_mutator + 1) × (index < 4)
+  pub no_more_promised : (mutator : ℕ) (name : Name) → p.ref mutator ≡ Some name → (other_mutator : ℕ) × (other_mutator < config.mutators) × (mutator ≡ other_mutator + 1)
 
 -- The words stand for a graph with promised objects: pieces fill the regions and each is one of its objects, or words that only fill;
 -- roots, pins and answers stand for its roots, and the free word is right.
-pub record ImageStands (c : Config) (memory : Word → ℕ) (block : Plot) (g : Graph) (p : Promises) : Type 0 where
-  pub plotted : IsPlotted c (λ r. memory (Top r)) block
-  pub filled : IsFilled c (λ r. memory (Top r)) block
-  pub objects : AreObjects (λ a. memory (Heap a)) block (with_promised g p).object
+pub record ImageStands (config : Config) (memory : Word → ℕ) (block : Plot) (graph : Graph) (promises : Promises) : Type 0 where
+  pub plotted : IsPlotted config (λ r. memory (Top r)) block
+  pub filled : IsFilled config (λ r. memory (Top r)) block
+  pub objects : AreObjects (λ a. memory (Heap a)) block (with_promised graph promises).object
   pub things : AreThings block
   pub fillers : FillersSay (λ a. memory (Heap a)) block
-  pub free_word : IsFreeWord c (memory Free) (λ r. memory (Top r)) (λ r. None)
-  pub rooted : RootsStand c memory block g p
+  pub free_word : IsFreeWord config (memory Free) (λ r. memory (Top r)) (λ r. None)
+  pub rooted : RootsStand config memory block graph promises
 
 -- An image whose words stand for a graph holds it, by current copies; ..
 abbrev pub StandingHolds : Type 0
-StandingHolds = (c : Config) (memory : Word → ℕ) (block : Plot) (g : Graph) (p : Promises) → ImageStands c memory block g p
-    → HoldsGraph c (λ r. memory (Top r)) (λ a. memory (Heap a)) block (now_in memory) (IsAmong (held_words c memory)) (with_promised g p)
+StandingHolds = (config : Config) (memory : Word → ℕ) (block : Plot) (graph : Graph) (promises : Promises) → ImageStands config memory block graph promises
+    → HoldsGraph config (λ r. memory (Top r)) (λ a. memory (Heap a)) block (now_in memory) (IsAmong (held_words config memory)) (with_promised graph promises)
 
 -- .. and where the words hold a graph, and pinned regions can be walked, they stand for it once what is held was packed.
 abbrev pub PackedStands : Type 0
-PackedStands = (c : Config) (memory : Word → ℕ) (block : Plot) (g : Graph) (p : Promises)
-    → HoldsGraph c (λ r. memory (Top r)) (λ a. memory (Heap a)) block (now_in memory) (IsAmong (held_words c memory)) (with_promised g p)
-    → RootsStand c memory block g p → AreParsed c (is_row_pinned c memory) (λ r. memory (Top r)) (λ a. memory (Heap a)) block
-    → ImageStands c (packed c (is_row_pinned c memory) (now_in memory) (kept_in c memory) memory) (packed_block c (is_row_pinned c memory) (kept_in c memory) block) g p
+PackedStands = (config : Config) (memory : Word → ℕ) (block : Plot) (graph : Graph) (promises : Promises)
+    → HoldsGraph config (λ r. memory (Top r)) (λ a. memory (Heap a)) block (now_in memory) (IsAmong (held_words config memory)) (with_promised graph promises)
+    → RootsStand config memory block graph promises → AreParsed config (is_row_pinned config memory) (λ r. memory (Top r)) (λ a. memory (Heap a)) block
+    → ImageStands config (packed config (is_row_pinned config memory) (now_in memory) (kept_in config memory) memory) (packed_block config (is_row_pinned config memory) (kept_in config memory) block) graph promises

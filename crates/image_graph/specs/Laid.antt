@@ -11,27 +11,27 @@ use Rattle.heap_world.specs.World.{ShareIsOpen}
 
 -- how many words the object at an address has
 abbrev pub laid_words : (Word → ℕ) → ℕ → ℕ
-laid_words m a = object_words (m (Heap (a + 1)))
+laid_words memory address = object_words (memory (Heap (address + 1)))
 
 -- where the part in use ends of the region that an address is of
 abbrev pub used_end : Config → (Word → ℕ) → ℕ → ℕ
-used_end c m a = base_of c (region_with c a) + m (Top (region_with c a))
+used_end config memory address = base_of config (region_with config address) + memory (Top (region_with config address))
 
 -- a word is null or the address of an object
 abbrev pub IsReference : List ℕ → ℕ → Type 0
 IsReference objects word = word ≢ 0 → has objects word ≡ true
 
 -- an object lies in the part in use of one region, up to its top or to the next object
-pub record LiesRight (c : Config) (m : Word → ℕ) (objects : List ℕ) (a : ℕ) : Type 0 where
-  pub above : c.region_words ≤ a
-  pub below : a + 3 ≤ (c.regions + 1) * c.region_words
-  pub to_top : a + laid_words m a ≤ used_end c m a
-  pub next : a + laid_words m a ≢ used_end c m a → has objects (a + laid_words m a) ≡ true
+pub record LiesRight (config : Config) (memory : Word → ℕ) (objects : List ℕ) (a : ℕ) : Type 0 where
+  pub above : config.region_words ≤ a
+  pub below : a + 3 ≤ (config.regions + 1) * config.region_words
+  pub to_top : a + laid_words memory a ≤ used_end config memory a
+  pub next : a + laid_words memory a ≢ used_end config memory a → has objects (a + laid_words memory a) ≡ true
 
 -- a name has a thread of the heap, or 0, and its count is below what the thread asks for
-pub record IsNamedRight (c : Config) (m : Word → ℕ) (name : ℕ) : Type 0 where
-  pub thread : thread_in name ≤ c.mutators
-  pub unasked : (t : ℕ) → t < c.mutators → thread_in name ≡ t + 1 → m (Wait t) ≢ 0 → count_in name < request_count_in (m (Wait t))
+pub record IsNamedRight (config : Config) (memory : Word → ℕ) (name : ℕ) : Type 0 where
+  pub thread : thread_in name ≤ config.mutators
+  pub unasked : (mutator : ℕ) → mutator < config.mutators → thread_in name ≡ mutator + 1 → memory (Wait mutator) ≢ 0 → count_in name < request_count_in (memory (Wait mutator))
 
 -- a shape word is one of few references and few numbers
 pub record IsShape (shape : ℕ) : Type 0 where
@@ -40,43 +40,43 @@ pub record IsShape (shape : ℕ) : Type 0 where
   pub whole : shape ≡ shape_word (refs_in shape) (nums_in shape)
 
 -- its words are a plain header, a shape, a name, and references
-pub record ReadsRight (c : Config) (m : Word → ℕ) (objects : List ℕ) (a : ℕ) : Type 0 where
-  pub header : m (Heap a) ≡ plain_header
-  pub shape : IsShape (m (Heap (a + 1)))
-  pub name : IsNamedRight c m (m (Heap (a + 2)))
-  pub fields : (i : ℕ) → i < refs_in (m (Heap (a + 1))) → IsReference objects (m (Heap (a + 3 + i)))
+pub record ReadsRight (config : Config) (memory : Word → ℕ) (objects : List ℕ) (address : ℕ) : Type 0 where
+  pub header : memory (Heap address) ≡ plain_header
+  pub shape : IsShape (memory (Heap (address + 1)))
+  pub name : IsNamedRight config memory (memory (Heap (address + 2)))
+  pub fields : (i : ℕ) → i < refs_in (memory (Heap (address + 1))) → IsReference objects (memory (Heap (address + 3 + i)))
 
 -- objects are in the order of their addresses and of their names, and no two share a word
-pub record AreInOrder (m : Word → ℕ) (objects : List ℕ) : Type 0 where
-  pub apart : (k : ℕ) → k + 1 < length objects → slice_index objects k + laid_words m (slice_index objects k) ≤ slice_index objects (k + 1)
-  pub named : (k : ℕ) → k + 1 < length objects → m (Heap (slice_index objects k + 2)) < m (Heap (slice_index objects (k + 1) + 2))
+pub record AreInOrder (memory : Word → ℕ) (objects : List ℕ) : Type 0 where
+  pub apart : (index : ℕ) → index + 1 < length objects → slice_index objects index + laid_words memory (slice_index objects index) ≤ slice_index objects (index + 1)
+  pub named : (index : ℕ) → index + 1 < length objects → memory (Heap (slice_index objects index + 2)) < memory (Heap (slice_index objects (index + 1) + 2))
 
 -- a region has no more words in use than it has, and an object at its base if it has some; a free one has none
-pub record IsRegionRight (c : Config) (m : Word → ℕ) (objects : List ℕ) (r : ℕ) : Type 0 where
-  pub within : m (Top r) ≤ c.region_words
-  pub first : 0 < m (Top r) → has objects (base_of c r) ≡ true
-  pub empty : IsIn (m Free) r → m (Top r) ≡ 0
+pub record IsRegionRight (config : Config) (memory : Word → ℕ) (objects : List ℕ) (region : ℕ) : Type 0 where
+  pub within : memory (Top region) ≤ config.region_words
+  pub first : 0 < memory (Top region) → has objects (base_of config region) ≡ true
+  pub empty : IsIn (memory Free) region → memory (Top region) ≡ 0
 
 -- a request is for an object that can be, and not answered
-pub record IsAskedRight (m : Word → ℕ) (t : ℕ) : Type 0 where
-  pub shape : IsShape (request_shape_in (m (Wait t)))
-  pub counted : 0 < request_count_in (m (Wait t))
-  pub unanswered : m (Answer t) ≡ 0
+pub record IsAskedRight (memory : Word → ℕ) (mutator : ℕ) : Type 0 where
+  pub shape : IsShape (request_shape_in (memory (Wait mutator)))
+  pub counted : 0 < request_count_in (memory (Wait mutator))
+  pub unanswered : memory (Answer mutator) ≡ 0
 
 -- the roots of a mutator are references, its pin slots are empty, and nothing was made for it
-pub record IsMutatorRight (m : Word → ℕ) (objects : List ℕ) (t : ℕ) : Type 0 where
-  pub roots : (i : ℕ) → i < 16 → IsReference objects (m (Root t i))
-  pub pins : (i : ℕ) → i < 4 → m (Pin t i) ≡ 0
-  pub answer : m (Answer t) ≤ 1
-  pub asked : m (Wait t) ≢ 0 → IsAskedRight m t
+pub record IsMutatorRight (memory : Word → ℕ) (objects : List ℕ) (mutator : ℕ) : Type 0 where
+  pub roots : (index : ℕ) → index < 16 → IsReference objects (memory (Root mutator index))
+  pub pins : (index : ℕ) → index < 4 → memory (Pin mutator index) ≡ 0
+  pub answer : memory (Answer mutator) ≤ 1
+  pub asked : memory (Wait mutator) ≢ 0 → IsAskedRight memory mutator
 
 -- All of it is so. No seat has a buffer, and the region that is shared, if one is, may be carved.
-pub record IsLaidOut (c : Config) (m : Word → ℕ) (objects : List ℕ) : Type 0 where
-  pub regions : (r : ℕ) → r < c.regions → IsRegionRight c m objects r
-  pub free : m Free < 2 ^ c.regions
-  pub unbuffered : (s : ℕ) → s < seat_count c.mutators c.helpers → m (Current s) ≡ 0
-  pub shared_one : ShareIsOpen c (m Share) (m Free) (m Cset) (λ r. None)
-  pub order : AreInOrder m objects
-  pub lies : (k : ℕ) → k < length objects → LiesRight c m objects (slice_index objects k)
-  pub reads : (k : ℕ) → k < length objects → ReadsRight c m objects (slice_index objects k)
-  pub mutators : (t : ℕ) → t < c.mutators → IsMutatorRight m objects t
+pub record IsLaidOut (config : Config) (memory : Word → ℕ) (objects : List ℕ) : Type 0 where
+  pub regions : (region : ℕ) → region < config.regions → IsRegionRight config memory objects region
+  pub free : memory Free < 2 ^ config.regions
+  pub unbuffered : (seat : ℕ) → seat < seat_count config.mutators config.helpers → memory (Current seat) ≡ 0
+  pub shared_one : ShareIsOpen config (memory Share) (memory Free) (memory Cset) (λ region. None)
+  pub order : AreInOrder memory objects
+  pub lies : (index : ℕ) → index < length objects → LiesRight config memory objects (slice_index objects index)
+  pub reads : (index : ℕ) → index < length objects → ReadsRight config memory objects (slice_index objects index)
+  pub mutators : (mutator : ℕ) → mutator < config.mutators → IsMutatorRight memory objects mutator

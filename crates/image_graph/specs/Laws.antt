@@ -16,40 +16,40 @@ use Rattle.image_graph.specs.Full.{packed, place_in, now_in, held_words, kept_in
 
 -- Exactly the reachable objects are held: what is held is the current copy of a reachable object, and each reachable
 -- object has a copy that is held.
-pub record HeldAreReachable (c : Config) (top heap : ℕ → ℕ) (block : Plot) (now : ℕ → ℕ) (IsRoot : ℕ → Type 0) (g : Graph) : Type 0 where
-  pub only : (a : ℕ) → IsLedTo now heap IsRoot a → (name : Name) × (refs : ℕ) × (nums : ℕ) × (block a ≡ Some (thing name refs nums)) × IsReachable g name
-  pub all : (name : Name) → IsReachable g name → (a : ℕ) × (refs : ℕ) × (nums : ℕ) × IsLedTo now heap IsRoot a × (block a ≡ Some (thing name refs nums))
+pub record HeldAreReachable (config : Config) (top heap : ℕ → ℕ) (block : Plot) (now : ℕ → ℕ) (IsRoot : ℕ → Type 0) (graph : Graph) : Type 0 where
+  pub only : (address : ℕ) → IsLedTo now heap IsRoot address → (name : Name) × (refs : ℕ) × (nums : ℕ) × (block address ≡ Some (thing name refs nums)) × IsReachable graph name
+  pub all : (name : Name) → IsReachable graph name → (address : ℕ) × (refs : ℕ) × (nums : ℕ) × IsLedTo now heap IsRoot address × (block address ≡ Some (thing name refs nums))
 
 -- so it is wherever words stand for a graph; the root words are a list
 abbrev pub ReachableAreHeld : Type 0
-ReachableAreHeld = (c : Config) (top heap : ℕ → ℕ) (block : Plot) (now : ℕ → ℕ) (roots : List ℕ) (g : Graph)
-    → HoldsGraph c top heap block now (IsAmong roots) g → HeldAreReachable c top heap block now (IsAmong roots) g
+ReachableAreHeld = (config : Config) (top heap : ℕ → ℕ) (block : Plot) (now : ℕ → ℕ) (roots : List ℕ) (graph : Graph)
+    → HoldsGraph config top heap block now (IsAmong roots) graph → HeldAreReachable config top heap block now (IsAmong roots) graph
 
 -- The words before packing stand for a graph, and exactly what the root words lead to is kept. Regions can be walked, where they are shut.
-pub record IsBeforePacking (c : Config) (memory : Word → ℕ) (block : Plot) (g : Graph) (shut : ℕ → Bool) (now kept : ℕ → ℕ) (roots : List ℕ) : Type 0 where
-  pub holds : HoldsGraph c (λ r. memory (Top r)) (λ a. memory (Heap a)) block now (IsAmong roots) g
+pub record IsBeforePacking (config : Config) (memory : Word → ℕ) (block : Plot) (graph : Graph) (shut : ℕ → Bool) (now kept : ℕ → ℕ) (roots : List ℕ) : Type 0 where
+  pub holds : HoldsGraph config (λ r. memory (Top r)) (λ a. memory (Heap a)) block now (IsAmong roots) graph
   pub kept_are : AreHeldKept (λ a. memory (Heap a)) (IsLedTo now (λ a. memory (Heap a)) (IsAmong roots)) kept
-  pub parsed : AreParsed c shut (λ r. memory (Top r)) (λ a. memory (Heap a)) block
+  pub parsed : AreParsed config shut (λ r. memory (Top r)) (λ a. memory (Heap a)) block
 
 -- After packing the words stand for the same graph: pieces fill the regions, and are the graph's objects or only fill; what a root word
 -- stood for it stands for once renewed, what lies in a shut region is where it was, and nobody has a region.
-pub record KeepsGraph (c : Config) (memory : Word → ℕ) (block : Plot) (g : Graph) (shut : ℕ → Bool) (now kept : ℕ → ℕ) (roots : List ℕ) : Type 0 where
-  pub plotted : IsPlotted c (λ r. packed c shut now kept memory (Top r)) (packed_block c shut kept block)
-  pub filled : IsFilled c (λ r. packed c shut now kept memory (Top r)) (packed_block c shut kept block)
-  pub objects : AreObjects (λ a. packed c shut now kept memory (Heap a)) (packed_block c shut kept block) g.object
-  pub root_words : (word : ℕ) (r : Reference) → IsAmong roots word → Points block word r → Points (packed_block c shut kept block) (renewed (place_in c shut kept) now word) r
-  pub stays : (word : ℕ) (name : Name) → IsAmong roots word → now word ≡ word → shut (word / c.region_words) ≡ true → IsCopy block word name → IsCopy (packed_block c shut kept block) word name
-  pub free_word : IsFreeWord c (packed c shut now kept memory Free) (λ r. packed c shut now kept memory (Top r)) (λ r. None)
-  pub things : AreThings (packed_block c shut kept block)
-  pub fillers : FillersSay (λ a. packed c shut now kept memory (Heap a)) (packed_block c shut kept block)
-  pub tops_sum : tops_where (λ r. not (shut (r + 1))) (λ r. packed c shut now kept memory (Top r)) c.regions ≡ sum_below (open_kept c.region_words shut kept) (heap_end c)
+pub record KeepsGraph (config : Config) (memory : Word → ℕ) (block : Plot) (graph : Graph) (shut : ℕ → Bool) (now kept : ℕ → ℕ) (roots : List ℕ) : Type 0 where
+  pub plotted : IsPlotted config (λ reference. packed config shut now kept memory (Top reference)) (packed_block config shut kept block)
+  pub filled : IsFilled config (λ reference. packed config shut now kept memory (Top reference)) (packed_block config shut kept block)
+  pub objects : AreObjects (λ a. packed config shut now kept memory (Heap a)) (packed_block config shut kept block) graph.object
+  pub root_words : (word : ℕ) (reference : Reference) → IsAmong roots word → Points block word reference → Points (packed_block config shut kept block) (renewed (place_in config shut kept) now word) reference
+  pub stays : (word : ℕ) (name : Name) → IsAmong roots word → now word ≡ word → shut (word / config.region_words) ≡ true → IsCopy block word name → IsCopy (packed_block config shut kept block) word name
+  pub free_word : IsFreeWord config (packed config shut now kept memory Free) (λ reference. packed config shut now kept memory (Top reference)) (λ reference. None)
+  pub things : AreThings (packed_block config shut kept block)
+  pub fillers : FillersSay (λ a. packed config shut now kept memory (Heap a)) (packed_block config shut kept block)
+  pub tops_sum : tops_where (λ reference. not (shut (reference + 1))) (λ reference. packed config shut now kept memory (Top reference)) config.regions ≡ sum_below (open_kept config.region_words shut kept) (heap_end config)
 
 abbrev pub PackingKeepsGraph : Type 0
-PackingKeepsGraph = (c : Config) (memory : Word → ℕ) (block : Plot) (g : Graph) (shut : ℕ → Bool) (now kept : ℕ → ℕ) (roots : List ℕ)
-    → IsBeforePacking c memory block g shut now kept roots → KeepsGraph c memory block g shut now kept roots
+PackingKeepsGraph = (config : Config) (memory : Word → ℕ) (block : Plot) (graph : Graph) (shut : ℕ → Bool) (now kept : ℕ → ℕ) (roots : List ℕ)
+    → IsBeforePacking config memory block graph shut now kept roots → KeepsGraph config memory block graph shut now kept roots
 
 -- the objects that one computes as kept are exactly those that the root words lead to, wherever words stand for a graph
 abbrev pub KeptAreHeld : Type 0
-KeptAreHeld = (c : Config) (memory : Word → ℕ) (block : Plot) (g : Graph)
-    → HoldsGraph c (λ r. memory (Top r)) (λ a. memory (Heap a)) block (now_in memory) (IsAmong (held_words c memory)) g
-    → AreHeldKept (λ a. memory (Heap a)) (IsLedTo (now_in memory) (λ a. memory (Heap a)) (IsAmong (held_words c memory))) (kept_in c memory)
+KeptAreHeld = (config : Config) (memory : Word → ℕ) (block : Plot) (graph : Graph)
+    → HoldsGraph config (λ r. memory (Top r)) (λ a. memory (Heap a)) block (now_in memory) (IsAmong (held_words config memory)) graph
+    → AreHeldKept (λ a. memory (Heap a)) (IsLedTo (now_in memory) (λ a. memory (Heap a)) (IsAmong (held_words config memory))) (kept_in config memory)

@@ -16,35 +16,35 @@ use Rattle.image_graph.specs.Serving.{AreAsking, served_block, served_promises}
 use Rattle.image_graph.specs.Holds.{HoldsBy, AreSized}
 
 -- a thread waits, and when its turn comes each region has less room than it asks for
-pub record IsLeft (c : Config) (memory : Word → ℕ) (t : ℕ) : Type 0 where
-  pub below : t < c.mutators
-  pub waits : memory (Wait t) ≢ 0
-  pub no_room : NoneHasRoom c.region_words (tops_at_turn c memory t) (asked_in memory t) c.regions
+pub record IsLeft (config : Config) (memory : Word → ℕ) (mutator : ℕ) : Type 0 where
+  pub below : mutator < config.mutators
+  pub waits : memory (Wait mutator) ≢ 0
+  pub no_room : NoneHasRoom config.region_words (tops_at_turn config memory mutator) (asked_in memory mutator) config.regions
 
 -- the words stand for the same graph as before all threads had their turn, and the objects that were made are promised
 abbrev pub IsServedGraph : Config → (before after : Word → ℕ) → Type 0
-IsServedGraph c before after = (block : Plot) (g : Graph) (p : Promises) → ImageStands c before block g p → AreAsking c before g p 0
-    → ImageStands c after (served_block c before block c.mutators) g (served_promises c before p c.mutators)
+IsServedGraph config before after = (block : Plot) (graph : Graph) (promises : Promises) → ImageStands config before block graph promises → AreAsking config before graph promises 0
+    → ImageStands config after (served_block config before block config.mutators) graph (served_promises config before promises config.mutators)
 
 -- Whatever graph the words held, in whatever way, they hold it afterwards, with the objects that were made as further pieces, which
 -- are promised; and where each piece said how many words it has, each does.
-pub record HoldsServed (c : Config) (before after : Word → ℕ) (block : Plot) (owner : ℕ → Option ℕ) (p : Promises) (g : Graph) : Type 0 where
-  pub holds : HoldsBy c after (served_block c before block c.mutators) owner (served_promises c before p c.mutators) g
-  pub sized : AreSized before block → AreSized after (served_block c before block c.mutators)
+pub record HoldsServed (config : Config) (before after : Word → ℕ) (block : Plot) (owner : ℕ → Option ℕ) (promises : Promises) (graph : Graph) : Type 0 where
+  pub holds : HoldsBy config after (served_block config before block config.mutators) owner (served_promises config before promises config.mutators) graph
+  pub sized : AreSized before block → AreSized after (served_block config before block config.mutators)
 
 abbrev pub ServingHolds : Config → (before after : Word → ℕ) → Type 0
-ServingHolds c before after = (block : Plot) (owner : ℕ → Option ℕ) (p : Promises) (g : Graph) → HoldsBy c before block owner p g
-    → HoldsServed c before after block owner p g
+ServingHolds config before after = (block : Plot) (owner : ℕ → Option ℕ) (promises : Promises) (graph : Graph) → HoldsBy config before block owner promises graph
+    → HoldsServed config before after block owner promises graph
 
 -- the words of heap, roots and pin slots of a table stand for some graph
 abbrev pub StandsForSome : Config → List ℕ → Type 0
-StandsForSome c words = StandForSome c.region_words (heap_in c words) (roots_in c words) (pins_in c words)
+StandsForSome config words = StandForSome config.region_words (heap_in config words) (roots_in config words) (pins_in config words)
 
 -- a text shows the graph that they stand for, whichever: what roots and pin slots lead to, by current copies
 abbrev pub ShowsTheGraph : Config → List ℕ → Text → Type 0
-ShowsTheGraph c words text = (at : ℕ → Option Name) (g : Graph) → WordsStand c.region_words (heap_in c words) (roots_in c words) (pins_in c words) at g → ShowsGraph text c.mutators g
+ShowsTheGraph config words text = (at : ℕ → Option Name) (graph : Graph) → WordsStand config.region_words (heap_in config words) (roots_in config words) (pins_in config words) at graph → ShowsGraph text config.mutators graph
 
 -- The words of an image that holds a graph stand for it, in whatever way it holds it.
 abbrev pub HoldingStands : Type 0
-HoldingStands = (c : Config) (words : List ℕ) (block : Plot) (owner : ℕ → Option ℕ) (p : Promises) (g : Graph) → length words ≡ table_words c
-    → HoldsBy c (view c words) block owner p g → (at : ℕ → Option Name) × WordsStand c.region_words (heap_in c words) (roots_in c words) (pins_in c words) at g
+HoldingStands = (config : Config) (words : List ℕ) (block : Plot) (owner : ℕ → Option ℕ) (promises : Promises) (graph : Graph) → length words ≡ table_words config
+    → HoldsBy config (view config words) block owner promises graph → (at : ℕ → Option Name) × WordsStand config.region_words (heap_in config words) (roots_in config words) (pins_in config words) at graph

@@ -9,5 +9,5 @@ use Rattle.image_graph.specs.declared.leftovers.Leftover.TheVariants.{Moved, Not
 
 -- an object that has moved, or that was not found; words that only fill are none
 abbrev pub is_left_over : (Word → ℕ) → (found : List ℕ) → Leftover → ℕ → Bool
-is_left_over memory found Moved a = is_forwarded (memory (Heap a))
-is_left_over memory found NotFound a = not (is_filler (memory (Heap a))) && not (has found a)
+is_left_over memory found Moved address = is_forwarded (memory (Heap address))
+is_left_over memory found NotFound address = not (is_filler (memory (Heap address))) && not (has found address)

@@ -10,23 +10,23 @@ use Rattle.image_graph.specs.SeatBuffers.{buffer_region, is_last, filled_over}
 
 -- the words after a buffer's free words, which end at the top, were given back
 abbrev pub given_back : Config → (Word → ℕ) → ℕ → Word → ℕ
-given_back c memory word = write memory (Top (buffer_region c word)) (next_in word - base_of c (buffer_region c word))
+given_back config memory word = write memory (Top (buffer_region config word)) (next_in word - base_of config (buffer_region config word))
 
 -- the words after the turn of a seat
 abbrev pub let_go_at : Config → (Word → ℕ) → (seat : ℕ) → Word → ℕ
-let_go_at c memory seat =
+let_go_at config memory seat =
     if memory (Current seat) == 0 then memory
-    else write (if is_last c memory (memory (Current seat)) then given_back c memory (memory (Current seat)) else filled_over memory (memory (Current seat))) (Current seat) 0
+    else write (if is_last config memory (memory (Current seat)) then given_back config memory (memory (Current seat)) else filled_over memory (memory (Current seat))) (Current seat) 0
 
 -- and after the turns of so many seats, in their order
 unfoldable pub let_go_below : Config → (Word → ℕ) → ℕ → Word → ℕ
-let_go_below c memory zero = memory
-let_go_below c memory (suc seat) = let_go_at c (let_go_below c memory seat) seat
+let_go_below config memory zero = memory
+let_go_below config memory (suc seat) = let_go_at config (let_go_below config memory seat) seat
 
 -- The words after all seats had their turn.
 abbrev pub let_go : Config → (Word → ℕ) → Word → ℕ
-let_go c memory = let_go_below c memory (seat_count c.mutators c.helpers)
+let_go config memory = let_go_below config memory (seat_count config.mutators config.helpers)
 
 -- no seat has a buffer
 abbrev pub HasNoBuffers : Config → (Word → ℕ) → Type 0
-HasNoBuffers c memory = (seat : ℕ) → seat < seat_count c.mutators c.helpers → memory (Current seat) ≡ 0
+HasNoBuffers config memory = (seat : ℕ) → seat < seat_count config.mutators config.helpers → memory (Current seat) ≡ 0

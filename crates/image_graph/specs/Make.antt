@@ -9,10 +9,10 @@ heap_cleared address words memory (Heap x) = if nat_le address x && nat_lt x (ad
 heap_cleared address words memory word = memory word
 
 -- so many words from an address on are of the heap
-pub record AreInHeap (c : Config) (address words : ℕ) : Type 0 where
-  pub from : c.region_words ≤ address
-  pub to : address + words ≤ (c.regions + 1) * c.region_words
+pub record AreInHeap (config : Config) (address words : ℕ) : Type 0 where
+  pub from : config.region_words ≤ address
+  pub to : address + words ≤ (config.regions + 1) * config.region_words
 
 -- no region uses more words than it has
 abbrev pub AreWithin : Config → (Word → ℕ) → Type 0
-AreWithin c memory = (r : ℕ) → r < c.regions → memory (Top r) ≤ c.region_words
+AreWithin config memory = (region : ℕ) → region < config.regions → memory (Top region) ≤ config.region_words

@@ -8,12 +8,12 @@ use Rattle.regions.specs.Table.{word_of, kept_of, place_of, now_of, LeadsToKept,
 
 -- The heap was slid around the regions that are shut, the tops are those of the packed objects, or in a shut region as before, and no word
 -- is changed that is of neither, before the heap or behind it. By the table of new places each word that led to a marked object can be renewed.
-pub record IsPacked (c : Config) (shut : ℕ → Bool) (marks : List Bool) (before after places : List ℕ) : Type 0 where
-  pub slid : IsSlidTo (c.region_words + heap_size c) c.region_words (place_of c.region_words shut (heap_in c before) marks) (kept_of c.region_words (heap_in c before) marks)
-      (renewed (place_of c.region_words shut (heap_in c before) marks) (now_of c.region_words (heap_in c before)))
-      (word_of c.region_words (heap_in c before)) (word_of c.region_words (heap_in c after))
-  pub tops : (r : ℕ) → r < c.regions → slice_index after (word_at c (Top r))
-      ≡ (if shut (r + 1) then slice_index before (word_at c (Top r)) else top_before c.region_words shut (kept_of c.region_words (heap_in c before) marks) r (c.region_words + heap_size c))
-  pub others : (k : ℕ) → k < heap_start c → (k < word_at c (Top 0)) ⊎ (word_at c (Top 0) + c.regions ≤ k) → slice_index after k ≡ slice_index before k
-  pub behind : (k : ℕ) → heap_start c + heap_size c ≤ k → slice_index after k ≡ slice_index before k
-  pub renews : (word : ℕ) → LeadsToKept c.region_words (heap_in c before) marks word → IsRenewedBy c.region_words shut (heap_in c before) marks places word
+pub record IsPacked (config : Config) (shut : ℕ → Bool) (marks : List Bool) (before after places : List ℕ) : Type 0 where
+  pub slid : IsSlidTo (config.region_words + heap_size config) config.region_words (place_of config.region_words shut (heap_in config before) marks) (kept_of config.region_words (heap_in config before) marks)
+      (renewed (place_of config.region_words shut (heap_in config before) marks) (now_of config.region_words (heap_in config before)))
+      (word_of config.region_words (heap_in config before)) (word_of config.region_words (heap_in config after))
+  pub tops : (region : ℕ) → region < config.regions → slice_index after (word_at config (Top region))
+      ≡ (if shut (region + 1) then slice_index before (word_at config (Top region)) else top_before config.region_words shut (kept_of config.region_words (heap_in config before) marks) region (config.region_words + heap_size config))
+  pub others : (index : ℕ) → index < heap_start config → (index < word_at config (Top 0)) ⊎ (word_at config (Top 0) + config.regions ≤ index) → slice_index after index ≡ slice_index before index
+  pub behind : (index : ℕ) → heap_start config + heap_size config ≤ index → slice_index after index ≡ slice_index before index
+  pub renews : (word : ℕ) → LeadsToKept config.region_words (heap_in config before) marks word → IsRenewedBy config.region_words shut (heap_in config before) marks places word

@@ -15,18 +15,18 @@ pins_below memory (suc t) = pins_below memory t ++ map (λ i. memory (Pin t i)) 
 
 -- an address lies in a region
 abbrev pub lies_in : Config → (region : ℕ) → ℕ → Bool
-lies_in c r a = nat_le (base_of c r) a && nat_lt a (base_of c r + c.region_words)
+lies_in config other_region a = nat_le (base_of config other_region) a && nat_lt a (base_of config other_region + config.region_words)
 
 -- a pin slot of a mutator holds an address of a region
 abbrev pub has_pin : Config → (Word → ℕ) → (region mutator : ℕ) → Bool
-has_pin c memory r t = list_any (λ i. lies_in c r (memory (Pin t i))) (range_with_len 0 4)
+has_pin config memory r other_mutator = list_any (λ i. lies_in config r (memory (Pin other_mutator i))) (range_with_len 0 4)
 
 -- A region is pinned: some pin slot holds an address there. Its objects stay where they are.
 abbrev pub is_pinned : Config → (Word → ℕ) → ℕ → Bool
-is_pinned c memory r = list_any (has_pin c memory r) (range_with_len 0 c.mutators)
+is_pinned config memory r = list_any (has_pin config memory r) (range_with_len 0 config.mutators)
 
 abbrev pub is_pinned_below : Config → (Word → ℕ) → (regions : ℕ) → ℕ → Bool
-is_pinned_below c memory regions r = nat_lt r regions && is_pinned c memory r
+is_pinned_below config memory regions r = nat_lt r regions && is_pinned config memory r
 
 -- the set of the first so many regions that pass a test
 unfoldable pub set_of : (ℕ → Bool) → ℕ → ℕ
@@ -35,42 +35,42 @@ set_of test (suc r) = (if test r then 1 else 0) * 2 ^ r + set_of test r
 
 -- the set of the pinned regions, and of a row of the heap whether its region is in it: rows are regions counted from 1
 abbrev pub pinned_set : Config → (Word → ℕ) → ℕ
-pinned_set c memory = set_of (is_pinned c memory) c.regions
+pinned_set config memory = set_of (is_pinned config memory) config.regions
 
 abbrev pub is_row_pinned : Config → (Word → ℕ) → ℕ → Bool
-is_row_pinned c memory = is_shut (pinned_set c memory)
+is_row_pinned config memory = is_shut (pinned_set config memory)
 
 -- where the object begins, or the words that only fill, that has a word of the heap
 abbrev pub object_of : Config → (Word → ℕ) → ℕ → ℕ
-object_of c memory x = base_of c (region_with c x) + start_of (λ a. memory (Heap a)) (base_of c (region_with c x)) (x - base_of c (region_with c x))
+object_of config memory address = base_of config (region_with config address) + start_of (λ a. memory (Heap a)) (base_of config (region_with config address)) (address - base_of config (region_with config address))
 
 -- an address lies in the part in use of one of the heap's regions
 abbrev pub is_in_use : Config → (Word → ℕ) → ℕ → Bool
-is_in_use c memory x = nat_le c.region_words x && (nat_lt (region_with c x) c.regions && nat_lt (x - base_of c (region_with c x)) (memory (Top (region_with c x))))
+is_in_use config memory address = nat_le config.region_words address && (nat_lt (region_with config address) config.regions && nat_lt (address - base_of config (region_with config address)) (memory (Top (region_with config address))))
 
 -- an object begins there, or words that only fill
 abbrev pub begins : Config → (Word → ℕ) → ℕ → Bool
-begins c memory x = is_in_use c memory x && (object_of c memory x == x)
+begins config memory x = is_in_use config memory x && (object_of config memory x == x)
 
 -- The words after the objects that pass a test, in the regions that pass another, became words that only fill. All other words stay.
 abbrev pub filled_in : Config → (in_region : ℕ → Bool) (left : ℕ → Bool) → (Word → ℕ) → Word → ℕ
-filled_in c in_region left memory (Heap a) =
-    if in_region (region_with c a) && begins c memory a && left a then filler_header (object_words (memory (Heap (a + 1)))) else memory (Heap a)
-filled_in c in_region left memory word = memory word
+filled_in config in_region left memory (Heap a) =
+    if in_region (region_with config a) && begins config memory a && left a then filler_header (object_words (memory (Heap (a + 1)))) else memory (Heap a)
+filled_in config in_region left memory word = memory word
 
 -- the words after one of them did, if it passes the test
 abbrev pub is_filled_from : Config → (left : ℕ → Bool) → (address : ℕ) → (Word → ℕ) → Word → ℕ
-is_filled_from c left a memory word = if left a then write memory (Heap a) (filler_header (object_words (memory (Heap (a + 1))))) word else memory word
+is_filled_from config left start memory word = if left start then write memory (Heap start) (filler_header (object_words (memory (Heap (start + 1))))) word else memory word
 
 -- An object begins at a distance behind the base of a region, or words that only fill: what is before it ends there.
 abbrev pub BeginsAt : Config → (Word → ℕ) → (region : ℕ) → ℕ → Type 0
-BeginsAt c memory r k = start_of (λ a. memory (Heap a)) (base_of c r) k ≡ k
+BeginsAt config memory other_region k = start_of (λ a. memory (Heap a)) (base_of config other_region) k ≡ k
 
 -- each object of a region ends at its top, or before, and so do words that only fill
 abbrev pub EndInRegion : Config → (Word → ℕ) → (region : ℕ) → Type 0
-EndInRegion c memory r = (k : ℕ) → k < memory (Top r) → BeginsAt c memory r k → k + stride_at (λ a. memory (Heap a)) (base_of c r + k) ≤ memory (Top r)
+EndInRegion config memory other_region = (k : ℕ) → k < memory (Top other_region) → BeginsAt config memory other_region k → k + stride_at (λ a. memory (Heap a)) (base_of config other_region + k) ≤ memory (Top other_region)
 
 -- what is left over of a region can be filled
-pub record CanFill (c : Config) (memory : Word → ℕ) (r : ℕ) : Type 0 where
-  pub within : memory (Top r) ≤ c.region_words
-  pub ends : EndInRegion c memory r
+pub record CanFill (config : Config) (memory : Word → ℕ) (region : ℕ) : Type 0 where
+  pub within : memory (Top region) ≤ config.region_words
+  pub ends : EndInRegion config memory region

@@ -13,31 +13,31 @@ use Rattle.heap_world.specs.World.{Block, Plot, thing, promised, hand, carved, f
 -- Each piece is an object, or words that only fill, as they may stand in pinned regions: nobody has room in hand, and old copies and what
 -- a pause has made for a mutator count as objects.
 abbrev pub AreThings : Plot → Type 0
-AreThings block = (a : ℕ) (piece : Block) → block a ≡ Some piece
+AreThings block = (address : ℕ) (piece : Block) → block address ≡ Some piece
     → ((name : Name) × (refs : ℕ) × (nums : ℕ) × (piece ≡ thing name refs nums)) ⊎ ((words : ℕ) × (1 ≤ words) × (piece ≡ filler words))
 
 -- words that only fill begin with a header that says how many they are
 abbrev pub FillersSay : (heap : ℕ → ℕ) → Plot → Type 0
-FillersSay heap block = (a words : ℕ) → block a ≡ Some (filler words) → heap a ≡ filler_header words
+FillersSay heap block = (address words : ℕ) → block address ≡ Some (filler words) → heap address ≡ filler_header words
 
 -- What stands for a name is an object, and nothing is promised, in hand or carved: old copies and what a pause has made for a mutator count
 -- as objects. Other pieces may be of any kind: dead objects, words that only fill, and the free words of buffers.
 pub record NamedAreThings (block : Plot) : Type 0 where
-  pub named : (a : ℕ) (name : Name) → name_at (block a) ≡ Some name → (refs : ℕ) × (nums : ℕ) × (block a ≡ Some (thing name refs nums))
-  pub unpromised : (a seat words : ℕ) → block a ≡ Some (promised seat words) → ⊥
-  pub unheld : (a seat words : ℕ) → block a ≡ Some (hand seat words) → ⊥
-  pub uncarved : (a seat words : ℕ) → block a ≡ Some (carved seat words) → ⊥
-  pub some : (a : ℕ) (piece : Block) → block a ≡ Some piece → 1 ≤ words_of piece
+  pub named : (address : ℕ) (name : Name) → name_at (block address) ≡ Some name → (refs : ℕ) × (nums : ℕ) × (block address ≡ Some (thing name refs nums))
+  pub unpromised : (address seat words : ℕ) → block address ≡ Some (promised seat words) → ⊥
+  pub unheld : (address seat words : ℕ) → block address ≡ Some (hand seat words) → ⊥
+  pub uncarved : (address seat words : ℕ) → block address ≡ Some (carved seat words) → ⊥
+  pub some : (address : ℕ) (piece : Block) → block address ≡ Some piece → 1 ≤ words_of piece
 
 -- Regions can be walked from their bases on: pieces fill them, each has some word, and those of shut regions say how many.
-pub record AreParsed (c : Config) (shut : ℕ → Bool) (top heap : ℕ → ℕ) (block : Plot) : Type 0 where
-  pub filled : IsFilled c top block
-  pub some : (a : ℕ) (b : Block) → block a ≡ Some b → 1 ≤ words_of b
-  pub sized : (a : ℕ) (b : Block) → block a ≡ Some b → shut (a / c.region_words) ≡ true → stride_at heap a ≡ words_of b
+pub record AreParsed (config : Config) (shut : ℕ → Bool) (top heap : ℕ → ℕ) (block : Plot) : Type 0 where
+  pub filled : IsFilled config top block
+  pub some : (address : ℕ) (piece : Block) → block address ≡ Some piece → 1 ≤ words_of piece
+  pub sized : (address : ℕ) (piece : Block) → block address ≡ Some piece → shut (address / config.region_words) ≡ true → stride_at heap address ≡ words_of piece
 
 -- the address behind the last one of the heap
 abbrev pub heap_end : Config → ℕ
-heap_end c = (c.regions + 1) * c.region_words
+heap_end config = (config.regions + 1) * config.region_words
 
 -- the kept address below an end whose object is placed at an address, if there is one
 unfoldable pub origin : (place kept : ℕ → ℕ) (at : ℕ) → ℕ → Option ℕ
@@ -51,10 +51,10 @@ left_piece piece = filler (words_of piece)
 -- At the new place of each kept object the piece that was at its address. In pinned regions, which are shut, each other piece only
 -- fills; and there are no other pieces.
 abbrev pub packed_block : Config → (shut : ℕ → Bool) (kept : ℕ → ℕ) → Plot → Plot
-packed_block c shut kept block at =
-    if shut (region_with c at + 1) then (if kept at == 0 then option_map left_piece (block at) else block at)
-    else option_and_then block (origin (new_place c.region_words shut kept) kept at (heap_end c))
+packed_block config shut kept block at =
+    if shut (region_with config at + 1) then (if kept at == 0 then option_map left_piece (block at) else block at)
+    else option_and_then block (origin (new_place config.region_words shut kept) kept at (heap_end config))
 
 -- the top of each open region then
 abbrev pub packed_top : Config → (shut : ℕ → Bool) (kept : ℕ → ℕ) → ℕ → ℕ
-packed_top c shut kept r = top_before c.region_words shut kept r (heap_end c)
+packed_top config shut kept r = top_before config.region_words shut kept r (heap_end config)

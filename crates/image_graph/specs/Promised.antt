@@ -21,17 +21,17 @@ pub record Promises : Type 0 where
 -- The graph with the promised objects: they are blank, and each thread has more roots, the promised object as its seventeenth, and what its
 -- pin slots hold as the four behind. The name of a promised object says which thread it is of.
 abbrev pub with_promised : Graph → Promises → Graph
-with_promised g p = record g {
-  object = λ n. if same_reference (p.ref n.thread) (Some n) then Some (blank (p.refs n.thread) (p.nums n.thread)) else g.object n;
-  root = λ t i. if i == 16 then p.ref t else (if nat_le 17 i && nat_lt i 21 then name_in (g.pin t (i - 17)) else g.root t i);
+with_promised graph promises = record graph {
+  object = λ n. if same_reference (promises.ref n.thread) (Some n) then Some (blank (promises.refs n.thread) (promises.nums n.thread)) else graph.object n;
+  root = λ t i. if i == 16 then promises.ref t else (if nat_le 17 i && nat_lt i 21 then name_in (graph.pin t (i - 17)) else graph.root t i);
   pin = λ t slot. None;
 }
 
 -- a thread is promised an object of its own name, which the graph does not reach
-pub record AreFresh (threads : ℕ) (g : Graph) (p : Promises) : Type 0 where
-  pub own : (t : ℕ) (n : Name) → p.ref t ≡ Some n → n.thread ≡ t
-  pub few : (t : ℕ) (n : Name) → p.ref t ≡ Some n → t ≤ threads
-  pub fresh : (t : ℕ) (n : Name) → p.ref t ≡ Some n → IsReachable g n → ⊥
+pub record AreFresh (threads : ℕ) (graph : Graph) (promises : Promises) : Type 0 where
+  pub own : (t : ℕ) (name : Name) → promises.ref t ≡ Some name → name.thread ≡ t
+  pub few : (t : ℕ) (name : Name) → promises.ref t ≡ Some name → t ≤ threads
+  pub fresh : (t : ℕ) (name : Name) → promises.ref t ≡ Some name → IsReachable graph name → ⊥
 
 -- so many words, if there is something
 abbrev pub words_if : Reference → ℕ → ℕ
@@ -40,27 +40,27 @@ words_if (Some n) words = words
 
 -- the words of what a thread is promised
 abbrev pub promised_words : Promises → ℕ → ℕ
-promised_words p t = words_if (p.ref t) (3 + p.refs t + p.nums t)
+promised_words promises t = words_if (promises.ref t) (3 + promises.refs t + promises.nums t)
 
 -- What is kept has no more words than what the graph reaches, ..
 abbrev pub KeptAreLive : Type 0
-KeptAreLive = (c : Config) (top heap : ℕ → ℕ) (block : Plot) (now kept : ℕ → ℕ) (roots : List ℕ) (g : Graph) (names : List Name)
-    → HoldsGraph c top heap block now (IsAmong roots) g → AreHeldKept heap (IsLedTo now heap (IsAmong roots)) kept → IsReach g names
-    → (end : ℕ) → sum_below kept end ≤ sum_by (λ n. size (named g (Some n))) names
+KeptAreLive = (config : Config) (top heap : ℕ → ℕ) (block : Plot) (now kept : ℕ → ℕ) (roots : List ℕ) (graph : Graph) (names : List Name)
+    → HoldsGraph config top heap block now (IsAmong roots) graph → AreHeldKept heap (IsLedTo now heap (IsAmong roots)) kept → IsReach graph names
+    → (end : ℕ) → sum_below kept end ≤ sum_by (λ n. size (named graph (Some n))) names
 
 -- .. and where objects are promised, no more than that and what is promised.
 abbrev pub KeptAreLiveOrPromised : Type 0
-KeptAreLiveOrPromised = (c : Config) (top heap : ℕ → ℕ) (block : Plot) (now kept : ℕ → ℕ) (roots : List ℕ) (g : Graph) (p : Promises) (names : List Name)
-    → HoldsGraph c top heap block now (IsAmong roots) (with_promised g p) → AreHeldKept heap (IsLedTo now heap (IsAmong roots)) kept
-    → AreFresh c.mutators g p → IsReach g names
-    → (end : ℕ) → sum_below kept end ≤ sum_by (λ n. size (named g (Some n))) names + sum_below (promised_words p) (c.mutators + 1)
+KeptAreLiveOrPromised = (config : Config) (top heap : ℕ → ℕ) (block : Plot) (now kept : ℕ → ℕ) (roots : List ℕ) (graph : Graph) (promises : Promises) (names : List Name)
+    → HoldsGraph config top heap block now (IsAmong roots) (with_promised graph promises) → AreHeldKept heap (IsLedTo now heap (IsAmong roots)) kept
+    → AreFresh config.mutators graph promises → IsReach graph names
+    → (end : ℕ) → sum_below kept end ≤ sum_by (λ n. size (named graph (Some n))) names + sum_below (promised_words promises) (config.mutators + 1)
 
 -- Where objects are pinned, each of these is kept in a region that is shut: so what is kept in open regions has no more words than what the
 -- graph reaches and is not pinned, and what is promised.
 abbrev pub OpenKeptAreFewer : Type 0
-OpenKeptAreFewer = (c : Config) (shut : ℕ → Bool) (top heap : ℕ → ℕ) (block : Plot) (now kept : ℕ → ℕ) (roots : List ℕ) (g : Graph) (p : Promises) (names : List Name) (held : ℕ)
-    → HoldsGraph c top heap block now (IsAmong roots) (with_promised g p) → AreHeldKept heap (IsLedTo now heap (IsAmong roots)) kept
-    → AreFresh c.mutators g p → IsReach g names → Held g held
-    → ((t slot : ℕ) (pinned : Pinned) → g.pin t slot ≡ Some pinned → (0 < kept pinned.place) × (shut (pinned.place / c.region_words) ≡ true) × IsCopy block pinned.place pinned.name)
-    → (end : ℕ) → sum_below (open_kept c.region_words shut kept) end
-    ≤ sum_by (λ n. size (named g (Some n))) names - held + sum_below (promised_words p) (c.mutators + 1)
+OpenKeptAreFewer = (config : Config) (shut : ℕ → Bool) (top heap : ℕ → ℕ) (block : Plot) (now kept : ℕ → ℕ) (roots : List ℕ) (graph : Graph) (promises : Promises) (names : List Name) (held : ℕ)
+    → HoldsGraph config top heap block now (IsAmong roots) (with_promised graph promises) → AreHeldKept heap (IsLedTo now heap (IsAmong roots)) kept
+    → AreFresh config.mutators graph promises → IsReach graph names → Held graph held
+    → ((thread slot : ℕ) (pinned : Pinned) → graph.pin thread slot ≡ Some pinned → (0 < kept pinned.place) × (shut (pinned.place / config.region_words) ≡ true) × IsCopy block pinned.place pinned.name)
+    → (end : ℕ) → sum_below (open_kept config.region_words shut kept) end
+    ≤ sum_by (λ n. size (named graph (Some n))) names - held + sum_below (promised_words promises) (config.mutators + 1)

@@ -8,22 +8,22 @@ use Rattle.regions.specs.Place.{base_of, region_with}
 
 -- the region of a buffer, by its word, which is not 0
 abbrev pub buffer_region : Config → ℕ → ℕ
-buffer_region c word = region_with c (end_in word - 1)
+buffer_region config word = region_with config (end_in word - 1)
 
 -- it ends at the top of that region
 abbrev pub is_last : Config → (Word → ℕ) → ℕ → Bool
-is_last c memory word = end_in word == base_of c (buffer_region c word) + memory (Top (buffer_region c word))
+is_last config memory word = end_in word == base_of config (buffer_region config word) + memory (Top (buffer_region config word))
 
 -- a buffer lies in one region of the heap, by its word
-pub record IsInside (c : Config) (word : ℕ) : Type 0 where
-  pub region : buffer_region c word < c.regions
-  pub from_base : base_of c (buffer_region c word) ≤ next_in word
+pub record IsInside (config : Config) (word : ℕ) : Type 0 where
+  pub region : buffer_region config word < config.regions
+  pub from_base : base_of config (buffer_region config word) ≤ next_in word
   pub ordered : next_in word ≤ end_in word
-  pub to_end : end_in word ≤ base_of c (buffer_region c word) + c.region_words
+  pub to_end : end_in word ≤ base_of config (buffer_region config word) + config.region_words
 
 -- each buffer does
 abbrev pub AreInside : Config → (Word → ℕ) → Type 0
-AreInside c memory = (seat : ℕ) → seat < seat_count c.mutators c.helpers → memory (Current seat) ≢ 0 → IsInside c (memory (Current seat))
+AreInside config memory = (seat : ℕ) → seat < seat_count config.mutators config.helpers → memory (Current seat) ≢ 0 → IsInside config (memory (Current seat))
 
 -- The words after the free words of a buffer, if it has some, were made words that only fill: the first says how many they are.
 abbrev pub filled_over : (Word → ℕ) → ℕ → Word → ℕ

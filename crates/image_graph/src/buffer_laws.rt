@@ -7,15 +7,15 @@ ghost use Rattle.image_graph.specs.BufferLaws.{SettlingLeaves, LettingGoLeaves, 
 
 /// A law: after settling each buffer ends at the top of its region, and no top has changed.
 pub fn settling_leaves()
-    ensures { (c : Config) (memory : Word → ℕ) → SettlingLeaves c memory }
+    ensures { (config : Config) (memory : Word → ℕ) → SettlingLeaves config memory }
 {}
 
 /// A law: after letting go nobody has a buffer.
 pub fn letting_go_leaves()
-    ensures { (c : Config) (memory : Word → ℕ) → LettingGoLeaves c memory }
+    ensures { (config : Config) (memory : Word → ℕ) → LettingGoLeaves config memory }
 {}
 
 /// A law: a region's edge lies neither above its top nor above the free words of a buffer that ends there.
 pub fn edges_lie()
-    ensures { (c : Config) (memory : Word → ℕ) (r : ℕ) → EdgesLie c memory r }
+    ensures { (config : Config) (memory : Word → ℕ) (r : ℕ) → EdgesLie config memory r }
 {}

@@ -10,12 +10,12 @@ ghost use Rattle.image_graph.specs.BuffersKeep.{SettlingKeeps, LettingGoKeeps, H
 
 /// A law: words represent the same graph after buffers were settled.
 pub fn settling_keeps()
-    ensures { (c : Config) (memory : Word → ℕ) (g : Graph) (asking : ℕ → Asking) → SettlingKeeps c memory g asking }
+    ensures { (config : Config) (memory : Word → ℕ) (graph : Graph) (asking : ℕ → Asking) → SettlingKeeps config memory graph asking }
 {}
 
 /// A law: words represent the same graph after buffers were let go.
 pub fn letting_go_keeps()
-    ensures { (c : Config) (memory : Word → ℕ) (g : Graph) (asking : ℕ → Asking) → HasNoOtherBuffers c memory → LettingGoKeeps c memory g asking }
+    ensures { (config : Config) (memory : Word → ℕ) (graph : Graph) (asking : ℕ → Asking) → HasNoOtherBuffers config memory → LettingGoKeeps config memory graph asking }
 {}
 
 /// A law: once buffers are settled, all room lies at or above the edge of its region, and all other pieces below it.

@@ -92,7 +92,7 @@ impl Image {
     // The top of each region.
     pub(crate) fn tops(&self) -> &[u64]
         ensures count { length result.now ≡ (config_of self.now).regions }
-        ensures tops { (r : ℕ) → r < (config_of self.now).regions → slice_index result.now r ≡ memory_of self.now (Top r) }
+        ensures tops { (region : ℕ) → region < (config_of self.now).regions → slice_index result.now region ≡ memory_of self.now (Top region) }
     {
         let start = self.config.top_at(0);
         &self.words[start..start + self.config.regions()]

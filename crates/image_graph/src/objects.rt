@@ -36,7 +36,7 @@ pub(crate) fn is_shape(shape: u64) -> bool
 
 // Whether an object lies where it may.
 fn lies_right(image: &Image, objects: &[u64], address: u64) -> bool
-    requires { (r : ℕ) → r < (config_of image.now).regions → memory_of image.now (Top r) ≤ (config_of image.now).region_words }
+    requires { (region : ℕ) → region < (config_of image.now).regions → memory_of image.now (Top region) ≤ (config_of image.now).region_words }
     ensures { IsTrue result → LiesRight (config_of image.now) (memory_of image.now) objects.now address }
 {
     let config = image.config();
@@ -53,8 +53,8 @@ fn lies_right(image: &Image, objects: &[u64], address: u64) -> bool
 
 /// Whether each object lies where it may.
 pub(crate) fn lie_right(image: &Image, objects: &[u64]) -> bool
-    requires { (r : ℕ) → r < (config_of image.now).regions → memory_of image.now (Top r) ≤ (config_of image.now).region_words }
-    ensures { IsTrue result → (k : ℕ) → k < length objects.now → LiesRight (config_of image.now) (memory_of image.now) objects.now (slice_index objects.now k) }
+    requires { (region : ℕ) → region < (config_of image.now).regions → memory_of image.now (Top region) ≤ (config_of image.now).region_words }
+    ensures { IsTrue result → (index : ℕ) → index < length objects.now → LiesRight (config_of image.now) (memory_of image.now) objects.now (slice_index objects.now index) }
 {
     for address in objects {
         if !lies_right(image, objects, *address) {
@@ -66,7 +66,7 @@ pub(crate) fn lie_right(image: &Image, objects: &[u64]) -> bool
 
 /// Whether objects are in the order of their addresses and of their names, and share no word.
 pub(crate) fn are_in_order(image: &Image, objects: &[u64]) -> bool
-    requires { (k : ℕ) → k < length objects.now → LiesRight (config_of image.now) (memory_of image.now) objects.now (slice_index objects.now k) }
+    requires { (index : ℕ) → index < length objects.now → LiesRight (config_of image.now) (memory_of image.now) objects.now (slice_index objects.now index) }
     ensures { IsTrue result → AreInOrder (memory_of image.now) objects.now }
 {
     let config = image.config();
@@ -136,9 +136,9 @@ fn reads_right(image: &Image, objects: &[u64], address: u64) -> bool
 
 /// Whether the words of each object are those of one.
 pub(crate) fn read_right(image: &Image, objects: &[u64]) -> bool
-    requires tops { (r : ℕ) → r < (config_of image.now).regions → memory_of image.now (Top r) ≤ (config_of image.now).region_words }
-    requires lie { (k : ℕ) → k < length objects.now → LiesRight (config_of image.now) (memory_of image.now) objects.now (slice_index objects.now k) }
-    ensures { IsTrue result → (k : ℕ) → k < length objects.now → ReadsRight (config_of image.now) (memory_of image.now) objects.now (slice_index objects.now k) }
+    requires tops { (region : ℕ) → region < (config_of image.now).regions → memory_of image.now (Top region) ≤ (config_of image.now).region_words }
+    requires lie { (index : ℕ) → index < length objects.now → LiesRight (config_of image.now) (memory_of image.now) objects.now (slice_index objects.now index) }
+    ensures { IsTrue result → (index : ℕ) → index < length objects.now → ReadsRight (config_of image.now) (memory_of image.now) objects.now (slice_index objects.now index) }
 {
     for address in objects {
         if !reads_right(image, objects, *address) {

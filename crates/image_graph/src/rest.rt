@@ -51,7 +51,7 @@ pub(crate) fn is_free_word_right(image: &Image) -> bool
 
 /// Whether no seat has a buffer.
 pub(crate) fn has_no_buffers(image: &Image) -> bool
-    ensures { IsTrue result → (s : ℕ) → s < seat_count (config_of image.now).mutators (config_of image.now).helpers → memory_of image.now (Current s) ≡ 0 }
+    ensures { IsTrue result → (seat : ℕ) → seat < seat_count (config_of image.now).mutators (config_of image.now).helpers → memory_of image.now (Current seat) ≡ 0 }
 {
     let config = image.config();
     for seat in 0..config.seats() {
@@ -81,7 +81,7 @@ pub(crate) fn is_share_right(image: &Image) -> bool
 // Whether the roots of a mutator are null or name objects.
 fn are_roots_right(image: &Image, objects: &[u64], mutator: usize) -> bool
     requires { mutator < (config_of image.now).mutators }
-    ensures { IsTrue result → (i : ℕ) → i < 16 → IsReference objects.now (memory_of image.now (Root mutator i)) }
+    ensures { IsTrue result → (index : ℕ) → index < 16 → IsReference objects.now (memory_of image.now (Root mutator index)) }
 {
     let config = image.config();
     for index in 0..16 {
@@ -95,7 +95,7 @@ fn are_roots_right(image: &Image, objects: &[u64], mutator: usize) -> bool
 // Whether the pin slots of a mutator are empty.
 fn are_slots_empty(image: &Image, mutator: usize) -> bool
     requires { mutator < (config_of image.now).mutators }
-    ensures { IsTrue result → (i : ℕ) → i < 4 → memory_of image.now (Pin mutator i) ≡ 0 }
+    ensures { IsTrue result → (index : ℕ) → index < 4 → memory_of image.now (Pin mutator index) ≡ 0 }
 {
     let config = image.config();
     for slot in 0..4 {

@@ -44,9 +44,9 @@ stop_goes : (at : RoomSpot) → is_ended (after_stop at) ≡ false
 stop_goes room.Stopped = refl
 stop_goes at = refl
 
-pub done_is : (c : Config) (address phase : ℕ) (at : ResolveSpot) (got : ℕ) → (says_at c address phase at got ≡ Done) ↔ (is_ended (next_at c address phase at got) ≡ true)
-done_is c address phase (Entering at) got = says_by_is (rooms.says_at at got) (after_enter (rooms.next_at at got)) (enter_goes (rooms.next_at at got))
-done_is c address phase (Taking words at) got =
-    says_by_is (takes.says_at at (take_next c words at got)) (after_take words (take_next c words at got)) (take_goes words (take_next c words at got))
-done_is c address phase (Stopping at) got = says_by_is (rooms.says_at at got) (after_stop (rooms.next_at at got)) (stop_goes (rooms.next_at at got))
-done_is c address phase at got = says_is (next_at c address phase at got)
+pub done_is : (config : Config) (address phase : ℕ) (at : ResolveSpot) (got : ℕ) → (says_at config address phase at got ≡ Done) ↔ (is_ended (next_at config address phase at got) ≡ true)
+done_is config address phase (Entering at) got = says_by_is (rooms.says_at at got) (after_enter (rooms.next_at at got)) (enter_goes (rooms.next_at at got))
+done_is config address phase (Taking words at) got =
+    says_by_is (takes.says_at at (take_next config words at got)) (after_take words (take_next config words at got)) (take_goes words (take_next config words at got))
+done_is config address phase (Stopping at) got = says_by_is (rooms.says_at at got) (after_stop (rooms.next_at at got)) (stop_goes (rooms.next_at at got))
+done_is config address phase at got = says_is (next_at config address phase at got)

@@ -7,29 +7,29 @@ use Rattle.load_barrier.specs.Alone.{Resolving, Move, own, others, after_move, a
 use Rattle.load_barrier.proofs.Knows.{Can, Knows, can_stays}
 use Rattle.load_barrier.proofs.Resolving.{each_step}
 
-module _ (c : Config) (seat address phase : ℕ) where
+module _ (config : Config) (seat address phase : ℕ) where
   -- what holds in between
   abbrev CanAt : Resolving → Type 0
-  CanAt s = Can phase address s.memory s.spot
+  CanAt resolving = Can phase address resolving.memory resolving.spot
 
-  move_keeps : (s : Resolving) (move : Move) → IsMove c seat address phase s move → CanAt s → CanAt (after_move c seat address phase s move)
-  move_keeps s own is can = each_step c seat address phase s.memory s.spot is.going is.counter is.apart can
-  move_keeps s (others after) left can = can_stays phase address s.spot s.memory after left can
+  move_keeps : (resolving : Resolving) (move : Move) → IsMove config seat address phase resolving move → CanAt resolving → CanAt (after_move config seat address phase resolving move)
+  move_keeps resolving own is can = each_step config seat address phase resolving.memory resolving.spot is.going is.counter is.apart can
+  move_keeps resolving (others after) left can = can_stays phase address resolving.spot resolving.memory after left can
 
-  moves_keep : (s : Resolving) (moves : List Move) → AreMoves c seat address phase s moves → CanAt s → CanAt (after_moves c seat address phase s moves)
+  moves_keep : (resolving : Resolving) (moves : List Move) → AreMoves config seat address phase resolving moves → CanAt resolving → CanAt (after_moves config seat address phase resolving moves)
   unfolding after_moves AreMoves
-  moves_keep s [] are can = can
-  moves_keep s (move ∷ moves) are can = moves_keep (after_move c seat address phase s move) moves are.1 (move_keeps s move are.0 can)
+  moves_keep resolving [] are can = can
+  moves_keep resolving (move ∷ moves) are can = moves_keep (after_move config seat address phase resolving move) moves are.1 (move_keeps resolving move are.0 can)
 
   -- in between what the law says holds
-  kept_of : (s : Resolving) → CanAt s → ResolvingHolds address s
-  kept_of s can = record {
+  kept_of : (resolving : Resolving) → CanAt resolving → ResolvingHolds address resolving
+  kept_of resolving can = record {
     answer = λ to is. (known is).0;
     whole = λ copy end is. known is;
   }
     where
-      known : {spot : ResolveSpot} → s.spot ≡ spot → Knows phase address (λ a. s.memory (Heap a)) (s.memory Evac) spot
-      known is = subst (λ spot. Knows phase address (λ a. s.memory (Heap a)) (s.memory Evac) spot) is can.knows
+      known : {spot : ResolveSpot} → resolving.spot ≡ spot → Knows phase address (λ a. resolving.memory (Heap a)) (resolving.memory Evac) spot
+      known is = subst (λ spot. Knows phase address (λ a. resolving.memory (Heap a)) (resolving.memory Evac) spot) is can.knows
 
 pub answers_current : AnswersAreCurrent
 answers_current c seat address phase memory moves header are =

@@ -25,51 +25,51 @@ use Rattle.load_barrier.specs.UnitRows as evacs
 use Rattle.load_barrier.specs.UnitFit.{is_ready}
 
 -- of words from an address on that lie in the heap each does
-words_inside : (c : Config) (address words index : ℕ) → has_words c address words ≡ true → index < words → IsWord c (Heap (address + index))
-words_inside c address words index has below =
-    let parts = and_parts (nat_le c.region_words address) (nat_le (address + words) ((c.regions + 1) * c.region_words)) has in
-    let low : c.region_words ≤ address = leb-true _ _ parts.0 in
-    let high : address + words ≤ (c.regions + 1) * c.region_words = leb-true _ _ parts.1 in (omega (arith, low), omega (arith, high, below))
+words_inside : (config : Config) (address words index : ℕ) → has_words config address words ≡ true → index < words → IsWord config (Heap (address + index))
+words_inside config address words index has below =
+    let parts = and_parts (nat_le config.region_words address) (nat_le (address + words) ((config.regions + 1) * config.region_words)) has in
+    let low : config.region_words ≤ address = leb-true _ _ parts.0 in
+    let high : address + words ≤ (config.regions + 1) * config.region_words = leb-true _ _ parts.1 in (omega (arith, low), omega (arith, high, below))
 
-heap_there : (c : Config) (address : ℕ) → is_word c (Heap address) ≡ true → IsWord c (Heap address)
-heap_there c address is = is_word_true c (Heap address) is
+heap_there : (config : Config) (address : ℕ) → is_word config (Heap address) ≡ true → IsWord config (Heap address)
+heap_there config address is = is_word_true config (Heap address) is
 
-copy_inside : (c : Config) (seat address copy end : ℕ) (at : CopySpot) → seat < seat_count c.mutators c.helpers → is_word c (Heap address) ≡ true → copy_ready c address copy at ≡ true → IsWord c (resolves.copy_touch seat address copy end at).word
-copy_inside c seat address copy end (LoadWord words index) seated there ready =
+copy_inside : (config : Config) (seat address copy end : ℕ) (at : CopySpot) → seat < seat_count config.mutators config.helpers → is_word config (Heap address) ≡ true → copy_ready config address copy at ≡ true → IsWord config (resolves.copy_touch seat address copy end at).word
+copy_inside config seat address copy end (LoadWord words index) seated there ready =
     let object = and_parts _ _ ready in
-    words_inside c address words index (and_parts _ _ object.0).1 (ltb-true _ _ (and_parts _ _ object.1).1)
-copy_inside c seat address copy end (StoreWord words index found) seated there ready =
+    words_inside config address words index (and_parts _ _ object.0).1 (ltb-true _ _ (and_parts _ _ object.1).1)
+copy_inside config seat address copy end (StoreWord words index found) seated there ready =
     let room = and_parts _ _ (and_parts _ _ ready).1 in
-    words_inside c copy words index room.0 (ltb-true _ _ room.1)
-copy_inside c seat address copy end StoreHeader seated there ready = heap_there c copy ready
-copy_inside c seat address copy end Publish seated there ready = heap_there c address there
-copy_inside c seat address copy end (GiveBack answer) seated there ready = seated
+    words_inside config copy words index room.0 (ltb-true _ _ room.1)
+copy_inside config seat address copy end StoreHeader seated there ready = heap_there config copy ready
+copy_inside config seat address copy end Publish seated there ready = heap_there config address there
+copy_inside config seat address copy end (GiveBack answer) seated there ready = seated
 
 -- where the address is one of the heap, each access of its resolving is of a word of the table
-pub resolve_inside : (c : Config) (seat address : ℕ) (at : ResolveSpot) → seat < seat_count c.mutators c.helpers → is_word c (Heap address) ≡ true → resolve.is_ready c seat address at ≡ true → IsWord c (resolves.touch_at c seat address at).word
-resolve_inside c seat address LoadHeader seated there ready = heap_there c address there
-resolve_inside c seat address (Entering at) seated there ready = tt
-resolve_inside c seat address LoadShape seated there ready = heap_there c (address + 1) ready
-resolve_inside c seat address (Taking words at) seated there ready =
-    is_word_true c (takes.touch_at seat words at).word (and_parts _ _ (and_parts _ _ (and_parts _ _ (and_parts _ _ ready).1).1).0).0
-resolve_inside c seat address (Copying copy end at) seated there ready = copy_inside c seat address copy end at seated there (and_parts _ _ ready).0
-resolve_inside c seat address (Leaving answer) seated there ready = tt
-resolve_inside c seat address (Stopping at) seated there ready = tt
-resolve_inside c seat address LoadAgain seated there ready = heap_there c address there
-resolve_inside c seat address (Resolved answer) seated there ready = heap_there c address there
+pub resolve_inside : (config : Config) (seat address : ℕ) (at : ResolveSpot) → seat < seat_count config.mutators config.helpers → is_word config (Heap address) ≡ true → resolve.is_ready config seat address at ≡ true → IsWord config (resolves.touch_at config seat address at).word
+resolve_inside config seat address LoadHeader seated there ready = heap_there config address there
+resolve_inside config seat address (Entering at) seated there ready = tt
+resolve_inside config seat address LoadShape seated there ready = heap_there config (address + 1) ready
+resolve_inside config seat address (Taking words at) seated there ready =
+    is_word_true config (takes.touch_at seat words at).word (and_parts _ _ (and_parts _ _ (and_parts _ _ (and_parts _ _ ready).1).1).0).0
+resolve_inside config seat address (Copying copy end at) seated there ready = copy_inside config seat address copy end at seated there (and_parts _ _ ready).0
+resolve_inside config seat address (Leaving answer) seated there ready = tt
+resolve_inside config seat address (Stopping at) seated there ready = tt
+resolve_inside config seat address LoadAgain seated there ready = heap_there config address there
+resolve_inside config seat address (Resolved answer) seated there ready = heap_there config address there
 
 -- and so is each access of an evacuation
-pub evacuation_inside : (c : Config) (seat : ℕ) (at : EvacSpot) → seat < seat_count c.mutators c.helpers → is_ready c seat at ≡ true → IsWord c (evacs.touch_at c seat at).word
-evacuation_inside c seat evac.LoadClaim seated ready = tt
-evacuation_inside c seat (evac.ClaimUnit unit) seated ready = tt
-evacuation_inside c seat (evac.LoadTop region) seated ready = ltb-true _ _ ready
-evacuation_inside c seat (evac.LoadFirst address end) seated ready = heap_there c address ready
-evacuation_inside c seat (evac.LoadShape address end) seated ready = heap_there c (address + 1) (and_parts _ _ ready).1
-evacuation_inside c seat (evac.LoadMark address end next) seated ready = word_inside c address (heap_there c address (and_parts _ _ (and_parts _ _ ready).0).0)
-evacuation_inside c seat (evac.Resolving address end next at) seated ready =
+pub evacuation_inside : (config : Config) (seat : ℕ) (at : EvacSpot) → seat < seat_count config.mutators config.helpers → is_ready config seat at ≡ true → IsWord config (evacs.touch_at config seat at).word
+evacuation_inside config seat evac.LoadClaim seated ready = tt
+evacuation_inside config seat (evac.ClaimUnit unit) seated ready = tt
+evacuation_inside config seat (evac.LoadTop region) seated ready = ltb-true _ _ ready
+evacuation_inside config seat (evac.LoadFirst address end) seated ready = heap_there config address ready
+evacuation_inside config seat (evac.LoadShape address end) seated ready = heap_there config (address + 1) (and_parts _ _ ready).1
+evacuation_inside config seat (evac.LoadMark address end next) seated ready = word_inside config address (heap_there config address (and_parts _ _ (and_parts _ _ ready).0).0)
+evacuation_inside config seat (evac.Resolving address end next at) seated ready =
     let parts = and_parts _ _ ready in
-    resolve_inside c seat address at seated (and_parts _ _ parts.0).0 (and_parts _ _ (and_parts _ _ parts.1).1).0
-evacuation_inside c seat (evac.Ended unit) seated ready = tt
+    resolve_inside config seat address at seated (and_parts _ _ parts.0).0 (and_parts _ _ (and_parts _ _ parts.1).1).0
+evacuation_inside config seat (evac.Ended unit) seated ready = tt
 
 copy_image : (seat address copy end : ℕ) (at : CopySpot) → is_image (resolves.copy_touch seat address copy end at).word ≡ true
 copy_image seat address copy end (LoadWord words index) = refl
@@ -79,24 +79,24 @@ copy_image seat address copy end Publish = refl
 copy_image seat address copy end (GiveBack answer) = refl
 
 -- a resolving accesses words of the image alone
-pub resolve_image : (c : Config) (seat address : ℕ) (at : ResolveSpot) → is_image (resolves.touch_at c seat address at).word ≡ true
-resolve_image c seat address LoadHeader = refl
-resolve_image c seat address (Entering at) = refl
-resolve_image c seat address LoadShape = refl
-resolve_image c seat address (Taking words at) = in_image seat words at
-resolve_image c seat address (Copying copy end at) = copy_image seat address copy end at
-resolve_image c seat address (Leaving answer) = refl
-resolve_image c seat address (Stopping at) = refl
-resolve_image c seat address LoadAgain = refl
-resolve_image c seat address (Resolved answer) = refl
+pub resolve_image : (config : Config) (seat address : ℕ) (at : ResolveSpot) → is_image (resolves.touch_at config seat address at).word ≡ true
+resolve_image config seat address LoadHeader = refl
+resolve_image config seat address (Entering at) = refl
+resolve_image config seat address LoadShape = refl
+resolve_image config seat address (Taking words at) = in_image seat words at
+resolve_image config seat address (Copying copy end at) = copy_image seat address copy end at
+resolve_image config seat address (Leaving answer) = refl
+resolve_image config seat address (Stopping at) = refl
+resolve_image config seat address LoadAgain = refl
+resolve_image config seat address (Resolved answer) = refl
 
 -- and so does an evacuation
-pub evacuation_image : (c : Config) (seat : ℕ) (at : EvacSpot) → is_image (evacs.touch_at c seat at).word ≡ true
-evacuation_image c seat evac.LoadClaim = refl
-evacuation_image c seat (evac.ClaimUnit unit) = refl
-evacuation_image c seat (evac.LoadTop region) = refl
-evacuation_image c seat (evac.LoadFirst address end) = refl
-evacuation_image c seat (evac.LoadShape address end) = refl
-evacuation_image c seat (evac.LoadMark address end next) = refl
-evacuation_image c seat (evac.Resolving address end next at) = resolve_image c seat address at
-evacuation_image c seat (evac.Ended unit) = refl
+pub evacuation_image : (config : Config) (seat : ℕ) (at : EvacSpot) → is_image (evacs.touch_at config seat at).word ≡ true
+evacuation_image config seat evac.LoadClaim = refl
+evacuation_image config seat (evac.ClaimUnit unit) = refl
+evacuation_image config seat (evac.LoadTop region) = refl
+evacuation_image config seat (evac.LoadFirst address end) = refl
+evacuation_image config seat (evac.LoadShape address end) = refl
+evacuation_image config seat (evac.LoadMark address end next) = refl
+evacuation_image config seat (evac.Resolving address end next at) = resolve_image config seat address at
+evacuation_image config seat (evac.Ended unit) = refl

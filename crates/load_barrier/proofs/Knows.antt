@@ -84,10 +84,10 @@ current_named address header to is = subst (λ h. to ≡ current_copy address h)
 -- Others leave the object.
 module _ (phase address : ℕ) (spot : ResolveSpot) (before after : Word → ℕ) (left : LeaveObject phase address spot before after) where
   abbrev pub old : ℕ → ℕ
-  old a = before (Heap a)
+  old address = before (Heap address)
 
   abbrev pub new : ℕ → ℕ
-  new a = after (Heap a)
+  new address = after (Heap address)
 
   words_stay : is_copier spot ≡ true → words_by_shape new address ≡ words_by_shape old address
   words_stay copies = ap object_words (left.words copies 1 (omega arith) (omega arith))

@@ -28,9 +28,9 @@ module _ (phase address : ℕ) where
   header_next : (heap : ℕ → ℕ) (evac : ℕ) → CanResolve phase address heap evac LoadHeader → CanResolve phase address heap evac (after_header address phase (heap address))
   header_next heap evac can = by_header (is_forwarded (heap address)) (phase == 3) refl refl
     where
-      by_header : (b u : Bool) → is_forwarded (heap address) ≡ b → (phase == 3) ≡ u
-          → CanResolve phase address heap evac (if b then Resolved (forwardee_in (heap address)) else (if u then Resolved address else Entering Look))
-      by_header true u named is = record {
+      by_header : (holds other_holds : Bool) → is_forwarded (heap address) ≡ holds → (phase == 3) ≡ other_holds
+          → CanResolve phase address heap evac (if holds then Resolved (forwardee_in (heap address)) else (if other_holds then Resolved address else Entering Look))
+      by_header true other_holds named is = record {
         header = can.header;
         counted = λ copies. absurd (cc (copies));
         knows = (sym (cond-true (is_forwarded (heap address)) _ _ named), inl named);
@@ -46,22 +46,22 @@ module _ (phase address : ℕ) where
   look_next : (heap : ℕ → ℕ) (evac : ℕ) → CanResolve phase address heap evac (Entering Look) → CanResolve phase address heap evac (after_enter (rooms.next_at Look evac))
   look_next heap evac can = by_bit (is_out_of_room evac) (count_of evac == 0) refl refl
     where
-      by_bit : (b z : Bool) → is_out_of_room evac ≡ b → (count_of evac == 0) ≡ z
-          → CanResolve phase address heap evac (after_enter (if b then (if z then Stopped else Look) else Raise evac))
+      by_bit : (holds other_holds : Bool) → is_out_of_room evac ≡ holds → (count_of evac == 0) ≡ other_holds
+          → CanResolve phase address heap evac (after_enter (if holds then (if other_holds then Stopped else Look) else Raise evac))
       by_bit true true out none = record {
         header = can.header;
         counted = λ copies. absurd (cc (copies));
         knows = record { out_of_room = out; nobody = grind (arith, nat_tests) };
       }
       by_bit true false out none = record { header = can.header; counted = λ copies. absurd (cc (copies)); knows = (tt, tt) }
-      by_bit false z out none = record { header = can.header; counted = λ copies. absurd (cc (copies)); knows = (tt, grind (arith, nat_tests)) }
+      by_bit false other_holds out none = record { header = can.header; counted = λ copies. absurd (cc (copies)); knows = (tt, grind (arith, nat_tests)) }
 
   -- the exchange of the counter on the way in
   raise_next : (heap : ℕ → ℕ) (evac found : ℕ) → IsCounter evac → CanResolve phase address heap evac (Entering (Raise found))
       → CanResolve phase address heap (formed (rooms.form_at (Raise found)) evac) (after_enter (rooms.next_at (Raise found) evac))
   raise_next heap evac found counter can = by_found (evac == found) refl
     where
-      by_found : (b : Bool) → (evac == found) ≡ b → CanResolve phase address heap (if b then found + 1 else evac) (after_enter (if b then Inside else Look))
+      by_found : (holds : Bool) → (evac == found) ≡ holds → CanResolve phase address heap (if holds then found + 1 else evac) (after_enter (if holds then Inside else Look))
       by_found true is = record {
         header = can.header;
         counted = λ copies. let same : evac ≡ found = grind (arith, nat_tests) in let clear : found < 2 ^ 63 = can.knows.1 in omega (arith, counter.few);
@@ -82,7 +82,7 @@ module _ (phase address : ℕ) where
       → CanResolve phase address heap (formed (rooms.form_at (Mark found)) evac) (after_stop (rooms.next_at (Mark found) evac))
   mark_next heap evac found counter can = by_found (evac == found) refl
     where
-      by_found : (b : Bool) → (evac == found) ≡ b → CanResolve phase address heap (if b then marked found else evac) (after_stop (if b then Wait else Ask))
+      by_found : (holds : Bool) → (evac == found) ≡ holds → CanResolve phase address heap (if holds then marked found else evac) (after_stop (if holds then Wait else Ask))
       by_found true is = record {
         header = can.header;
         counted = λ copies. absurd (cc (copies));
@@ -97,7 +97,7 @@ module _ (phase address : ℕ) where
   wait_next : (heap : ℕ → ℕ) (evac : ℕ) → CanResolve phase address heap evac (Stopping Wait) → CanResolve phase address heap evac (after_stop (rooms.next_at Wait evac))
   wait_next heap evac can = by_count (count_of evac == 0) refl
     where
-      by_count : (z : Bool) → (count_of evac == 0) ≡ z → CanResolve phase address heap evac (after_stop (if z then Stopped else Wait))
+      by_count : (holds : Bool) → (count_of evac == 0) ≡ holds → CanResolve phase address heap evac (after_stop (if holds then Stopped else Wait))
       by_count true none = record {
         header = can.header;
         counted = λ copies. absurd (cc (copies));
@@ -107,13 +107,13 @@ module _ (phase address : ℕ) where
 
 -- the heap once a word is written
 abbrev wrote : (ℕ → ℕ) → ℕ → ℕ → ℕ → ℕ
-wrote heap at value a = if at == a then value else heap a
+wrote heap at value address = if at == address then value else heap address
 
 wrote_here : (heap : ℕ → ℕ) (at value a : ℕ) → at ≡ a → wrote heap at value a ≡ value
 wrote_here heap at value a is = cond-true (at == a) _ _ (grind (arith, nat_tests))
 
-wrote_else : (heap : ℕ → ℕ) (at value a : ℕ) → at ≢ a → wrote heap at value a ≡ heap a
-wrote_else heap at value a other = cond-false (at == a) _ _ (grind (arith, nat_tests))
+wrote_else : (heap : ℕ → ℕ) (at value address : ℕ) → at ≢ address → wrote heap at value address ≡ heap address
+wrote_else heap at value address other = cond-false (at == address) _ _ (grind (arith, nat_tests))
 
 -- A word of the copy is written: the object stays, since its room lies apart from it.
 module _ (address copy end : ℕ) (heap : ℕ → ℕ) (index value : ℕ) (inside : index < words_by_shape heap address) (apart : IsApart heap address (Copying copy end Publish)) where
@@ -158,7 +158,7 @@ module _ (phase address copy end : ℕ) where
           keeps : wrote heap (copy + index) found (address + k) ≡ heap (address + k)
           keeps = object_stays address copy end heap index found inside apart k (omega (arith, below, inside))
 
-          by_place : (b : Bool) → (k == index) ≡ b → wrote heap (copy + index) found (copy + k) ≡ wrote heap (copy + index) found (address + k)
+          by_place : (holds : Bool) → (k == index) ≡ holds → wrote heap (copy + index) found (copy + k) ≡ wrote heap (copy + index) found (address + k)
           by_place true is =
               let here : k ≡ index = grind (arith, nat_tests) in
               wrote_here heap (copy + index) found (copy + k) (omega (arith, here)) ∙ can.knows.4 ∙ ap (λ i. heap (address + i)) (sym here) ∙ sym keeps
@@ -166,8 +166,8 @@ module _ (phase address copy end : ℕ) where
               let other : k ≢ index = grind (arith, nat_tests) in
               copy_else address copy end heap index found inside apart k other ∙ can.knows.3 k some (omega (arith, below, other)) ∙ sym keeps
 
-      by_index : (b : Bool) → nat_lt (index + 1) words ≡ b
-          → CanResolve phase address (wrote heap (copy + index) found) evac (Copying copy end (if b then LoadWord words (index + 1) else StoreHeader))
+      by_index : (holds : Bool) → nat_lt (index + 1) words ≡ holds
+          → CanResolve phase address (wrote heap (copy + index) found) evac (Copying copy end (if holds then LoadWord words (index + 1) else StoreHeader))
       by_index true is = record {
         header = header;
         counted = λ copies. can.counted refl;
@@ -210,9 +210,9 @@ module _ (phase address copy end : ℕ) where
       → CanResolve phase address (wrote heap address (if heap address == plain_header then header_word copy else heap address)) evac (after_publish copy end (heap address))
   publish_next heap evac can = by_header (heap address == plain_header) refl
     where
-      by_header : (b : Bool) → (heap address == plain_header) ≡ b
-          → CanResolve phase address (wrote heap address (if b then header_word copy else heap address)) evac
-          (if b then Leaving copy else Copying copy end (GiveBack (forwardee_in (heap address))))
+      by_header : (holds : Bool) → (heap address == plain_header) ≡ holds
+          → CanResolve phase address (wrote heap address (if holds then header_word copy else heap address)) evac
+          (if holds then Leaving copy else Copying copy end (GiveBack (forwardee_in (heap address))))
       by_header true is =
           let there : wrote heap address (header_word copy) address ≡ header_word copy = wrote_here heap address (header_word copy) address refl in
           record { header = subst IsHeader (sym there) (inr (header_forwarded copy)); counted = λ copies. can.counted refl; knows = there }
@@ -225,18 +225,18 @@ module _ (phase address copy end : ℕ) where
           }
 
 -- Each step of the machine.
-module _ (c : Config) (seat address phase : ℕ) (memory : Word → ℕ) where
+module _ (config : Config) (seat address phase : ℕ) (memory : Word → ℕ) where
   -- what the words are after the access of a spot
   abbrev after : ResolveSpot → Word → ℕ
-  after spot = touched memory (touch_at c seat address spot)
+  after spot = touched memory (touch_at config seat address spot)
 
   -- the word that it finds
   abbrev found_at : ResolveSpot → ℕ
-  found_at spot = memory (touch_at c seat address spot).word
+  found_at spot = memory (touch_at config seat address spot).word
 
   -- what the step leads to
   abbrev Next : ResolveSpot → Type 0
-  Next spot = Can phase address (after spot) (next_at c address phase spot (found_at spot))
+  Next spot = Can phase address (after spot) (next_at config address phase spot (found_at spot))
 
   -- a load leaves the words
   loaded : (word : Word) (next : ResolveSpot) → Can phase address memory next → Can phase address (touched memory (touch word loads)) next
@@ -262,7 +262,7 @@ module _ (c : Config) (seat address phase : ℕ) (memory : Word → ℕ) where
       let head : after (Taking words at) (Heap address) ≡ memory (Heap address) = subst (λ a. after (Taking words at) (Heap a) ≡ memory (Heap a)) (omega arith) (object_left words at apart 0 (omega arith)) in
       let shape : after (Taking words at) (Heap (address + 1)) ≡ memory (Heap (address + 1)) = object_left words at apart 1 (omega arith) in
       let evac_stays : after (Taking words at) Evac ≡ memory Evac = others_stay seat words memory at Evac refl in
-      take_leads phase address (λ a. after (Taking words at) (Heap a)) (after (Taking words at) Evac) words (take_next c words at (found_at (Taking words at)))
+      take_leads phase address (λ a. after (Taking words at) (Heap a)) (after (Taking words at) Evac) words (take_next config words at (found_at (Taking words at)))
       (subst IsHeader (sym head) can.header)
       (subst (λ n. 1 ≤ count_of n) (sym evac_stays) (can.counted refl))
       (can.knows.0 ∙ ap object_words (sym shape))

@@ -49,8 +49,8 @@ room_part said next at got is = (
 )
 
 -- and a step of a taking of room where another machine has taken the region
-pub take_part : (c : Config) (words : ℕ) (kind : Kind) (said : Took) (next : ResolveSpot) (at there : TakeSpot) (got : ℕ) → said ≡ takes.says_at at there → there ≡ takes.next_at c words kind at got → (says_by said next ≡ Again) ↔ take_waits.WaitsAt at got
-take_part c words kind said next at there got is row =
-    let by = says_where_it_waits c words kind at got in
-    let said_it : said ≡ takes.says_at at (takes.next_at c words kind at got) = is ∙ ap (takes.says_at at) row in
+pub take_part : (config : Config) (words : ℕ) (kind : Kind) (said : Took) (next : ResolveSpot) (at there : TakeSpot) (got : ℕ) → said ≡ takes.says_at at there → there ≡ takes.next_at config words kind at got → (says_by said next ≡ Again) ↔ take_waits.WaitsAt at got
+take_part config words kind said next at there got is row =
+    let by = says_where_it_waits config words kind at got in
+    let said_it : said ≡ takes.says_at at (takes.next_at config words kind at got) = is ∙ ap (takes.says_at at) row in
     (λ again. by.0 (sym said_it ∙ (says_again said next).0 again), λ waits. (says_again said next).1 (said_it ∙ by.1 waits))

@@ -85,45 +85,45 @@ pub record IsCounter (word : ℕ) : Type 0 where
   pub few : count_of word ≤ 12
 
 -- the machine may make its next access: it is not at its end, and its room lies apart from the object
-pub record CanStep (address : ℕ) (s : Resolving) : Type 0 where
-  pub going : is_ended s.spot ≡ false
-  pub counter : IsCounter (s.memory Evac)
-  pub apart : IsApart (λ a. s.memory (Heap a)) address s.spot
+pub record CanStep (address : ℕ) (resolving : Resolving) : Type 0 where
+  pub going : is_ended resolving.spot ≡ false
+  pub counter : IsCounter (resolving.memory Evac)
+  pub apart : IsApart (λ a. resolving.memory (Heap a)) address resolving.spot
 
-module _ (c : Config) (seat address phase : ℕ) where
+module _ (config : Config) (seat address phase : ℕ) where
   -- the word that the machine finds
   abbrev pub word_found : Resolving → ℕ
-  word_found s = s.memory (touch_at c seat address s.spot).word
+  word_found resolving = resolving.memory (touch_at config seat address resolving.spot).word
 
   -- what a move makes of it
   abbrev pub after_move : Resolving → Move → Resolving
-  after_move s own = record { memory = touched s.memory (touch_at c seat address s.spot); spot = next_at c address phase s.spot (word_found s) }
-  after_move s (others after) = record { memory = after; spot = s.spot }
+  after_move resolving own = record { memory = touched resolving.memory (touch_at config seat address resolving.spot); spot = next_at config address phase resolving.spot (word_found resolving) }
+  after_move resolving (others after) = record { memory = after; spot = resolving.spot }
 
   -- what moves make of it, one after the other
   unfoldable pub after_moves : Resolving → List Move → Resolving
-  after_moves s [] = s
-  after_moves s (move ∷ moves) = after_moves (after_move s move) moves
+  after_moves resolving [] = resolving
+  after_moves resolving (move ∷ moves) = after_moves (after_move resolving move) moves
 
   -- a move may be made: the machine makes a step, and others leave the object
   abbrev pub IsMove : Resolving → Move → Type 0
-  IsMove s own = CanStep address s
-  IsMove s (others after) = LeaveObject phase address s.spot s.memory after
+  IsMove resolving own = CanStep address resolving
+  IsMove resolving (others after) = LeaveObject phase address resolving.spot resolving.memory after
 
   -- each of these moves may be made, one after the other
   unfoldable pub AreMoves : Resolving → List Move → Type 0
-  AreMoves s [] = ⊤
-  AreMoves s (move ∷ moves) = IsMove s move × AreMoves (after_move s move) moves
+  AreMoves resolving [] = ⊤
+  AreMoves resolving (move ∷ moves) = IsMove resolving move × AreMoves (after_move resolving move) moves
 
 -- What holds after each list of moves.
-pub record ResolvingHolds (address : ℕ) (s : Resolving) : Type 0 where
+pub record ResolvingHolds (address : ℕ) (resolving : Resolving) : Type 0 where
   -- the answer is the object's current copy
-  pub answer : (to : ℕ) → s.spot ≡ Resolved to → to ≡ current_copy address (s.memory (Heap address))
+  pub answer : (to : ℕ) → resolving.spot ≡ Resolved to → to ≡ current_copy address (resolving.memory (Heap address))
   -- a copy that is about to be published is whole
-  pub whole : (copy end : ℕ) → s.spot ≡ Copying copy end Publish → IsWholeCopy (λ a. s.memory (Heap a)) address copy
+  pub whole : (copy end : ℕ) → resolving.spot ≡ Copying copy end Publish → IsWholeCopy (λ a. resolving.memory (Heap a)) address copy
 
 -- The resolving of the address of an object, whatever others do that leave the object.
 abbrev pub AnswersAreCurrent : Type 0
-AnswersAreCurrent = (c : Config) (seat address phase : ℕ) (memory : Word → ℕ) (moves : List Move)
-    → IsHeader (memory (Heap address)) → AreMoves c seat address phase (resolving_from memory) moves
-    → ResolvingHolds address (after_moves c seat address phase (resolving_from memory) moves)
+AnswersAreCurrent = (config : Config) (seat address phase : ℕ) (memory : Word → ℕ) (moves : List Move)
+    → IsHeader (memory (Heap address)) → AreMoves config seat address phase (resolving_from memory) moves
+    → ResolvingHolds address (after_moves config seat address phase (resolving_from memory) moves)

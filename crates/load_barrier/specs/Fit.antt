@@ -13,7 +13,7 @@ use Rattle.load_barrier.specs.Rows.{next_at}
 
 -- whether so many words from an address on lie in the heap
 abbrev pub has_words : Config → ℕ → ℕ → Bool
-has_words c address words = nat_le c.region_words address && nat_le (address + words) ((c.regions + 1) * c.region_words)
+has_words config address words = nat_le config.region_words address && nat_le (address + words) ((config.regions + 1) * config.region_words)
 
 -- whether they are as many as an object has
 abbrev pub is_word_count : ℕ → Bool
@@ -25,39 +25,39 @@ is_busy ended = if ended then false else true
 
 -- whether an object of so many words lies in the heap
 abbrev pub is_object : Config → ℕ → ℕ → Bool
-is_object c address words = is_word_count words && has_words c address words
+is_object config address words = is_word_count words && has_words config address words
 
 -- whether a word of an object and of its copy, counted from 0, can be copied
 abbrev pub is_copied : Config → ℕ → ℕ → ℕ → ℕ → Bool
-is_copied c address copy words index = is_object c address words && (has_words c copy words && nat_lt index words)
+is_copied config address copy words index = is_object config address words && (has_words config copy words && nat_lt index words)
 
 -- whether the numbers of a spot of a copying are in range
 abbrev pub copy_ready : Config → ℕ → ℕ → CopySpot → Bool
-copy_ready c address copy (LoadWord words index) = is_copied c address copy words index
-copy_ready c address copy (StoreWord words index found) = is_copied c address copy words index
-copy_ready c address copy StoreHeader = is_word c (Heap copy)
-copy_ready c address copy Publish = is_word c (Heap copy)
-copy_ready c address copy (GiveBack answer) = is_word c (Heap copy) && is_word c (Heap answer)
+copy_ready config address copy (LoadWord words index) = is_copied config address copy words index
+copy_ready config address copy (StoreWord words index found) = is_copied config address copy words index
+copy_ready config address copy StoreHeader = is_word config (Heap copy)
+copy_ready config address copy Publish = is_word config (Heap copy)
+copy_ready config address copy (GiveBack answer) = is_word config (Heap copy) && is_word config (Heap answer)
 
 -- whether those of a taking of room for a copy are
 abbrev pub take_ready : Config → ℕ → ℕ → ℕ → TakeSpot → Bool
-take_ready c seat address words at = is_object c address words && (is_busy (takes.is_ended at) && takes.is_ready c seat words at)
+take_ready config seat address words at = is_object config address words && (is_busy (takes.is_ended at) && takes.is_ready config seat words at)
 
 -- whether the numbers of a spot are in range, for the machine of a seat that resolves the address: the next access can be made
 abbrev pub is_ready : Config → ℕ → ℕ → ResolveSpot → Bool
-is_ready c seat address LoadHeader = true
-is_ready c seat address (Entering at) = is_entering at && (raises_clear at && is_busy (is_ended at))
-is_ready c seat address LoadShape = is_word c (Heap (address + 1))
-is_ready c seat address (Taking words at) = take_ready c seat address words at
-is_ready c seat address (Copying copy end at) = copy_ready c address copy at && nat_lt end (2 ^ 32)
-is_ready c seat address (Leaving answer) = is_word c (Heap answer)
-is_ready c seat address (Stopping at) = is_stopping at && is_busy (is_ended at)
-is_ready c seat address LoadAgain = true
-is_ready c seat address (Resolved answer) = is_word c (Heap answer)
+is_ready config seat address LoadHeader = true
+is_ready config seat address (Entering at) = is_entering at && (raises_clear at && is_busy (is_ended at))
+is_ready config seat address LoadShape = is_word config (Heap (address + 1))
+is_ready config seat address (Taking words at) = take_ready config seat address words at
+is_ready config seat address (Copying copy end at) = copy_ready config address copy at && nat_lt end (2 ^ 32)
+is_ready config seat address (Leaving answer) = is_word config (Heap answer)
+is_ready config seat address (Stopping at) = is_stopping at && is_busy (is_ended at)
+is_ready config seat address LoadAgain = true
+is_ready config seat address (Resolved answer) = is_word config (Heap answer)
 
 -- whether it can go on with the word
 abbrev pub goes_on : Config → ℕ → ℕ → ℕ → ResolveSpot → ℕ → Bool
-goes_on c seat address phase at got = is_ready c seat address (next_at c address phase at got)
+goes_on config seat address phase at got = is_ready config seat address (next_at config address phase at got)
 
 -- the counter of copiers is not 0 where one of them leaves
 abbrev pub LeavesFit : ResolveSpot → ℕ → Type 0
@@ -66,4 +66,4 @@ LeavesFit _ got = ⊤
 
 -- the word is fit: the access that follows can be made, and nobody leaves that is not counted
 abbrev pub IsFit : Config → ℕ → ℕ → ℕ → ResolveSpot → ℕ → Type 0
-IsFit c seat address phase at got = (goes_on c seat address phase at got ≡ true) × LeavesFit at got
+IsFit config seat address phase at got = (goes_on config seat address phase at got ≡ true) × LeavesFit at got

@@ -55,15 +55,15 @@ copy_touch seat address copy end (GiveBack answer) = touch (Current seat) (store
 
 -- the next access of the machine of a seat that resolves the address
 abbrev pub touch_at : Config → ℕ → ℕ → ResolveSpot → Touch
-touch_at c seat address LoadHeader = touch (Heap address) loads
-touch_at c seat address (Entering at) = rooms.touch_at at
-touch_at c seat address LoadShape = touch (Heap (address + 1)) loads
-touch_at c seat address (Taking words at) = takes.touch_at seat words at
-touch_at c seat address (Copying copy end at) = copy_touch seat address copy end at
-touch_at c seat address (Leaving answer) = touch Evac (subtracts 1)
-touch_at c seat address (Stopping at) = rooms.touch_at at
-touch_at c seat address LoadAgain = touch (Heap address) loads
-touch_at c seat address (Resolved answer) = touch (Heap address) loads
+touch_at config seat address LoadHeader = touch (Heap address) loads
+touch_at config seat address (Entering at) = rooms.touch_at at
+touch_at config seat address LoadShape = touch (Heap (address + 1)) loads
+touch_at config seat address (Taking words at) = takes.touch_at seat words at
+touch_at config seat address (Copying copy end at) = copy_touch seat address copy end at
+touch_at config seat address (Leaving answer) = touch Evac (subtracts 1)
+touch_at config seat address (Stopping at) = rooms.touch_at at
+touch_at config seat address LoadAgain = touch (Heap address) loads
+touch_at config seat address (Resolved answer) = touch (Heap address) loads
 
 -- what follows the first load of the header: a forwarded object is resolved, and one that is not is copied, but not while
 -- references are updated
@@ -82,7 +82,7 @@ after_enter at = Entering at
 
 -- where a taking of room for a copy stands next
 abbrev pub take_next : Config → ℕ → TakeSpot → ℕ → TakeSpot
-take_next c words at got = takes.next_at c words Evacuated at got
+take_next config words at got = takes.next_at config words Evacuated at got
 
 -- where it stands that takes room: with room it copies the words behind the header, and without it stops all copying
 abbrev pub after_take : ℕ → TakeSpot → ResolveSpot
@@ -114,15 +114,15 @@ after_stop at = Stopping at
 
 -- what follows, by the word that was found, in a phase
 abbrev pub next_at : Config → ℕ → ℕ → ResolveSpot → ℕ → ResolveSpot
-next_at c address phase LoadHeader got = after_header address phase got
-next_at c address phase (Entering at) got = after_enter (rooms.next_at at got)
-next_at c address phase LoadShape got = Taking (object_words got) take.LoadBuffer
-next_at c address phase (Taking words at) got = after_take words (take_next c words at got)
-next_at c address phase (Copying copy end at) got = after_copy copy end at got
-next_at c address phase (Leaving answer) got = Resolved answer
-next_at c address phase (Stopping at) got = after_stop (rooms.next_at at got)
-next_at c address phase LoadAgain got = Resolved (current_copy address got)
-next_at c address phase (Resolved answer) got = Resolved answer
+next_at config address phase LoadHeader got = after_header address phase got
+next_at config address phase (Entering at) got = after_enter (rooms.next_at at got)
+next_at config address phase LoadShape got = Taking (object_words got) take.LoadBuffer
+next_at config address phase (Taking words at) got = after_take words (take_next config words at got)
+next_at config address phase (Copying copy end at) got = after_copy copy end at got
+next_at config address phase (Leaving answer) got = Resolved answer
+next_at config address phase (Stopping at) got = after_stop (rooms.next_at at got)
+next_at config address phase LoadAgain got = Resolved (current_copy address got)
+next_at config address phase (Resolved answer) got = Resolved answer
 
 -- whether the address is resolved
 abbrev pub is_ended : ResolveSpot → Bool
@@ -141,7 +141,7 @@ says_by _ next = says_of next
 
 -- what the step says
 abbrev pub says_at : Config → ℕ → ℕ → ResolveSpot → ℕ → Took
-says_at c address phase (Entering at) got = says_by (rooms.says_at at got) (after_enter (rooms.next_at at got))
-says_at c address phase (Taking words at) got = says_by (takes.says_at at (take_next c words at got)) (after_take words (take_next c words at got))
-says_at c address phase (Stopping at) got = says_by (rooms.says_at at got) (after_stop (rooms.next_at at got))
-says_at c address phase at got = says_of (next_at c address phase at got)
+says_at config address phase (Entering at) got = says_by (rooms.says_at at got) (after_enter (rooms.next_at at got))
+says_at config address phase (Taking words at) got = says_by (takes.says_at at (take_next config words at got)) (after_take words (take_next config words at got))
+says_at config address phase (Stopping at) got = says_by (rooms.says_at at got) (after_stop (rooms.next_at at got))
+says_at config address phase at got = says_of (next_at config address phase at got)

@@ -14,5 +14,5 @@ WaitsAt _ got = ⊥
 
 -- At EC no unit is left: the claim word is at or past the number of regions.
 abbrev pub HasNoneLeft : Config → EvacSpot → ℕ → Type 0
-HasNoneLeft c LoadClaim got = c.regions ≤ got
-HasNoneLeft c _ got = ⊥
+HasNoneLeft config LoadClaim got = config.regions ≤ got
+HasNoneLeft config _ got = ⊥

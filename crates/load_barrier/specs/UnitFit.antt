@@ -12,33 +12,33 @@ use Rattle.load_barrier.specs.UnitRows.{next_at}
 
 -- whether the header and the shape of an object at an address lie in the heap
 abbrev pub has_shape : Config → ℕ → Bool
-has_shape c address = is_word c (Heap address) && is_word c (Heap (address + 1))
+has_shape config address = is_word config (Heap address) && is_word config (Heap (address + 1))
 
 -- whether a walk can go on at an address: it has come to the end, or a header can be loaded there
 abbrev pub is_walkable : Config → ℕ → ℕ → Bool
-is_walkable c next end = if nat_lt next end then is_word c (Heap next) else true
+is_walkable config next end = if nat_lt next end then is_word config (Heap next) else true
 
 -- whether a resolving of the address can make its next access
 abbrev pub resolve_ready : Config → ℕ → ℕ → ResolveSpot → Bool
-resolve_ready c seat address at = resolve.is_ready c seat address at && resolve.is_busy (is_ended at)
+resolve_ready config seat address at = resolve.is_ready config seat address at && resolve.is_busy (is_ended at)
 
 -- whether the numbers of a spot are in range, for the machine of a seat: the next access can be made
 abbrev pub is_ready : Config → ℕ → EvacSpot → Bool
-is_ready c seat LoadClaim = true
-is_ready c seat (ClaimUnit unit) = nat_lt unit c.regions
-is_ready c seat (LoadTop region) = nat_lt region c.regions
-is_ready c seat (LoadFirst address end) = is_word c (Heap address)
-is_ready c seat (LoadShape address end) = has_shape c address
-is_ready c seat (LoadMark address end next) = has_shape c address && is_walkable c next end
-is_ready c seat (Resolving address end next at) = has_shape c address && (is_walkable c next end && resolve_ready c seat address at)
-is_ready c seat (Ended unit) = true
+is_ready config seat LoadClaim = true
+is_ready config seat (ClaimUnit unit) = nat_lt unit config.regions
+is_ready config seat (LoadTop region) = nat_lt region config.regions
+is_ready config seat (LoadFirst address end) = is_word config (Heap address)
+is_ready config seat (LoadShape address end) = has_shape config address
+is_ready config seat (LoadMark address end next) = has_shape config address && is_walkable config next end
+is_ready config seat (Resolving address end next at) = has_shape config address && (is_walkable config next end && resolve_ready config seat address at)
+is_ready config seat (Ended unit) = true
 
 -- the word is fit for the part: a top is at most the words of a region, and a resolving can go on
 abbrev pub PartFit : Config → ℕ → EvacSpot → ℕ → Type 0
-PartFit c seat (LoadTop region) got = nat_le got c.region_words ≡ true
-PartFit c seat (Resolving address end next at) got = resolve.IsFit c seat address evacuation_phase at got
-PartFit c seat _ got = ⊤
+PartFit config seat (LoadTop region) got = nat_le got config.region_words ≡ true
+PartFit config seat (Resolving address end next at) got = resolve.IsFit config seat address evacuation_phase at got
+PartFit config seat _ got = ⊤
 
 -- the word is fit: the access that follows can be made
 abbrev pub IsFit : Config → ℕ → ℕ → EvacSpot → ℕ → Type 0
-IsFit c seat cset spot got = (is_ready c seat (next_at c cset spot got) ≡ true) × PartFit c seat spot got
+IsFit config seat cset spot got = (is_ready config seat (next_at config cset spot got) ≡ true) × PartFit config seat spot got

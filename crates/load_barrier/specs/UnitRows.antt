@@ -27,11 +27,11 @@ is_in_set cset region = bit_at cset region == 1
 
 -- whether an address lies in a region of a set
 abbrev pub lies_in_set : Config → ℕ → ℕ → Bool
-lies_in_set c cset address = is_in_set cset (region_with c address)
+lies_in_set config cset address = is_in_set cset (region_with config address)
 
 -- Whether a value that was loaded has to be resolved: not null, and not where objects do not move, nor outside the collection set.
 abbrev pub must_resolve : Config → ℕ → ℕ → ℕ → Bool
-must_resolve c phase cset value = if value == 0 then false else (if nat_lt phase evacuation_phase then false else lies_in_set c cset value)
+must_resolve config phase cset value = if value == 0 then false else (if nat_lt phase evacuation_phase then false else lies_in_set config cset value)
 
 -- the place of the next access. There is none at the end, where it is named as that of the claim
 abbrev pub place_at : EvacSpot → Place
@@ -46,14 +46,14 @@ place_at (Ended unit) = place.EC
 
 -- the next access, of the machine of a seat
 abbrev pub touch_at : Config → ℕ → EvacSpot → Touch
-touch_at c seat LoadClaim = touch Claim loads
-touch_at c seat (ClaimUnit unit) = touch Claim (exchanges unit (unit + 1))
-touch_at c seat (LoadTop region) = touch (Top region) loads
-touch_at c seat (LoadFirst address end) = touch (Heap address) loads
-touch_at c seat (LoadShape address end) = touch (Heap (address + 1)) loads
-touch_at c seat (LoadMark address end next) = touch (Black (mark_word c address)) loads
-touch_at c seat (Resolving address end next at) = resolves.touch_at c seat address at
-touch_at c seat (Ended unit) = touch Claim loads
+touch_at config seat LoadClaim = touch Claim loads
+touch_at config seat (ClaimUnit unit) = touch Claim (exchanges unit (unit + 1))
+touch_at config seat (LoadTop region) = touch (Top region) loads
+touch_at config seat (LoadFirst address end) = touch (Heap address) loads
+touch_at config seat (LoadShape address end) = touch (Heap (address + 1)) loads
+touch_at config seat (LoadMark address end next) = touch (Black (mark_word config address)) loads
+touch_at config seat (Resolving address end next at) = resolves.touch_at config seat address at
+touch_at config seat (Ended unit) = touch Claim loads
 
 -- what follows once a unit is claimed: a region of the set is walked, and in any other there is nothing to do
 abbrev pub after_claim : ℕ → ℕ → EvacSpot
@@ -73,23 +73,23 @@ after_first address end got = after_words address end (filler_words_in got)
 
 -- what follows the load of an object's mark: one that is marked is resolved
 abbrev pub after_mark : Config → ℕ → ℕ → ℕ → ℕ → EvacSpot
-after_mark c address end next got = if bit_at got (mark_bit c address) == 1 then Resolving address end next LoadHeader else walk_on next end
+after_mark config address end next got = if bit_at got (mark_bit config address) == 1 then Resolving address end next LoadHeader else walk_on next end
 
 -- where it stands that resolves an object: with the answer outside the set the walk goes on, and with one in the set it ends
 abbrev pub after_resolve : Config → ℕ → ℕ → ℕ → ℕ → ResolveSpot → EvacSpot
-after_resolve c cset address end next (Resolved answer) = if lies_in_set c cset answer then Ended Worked else walk_on next end
-after_resolve c cset address end next at = Resolving address end next at
+after_resolve config cset address end next (Resolved answer) = if lies_in_set config cset answer then Ended Worked else walk_on next end
+after_resolve config cset address end next at = Resolving address end next at
 
 -- what follows, by the word that was found
 abbrev pub next_at : Config → ℕ → EvacSpot → ℕ → EvacSpot
-next_at c cset LoadClaim got = if nat_lt got c.regions then ClaimUnit got else Ended NoneLeft
-next_at c cset (ClaimUnit unit) got = if got == unit then after_claim cset unit else LoadClaim
-next_at c cset (LoadTop region) got = walk_on (base_of c region) (base_of c region + got)
-next_at c cset (LoadFirst address end) got = after_first address end got
-next_at c cset (LoadShape address end) got = LoadMark address end (address + object_words got)
-next_at c cset (LoadMark address end next) got = after_mark c address end next got
-next_at c cset (Resolving address end next at) got = after_resolve c cset address end next (resolves.next_at c address evacuation_phase at got)
-next_at c cset (Ended unit) got = Ended unit
+next_at config cset LoadClaim got = if nat_lt got config.regions then ClaimUnit got else Ended NoneLeft
+next_at config cset (ClaimUnit unit) got = if got == unit then after_claim cset unit else LoadClaim
+next_at config cset (LoadTop region) got = walk_on (base_of config region) (base_of config region + got)
+next_at config cset (LoadFirst address end) got = after_first address end got
+next_at config cset (LoadShape address end) got = LoadMark address end (address + object_words got)
+next_at config cset (LoadMark address end next) got = after_mark config address end next got
+next_at config cset (Resolving address end next at) got = after_resolve config cset address end next (resolves.next_at config address evacuation_phase at got)
+next_at config cset (Ended unit) got = Ended unit
 
 -- whether the unit is done, or none was left
 abbrev pub is_ended : EvacSpot → Bool
@@ -108,7 +108,7 @@ says_by _ next = says_of next
 
 -- what the step says: again where another machine has claimed the unit, or the resolving waits
 abbrev pub says_at : Config → ℕ → EvacSpot → ℕ → Took
-says_at c cset (ClaimUnit unit) got = if got == unit then says_of (after_claim cset unit) else Again
-says_at c cset (Resolving address end next at) got =
-    says_by (resolves.says_at c address evacuation_phase at got) (after_resolve c cset address end next (resolves.next_at c address evacuation_phase at got))
-says_at c cset spot got = says_of (next_at c cset spot got)
+says_at config cset (ClaimUnit unit) got = if got == unit then says_of (after_claim cset unit) else Again
+says_at config cset (Resolving address end next at) got =
+    says_by (resolves.says_at config address evacuation_phase at got) (after_resolve config cset address end next (resolves.next_at config address evacuation_phase at got))
+says_at config cset spot got = says_of (next_at config cset spot got)

@@ -21,7 +21,7 @@ use Rattle.managed_queue.specs.Machines.{command_coming, first_command, answer_t
 use Rattle.managed_queue.specs.Users.{Use, chosen, is_rest, left_in_plan, has_ended, next_of, plan_after, is_refused, used, makings_ahead, puts_left, to_come}
 use Rattle.managed_queue.proofs.Driven.{going, onward, used_is, more_left}
 
-pub command_valid : (c : Choice) (s : Spot) → IsValid (command_coming c s)
+pub command_valid : (c : Choice) (spot : Spot) → IsValid (command_coming c spot)
 command_valid c MakesAnchor = (omega arith, omega arith, omega arith)
 command_valid c MakesFirst = (omega arith, omega arith, omega arith)
 command_valid c SetsHead = (omega arith, omega arith, omega arith)
@@ -46,14 +46,14 @@ command_valid c (Unlinks value) = (omega arith, omega arith, omega arith, omega 
 
 -- what is ahead after a reply, of the plan that is then left
 abbrev ahead : Plan → Spot → Reply → ℕ
-ahead p s r = makings_ahead (next_spot s (command_coming (chosen p) s) r) (puts_left (plan_after p (answer_told (operation_ended s r))))
+ahead p spot r = makings_ahead (next_spot spot (command_coming (chosen p) spot) r) (puts_left (plan_after p (answer_told (operation_ended spot r))))
 
 -- a plan after a reply has not more to put
-fewer_puts : (p : Plan) (a : Option QueueReply) → puts_left (plan_after p a) ≤ puts_left p
+fewer_puts : (p : Plan) (found : Option QueueReply) → puts_left (plan_after p found) ≤ puts_left p
 fewer_puts (Puts next left) None = omega arith
 fewer_puts (Puts next left) (Some queue_reply.Put) = at (nat_lt 0 left)
   where
-    at : (b : Bool) → puts_left (if b then Puts (next + 1) (left - 1) else Puts next left) ≤ left
+    at : (holds : Bool) → puts_left (if holds then Puts (next + 1) (left - 1) else Puts next left) ≤ left
     at true = omega arith
     at false = omega arith
 fewer_puts (Puts next left) (Some (queue_reply.Got value)) = omega arith
@@ -69,7 +69,7 @@ fewer_puts (Takes left) (Some queue_reply.Full) = omega arith
 one_less : (p : Plan) → puts_left (plan_after p (Some queue_reply.Put)) ≤ puts_left p - 1
 one_less (Puts next zero) = omega arith
 one_less (Puts next (suc n)) =
-    subst (λ (b : Bool). puts_left (if b then Puts (next + 1) (suc n - 1) else Puts next (suc n)) ≤ suc n - 1) (sym (lt-ltb 0 (suc n) (omega arith))) (omega arith)
+    subst (λ (holds : Bool). puts_left (if holds then Puts (next + 1) (suc n - 1) else Puts next (suc n)) ≤ suc n - 1) (sym (lt-ltb 0 (suc n) (omega arith))) (omega arith)
 one_less (Takes left) = omega arith
 
 -- what is ahead where a reply decides
@@ -151,7 +151,7 @@ rest_ahead (choice.Put value) reply.Full x = omega arith
 rest_ahead choice.Take r x = omega arith
 
 -- no reply raises it
-ahead_falls : (p : Plan) (s : Spot) (r : Reply) → ahead p s r ≤ makings_ahead s (puts_left p)
+ahead_falls : (p : Plan) (spot : Spot) (r : Reply) → ahead p spot r ≤ makings_ahead spot (puts_left p)
 ahead_falls p MakesAnchor r = let low = fewer_puts p None in omega (arith, low)
 ahead_falls p MakesFirst r = let low = fewer_puts p None in omega (arith, low)
 ahead_falls p SetsHead r = fewer_puts p None
@@ -184,9 +184,9 @@ ahead_falls p (Unlinks value) r =
     omega (arith, low, is)
 
 -- an allocation that is refused ends the user, and another is one less to come
-record Pays (p : Plan) (s : Spot) (r : Reply) : Type 0 where
-  some : 0 < makings_ahead s (puts_left p)
-  less : (is_refused (command_coming (chosen p) s) r ≡ true) ⊎ (ahead p s r < makings_ahead s (puts_left p))
+record Pays (p : Plan) (spot : Spot) (r : Reply) : Type 0 where
+  some : 0 < makings_ahead spot (puts_left p)
+  less : (is_refused (command_coming (chosen p) spot) r ≡ true) ⊎ (ahead p spot r < makings_ahead spot (puts_left p))
 
 put_pays : (next left : ℕ) (r : Reply) → 1 ≤ left → Pays (Puts next left) Rests r
 put_pays next left (reply.Ref n) some = record { some = some; less = inr (omega (arith, some)) }
@@ -199,7 +199,7 @@ put_pays next left reply.Bad some = record { some = some; less = inr (omega (ari
 put_pays next left (reply.At place) some = record { some = some; less = inr (omega (arith, some)) }
 put_pays next left reply.Full some = record { some = some; less = inl refl }
 
-pays_at : (p : Plan) (s : Spot) (r : Reply) → IsNew (command_coming (chosen p) s) → (is_rest s ≡ true → 1 ≤ left_in_plan p) → Pays p s r
+pays_at : (p : Plan) (spot : Spot) (r : Reply) → IsNew (command_coming (chosen p) spot) → (is_rest spot ≡ true → 1 ≤ left_in_plan p) → Pays p spot r
 pays_at p MakesAnchor r new more = let low = fewer_puts p None in record { some = omega arith; less = inr (omega (arith, low)) }
 pays_at p MakesFirst r new more = let low = fewer_puts p None in record { some = omega arith; less = inr (omega (arith, low)) }
 pays_at (Puts next left) Rests r new more = put_pays next left r (more refl)
@@ -227,7 +227,7 @@ pays_at p (Unlinks value) r new more = absurd new
 come_low : (u : Use) → to_come u ≤ makings_ahead u.spot (puts_left u.plan)
 come_low u = at (has_ended u)
   where
-    at : (b : Bool) → (if b then 0 else makings_ahead u.spot (puts_left u.plan)) ≤ makings_ahead u.spot (puts_left u.plan)
+    at : (holds : Bool) → (if holds then 0 else makings_ahead u.spot (puts_left u.plan)) ≤ makings_ahead u.spot (puts_left u.plan)
     at true = omega arith
     at false = omega arith
 
@@ -240,8 +240,8 @@ refused_none u is = ap (λ b. if b || (is_rest u.spot && (left_in_plan u.plan ==
 pub user_falls : (u : Use) (r : Reply) → to_come (used u r) ≤ to_come u
 user_falls u r = at (has_ended u) refl
   where
-    at : (b : Bool) → has_ended u ≡ b → to_come (used u r) ≤ to_come u
-    at true ended = let same : to_come (used u r) ≡ to_come u = ap (λ b. to_come (if b then u else onward u r)) ended in omega (arith, same)
+    at : (holds : Bool) → has_ended u ≡ holds → to_come (used u r) ≤ to_come u
+    at true ended = let same : to_come (used u r) ≡ to_come u = ap (λ holds. to_come (if holds then u else onward u r)) ended in omega (arith, same)
     at false on =
         let goes = ap to_come (used_is u r on) in
         let low = come_low (onward u r) in
@@ -249,9 +249,9 @@ user_falls u r = at (has_ended u) refl
         let is = come_is u on in
         omega (arith, goes, low, falls, is)
 
-pub user_pays : (u : Use) (c : Command) (r : Reply) → next_of u ≡ Some c → IsNew c → to_come (used u r) < to_come u
-user_pays u c r is new =
-    let goes = going u c is in
+pub user_pays : (u : Use) (command : Command) (r : Reply) → next_of u ≡ Some command → IsNew command → to_come (used u r) < to_come u
+user_pays u command r is new =
+    let goes = going u command is in
     let pays = pays_at u.plan u.spot r (subst IsNew (sym goes.command) new) (unfinished u goes.on) in
     let at_once = ap to_come (used_is u r goes.on) in
     let before = come_is u goes.on in
@@ -263,6 +263,6 @@ user_pays u c r is new =
     unfinished : (u : Use) → has_ended u ≡ false → is_rest u.spot ≡ true → 1 ≤ left_in_plan u.plan
     unfinished u on = at u.refused on
       where
-        at : (b : Bool) → (b || (is_rest u.spot && (left_in_plan u.plan == 0))) ≡ false → is_rest u.spot ≡ true → 1 ≤ left_in_plan u.plan
+        at : (holds : Bool) → (holds || (is_rest u.spot && (left_in_plan u.plan == 0))) ≡ false → is_rest u.spot ≡ true → 1 ≤ left_in_plan u.plan
         at true never rest = absurd (false≢true (sym never))
         at false on rest = more_left u.spot (left_in_plan u.plan) on rest

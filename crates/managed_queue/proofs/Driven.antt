@@ -37,11 +37,11 @@ pub record Going (u : Use) (c : Command) : Type 0 where
   pub on : has_ended u ≡ false
   pub command : command_of u ≡ c
 
-pub going : (u : Use) (c : Command) → next_of u ≡ Some c → Going u c
-going u c is = at (has_ended u) refl is
+pub going : (u : Use) (command : Command) → next_of u ≡ Some command → Going u command
+going u command is = at (has_ended u) refl is
   where
-    at : (b : Bool) → has_ended u ≡ b → (if b then None else Some (command_of u)) ≡ Some c → Going u c
-    at true ended never = let no_command : None ≡ Some c = never in absurd cc
+    at : (holds : Bool) → has_ended u ≡ holds → (if holds then None else Some (command_of u)) ≡ Some command → Going u command
+    at true ended never = let no_command : None ≡ Some command = never in absurd cc
     at false on here = record { on = on; command = cc }
 
 pub used_is : (u : Use) (r : Reply) → has_ended u ≡ false → used u r ≡ onward u r
@@ -69,7 +69,7 @@ nothing_full reply.Bad given = refl
 nothing_full (reply.At place) given = refl
 nothing_full reply.Full given = absurd (given refl)
 
-pub not_refused : (c : Command) (r : Reply) → r ≢ reply.Full → is_refused c r ≡ false
+pub not_refused : (command : Command) (r : Reply) → r ≢ reply.Full → is_refused command r ≡ false
 not_refused (New dst refs nums) r given = not_full r given
 not_refused (Get dst src field) r given = refl
 not_refused (Set obj field val) r given = refl
@@ -84,20 +84,20 @@ not_refused Gc r given = refl
 not_refused (Pin slot obj) r given = refl
 not_refused (Unpin slot) r given = refl
 
-answered : (s : Spot) (r : Reply) → r ≢ reply.Full → IsGranted s r
+answered : (spot : Spot) (r : Reply) → r ≢ reply.Full → IsGranted spot r
 answered MakesAnchor r given = given
 answered MakesFirst r given = given
 answered _ r given = tt
 
-given_first : (e : Entry) (es : List Entry) → IsWithoutFull (e ∷ es) → e.reply ≢ reply.Full
-given_first e es given = All-head (λ (x : Entry). x.reply ≢ reply.Full) e es given
+given_first : (entry : Entry) (es : List Entry) → IsWithoutFull (entry ∷ es) → entry.reply ≢ reply.Full
+given_first entry es given = All-head (λ (entry : Entry). entry.reply ≢ reply.Full) entry es given
 
-given_later : (e : Entry) (es : List Entry) → IsWithoutFull (e ∷ es) → IsWithoutFull es
-given_later e es given = All-tail (λ (x : Entry). x.reply ≢ reply.Full) e es given
+given_later : (entry : Entry) (es : List Entry) → IsWithoutFull (entry ∷ es) → IsWithoutFull es
+given_later entry es given = All-tail (λ (entry : Entry). entry.reply ≢ reply.Full) entry es given
 
 -- the spot after an entry, by its command
-spot_on : (u : Use) (e : Entry) → Going u e.command → (used u e.reply).spot ≡ next_spot u.spot e.command e.reply
-spot_on u e goes = ap (λ x. x.spot) (used_is u e.reply goes.on) ∙ ap (λ c. next_spot u.spot c e.reply) goes.command
+spot_on : (u : Use) (entry : Entry) → Going u entry.command → (used u entry.reply).spot ≡ next_spot u.spot entry.command entry.reply
+spot_on u entry goes = ap (λ x. x.spot) (used_is u entry.reply goes.on) ∙ ap (λ c. next_spot u.spot c entry.reply) goes.command
 
 pub users_play : UsersPlay
 users_play u [] fine given driven = (tt, refl)
@@ -108,9 +108,9 @@ users_play u (e ∷ es) fine given driven =
     let still : (used u e.reply).refused ≡ false = ap (λ x. x.refused) (used_is u e.reply goes.on) ∙ not_refused (command_of u) e.reply first in
     let later = users_play (used u e.reply) es still (given_later e es given) driven.1 in (
       (
-        subst (λ (c : Command). MayCome u.spot c) goes.command (command_is_next (chosen u.plan) u.spot),
+        subst (λ (command : Command). MayCome u.spot command) goes.command (command_is_next (chosen u.plan) u.spot),
         answered u.spot e.reply first,
-        subst (λ (s : Spot). IsPlayed s es) on later.0,
+        subst (λ (spot : Spot). IsPlayed spot es) on later.0,
       ),
       ap (λ s. spot_after s es) (sym on) ∙ later.1,
     )
@@ -134,7 +134,7 @@ gots-append (full ∷ a) b = gots-append a b
 -- takers
 
 abbrev taking : Spot → ℕ → Gotten → Use
-taking s left have = record { spot = s; plan = Takes left; got = have; refused = false }
+taking spot left have = record { spot = spot; plan = Takes left; got = have; refused = false }
 
 -- a taker is at a spot of a take, and has one to do
 abbrev InTake : Spot → ℕ → Type 0
@@ -150,20 +150,20 @@ InTake (Unlinks value) left = 1 ≤ left
 InTake _ left = ⊥
 
 -- what one reply makes of it
-record TakeStep (s : Spot) (left : ℕ) (have : Gotten) (r : Reply) : Type 0 where
+record TakeStep (spot : Spot) (left : ℕ) (have : Gotten) (r : Reply) : Type 0 where
   left_then : ℕ
   have_then : Gotten
-  plan : plan_after (Takes left) (answer_told (operation_ended s r)) ≡ Takes left_then
-  count : left ≡ left_then + length (gots_of (operation_ended s r))
-  counted : got_after (Takes left) have (answer_told (operation_ended s r)) ≡ have_then
-  items : have_then.items ≡ have.items + length (gots_of (operation_ended s r))
-  total : have_then.sum ≡ have.sum + sum (gots_of (operation_ended s r))
-  no_put : puts_of (operation_ended s r) ≡ []
-  inside : InTake (next_spot s (command_coming choice.Take s) r) left_then
+  plan : plan_after (Takes left) (answer_told (operation_ended spot r)) ≡ Takes left_then
+  count : left ≡ left_then + length (gots_of (operation_ended spot r))
+  counted : got_after (Takes left) have (answer_told (operation_ended spot r)) ≡ have_then
+  items : have_then.items ≡ have.items + length (gots_of (operation_ended spot r))
+  total : have_then.sum ≡ have.sum + sum (gots_of (operation_ended spot r))
+  no_put : puts_of (operation_ended spot r) ≡ []
+  inside : InTake (next_spot spot (command_coming choice.Take spot) r) left_then
 
 -- the reply ends nothing that counts
-idle : (s : Spot) (left : ℕ) (have : Gotten) (r : Reply) → operation_ended s r ≡ [] → InTake (next_spot s (command_coming choice.Take s) r) left → TakeStep s left have r
-idle s left have r none inside = record {
+idle : (spot : Spot) (left : ℕ) (have : Gotten) (r : Reply) → operation_ended spot r ≡ [] → InTake (next_spot spot (command_coming choice.Take spot) r) left → TakeStep spot left have r
+idle spot left have r none inside = record {
   left_then = left;
   have_then = have;
   plan = ap (λ o. plan_after (Takes left) (answer_told o)) none;
@@ -186,7 +186,7 @@ joins_on left reply.Bad = tt
 joins_on left (reply.At place) = tt
 joins_on left reply.Full = tt
 
-take_step : (s : Spot) (left : ℕ) (have : Gotten) (r : Reply) → InTake s left → (is_rest s ≡ true → 1 ≤ left) → r ≢ reply.Full → TakeStep s left have r
+take_step : (spot : Spot) (left : ℕ) (have : Gotten) (r : Reply) → InTake spot left → (is_rest spot ≡ true → 1 ≤ left) → r ≢ reply.Full → TakeStep spot left have r
 take_step MakesAnchor left have r inside more given = absurd inside
 take_step MakesFirst left have r inside more given = absurd inside
 take_step SetsHead left have r inside more given = absurd inside
@@ -247,52 +247,52 @@ take_step (Unlinks value) left have (reply.At place) inside more given = idle (U
 take_step (Unlinks value) left have reply.Full inside more given = idle (Unlinks value) left have reply.Full refl inside
 
 -- what all of a taker's entries make of it
-record TakesOn (s : Spot) (left : ℕ) (have : Gotten) (es : List Entry) : Type 0 where
-  items : (use_after (taking s left have) es).got.items ≡ have.items + length (gots_of (ended_in s es))
-  total : (use_after (taking s left have) es).got.sum ≡ have.sum + sum (gots_of (ended_in s es))
-  no_put : puts_of (ended_in s es) ≡ []
-  all : next_of (use_after (taking s left have) es) ≡ None → length (gots_of (ended_in s es)) ≡ left
+record TakesOn (spot : Spot) (left : ℕ) (have : Gotten) (es : List Entry) : Type 0 where
+  items : (use_after (taking spot left have) es).got.items ≡ have.items + length (gots_of (ended_in spot es))
+  total : (use_after (taking spot left have) es).got.sum ≡ have.sum + sum (gots_of (ended_in spot es))
+  no_put : puts_of (ended_in spot es) ≡ []
+  all : next_of (use_after (taking spot left have) es) ≡ None → length (gots_of (ended_in spot es)) ≡ left
 
 -- between two operations one is left, where it has not ended
-pub more_left : (s : Spot) (left : ℕ) → (is_rest s && (left == 0)) ≡ false → is_rest s ≡ true → 1 ≤ left
-more_left s left on rest = at left (ap (λ b. b && (left == 0)) (sym rest) ∙ on)
+pub more_left : (spot : Spot) (left : ℕ) → (is_rest spot && (left == 0)) ≡ false → is_rest spot ≡ true → 1 ≤ left
+more_left spot left on rest = at left (ap (λ b. b && (left == 0)) (sym rest) ∙ on)
   where
     at : (n : ℕ) → (true && (n == 0)) ≡ false → 1 ≤ n
     at zero never = absurd (false≢true (sym never))
     at (suc n) some = omega arith
 
 -- one that has no next command has none left
-none_left : (s : Spot) (left : ℕ) (have : Gotten) → next_of (taking s left have) ≡ None → left ≡ 0
-none_left s left have is = at (is_rest s) (left == 0) refl is
+none_left : (spot : Spot) (left : ℕ) (have : Gotten) → next_of (taking spot left have) ≡ None → left ≡ 0
+none_left spot left have is = at (is_rest spot) (left == 0) refl is
   where
-    at : (a b : Bool) → (left == 0) ≡ b → (if a && b then None else Some (command_of (taking s left have))) ≡ None → left ≡ 0
+    at : (holds other_holds : Bool) → (left == 0) ≡ other_holds → (if holds && other_holds then None else Some (command_of (taking spot left have))) ≡ None → left ≡ 0
     at true true none is = elim (eqb_tells left 0) [ inl here ↦ here.1 | inr other ↦ absurd (false≢true (sym other.0 ∙ none)) ]
-    at true false none is = let never : Some (command_of (taking s left have)) ≡ None = is in absurd cc
-    at false b none is = let never : Some (command_of (taking s left have)) ≡ None = is in absurd cc
+    at true false none is = let never : Some (command_of (taking spot left have)) ≡ None = is in absurd cc
+    at false other_holds none is = let never : Some (command_of (taking spot left have)) ≡ None = is in absurd cc
 
-take_all : (es : List Entry) (s : Spot) (left : ℕ) (have : Gotten) → InTake s left → IsWithoutFull es → IsDriven (taking s left have) es → TakesOn s left have es
-take_all [] s left have inside given driven = record { items = omega arith; total = omega arith; no_put = refl; all = λ ended. sym (none_left s left have ended) }
-take_all (e ∷ es) s left have inside given driven =
-    let goes = going (taking s left have) e.command driven.0 in
+take_all : (es : List Entry) (spot : Spot) (left : ℕ) (have : Gotten) → InTake spot left → IsWithoutFull es → IsDriven (taking spot left have) es → TakesOn spot left have es
+take_all [] spot left have inside given driven = record { items = omega arith; total = omega arith; no_put = refl; all = λ ended. sym (none_left spot left have ended) }
+take_all (e ∷ es) spot left have inside given driven =
+    let goes = going (taking spot left have) e.command driven.0 in
     let first = given_first e es given in
-    let step = take_step s left have e.reply inside (more_left s left goes.on) first in
-    let here : used (taking s left have) e.reply ≡ taking (next_spot s e.command e.reply) step.left_then step.have_then =
-    used_is (taking s left have) e.reply goes.on ∙ same step goes.command (not_refused (command_coming choice.Take s) e.reply first) in
-    let later = take_all es (next_spot s e.command e.reply) step.left_then step.have_then
-    (subst (λ (c : Command). InTake (next_spot s c e.reply) step.left_then) goes.command step.inside) (given_later e es given) (subst (λ (u : Use). IsDriven u es) here driven.1) in
-    let gots = gots-append (operation_ended s e.reply) (ended_in (next_spot s e.command e.reply) es) in
-    let long = ap (length {A = ℕ}) gots ∙ length-append (gots_of (operation_ended s e.reply)) (gots_of (ended_in (next_spot s e.command e.reply) es)) in
-    let whole = ap sum gots ∙ sum_by-append (λ x. x) (gots_of (operation_ended s e.reply)) (gots_of (ended_in (next_spot s e.command e.reply) es)) in
+    let step = take_step spot left have e.reply inside (more_left spot left goes.on) first in
+    let here : used (taking spot left have) e.reply ≡ taking (next_spot spot e.command e.reply) step.left_then step.have_then =
+    used_is (taking spot left have) e.reply goes.on ∙ same step goes.command (not_refused (command_coming choice.Take spot) e.reply first) in
+    let later = take_all es (next_spot spot e.command e.reply) step.left_then step.have_then
+    (subst (λ (command : Command). InTake (next_spot spot command e.reply) step.left_then) goes.command step.inside) (given_later e es given) (subst (λ (u : Use). IsDriven u es) here driven.1) in
+    let gots = gots-append (operation_ended spot e.reply) (ended_in (next_spot spot e.command e.reply) es) in
+    let long = ap (length {A = ℕ}) gots ∙ length-append (gots_of (operation_ended spot e.reply)) (gots_of (ended_in (next_spot spot e.command e.reply) es)) in
+    let whole = ap sum gots ∙ sum_by-append (λ x. x) (gots_of (operation_ended spot e.reply)) (gots_of (ended_in (next_spot spot e.command e.reply) es)) in
     record {
       items = ap (λ (u : Use). (use_after u es).got.items) here ∙ later.items ∙ omega (arith, step.items, long);
       total = ap (λ (u : Use). (use_after u es).got.sum) here ∙ later.total ∙ omega (arith, step.total, whole);
-      no_put = puts-append (operation_ended s e.reply) (ended_in (next_spot s e.command e.reply) es) ∙ ap (λ l. l ++ puts_of (ended_in (next_spot s e.command e.reply) es)) step.no_put ∙ later.no_put;
+      no_put = puts-append (operation_ended spot e.reply) (ended_in (next_spot spot e.command e.reply) es) ∙ ap (λ l. l ++ puts_of (ended_in (next_spot spot e.command e.reply) es)) step.no_put ∙ later.no_put;
       all = λ ended. let rest = later.all (ap (λ (u : Use). next_of (use_after u es)) (sym here) ∙ ended) in omega (arith, rest, long, step.count);
     }
   where
-    same : (step : TakeStep s left have e.reply) → command_coming choice.Take s ≡ e.command → is_refused (command_coming choice.Take s) e.reply ≡ false
-        → onward (taking s left have) e.reply ≡ taking (next_spot s e.command e.reply) step.left_then step.have_then
-    same step command fine = λ i. record { spot = next_spot s (command i) e.reply; plan = step.plan i; got = step.counted i; refused = fine i }
+    same : (step : TakeStep spot left have e.reply) → command_coming choice.Take spot ≡ e.command → is_refused (command_coming choice.Take spot) e.reply ≡ false
+        → onward (taking spot left have) e.reply ≡ taking (next_spot spot e.command e.reply) step.left_then step.have_then
+    same step command fine = λ i. record { spot = next_spot spot (command i) e.reply; plan = step.plan i; got = step.counted i; refused = fine i }
 
 pub takers_take : TakersTake
 takers_take count es given driven =
@@ -302,7 +302,7 @@ takers_take count es given driven =
 -- putters
 
 abbrev putting : Spot → ℕ → ℕ → Use
-putting s next left = record { spot = s; plan = Puts next left; got = nothing_got; refused = false }
+putting spot next left = record { spot = spot; plan = Puts next left; got = nothing_got; refused = false }
 
 -- a putter is in the set-up, joins, rests, or is at a spot of a put of its next number, of which it has one to do
 abbrev InPut : Spot → ℕ → ℕ → Type 0
@@ -322,15 +322,15 @@ InPut (Swings value) next left = (value ≡ next) × (1 ≤ left)
 InPut _ next left = ⊥
 
 -- what one reply makes of it
-record PutStep (s : Spot) (next left : ℕ) (r : Reply) : Type 0 where
+record PutStep (spot : Spot) (next left : ℕ) (r : Reply) : Type 0 where
   next_then : ℕ
   left_then : ℕ
-  plan : plan_after (Puts next left) (answer_told (operation_ended s r)) ≡ Puts next_then left_then
-  puts : puts_of (operation_ended s r) ++ range_with_len next_then left_then ≡ range_with_len next left
-  inside : InPut (next_spot s (command_coming (choice.Put next) s) r) next_then left_then
+  plan : plan_after (Puts next left) (answer_told (operation_ended spot r)) ≡ Puts next_then left_then
+  puts : puts_of (operation_ended spot r) ++ range_with_len next_then left_then ≡ range_with_len next left
+  inside : InPut (next_spot spot (command_coming (choice.Put next) spot) r) next_then left_then
 
-waits : (s : Spot) (next left : ℕ) (r : Reply) → operation_ended s r ≡ [] → InPut (next_spot s (command_coming (choice.Put next) s) r) next left → PutStep s next left r
-waits s next left r none inside = record {
+waits : (spot : Spot) (next left : ℕ) (r : Reply) → operation_ended spot r ≡ [] → InPut (next_spot spot (command_coming (choice.Put next) spot) r) next left → PutStep spot next left r
+waits spot next left r none inside = record {
   next_then = next;
   left_then = left;
   plan = ap (λ o. plan_after (Puts next left) (answer_told o)) none;
@@ -395,7 +395,7 @@ swings_in value next (suc n) r is some =
       inside = tt;
     }
 
-put_step : (s : Spot) (next left : ℕ) (r : Reply) → InPut s next left → (is_rest s ≡ true → 1 ≤ left) → r ≢ reply.Full → PutStep s next left r
+put_step : (spot : Spot) (next left : ℕ) (r : Reply) → InPut spot next left → (is_rest spot ≡ true → 1 ≤ left) → r ≢ reply.Full → PutStep spot next left r
 put_step MakesAnchor next left r inside more given = waits MakesAnchor next left r refl tt
 put_step MakesFirst next left r inside more given = waits MakesFirst next left r refl tt
 put_step SetsHead next left r inside more given = waits SetsHead next left r refl tt
@@ -417,40 +417,40 @@ put_step Pushes next left r inside more given = absurd inside
 put_step Reads next left r inside more given = absurd inside
 put_step (Unlinks value) next left r inside more given = absurd inside
 
-record PutsOn (s : Spot) (next left : ℕ) (es : List Entry) : Type 0 where
+record PutsOn (spot : Spot) (next left : ℕ) (es : List Entry) : Type 0 where
   rest : List ℕ
-  puts : puts_of (ended_in s es) ++ rest ≡ range_with_len next left
-  all : next_of (use_after (putting s next left) es) ≡ None → rest ≡ []
+  puts : puts_of (ended_in spot es) ++ rest ≡ range_with_len next left
+  all : next_of (use_after (putting spot next left) es) ≡ None → rest ≡ []
 
-none_to_put : (s : Spot) (next left : ℕ) → next_of (putting s next left) ≡ None → left ≡ 0
-none_to_put s next left is = at (is_rest s) (left == 0) refl is
+none_to_put : (spot : Spot) (next left : ℕ) → next_of (putting spot next left) ≡ None → left ≡ 0
+none_to_put spot next left is = at (is_rest spot) (left == 0) refl is
   where
-    at : (a b : Bool) → (left == 0) ≡ b → (if a && b then None else Some (command_of (putting s next left))) ≡ None → left ≡ 0
+    at : (holds other_holds : Bool) → (left == 0) ≡ other_holds → (if holds && other_holds then None else Some (command_of (putting spot next left))) ≡ None → left ≡ 0
     at true true none is = elim (eqb_tells left 0) [ inl here ↦ here.1 | inr other ↦ absurd (false≢true (sym other.0 ∙ none)) ]
-    at true false none is = let never : Some (command_of (putting s next left)) ≡ None = is in absurd cc
-    at false b none is = let never : Some (command_of (putting s next left)) ≡ None = is in absurd cc
+    at true false none is = let never : Some (command_of (putting spot next left)) ≡ None = is in absurd cc
+    at false other_holds none is = let never : Some (command_of (putting spot next left)) ≡ None = is in absurd cc
 
-put_all : (es : List Entry) (s : Spot) (next left : ℕ) → InPut s next left → IsWithoutFull es → IsDriven (putting s next left) es → PutsOn s next left es
-put_all [] s next left inside given driven = record { rest = range_with_len next left; puts = refl; all = λ ended. ap (range_with_len next) (none_to_put s next left ended) }
-put_all (e ∷ es) s next left inside given driven =
-    let goes = going (putting s next left) e.command driven.0 in
+put_all : (es : List Entry) (spot : Spot) (next left : ℕ) → InPut spot next left → IsWithoutFull es → IsDriven (putting spot next left) es → PutsOn spot next left es
+put_all [] spot next left inside given driven = record { rest = range_with_len next left; puts = refl; all = λ ended. ap (range_with_len next) (none_to_put spot next left ended) }
+put_all (e ∷ es) spot next left inside given driven =
+    let goes = going (putting spot next left) e.command driven.0 in
     let first = given_first e es given in
-    let step = put_step s next left e.reply inside (more_left s left goes.on) first in
-    let here : used (putting s next left) e.reply ≡ putting (next_spot s e.command e.reply) step.next_then step.left_then =
-    used_is (putting s next left) e.reply goes.on ∙ same step goes.command (not_refused (command_coming (choice.Put next) s) e.reply first) in
-    let later = put_all es (next_spot s e.command e.reply) step.next_then step.left_then
-    (subst (λ (c : Command). InPut (next_spot s c e.reply) step.next_then step.left_then) goes.command step.inside) (given_later e es given) (subst (λ (u : Use). IsDriven u es) here driven.1) in
-    let now = operation_ended s e.reply in
-    let behind = ended_in (next_spot s e.command e.reply) es in
+    let step = put_step spot next left e.reply inside (more_left spot left goes.on) first in
+    let here : used (putting spot next left) e.reply ≡ putting (next_spot spot e.command e.reply) step.next_then step.left_then =
+    used_is (putting spot next left) e.reply goes.on ∙ same step goes.command (not_refused (command_coming (choice.Put next) spot) e.reply first) in
+    let later = put_all es (next_spot spot e.command e.reply) step.next_then step.left_then
+    (subst (λ (command : Command). InPut (next_spot spot command e.reply) step.next_then step.left_then) goes.command step.inside) (given_later e es given) (subst (λ (u : Use). IsDriven u es) here driven.1) in
+    let now = operation_ended spot e.reply in
+    let behind = ended_in (next_spot spot e.command e.reply) es in
     record {
       rest = later.rest;
       puts = ap (λ l. l ++ later.rest) (puts-append now behind) ∙ append_assoc (puts_of now) (puts_of behind) later.rest ∙ ap (λ l. puts_of now ++ l) later.puts ∙ step.puts;
       all = λ ended. later.all (ap (λ (u : Use). next_of (use_after u es)) (sym here) ∙ ended);
     }
   where
-    same : (step : PutStep s next left e.reply) → command_coming (choice.Put next) s ≡ e.command → is_refused (command_coming (choice.Put next) s) e.reply ≡ false
-        → onward (putting s next left) e.reply ≡ putting (next_spot s e.command e.reply) step.next_then step.left_then
-    same step command fine = λ i. record { spot = next_spot s (command i) e.reply; plan = step.plan i; got = nothing_got; refused = fine i }
+    same : (step : PutStep spot next left e.reply) → command_coming (choice.Put next) spot ≡ e.command → is_refused (command_coming (choice.Put next) spot) e.reply ≡ false
+        → onward (putting spot next left) e.reply ≡ putting (next_spot spot e.command e.reply) step.next_then step.left_then
+    same step command fine = λ i. record { spot = next_spot spot (command i) e.reply; plan = step.plan i; got = nothing_got; refused = fine i }
 
 pub putters_put : PuttersPut
 putters_put true first count es given driven =

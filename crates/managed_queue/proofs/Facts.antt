@@ -39,25 +39,25 @@ pub record Chain : Type 0 where
   pub back : Name
 
 -- A node at a place: the next is at the next place, or it is the last.
-pub data IsLinked (object : Objects) (place : Name → Option ℕ) (numbers : List ℕ) (last : ℕ) (n : Name) (i : ℕ) : Type 0 where
-  inner : (next : Name) (value : ℕ) → object n ≡ Some (cell (Some next) value) → place next ≡ Some (suc i) → slice_get numbers i ≡ Some value
-      → IsLinked object place numbers last n i
-  end : (value : ℕ) → object n ≡ Some (cell None value) → i ≡ last → slice_get numbers i ≡ Some value → IsLinked object place numbers last n i
+pub data IsLinked (object : Objects) (place : Name → Option ℕ) (numbers : List ℕ) (last : ℕ) (name : Name) (index : ℕ) : Type 0 where
+  inner : (next : Name) (value : ℕ) → object name ≡ Some (cell (Some next) value) → place next ≡ Some (suc index) → slice_get numbers index ≡ Some value
+      → IsLinked object place numbers last name index
+  end : (value : ℕ) → object name ≡ Some (cell None value) → index ≡ last → slice_get numbers index ≡ Some value → IsLinked object place numbers last name index
 
 -- each name that has an object was given out
 abbrev pub AreMade : Objects → (ℕ → ℕ) → Type 0
-AreMade object count = (n : Name) (o : Object) → object n ≡ Some o → (n ≡ hub) ⊎ (n.count ≤ count n.thread)
+AreMade object count = (name : Name) (o : Object) → object name ≡ Some o → (name ≡ hub) ⊎ (name.count ≤ count name.thread)
 
-pub record IsChain (object : Objects) (count : ℕ → ℕ) (w : Chain) : Type 0 where
+pub record IsChain (object : Objects) (count : ℕ → ℕ) (chain : Chain) : Type 0 where
   pub hub_is : object hub ≡ Some shown_hub
-  pub anchor_is : object anchor ≡ Some (ends (Some w.front) (Some w.back))
-  pub front_at : w.place w.front ≡ Some w.head
-  pub back_at : w.place w.back ≡ Some w.tail
-  pub order : w.head ≤ w.tail
-  pub size : length w.numbers ≡ suc w.last
-  pub within : (n : Name) (i : ℕ) → w.place n ≡ Some i → i ≤ w.last
-  pub once : (m n : Name) (i : ℕ) → w.place m ≡ Some i → w.place n ≡ Some i → m ≡ n
-  pub linked : (n : Name) (i : ℕ) → w.place n ≡ Some i → IsLinked object w.place w.numbers w.last n i
+  pub anchor_is : object anchor ≡ Some (ends (Some chain.front) (Some chain.back))
+  pub front_at : chain.place chain.front ≡ Some chain.head
+  pub back_at : chain.place chain.back ≡ Some chain.tail
+  pub order : chain.head ≤ chain.tail
+  pub size : length chain.numbers ≡ suc chain.last
+  pub within : (name : Name) (i : ℕ) → chain.place name ≡ Some i → i ≤ chain.last
+  pub once : (other_name name : Name) (i : ℕ) → chain.place other_name ≡ Some i → chain.place name ≡ Some i → other_name ≡ name
+  pub linked : (name : Name) (i : ℕ) → chain.place name ≡ Some i → IsLinked object chain.place chain.numbers chain.last name i
   pub made : AreMade object count
 
 -- What a user knows. Its roots are a function.
@@ -74,64 +74,64 @@ pub record IsJoining (t : ℕ) (root : ℕ → Reference) : Type 0 where
   pub null_root : root 7 ≡ None
 
 -- root 3 names a node of its own, that is not linked
-pub record IsOwn (t : ℕ) (object : Objects) (w : Chain) (r : Reference) (value : ℕ) : Type 0 where
+pub record IsOwn (t : ℕ) (object : Objects) (chain : Chain) (reference : Reference) (value : ℕ) : Type 0 where
   pub name : Name
-  pub is : r ≡ Some name
+  pub is : reference ≡ Some name
   pub mine : name.thread ≡ t
-  pub apart : w.place name ≡ None
+  pub apart : chain.place name ≡ None
   pub whole : object name ≡ Some (cell None value)
 
 -- a root names a node, up to a place
-pub record IsAt (w : Chain) (r : Reference) (bound : ℕ) : Type 0 where
+pub record IsAt (chain : Chain) (reference : Reference) (bound : ℕ) : Type 0 where
   pub name : Name
   pub index : ℕ
-  pub is : r ≡ Some name
-  pub at : w.place name ≡ Some index
+  pub is : reference ≡ Some name
+  pub at : chain.place name ≡ Some index
   pub low : index ≤ bound
 
 -- a root names a node, and another the next one
-pub record IsEdge (object : Objects) (w : Chain) (a b : Reference) : Type 0 where
+pub record IsEdge (object : Objects) (chain : Chain) (reference other_reference : Reference) : Type 0 where
   pub from : Name
   pub to : Name
   pub index : ℕ
   pub value : ℕ
-  pub from_is : a ≡ Some from
-  pub to_is : b ≡ Some to
-  pub at : w.place from ≡ Some index
-  pub next_at : w.place to ≡ Some (suc index)
+  pub from_is : reference ≡ Some from
+  pub to_is : other_reference ≡ Some to
+  pub at : chain.place from ≡ Some index
+  pub next_at : chain.place to ≡ Some (suc index)
   pub whole : object from ≡ Some (cell (Some to) value)
 
 -- a root names a node up to the head, and another one up to the tail that is not before it
-pub record IsPair (w : Chain) (a b : Reference) : Type 0 where
-  pub front : IsAt w a w.head
-  pub back : IsAt w b w.tail
+pub record IsPair (chain : Chain) (reference other_reference : Reference) : Type 0 where
+  pub front : IsAt chain reference chain.head
+  pub back : IsAt chain other_reference chain.tail
   pub order : front.index ≤ back.index
 
 abbrev pub Facts : ℕ → Objects → Chain → (ℕ → Reference) → Spot → Type 0
-Facts t object w root Joins = IsJoining t root
-Facts t object w root Rests = IsUser t root
-Facts t object w root Turns = IsUser t root
-Facts t object w root Fills = IsUser t root × (value : ℕ) × IsOwn t object w (root 3) value
-Facts t object w root (Looks value) = IsUser t root × IsOwn t object w (root 3) value
-Facts t object w root (Follows value) = IsUser t root × IsOwn t object w (root 3) value × IsAt w (root 4) w.tail
-Facts t object w root (Links value) = IsUser t root × IsOwn t object w (root 3) value × IsAt w (root 4) w.tail
-Facts t object w root (Helps value) = IsUser t root × IsOwn t object w (root 3) value × IsEdge object w (root 4) (root 5)
-Facts t object w root (Swings value) = IsUser t root × IsEdge object w (root 4) (root 3)
-Facts t object w root TookHead = IsUser t root × IsAt w (root 4) w.head
-Facts t object w root TookTail = IsUser t root × IsPair w (root 4) (root 5)
-Facts t object w root (Compares true) = IsUser t root × (root 4 ≡ root 5)
-Facts t object w root (Compares false) = IsUser t root × IsPair w (root 4) (root 5) × IsEdge object w (root 4) (root 6)
-Facts t object w root Pushes = IsUser t root × IsEdge object w (root 5) (root 6)
-Facts t object w root Reads = IsUser t root × (edge : IsEdge object w (root 4) (root 6)) × (suc edge.index ≤ w.tail)
-Facts t object w root (Unlinks value) = IsUser t root × (edge : IsEdge object w (root 4) (root 6)) × (suc edge.index ≤ w.tail) × (slice_get w.numbers (suc edge.index) ≡ Some value)
-Facts t object w root _ = ⊥
+Facts t object chain root Joins = IsJoining t root
+Facts t object chain root Rests = IsUser t root
+Facts t object chain root Turns = IsUser t root
+Facts t object chain root Fills = IsUser t root × (value : ℕ) × IsOwn t object chain (root 3) value
+Facts t object chain root (Looks value) = IsUser t root × IsOwn t object chain (root 3) value
+Facts t object chain root (Follows value) = IsUser t root × IsOwn t object chain (root 3) value × IsAt chain (root 4) chain.tail
+Facts t object chain root (Links value) = IsUser t root × IsOwn t object chain (root 3) value × IsAt chain (root 4) chain.tail
+Facts t object chain root (Helps value) = IsUser t root × IsOwn t object chain (root 3) value × IsEdge object chain (root 4) (root 5)
+Facts t object chain root (Swings value) = IsUser t root × IsEdge object chain (root 4) (root 3)
+Facts t object chain root TookHead = IsUser t root × IsAt chain (root 4) chain.head
+Facts t object chain root TookTail = IsUser t root × IsPair chain (root 4) (root 5)
+Facts t object chain root (Compares true) = IsUser t root × (root 4 ≡ root 5)
+Facts t object chain root (Compares false) = IsUser t root × IsPair chain (root 4) (root 5) × IsEdge object chain (root 4) (root 6)
+Facts t object chain root Pushes = IsUser t root × IsEdge object chain (root 5) (root 6)
+Facts t object chain root Reads = IsUser t root × (edge : IsEdge object chain (root 4) (root 6)) × (suc edge.index ≤ chain.tail)
+Facts t object chain root (Unlinks value) = IsUser t root × (edge : IsEdge object chain (root 4) (root 6)) × (suc edge.index ≤ chain.tail) × (slice_get chain.numbers (suc edge.index) ≡ Some value)
+Facts t object chain root _ = ⊥
 
 -- What a user relies on while another makes a step.
 pub record Rely (u : ℕ) (object : Objects) (chain : Chain) (new_object : Objects) (new_chain : Chain) : Type 0 where
-  pub places : (n : Name) (i : ℕ) → chain.place n ≡ Some i → new_chain.place n ≡ Some i
+  pub places : (name : Name) (i : ℕ) → chain.place name ≡ Some i → new_chain.place name ≡ Some i
   pub numbers : (i value : ℕ) → slice_get chain.numbers i ≡ Some value → slice_get new_chain.numbers i ≡ Some value
-  pub inner : (n next : Name) (i value : ℕ) → chain.place n ≡ Some i → object n ≡ Some (cell (Some next) value) → new_object n ≡ Some (cell (Some next) value)
-  pub own : (n : Name) (value : ℕ) → n.thread ≡ u → chain.place n ≡ None → object n ≡ Some (cell None value) → new_object n ≡ Some (cell None value)
-  pub apart : (n : Name) (value : ℕ) → n.thread ≡ u → chain.place n ≡ None → object n ≡ Some (cell None value) → new_chain.place n ≡ None
+  pub inner : (name next : Name) (i value : ℕ) → chain.place name ≡ Some i → object name ≡ Some (cell (Some next) value) → new_object name ≡ Some (cell (Some next) value)
+  pub own : (name : Name) (value : ℕ) → name.thread ≡ u → chain.place name ≡ None → object name ≡ Some (cell None value) → new_object name ≡ Some (cell None value)
+  pub apart : (name : Name) (value : ℕ) → name.thread ≡ u → chain.place name ≡ None → object name ≡ Some (cell None value) → new_chain.place name ≡ None
   pub heads : chain.head ≤ new_chain.head
   pub tails : chain.tail ≤ new_chain.tail

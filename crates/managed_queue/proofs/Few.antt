@@ -24,20 +24,20 @@ use Rattle.managed_queue.proofs.Playing.{of_here, of_there}
 use Rattle.managed_queue.proofs.Small.{most, AreSmall, Stays, next_small, entry_stays, small_opening}
 
 -- what can be reached was given
-reached : (g : Graph) (names : List Name) → AreSmall g names → (n : Name) → IsReachable g n → Contains names n
-reached g names small _ (from_root t r n is) = small.roots t r n is
-reached g names small _ (from_pin t s held is) = absurd (none-some held (sym (small.no_pin t s) ∙ is))
-reached g names small _ (from_field m n f from is) = small.fields m f n is
+reached : (graph : Graph) (names : List Name) → AreSmall graph names → (name : Name) → IsReachable graph name → Contains names name
+reached graph names small _ (from_root t r name is) = small.roots t r name is
+reached graph names small _ (from_pin t s held is) = absurd (none-some held (sym (small.no_pin t s) ∙ is))
+reached graph names small _ (from_field m name f from is) = small.fields m f name is
 
 -- the hub counts once
 
 abbrev extra : Name → ℕ
-extra n = if same_name hub n then 14 else 0
+extra name = if same_name hub name then 14 else 0
 
-no_hub : (n : Name) (ns : List Name) → n ≡ hub → AllByRecursion (λ y. same_name n y ≡ false) ns → sum_by extra ns ≡ 0
-no_hub n [] is apart = refl
-no_hub n (m ∷ ns) is apart =
-    let rest = no_hub n ns is apart.1 in
+no_hub : (name : Name) (ns : List Name) → name ≡ hub → AllByRecursion (λ y. same_name name y ≡ false) ns → sum_by extra ns ≡ 0
+no_hub name [] is apart = refl
+no_hub name (m ∷ ns) is apart =
+    let rest = no_hub name ns is apart.1 in
     let here : extra m ≡ 0 = ap (λ b. if b then 14 else 0) (ap (λ x. same_name x m) (sym is) ∙ apart.0) in
     omega (arith, sum_by-cons extra m ns, rest, here)
 
@@ -47,39 +47,39 @@ once (n ∷ ns) order =
     let later = once ns (order_rest n ns order) in
     by_first (same_name hub n) refl later
   where
-    by_first : (b : Bool) → same_name hub n ≡ b → sum_by extra ns ≤ 14 → sum_by extra (n ∷ ns) ≤ 14
+    by_first : (holds : Bool) → same_name hub n ≡ holds → sum_by extra ns ≤ 14 → sum_by extra (n ∷ ns) ≤ 14
     by_first true is later =
         let none = no_hub n ns (sym (same_name-true hub n is)) (order_first n ns order) in
-        let here : extra n ≡ 14 = ap (λ b. if b then 14 else 0) is in
+        let here : extra n ≡ 14 = ap (λ holds. if holds then 14 else 0) is in
         omega (arith, sum_by-cons extra n ns, none, here)
     by_first false is later =
-        let here : extra n ≡ 0 = ap (λ b. if b then 14 else 0) is in
+        let here : extra n ≡ 0 = ap (λ holds. if holds then 14 else 0) is in
         omega (arith, sum_by-cons extra n ns, later, here)
 
-most_is : (n : Name) → most n ≡ 5 + extra n
-most_is n = at (same_name hub n)
+most_is : (name : Name) → most name ≡ 5 + extra name
+most_is name = at (same_name hub name)
   where
-    at : (b : Bool) → (if b then 19 else 5) ≡ 5 + (if b then 14 else 0)
+    at : (holds : Bool) → (if holds then 19 else 5) ≡ 5 + (if holds then 14 else 0)
     at true = refl
     at false = refl
 
-weigh : (g : Graph) (names : List Name) → AreSmall g names → (ns : List Name) → sum_by (λ n. size (named g (Some n))) ns ≤ 5 * length ns + sum_by extra ns
-weigh g names small [] = omega arith
-weigh g names small (n ∷ ns) =
-    let rest = weigh g names small ns in
+weigh : (graph : Graph) (names : List Name) → AreSmall graph names → (ns : List Name) → sum_by (λ n. size (named graph (Some n))) ns ≤ 5 * length ns + sum_by extra ns
+weigh graph names small [] = omega arith
+weigh graph names small (n ∷ ns) =
+    let rest = weigh graph names small ns in
     let low = small.sizes n in
     let is = most_is n in
-    omega (arith, sum_by-cons (λ (x : Name). size (named g (Some x))) n ns, sum_by-cons extra n ns, rest, low, is)
+    omega (arith, sum_by-cons (λ (name : Name). size (named graph (Some name))) n ns, sum_by-cons extra n ns, rest, low, is)
 
 -- all entries
-all_stay : (es : List Entry) (g : Graph) (names : List Name) (spots : ℕ → Spot) → AreSmall g names → ((t : ℕ) → IsPlayed (spots t) (of_thread es t)) → Stays (after g es) names (makings es)
-all_stay [] g names spots small played = record { new_names = names; small = small; count = omega arith }
-all_stay (e ∷ es) g names spots small played =
+all_stay : (es : List Entry) (graph : Graph) (names : List Name) (spots : ℕ → Spot) → AreSmall graph names → ((thread : ℕ) → IsPlayed (spots thread) (of_thread es thread)) → Stays (after graph es) names (makings es)
+all_stay [] graph names spots small played = record { new_names = names; small = small; count = omega arith }
+all_stay (e ∷ es) graph names spots small played =
     let mine : IsPlayed (spots e.thread) (e ∷ of_thread es e.thread) = subst (IsPlayed (spots e.thread)) (of_here e es) (played e.thread) in
-    let step = entry_stays g names e (next_small (spots e.thread) e.command mine.0) small in
-    let later = all_stay es (after_entry g e) step.new_names (spot_moved spots e) step.small (λ t. elim (cases_eq t e.thread) [
-      | inl same ↦ subst (λ (k : ℕ). IsPlayed (spot_moved spots e k) (of_thread es k)) (sym same) (subst (λ (s : Spot). IsPlayed s (of_thread es e.thread)) (sym (on_here spots e.thread e.command e.reply)) mine.2)
-      | inr other ↦ subst (λ (s : Spot). IsPlayed s (of_thread es t)) (sym (on_there spots e.thread e.command e.reply t other)) (subst (IsPlayed (spots t)) (of_there e es t other) (played t))
+    let step = entry_stays graph names e (next_small (spots e.thread) e.command mine.0) small in
+    let later = all_stay es (after_entry graph e) step.new_names (spot_moved spots e) step.small (λ thread. elim (cases_eq thread e.thread) [
+      | inl same ↦ subst (λ (k : ℕ). IsPlayed (spot_moved spots e k) (of_thread es k)) (sym same) (subst (λ (spot : Spot). IsPlayed spot (of_thread es e.thread)) (sym (on_here spots e.thread e.command e.reply)) mine.2)
+      | inr other ↦ subst (λ (spot : Spot). IsPlayed spot (of_thread es thread)) (sym (on_there spots e.thread e.command e.reply thread other)) (subst (IsPlayed (spots thread)) (of_there e es thread other) (played thread))
     ]) in
     record { new_names = later.new_names; small = later.small; count = later.count ∙ omega (arith, step.count) }
 

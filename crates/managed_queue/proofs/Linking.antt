@@ -10,46 +10,46 @@ use Rattle.managed_queue.proofs.Moves.{but, but_here, but_there, by_name, apart_
 
 -- numbers with one more at their end
 
-pub kept_number : (xs ys : List ℕ) (i value : ℕ) → slice_get xs i ≡ Some value → slice_get (xs ++ ys) i ≡ Some value
-kept_number [] ys i value is = let never : None ≡ Some value = is in absurd cc
+pub kept_number : (xs ys : List ℕ) (index value : ℕ) → slice_get xs index ≡ Some value → slice_get (xs ++ ys) index ≡ Some value
+kept_number [] ys index value is = let never : None ≡ Some value = is in absurd cc
 kept_number (x ∷ xs) ys zero value is = is
-kept_number (x ∷ xs) ys (suc i) value is = kept_number xs ys i value is
+kept_number (x ∷ xs) ys (suc index) value is = kept_number xs ys index value is
 
-pub last_number : (xs : List ℕ) (i value : ℕ) → length xs ≡ i → slice_get (xs ++ value ∷ []) i ≡ Some value
+pub last_number : (xs : List ℕ) (index value : ℕ) → length xs ≡ index → slice_get (xs ++ value ∷ []) index ≡ Some value
 last_number [] zero value long = refl
-last_number [] (suc i) value long = let never : 0 ≡ suc i = long in absurd (omega (arith, never))
+last_number [] (suc index) value long = let never : 0 ≡ suc index = long in absurd (omega (arith, never))
 last_number (x ∷ xs) zero value long = absurd (omega (arith, long))
-last_number (x ∷ xs) (suc i) value long = last_number xs i value (omega (arith, long))
+last_number (x ∷ xs) (suc index) value long = last_number xs index value (omega (arith, long))
 
 -- a name is behind the last
 abbrev pub with_last : Chain → Name → ℕ → Chain
-with_last w name value = record w {
-  place = λ n. if same_name n name then Some (suc w.last) else w.place n;
-  numbers = w.numbers ++ value ∷ [];
-  last = suc w.last;
+with_last chain name value = record chain {
+  place = λ n. if same_name n name then Some (suc chain.last) else chain.place n;
+  numbers = chain.numbers ++ value ∷ [];
+  last = suc chain.last;
 }
 
 -- what has a place is the new one, or had it
-was_placed : (w : Chain) (name : Name) (value : ℕ) (n : Name) (i : ℕ) → (with_last w name value).place n ≡ Some i → ((n ≡ name) × (i ≡ suc w.last)) ⊎ (w.place n ≡ Some i)
-was_placed w name value n i =
-    by_name (λ p. p ≡ Some i → ((n ≡ name) × (i ≡ suc w.last)) ⊎ (w.place n ≡ Some i)) n name (Some (suc w.last)) (w.place n) (λ same is. inl (same, cc)) (λ other is. inr is)
+was_placed : (chain : Chain) (name : Name) (value : ℕ) (other_name : Name) (i : ℕ) → (with_last chain name value).place other_name ≡ Some i → ((other_name ≡ name) × (i ≡ suc chain.last)) ⊎ (chain.place other_name ≡ Some i)
+was_placed chain name value other_name i =
+    by_name (λ p. p ≡ Some i → ((other_name ≡ name) × (i ≡ suc chain.last)) ⊎ (chain.place other_name ≡ Some i)) other_name name (Some (suc chain.last)) (chain.place other_name) (λ same is. inl (same, cc)) (λ other is. inr is)
 
-still_placed : (w : Chain) (name : Name) (value : ℕ) (n : Name) (i : ℕ) → w.place name ≡ None → w.place n ≡ Some i → (with_last w name value).place n ≡ Some i
-still_placed w name value n i none at = by_name (λ p. p ≡ Some i) n name (Some (suc w.last)) (w.place n) (λ e. absurd (places_apart w n name i at none e)) (λ _. at)
+still_placed : (chain : Chain) (name : Name) (value : ℕ) (other_name : Name) (i : ℕ) → chain.place name ≡ None → chain.place other_name ≡ Some i → (with_last chain name value).place other_name ≡ Some i
+still_placed chain name value other_name i none at = by_name (λ p. p ≡ Some i) other_name name (Some (suc chain.last)) (chain.place other_name) (λ e. absurd (places_apart chain other_name name i at none e)) (λ _. at)
 
-now_placed : (w : Chain) (name : Name) (value : ℕ) → (with_last w name value).place name ≡ Some (suc w.last)
-now_placed w name value = ap (λ b. if b then Some (suc w.last) else w.place name) (same_name-itself name)
+now_placed : (chain : Chain) (name : Name) (value : ℕ) → (with_last chain name value).place name ≡ Some (suc chain.last)
+now_placed chain name value = ap (λ b. if b then Some (suc chain.last) else chain.place name) (same_name-itself name)
 
 abbrev linking : Objects → Name → Name → ℕ → Objects
-linking object n m value = but object n (cell (Some m) value)
+linking object name other_name value = but object name (cell (Some other_name) value)
 
 -- Node n is the last, and m, which is off the chain, is linked behind it.
-pub record CanLink (object : Objects) (w : Chain) (n m : Name) (old value : ℕ) : Type 0 where
-  pub at : w.place n ≡ Some w.last
-  pub whole : object n ≡ Some (cell None old)
-  pub number : slice_get w.numbers w.last ≡ Some old
-  pub none : w.place m ≡ None
-  pub fresh : object m ≡ Some (cell None value)
+pub record CanLink (object : Objects) (chain : Chain) (name other_name : Name) (old value : ℕ) : Type 0 where
+  pub at : chain.place name ≡ Some chain.last
+  pub whole : object name ≡ Some (cell None old)
+  pub number : slice_get chain.numbers chain.last ≡ Some old
+  pub none : chain.place other_name ≡ None
+  pub fresh : object other_name ≡ Some (cell None value)
 
 links_on : (object : Objects) (count : ℕ → ℕ) (w : Chain) (n m : Name) (old value : ℕ) → IsChain object count w → CanLink object w n m old value → (k : Name) (i : ℕ) → w.place k ≡ Some i
     → IsLinked object w.place w.numbers w.last k i
@@ -91,18 +91,18 @@ link_chain object count w n m old value chain can = record {
     one_name k j i (inr a) (inl b) = let low = chain.within k i a in absurd (omega (arith, low, b.1))
     one_name k j i (inr a) (inr b) = chain.once k j i a b
 
-pub link_rely : (u : ℕ) (object : Objects) (count : ℕ → ℕ) (w : Chain) (n m : Name) (old value : ℕ) → IsChain object count w → CanLink object w n m old value → m.thread ≢ u → Rely u object w (linking object n m old) (with_last w m value)
-link_rely u object count w n m old value chain can other = record {
-  places = λ k i at. still_placed w m value k i can.none at;
+pub link_rely : (u : ℕ) (object : Objects) (count : ℕ → ℕ) (w : Chain) (name other_name : Name) (old value : ℕ) → IsChain object count w → CanLink object w name other_name old value → other_name.thread ≢ u → Rely u object w (linking object name other_name old) (with_last w other_name value)
+link_rely u object count w name other_name old value chain can other = record {
+  places = λ k i at. still_placed w other_name value k i can.none at;
   numbers = λ i v is. kept_number w.numbers _ i v is;
-  inner = λ k next i v at is. but_there object n _ k _ (next_apart object k n next v old is can.whole) is;
-  own = λ k v mine apart is. but_there object n _ k _ (λ same. places_apart w n k w.last can.at apart (sym same)) is;
-  apart = λ k v mine apart is. by_name (λ p. p ≡ None) k m (Some (suc w.last)) (w.place k) (λ same. absurd (other (ap (λ (x : Name). x.thread) (sym same) ∙ mine))) (λ _. apart);
+  inner = λ k next i v at is. but_there object name _ k _ (next_apart object k name next v old is can.whole) is;
+  own = λ k v mine apart is. but_there object name _ k _ (λ same. places_apart w name k w.last can.at apart (sym same)) is;
+  apart = λ k v mine apart is. by_name (λ p. p ≡ None) k other_name (Some (suc w.last)) (w.place k) (λ same. absurd (other (ap (λ (name : Name). name.thread) (sym same) ∙ mine))) (λ _. apart);
   heads = omega arith;
   tails = omega arith;
 }
 
 -- where the new node is
-pub link_edge : (object : Objects) (w : Chain) (n m : Name) (old value : ℕ) → CanLink object w n m old value
-    → ((with_last w m value).place n ≡ Some w.last) × ((with_last w m value).place m ≡ Some (suc w.last)) × (linking object n m old n ≡ Some (cell (Some m) old))
-link_edge object w n m old value can = (still_placed w m value n w.last can.none can.at, now_placed w m value, but_here object n _)
+pub link_edge : (object : Objects) (chain : Chain) (name other_name : Name) (old value : ℕ) → CanLink object chain name other_name old value
+    → ((with_last chain other_name value).place name ≡ Some chain.last) × ((with_last chain other_name value).place other_name ≡ Some (suc chain.last)) × (linking object name other_name old name ≡ Some (cell (Some other_name) old))
+link_edge object chain name other_name old value can = (still_placed chain other_name value name chain.last can.none can.at, now_placed chain other_name value, but_here object name _)

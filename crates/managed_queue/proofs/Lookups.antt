@@ -17,90 +17,90 @@ eqb_itself t = (Decides-eqb t t).1 refl
 
 -- references that are the same
 
-pub same_reference-true : (a b : Reference) → same_reference a b ≡ true → a ≡ b
+pub same_reference-true : (reference other_reference : Reference) → same_reference reference other_reference ≡ true → reference ≡ other_reference
 same_reference-true None None is = refl
-same_reference-true None (Some b) is = absurd (false≢true is)
-same_reference-true (Some a) None is = absurd (false≢true is)
-same_reference-true (Some a) (Some b) is = ap Some (same_name-true a b is)
+same_reference-true None (Some other_reference) is = absurd (false≢true is)
+same_reference-true (Some reference) None is = absurd (false≢true is)
+same_reference-true (Some reference) (Some other_reference) is = ap Some (same_name-true reference other_reference is)
 
-pub same_reference-itself : (a b : Reference) → a ≡ b → same_reference a b ≡ true
-same_reference-itself None b e = ap (same_reference None) (sym e)
-same_reference-itself (Some a) b e = ap (same_reference (Some a)) (sym e) ∙ same_name-itself a
+pub same_reference-itself : (reference other_reference : Reference) → reference ≡ other_reference → same_reference reference other_reference ≡ true
+same_reference-itself None other_reference e = ap (same_reference None) (sym e)
+same_reference-itself (Some reference) other_reference e = ap (same_reference (Some reference)) (sym e) ∙ same_name-itself reference
 
 -- roots
 
 abbrev pub root_put : (ℕ → Reference) → ℕ → Reference → ℕ → Reference
 root_put root dst value = λ r. if r == dst then value else root r
 
-pub own_root : (g : Graph) (t dst : ℕ) (value : Reference) → (with_root g t dst value).root t ≡ root_put (g.root t) dst value
-own_root g t dst value = fun_ext _ _ (λ r. ap (λ b. if b && (r == dst) then value else g.root t r) (eqb_itself t))
+pub own_root : (graph : Graph) (thread dst : ℕ) (value : Reference) → (with_root graph thread dst value).root thread ≡ root_put (graph.root thread) dst value
+own_root graph thread dst value = fun_ext _ _ (λ r. ap (λ b. if b && (r == dst) then value else graph.root thread r) (eqb_itself thread))
 
-pub other_root : (g : Graph) (t dst u : ℕ) (value : Reference) → u ≢ t → (with_root g t dst value).root u ≡ g.root u
-other_root g t dst u value other = fun_ext _ _ (λ r. ap (λ b. if b && (r == dst) then value else g.root u r) (ne_eqb u t other))
+pub other_root : (graph : Graph) (t dst thread : ℕ) (value : Reference) → thread ≢ t → (with_root graph t dst value).root thread ≡ graph.root thread
+other_root graph t dst thread value other = fun_ext _ _ (λ r. ap (λ b. if b && (r == dst) then value else graph.root thread r) (ne_eqb thread t other))
 
 -- what a command that is to pin no object may be answered and leave
 abbrev pub IsPlain : Graph → ℕ → Command → Reply → Graph → Type 0
-IsPlain g t c r h = (answers r h ≡ outcome g t c) ⊎ (IsNew c × (r ≡ reply.Full) × (h ≡ g))
+IsPlain graph t command r other_graph = (answers r other_graph ≡ outcome graph t command) ⊎ (IsNew command × (r ≡ reply.Full) × (other_graph ≡ graph))
 
 -- a command that makes nothing has its outcome
-pub by_outcome : (P : Outcome → Type 0) (g : Graph) (t : ℕ) (c : Command) (r : Reply) (h : Graph) → (IsNew c → ⊥) → IsPlain g t c r h → P (outcome g t c) → P (answers r h)
-by_outcome P g t c r h old legal holds = elim legal [ inl is ↦ subst P (sym is) holds | inr full ↦ absurd (old full.0) ]
+pub by_outcome : (P : Outcome → Type 0) (graph : Graph) (t : ℕ) (command : Command) (r : Reply) (other_graph : Graph) → (IsNew command → ⊥) → IsPlain graph t command r other_graph → P (outcome graph t command) → P (answers r other_graph)
+by_outcome P graph t command r other_graph old legal holds = elim legal [ inl is ↦ subst P (sym is) holds | inr full ↦ absurd (old full.0) ]
 
 -- what a root names
-pub names : (P : Object → Type 0) (g : Graph) (r : Reference) (n : Name) (o : Object) → r ≡ Some n → g.object n ≡ Some o → P o → P (named g r)
-names P g r n o is whole holds =
-    subst (λ (x : Reference). P (named g x)) (sym is) (subst (λ (x : Option Object). P (unwrap_or x (record { refs = []; nums = [] }))) (sym whole) holds)
+pub names : (P : Object → Type 0) (graph : Graph) (reference : Reference) (name : Name) (object : Object) → reference ≡ Some name → graph.object name ≡ Some object → P object → P (named graph reference)
+names P graph reference name object is whole holds =
+    subst (λ (reference : Reference). P (named graph reference)) (sym is) (subst (λ (found : Option Object). P (unwrap_or found (record { refs = []; nums = [] }))) (sym whole) holds)
 
 -- Roots `a` name n, which is o.
 
-pub gets : (P : Outcome → Type 0) (g : Graph) (t dst a field : ℕ) (n : Name) (o : Object) (value : Reference) → g.root t a ≡ Some n → g.object n ≡ Some o → slice_get o.refs field ≡ Some value
-    → P (answers (shown value) (with_root g t dst value)) → P (outcome g t (Get dst a field))
-gets P g t dst a field n o value is whole here holds =
-    names (λ x. P (on (slice_get x.refs field) g (λ v. answers (shown v) (with_root g t dst v)))) g (g.root t a) n o is whole
-    (subst (λ (x : Option Reference). P (on x g (λ v. answers (shown v) (with_root g t dst v)))) (sym here) holds)
+pub gets : (P : Outcome → Type 0) (graph : Graph) (thread dst a field : ℕ) (name : Name) (object : Object) (value : Reference) → graph.root thread a ≡ Some name → graph.object name ≡ Some object → slice_get object.refs field ≡ Some value
+    → P (answers (shown value) (with_root graph thread dst value)) → P (outcome graph thread (Get dst a field))
+gets P graph thread dst a field name object value is whole here holds =
+    names (λ x. P (on (slice_get x.refs field) graph (λ v. answers (shown v) (with_root graph thread dst v)))) graph (graph.root thread a) name object is whole
+    (subst (λ (found : Option Reference). P (on found graph (λ v. answers (shown v) (with_root graph thread dst v)))) (sym here) holds)
 
-pub sets : (P : Outcome → Type 0) (g : Graph) (t a field b : ℕ) (n : Name) (o : Object) (value : Reference) → g.root t a ≡ Some n → g.object n ≡ Some o → slice_get o.refs field ≡ Some value
-    → P (answers reply.Ok (with_object g n (record { refs = slice_set o.refs field (g.root t b); nums = o.nums }))) → P (outcome g t (Set a field b))
-sets P g t a field b n o value is whole here holds =
-    subst (λ (r : Reference). P (on (slice_get (named g r).refs field) g (λ _. answers reply.Ok (with_named g r (record { refs = slice_set (named g r).refs field (g.root t b); nums = (named g r).nums }))))) (sym is)
-    (names (λ x. P (on (slice_get x.refs field) g (λ _. answers reply.Ok (with_object g n (record { refs = slice_set x.refs field (g.root t b); nums = x.nums }))))) g (Some n) n o refl whole
-    (subst (λ (x : Option Reference). P (on x g (λ _. answers reply.Ok (with_object g n (record { refs = slice_set o.refs field (g.root t b); nums = o.nums }))))) (sym here) holds))
+pub sets : (P : Outcome → Type 0) (graph : Graph) (thread a field b : ℕ) (name : Name) (object : Object) (value : Reference) → graph.root thread a ≡ Some name → graph.object name ≡ Some object → slice_get object.refs field ≡ Some value
+    → P (answers reply.Ok (with_object graph name (record { refs = slice_set object.refs field (graph.root thread b); nums = object.nums }))) → P (outcome graph thread (Set a field b))
+sets P graph thread a field b name object value is whole here holds =
+    subst (λ (reference : Reference). P (on (slice_get (named graph reference).refs field) graph (λ _. answers reply.Ok (with_named graph reference (record { refs = slice_set (named graph reference).refs field (graph.root thread b); nums = (named graph reference).nums }))))) (sym is)
+    (names (λ x. P (on (slice_get x.refs field) graph (λ _. answers reply.Ok (with_object graph name (record { refs = slice_set x.refs field (graph.root thread b); nums = x.nums }))))) graph (Some name) name object refl whole
+    (subst (λ (found : Option Reference). P (on found graph (λ _. answers reply.Ok (with_object graph name (record { refs = slice_set object.refs field (graph.root thread b); nums = object.nums }))))) (sym here) holds))
 
-by_test : (P : Outcome → Type 0) (b : Bool) (yes_one no_one : Outcome) → (b ≡ true → P yes_one) → (b ≡ false → P no_one) → P (if b then yes_one else no_one)
+by_test : (P : Outcome → Type 0) (holds : Bool) (yes_one no_one : Outcome) → (holds ≡ true → P yes_one) → (holds ≡ false → P no_one) → P (if holds then yes_one else no_one)
 by_test P true y n yes_holds no_holds = yes_holds refl
 by_test P false y n yes_holds no_holds = no_holds refl
 
-pub swaps : (P : Outcome → Type 0) (g : Graph) (t a field expect b : ℕ) (n : Name) (o : Object) (value : Reference) → g.root t a ≡ Some n → g.object n ≡ Some o → slice_get o.refs field ≡ Some value
-    → (value ≡ g.root t expect → P (answers reply.Yes (with_object g n (record { refs = slice_set o.refs field (g.root t b); nums = o.nums }))))
-    → (value ≢ g.root t expect → P (answers reply.No g)) → P (outcome g t (Cas a field expect b))
-swaps P g t a field expect b n o value is whole here equal apart =
-    subst (λ (r : Reference). P (on (slice_get (named g r).refs field) g (λ v. if same_reference v (g.root t expect) then answers reply.Yes (with_named g r (record { refs = slice_set (named g r).refs field (g.root t b); nums = (named g r).nums })) else answers reply.No g))) (sym is)
-    (names (λ x. P (on (slice_get x.refs field) g (λ v. if same_reference v (g.root t expect) then answers reply.Yes (with_object g n (record { refs = slice_set x.refs field (g.root t b); nums = x.nums })) else answers reply.No g))) g (Some n) n o refl whole
-    (subst (λ (x : Option Reference). P (on x g (λ v. if same_reference v (g.root t expect) then answers reply.Yes (with_object g n (record { refs = slice_set o.refs field (g.root t b); nums = o.nums })) else answers reply.No g))) (sym here)
-    (by_test P (same_reference value (g.root t expect)) _ _
-    (λ same. equal (same_reference-true value (g.root t expect) same))
-    (λ other. apart (λ same. false≢true (sym other ∙ same_reference-itself value (g.root t expect) same))))))
+pub swaps : (P : Outcome → Type 0) (graph : Graph) (thread a field expect b : ℕ) (name : Name) (object : Object) (value : Reference) → graph.root thread a ≡ Some name → graph.object name ≡ Some object → slice_get object.refs field ≡ Some value
+    → (value ≡ graph.root thread expect → P (answers reply.Yes (with_object graph name (record { refs = slice_set object.refs field (graph.root thread b); nums = object.nums }))))
+    → (value ≢ graph.root thread expect → P (answers reply.No graph)) → P (outcome graph thread (Cas a field expect b))
+swaps P graph thread a field expect b name object value is whole here equal apart =
+    subst (λ (reference : Reference). P (on (slice_get (named graph reference).refs field) graph (λ v. if same_reference v (graph.root thread expect) then answers reply.Yes (with_named graph reference (record { refs = slice_set (named graph reference).refs field (graph.root thread b); nums = (named graph reference).nums })) else answers reply.No graph))) (sym is)
+    (names (λ x. P (on (slice_get x.refs field) graph (λ v. if same_reference v (graph.root thread expect) then answers reply.Yes (with_object graph name (record { refs = slice_set x.refs field (graph.root thread b); nums = x.nums })) else answers reply.No graph))) graph (Some name) name object refl whole
+    (subst (λ (found : Option Reference). P (on found graph (λ v. if same_reference v (graph.root thread expect) then answers reply.Yes (with_object graph name (record { refs = slice_set object.refs field (graph.root thread b); nums = object.nums })) else answers reply.No graph))) (sym here)
+    (by_test P (same_reference value (graph.root thread expect)) _ _
+    (λ same. equal (same_reference-true value (graph.root thread expect) same))
+    (λ other. apart (λ same. false≢true (sym other ∙ same_reference-itself value (graph.root thread expect) same))))))
 
-pub reads : (P : Outcome → Type 0) (g : Graph) (t a index : ℕ) (n : Name) (o : Object) (value : ℕ) → g.root t a ≡ Some n → g.object n ≡ Some o → slice_get o.nums index ≡ Some value
-    → P (answers (reply.Number value) g) → P (outcome g t (Rd a index))
-reads P g t a index n o value is whole here holds =
-    names (λ x. P (on (slice_get x.nums index) g (λ v. answers (reply.Number v) g))) g (g.root t a) n o is whole
-    (subst (λ (x : Option ℕ). P (on x g (λ v. answers (reply.Number v) g))) (sym here) holds)
+pub reads : (P : Outcome → Type 0) (graph : Graph) (thread a index : ℕ) (name : Name) (object : Object) (value : ℕ) → graph.root thread a ≡ Some name → graph.object name ≡ Some object → slice_get object.nums index ≡ Some value
+    → P (answers (reply.Number value) graph) → P (outcome graph thread (Rd a index))
+reads P graph thread a index name object value is whole here holds =
+    names (λ x. P (on (slice_get x.nums index) graph (λ v. answers (reply.Number v) graph))) graph (graph.root thread a) name object is whole
+    (subst (λ (found : Option ℕ). P (on found graph (λ v. answers (reply.Number v) graph))) (sym here) holds)
 
-pub writes : (P : Outcome → Type 0) (g : Graph) (t a index value : ℕ) (n : Name) (o : Object) (old : ℕ) → g.root t a ≡ Some n → g.object n ≡ Some o → slice_get o.nums index ≡ Some old
-    → P (answers reply.Ok (with_object g n (record { refs = o.refs; nums = slice_set o.nums index value }))) → P (outcome g t (Wr a index value))
-writes P g t a index value n o old is whole here holds =
-    subst (λ (r : Reference). P (on (slice_get (named g r).nums index) g (λ _. answers reply.Ok (with_named g r (record { refs = (named g r).refs; nums = slice_set (named g r).nums index value }))))) (sym is)
-    (names (λ x. P (on (slice_get x.nums index) g (λ _. answers reply.Ok (with_object g n (record { refs = x.refs; nums = slice_set x.nums index value }))))) g (Some n) n o refl whole
-    (subst (λ (x : Option ℕ). P (on x g (λ _. answers reply.Ok (with_object g n (record { refs = o.refs; nums = slice_set o.nums index value }))))) (sym here) holds))
+pub writes : (P : Outcome → Type 0) (graph : Graph) (thread a index value : ℕ) (name : Name) (object : Object) (old : ℕ) → graph.root thread a ≡ Some name → graph.object name ≡ Some object → slice_get object.nums index ≡ Some old
+    → P (answers reply.Ok (with_object graph name (record { refs = object.refs; nums = slice_set object.nums index value }))) → P (outcome graph thread (Wr a index value))
+writes P graph thread a index value name object old is whole here holds =
+    subst (λ (reference : Reference). P (on (slice_get (named graph reference).nums index) graph (λ _. answers reply.Ok (with_named graph reference (record { refs = (named graph reference).refs; nums = slice_set (named graph reference).nums index value }))))) (sym is)
+    (names (λ x. P (on (slice_get x.nums index) graph (λ _. answers reply.Ok (with_object graph name (record { refs = x.refs; nums = slice_set x.nums index value }))))) graph (Some name) name object refl whole
+    (subst (λ (found : Option ℕ). P (on found graph (λ _. answers reply.Ok (with_object graph name (record { refs = object.refs; nums = slice_set object.nums index value }))))) (sym here) holds))
 
-pub compares : (P : Outcome → Type 0) (g : Graph) (t a b : ℕ) → (g.root t a ≡ g.root t b → P (answers reply.Yes g)) → (g.root t a ≢ g.root t b → P (answers reply.No g)) → P (outcome g t (Same a b))
-compares P g t a b equal apart = at (same_reference (g.root t a) (g.root t b)) refl
+pub compares : (P : Outcome → Type 0) (graph : Graph) (thread a b : ℕ) → (graph.root thread a ≡ graph.root thread b → P (answers reply.Yes graph)) → (graph.root thread a ≢ graph.root thread b → P (answers reply.No graph)) → P (outcome graph thread (Same a b))
+compares P graph thread a b equal apart = at (same_reference (graph.root thread a) (graph.root thread b)) refl
   where
-    at : (c : Bool) → same_reference (g.root t a) (g.root t b) ≡ c → P (answers (yes_or_no c) g)
+    at : (holds : Bool) → same_reference (graph.root thread a) (graph.root thread b) ≡ holds → P (answers (yes_or_no holds) graph)
     at true is = equal (same_reference-true _ _ is)
     at false is = apart (λ same. false≢true (sym is ∙ same_reference-itself _ _ same))
 
 -- the root is null
-pub gets_bad : (P : Outcome → Type 0) (g : Graph) (t dst a field : ℕ) → g.root t a ≡ None → P (answers reply.Bad g) → P (outcome g t (Get dst a field))
-gets_bad P g t dst a field is holds = subst (λ (r : Reference). P (on (slice_get (named g r).refs field) g (λ v. answers (shown v) (with_root g t dst v)))) (sym is) holds
+pub gets_bad : (P : Outcome → Type 0) (graph : Graph) (thread dst a field : ℕ) → graph.root thread a ≡ None → P (answers reply.Bad graph) → P (outcome graph thread (Get dst a field))
+gets_bad P graph thread dst a field is holds = subst (λ (reference : Reference). P (on (slice_get (named graph reference).refs field) graph (λ v. answers (shown v) (with_root graph thread dst v)))) (sym is) holds

@@ -12,53 +12,53 @@ use Rattle.managed_queue.proofs.Facts.IsLinked.{inner, end}
 abbrev pub but : Objects → Name → Object → Objects
 but object name o = λ n. if same_name n name then Some o else object n
 
-pub same_or_not : (m n : Name) → (m ≡ n) ⊎ (m ≢ n)
-same_or_not m n = at (same_name m n) refl
+pub same_or_not : (name other_name : Name) → (name ≡ other_name) ⊎ (name ≢ other_name)
+same_or_not name other_name = at (same_name name other_name) refl
   where
-    at : (b : Bool) → same_name m n ≡ b → (m ≡ n) ⊎ (m ≢ n)
-    at true is = inl (same_name-true m n is)
-    at false is = inr (λ e. false≢true (sym is ∙ ap (λ x. same_name x n) e ∙ same_name-itself n))
+    at : (holds : Bool) → same_name name other_name ≡ holds → (name ≡ other_name) ⊎ (name ≢ other_name)
+    at true is = inl (same_name-true name other_name is)
+    at false is = inr (λ e. false≢true (sym is ∙ ap (λ x. same_name x other_name) e ∙ same_name-itself other_name))
 
 -- by which name it is
-pub by_name : {A : Type 0} (P : A → Type 0) (m n : Name) (a b : A) → (m ≡ n → P a) → (m ≢ n → P b) → P (if same_name m n then a else b)
-by_name {A} P m n a b same other = at (same_name m n) refl
+pub by_name : {A : Type 0} (P : A → Type 0) (name n : Name) (a b : A) → (name ≡ n → P a) → (name ≢ n → P b) → P (if same_name name n then a else b)
+by_name {A} P name n a b same other = at (same_name name n) refl
   where
-    at : (c : Bool) → same_name m n ≡ c → P (if c then a else b)
-    at true is = same (same_name-true m n is)
+    at : (holds : Bool) → same_name name n ≡ holds → P (if holds then a else b)
+    at true is = same (same_name-true name n is)
     at false is = other (λ e. false≢true (sym is ∙ ap (λ x. same_name x n) e ∙ same_name-itself n))
 
 pub but_here : (object : Objects) (name : Name) (o : Object) → but object name o name ≡ Some o
 but_here object name o = ap (λ b. if b then Some o else object name) (same_name-itself name)
 
-pub but_there : (object : Objects) (name : Name) (o : Object) (n : Name) (x : Option Object) → n ≢ name → object n ≡ x → but object name o n ≡ x
-but_there object name o n x apart is = by_name (λ y. y ≡ x) n name (Some o) (object n) (λ e. absurd (apart e)) (λ _. is)
+pub but_there : (object : Objects) (name : Name) (o : Object) (other_name : Name) (found : Option Object) → other_name ≢ name → object other_name ≡ found → but object name o other_name ≡ found
+but_there object name o other_name found apart is = by_name (λ y. y ≡ found) other_name name (Some o) (object other_name) (λ e. absurd (apart e)) (λ _. is)
 
 -- how many fields: nodes, the anchor and the hub are apart by it
 abbrev pub tag : Option Object → ℕ
 tag None = 0
 tag (Some o) = length o.refs
 
-pub apart_by_tag : (object : Objects) (m n : Name) (a b : Object) → object m ≡ Some a → object n ≡ Some b → length a.refs ≢ length b.refs → m ≢ n
-apart_by_tag object m n a b m_is n_is differ same = differ (ap tag (sym m_is) ∙ ap (λ x. tag (object x)) same ∙ ap tag n_is)
+pub apart_by_tag : (object : Objects) (name other_name : Name) (a b : Object) → object name ≡ Some a → object other_name ≡ Some b → length a.refs ≢ length b.refs → name ≢ other_name
+apart_by_tag object name other_name a b m_is n_is differ same = differ (ap tag (sym m_is) ∙ ap (λ x. tag (object x)) same ∙ ap tag n_is)
 
 -- what the first field names
 abbrev pub next_in : Option Object → Reference
 next_in None = None
 next_in (Some o) = get_or o.refs 0 None
 
-pub next_apart : (object : Objects) (m n next : Name) (a b : ℕ) → object m ≡ Some (cell (Some next) a) → object n ≡ Some (cell None b) → m ≢ n
-next_apart object m n next a b m_is n_is same = let never : Some next ≡ None = ap next_in (sym m_is) ∙ ap (λ x. next_in (object x)) same ∙ ap next_in n_is in absurd cc
+pub next_apart : (object : Objects) (name other_name next : Name) (a b : ℕ) → object name ≡ Some (cell (Some next) a) → object other_name ≡ Some (cell None b) → name ≢ other_name
+next_apart object name other_name next a b m_is n_is same = let never : Some next ≡ None = ap next_in (sym m_is) ∙ ap (λ x. next_in (object x)) same ∙ ap next_in n_is in absurd cc
 
 -- the same place or none
-pub places_apart : (w : Chain) (m n : Name) (i : ℕ) → w.place m ≡ Some i → w.place n ≡ None → m ≢ n
-places_apart w m n i is none same = let never : Some i ≡ None = sym is ∙ ap w.place same ∙ none in absurd cc
+pub places_apart : (chain : Chain) (name other_name : Name) (i : ℕ) → chain.place name ≡ Some i → chain.place other_name ≡ None → name ≢ other_name
+places_apart chain name other_name i is none same = let never : Some i ≡ None = sym is ∙ ap chain.place same ∙ none in absurd cc
 
-pub same_place : (w : Chain) (m n : Name) (i j : ℕ) → w.place m ≡ Some i → w.place n ≡ Some j → m ≡ n → i ≡ j
-same_place w m n i j m_at n_at same = let e : Some i ≡ Some j = sym m_at ∙ ap w.place same ∙ n_at in cc
+pub same_place : (chain : Chain) (name other_name : Name) (i j : ℕ) → chain.place name ≡ Some i → chain.place other_name ≡ Some j → name ≡ other_name → i ≡ j
+same_place chain name other_name i j m_at n_at same = let e : Some i ≡ Some j = sym m_at ∙ ap chain.place same ∙ n_at in cc
 
 -- nothing changes
-pub stays : (u : ℕ) (object : Objects) (w : Chain) → Rely u object w object w
-stays u object w = record {
+pub stays : (u : ℕ) (object : Objects) (chain : Chain) → Rely u object chain object chain
+stays u object chain = record {
   places = λ n i is. is;
   numbers = λ i value is. is;
   inner = λ n next i value at is. is;
@@ -70,9 +70,9 @@ stays u object w = record {
 
 -- an object off the chain is made or filled
 
-linked_but : (object : Objects) (w : Chain) (name : Name) (o : Object) (n : Name) (i : ℕ) → n ≢ name → IsLinked object w.place w.numbers w.last n i → IsLinked (but object name o) w.place w.numbers w.last n i
-linked_but object w name o n i other (inner next value is at number) = inner next value (but_there object name o n _ other is) at number
-linked_but object w name o n i other (end value is at number) = end value (but_there object name o n _ other is) at number
+linked_but : (object : Objects) (chain : Chain) (name : Name) (o : Object) (other_name : Name) (i : ℕ) → other_name ≢ name → IsLinked object chain.place chain.numbers chain.last other_name i → IsLinked (but object name o) chain.place chain.numbers chain.last other_name i
+linked_but object chain name o other_name i other (inner next value is at number) = inner next value (but_there object name o other_name _ other is) at number
+linked_but object chain name o other_name i other (end value is at number) = end value (but_there object name o other_name _ other is) at number
 
 pub chain_but : (object : Objects) (count new_count : ℕ → ℕ) (w : Chain) (name : Name) (o : Object) → IsChain object count w → w.place name ≡ None → hub ≢ name → anchor ≢ name → AreMade (but object name o) new_count
     → IsChain (but object name o) new_count w
@@ -89,12 +89,12 @@ chain_but object count new_count w name o chain none not_hub not_anchor made = r
   made = made;
 }
 
-pub rely_but : (u : ℕ) (object : Objects) (w : Chain) (name : Name) (o : Object) → w.place name ≡ None → name.thread ≢ u → Rely u object w (but object name o) w
-rely_but u object w name o none other = record {
+pub rely_but : (u : ℕ) (object : Objects) (chain : Chain) (name : Name) (o : Object) → chain.place name ≡ None → name.thread ≢ u → Rely u object chain (but object name o) chain
+rely_but u object chain name o none other = record {
   places = λ n i is. is;
   numbers = λ i value is. is;
-  inner = λ n next i value at is. but_there object name o n _ (places_apart w n name i at none) is;
-  own = λ n value mine apart is. but_there object name o n _ (λ e. other (ap (λ (x : Name). x.thread) (sym e) ∙ mine)) is;
+  inner = λ n next i value at is. but_there object name o n _ (places_apart chain n name i at none) is;
+  own = λ n value mine apart is. but_there object name o n _ (λ e. other (ap (λ (name : Name). name.thread) (sym e) ∙ mine)) is;
   apart = λ n value mine apart is. apart;
   heads = omega arith;
   tails = omega arith;
@@ -107,12 +107,12 @@ made_but object count name o old made is n x = by_name (λ y. y ≡ Some x → (
 -- the anchor names other nodes
 
 abbrev pub with_ends : Chain → ℕ → ℕ → Name → Name → Chain
-with_ends w head tail front back = record w { head = head; tail = tail; front = front; back = back }
+with_ends chain head tail front back = record chain { head = head; tail = tail; front = front; back = back }
 
 pub ends_chain : (object : Objects) (count : ℕ → ℕ) (w : Chain) (head tail : ℕ) (front back : Name) → IsChain object count w → w.place front ≡ Some head → w.place back ≡ Some tail → head ≤ tail
     → IsChain (but object anchor (ends (Some front) (Some back))) count (with_ends w head tail front back)
 ends_chain object count w head tail front back chain front_at back_at order = record {
-  hub_is = but_there object anchor (ends (Some front) (Some back)) hub _ (λ e. let never : 0 ≡ 1 = ap (λ (x : Name). x.thread) e in omega (arith, never)) chain.hub_is;
+  hub_is = but_there object anchor (ends (Some front) (Some back)) hub _ (λ e. let never : 0 ≡ 1 = ap (λ (name : Name). name.thread) e in omega (arith, never)) chain.hub_is;
   anchor_is = but_here object anchor (ends (Some front) (Some back));
   front_at = front_at;
   back_at = back_at;
@@ -120,13 +120,13 @@ ends_chain object count w head tail front back chain front_at back_at order = re
   size = chain.size;
   within = chain.within;
   once = chain.once;
-  linked = λ n i at. linked_but object w anchor (ends (Some front) (Some back)) n i (node_apart n i (chain.linked n i at)) (chain.linked n i at);
+  linked = λ name i at. linked_but object w anchor (ends (Some front) (Some back)) name i (node_apart name i (chain.linked name i at)) (chain.linked name i at);
   made = made_but object count anchor (ends (Some front) (Some back)) _ chain.made chain.anchor_is;
 }
   where
-    node_apart : (n : Name) (i : ℕ) → IsLinked object w.place w.numbers w.last n i → n ≢ anchor
-    node_apart n i (inner next value is at number) = apart_by_tag object n anchor _ _ is chain.anchor_is (λ (e : 1 ≡ 2). omega (arith, e))
-    node_apart n i (end value is at number) = apart_by_tag object n anchor _ _ is chain.anchor_is (λ (e : 1 ≡ 2). omega (arith, e))
+    node_apart : (name : Name) (i : ℕ) → IsLinked object w.place w.numbers w.last name i → name ≢ anchor
+    node_apart name i (inner next value is at number) = apart_by_tag object name anchor _ _ is chain.anchor_is (λ (e : 1 ≡ 2). omega (arith, e))
+    node_apart name i (end value is at number) = apart_by_tag object name anchor _ _ is chain.anchor_is (λ (e : 1 ≡ 2). omega (arith, e))
 
 pub ends_rely : (u : ℕ) (object : Objects) (count : ℕ → ℕ) (w : Chain) (head tail : ℕ) (front back : Name) → IsChain object count w → w.head ≤ head → w.tail ≤ tail
     → Rely u object w (but object anchor (ends (Some front) (Some back))) (with_ends w head tail front back)

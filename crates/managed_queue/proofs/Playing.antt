@@ -22,34 +22,34 @@ use Rattle.managed_queue.proofs.Rising.{goes_on, on_here, on_there, State, rises
 use Rattle.managed_queue.proofs.Rising.State.{rising, shown}
 
 -- one step of one thread
-pub record Steps (g : Graph) (spots : ℕ → Spot) (queue : List ℕ) (t : ℕ) (c : Command) (o : Outcome) : Type 0 where
+pub record Steps (graph : Graph) (spots : ℕ → Spot) (queue : List ℕ) (t : ℕ) (command : Command) (outcome : Outcome) : Type 0 where
   pub new_queue : List ℕ
-  pub state : State o.graph (goes_on spots t c o.reply) new_queue
-  pub run : Leads queue (fixed_at (spots t) o.reply) new_queue
-  pub replies : open_at (spots t) ++ fixed_at (spots t) o.reply ≡ operation_ended (spots t) o.reply ++ open_at (next_spot (spots t) c o.reply)
+  pub state : State outcome.graph (goes_on spots t command outcome.reply) new_queue
+  pub run : Leads queue (fixed_at (spots t) outcome.reply) new_queue
+  pub replies : open_at (spots t) ++ fixed_at (spots t) outcome.reply ≡ operation_ended (spots t) outcome.reply ++ open_at (next_spot (spots t) command outcome.reply)
 
 -- all users after one's step
-stands : (g : Graph) (spots : ℕ → Spot) (w : Chain) (t : ℕ) (c : Command) (o : Outcome) → ((u : ℕ) → Facts u g.object w (g.root u) (spots u)) → (step : Goes t g w (spots t) c o)
-    → (u : ℕ) → Facts u o.graph.object step.after (o.graph.root u) (goes_on spots t c o.reply u)
-stands g spots w t c o users step u =
+stands : (graph : Graph) (spots : ℕ → Spot) (chain : Chain) (t : ℕ) (command : Command) (outcome : Outcome) → ((u : ℕ) → Facts u graph.object chain (graph.root u) (spots u)) → (step : Goes t graph chain (spots t) command outcome)
+    → (u : ℕ) → Facts u outcome.graph.object step.after (outcome.graph.root u) (goes_on spots t command outcome.reply u)
+stands graph spots chain t command outcome users step u =
     elim (cases_eq u t) [
-      | inl same ↦ subst (λ (k : ℕ). Facts k o.graph.object step.after (o.graph.root k) (goes_on spots t c o.reply k)) (sym same)
-          (subst (Facts t o.graph.object step.after (o.graph.root t)) (sym (on_here spots t c o.reply)) step.facts)
-      | inr other ↦ subst (Facts u o.graph.object step.after (o.graph.root u)) (sym (on_there spots t c o.reply u other))
-          (subst (λ (root : ℕ → Reference). Facts u o.graph.object step.after root (spots u)) (sym (step.others u other))
-          (facts_stay u g.object w o.graph.object step.after (g.root u) (spots u) (step.rely u other) (users u)))
+      | inl same ↦ subst (λ (k : ℕ). Facts k outcome.graph.object step.after (outcome.graph.root k) (goes_on spots t command outcome.reply k)) (sym same)
+          (subst (Facts t outcome.graph.object step.after (outcome.graph.root t)) (sym (on_here spots t command outcome.reply)) step.facts)
+      | inr other ↦ subst (Facts u outcome.graph.object step.after (outcome.graph.root u)) (sym (on_there spots t command outcome.reply u other))
+          (subst (λ (root : ℕ → Reference). Facts u outcome.graph.object step.after root (spots u)) (sym (step.others u other))
+          (facts_stay u graph.object chain outcome.graph.object step.after (graph.root u) (spots u) (step.rely u other) (users u)))
     ]
 
-stepped : (g : Graph) (spots : ℕ → Spot) (queue : List ℕ) (t : ℕ) (c : Command) (r : Reply) (h : Graph) → State g spots queue → MayCome (spots t) c → IsGranted (spots t) r → IsPlain g t c r h → Steps g spots queue t c (answers r h)
-stepped g spots queue t c r h (rising is none) next given legal =
-    let step = rises g spots t c r h is next given legal in
+stepped : (graph : Graph) (spots : ℕ → Spot) (queue : List ℕ) (t : ℕ) (command : Command) (reply : Reply) (other_graph : Graph) → State graph spots queue → MayCome (spots t) command → IsGranted (spots t) reply → IsPlain graph t command reply other_graph → Steps graph spots queue t command (answers reply other_graph)
+stepped graph spots queue t command reply other_graph (rising is none) next given legal =
+    let step = rises graph spots t command reply other_graph is next given legal in
     record { new_queue = []; state = step.0; run = subst (λ (ops : List Operation). Leads queue ops []) (sym step.1) none; replies = step.2 }
-stepped g spots queue t c r h (shown w chain users is) next given legal =
-    let step = goes t g w (spots t) c r h chain (users t) next legal in
+stepped graph spots queue t command reply other_graph (shown w chain users is) next given legal =
+    let step = goes t graph w (spots t) command reply other_graph chain (users t) next legal in
     record {
       new_queue = waiting step.after;
-      state = shown step.after step.chain (stands g spots w t c (answers r h) users step) refl;
-      run = subst (λ (q : List ℕ). Leads q (fixed_at (spots t) r) (waiting step.after)) (sym is) step.run;
+      state = shown step.after step.chain (stands graph spots w t command (answers reply other_graph) users step) refl;
+      run = subst (λ (q : List ℕ). Leads q (fixed_at (spots t) reply) (waiting step.after)) (sym is) step.run;
       replies = step.replies;
     }
 
@@ -63,52 +63,52 @@ leads_join queue between left (full ∷ a) b is later = leads_join queue between
 
 -- the entries of a thread
 
-pub of_here : (e : Entry) (es : List Entry) → of_thread (e ∷ es) e.thread ≡ e ∷ of_thread es e.thread
-of_here e es = rw (eqb_itself e.thread) refl
+pub of_here : (entry : Entry) (es : List Entry) → of_thread (entry ∷ es) entry.thread ≡ entry ∷ of_thread es entry.thread
+of_here entry es = rw (eqb_itself entry.thread) refl
 
-pub of_there : (e : Entry) (es : List Entry) (t : ℕ) → t ≢ e.thread → of_thread (e ∷ es) t ≡ of_thread es t
-of_there e es t apart = rw (ne_eqb e.thread t (λ is. apart (sym is))) refl
+pub of_there : (entry : Entry) (es : List Entry) (thread : ℕ) → thread ≢ entry.thread → of_thread (entry ∷ es) thread ≡ of_thread es thread
+of_there entry es thread apart = rw (ne_eqb entry.thread thread (λ is. apart (sym is))) refl
 
 -- a thread's replies are those of the run, from a spot on
 abbrev Answers : Spot → List Entry → Type 0
 Answers spot es = open_at spot ++ fixed_in spot es ≡ ended_in spot es ++ open_at (spot_after spot es)
 
-answers_on : (spot : Spot) (e : Entry) (es : List Entry) → open_at spot ++ fixed_at spot e.reply ≡ operation_ended spot e.reply ++ open_at (next_spot spot e.command e.reply)
-    → Answers (next_spot spot e.command e.reply) es → Answers spot (e ∷ es)
-answers_on spot e es here later =
-    let next = next_spot spot e.command e.reply in
-    sym (append_assoc (open_at spot) (fixed_at spot e.reply) (fixed_in next es))
+answers_on : (spot : Spot) (entry : Entry) (es : List Entry) → open_at spot ++ fixed_at spot entry.reply ≡ operation_ended spot entry.reply ++ open_at (next_spot spot entry.command entry.reply)
+    → Answers (next_spot spot entry.command entry.reply) es → Answers spot (entry ∷ es)
+answers_on spot entry es here later =
+    let next = next_spot spot entry.command entry.reply in
+    sym (append_assoc (open_at spot) (fixed_at spot entry.reply) (fixed_in next es))
     ∙ ap (λ l. l ++ fixed_in next es) here
-    ∙ append_assoc (operation_ended spot e.reply) (open_at next) (fixed_in next es)
-    ∙ ap (λ l. operation_ended spot e.reply ++ l) later
-    ∙ sym (append_assoc (operation_ended spot e.reply) (ended_in next es) (open_at (spot_after next es)))
+    ∙ append_assoc (operation_ended spot entry.reply) (open_at next) (fixed_in next es)
+    ∙ ap (λ l. operation_ended spot entry.reply ++ l) later
+    ∙ sym (append_assoc (operation_ended spot entry.reply) (ended_in next es) (open_at (spot_after next es)))
 
 pub record Plays (spots : ℕ → Spot) (es : List Entry) (queue : List ℕ) : Type 0 where
   pub left : List ℕ
   pub run : Leads queue (fixed spots es) left
-  pub replies : (t : ℕ) → Answers (spots t) (of_thread es t)
+  pub replies : (thread : ℕ) → Answers (spots thread) (of_thread es thread)
 
-pub plays : (regions region_words : ℕ) (es : List Entry) (g : Graph) (spots : ℕ → Spot) (queue : List ℕ) → State g spots queue → EachIsLegal regions region_words g es → ((t : ℕ) → IsPlayed (spots t) (of_thread es t)) → Plays spots es queue
-plays regions region_words [] g spots queue state legal played = record { left = queue; run = refl; replies = λ t. append-nil (open_at (spots t)) }
-plays regions region_words (e ∷ es) g spots queue state legal played =
+pub plays : (regions region_words : ℕ) (es : List Entry) (graph : Graph) (spots : ℕ → Spot) (queue : List ℕ) → State graph spots queue → EachIsLegal regions region_words graph es → ((thread : ℕ) → IsPlayed (spots thread) (of_thread es thread)) → Plays spots es queue
+plays regions region_words [] graph spots queue state legal played = record { left = queue; run = refl; replies = λ thread. append-nil (open_at (spots thread)) }
+plays regions region_words (e ∷ es) graph spots queue state legal played =
     let mine : IsPlayed (spots e.thread) (e ∷ of_thread es e.thread) = subst (IsPlayed (spots e.thread)) (of_here e es) (played e.thread) in
-    let here = legal_plain regions region_words g e.thread e.command e.reply (after_entry g e) (next_pins_none (spots e.thread) e.command mine.0) legal.0 in
-    let step = stepped g spots queue e.thread e.command e.reply (after_entry g e) state mine.0 mine.1 here in
-    let ahead : (t : ℕ) → IsPlayed (spot_moved spots e t) (of_thread es t) = λ t. elim (cases_eq t e.thread) [
-      | inl same ↦ subst (λ (k : ℕ). IsPlayed (spot_moved spots e k) (of_thread es k)) (sym same) (subst (λ (s : Spot). IsPlayed s (of_thread es e.thread)) (sym (on_here spots e.thread e.command e.reply)) mine.2)
-      | inr other ↦ subst (λ (s : Spot). IsPlayed s (of_thread es t)) (sym (on_there spots e.thread e.command e.reply t other)) (subst (IsPlayed (spots t)) (of_there e es t other) (played t))
+    let here = legal_plain regions region_words graph e.thread e.command e.reply (after_entry graph e) (next_pins_none (spots e.thread) e.command mine.0) legal.0 in
+    let step = stepped graph spots queue e.thread e.command e.reply (after_entry graph e) state mine.0 mine.1 here in
+    let ahead : (thread : ℕ) → IsPlayed (spot_moved spots e thread) (of_thread es thread) = λ thread. elim (cases_eq thread e.thread) [
+      | inl same ↦ subst (λ (k : ℕ). IsPlayed (spot_moved spots e k) (of_thread es k)) (sym same) (subst (λ (spot : Spot). IsPlayed spot (of_thread es e.thread)) (sym (on_here spots e.thread e.command e.reply)) mine.2)
+      | inr other ↦ subst (λ (spot : Spot). IsPlayed spot (of_thread es thread)) (sym (on_there spots e.thread e.command e.reply thread other)) (subst (IsPlayed (spots thread)) (of_there e es thread other) (played thread))
     ] in
-    let later = plays regions region_words es (after_entry g e) (spot_moved spots e) step.new_queue step.state legal.1 ahead in
+    let later = plays regions region_words es (after_entry graph e) (spot_moved spots e) step.new_queue step.state legal.1 ahead in
     record {
       left = later.left;
       run = leads_join queue step.new_queue later.left (fixed_at (spots e.thread) e.reply) (fixed (spot_moved spots e) es) step.run later.run;
-      replies = λ t. elim (cases_eq t e.thread) [
+      replies = λ thread. elim (cases_eq thread e.thread) [
         | inl same ↦ subst (λ (k : ℕ). Answers (spots k) (of_thread (e ∷ es) k)) (sym same)
             (subst (Answers (spots e.thread)) (sym (of_here e es))
             (answers_on (spots e.thread) e (of_thread es e.thread) step.replies
-            (subst (λ (s : Spot). Answers s (of_thread es e.thread)) (on_here spots e.thread e.command e.reply) (later.replies e.thread))))
-        | inr other ↦ subst (Answers (spots t)) (sym (of_there e es t other))
-            (subst (λ (s : Spot). Answers s (of_thread es t)) (on_there spots e.thread e.command e.reply t other) (later.replies t))
+            (subst (λ (spot : Spot). Answers spot (of_thread es e.thread)) (on_here spots e.thread e.command e.reply) (later.replies e.thread))))
+        | inr other ↦ subst (Answers (spots thread)) (sym (of_there e es thread other))
+            (subst (λ (spot : Spot). Answers spot (of_thread es thread)) (on_there spots e.thread e.command e.reply thread other) (later.replies thread))
       ];
     }
 
@@ -124,7 +124,7 @@ leads_order queue left (full ∷ ops) is = leads_order queue left ops is
 begins_closed : (t : ℕ) → open_at (entry_spot t) ≡ []
 begins_closed t = at (t == 1)
   where
-    at : (b : Bool) → open_at (if b then MakesAnchor else Joins) ≡ []
+    at : (holds : Bool) → open_at (if holds then MakesAnchor else Joins) ≡ []
     at true = refl
     at false = refl
 

@@ -33,9 +33,9 @@ front_is : (xs ys : List Entry) → take (length xs) (xs ++ ys) ≡ xs
 front_is [] ys = refl
 front_is (x ∷ xs) ys = ap (λ zs. x ∷ zs) (front_is xs ys)
 
-behind_is : (xs ys : List Entry) (e : Entry) → slice_get (xs ++ e ∷ ys) (length xs) ≡ Some e
-behind_is [] ys e = refl
-behind_is (x ∷ xs) ys e = behind_is xs ys e
+behind_is : (xs ys : List Entry) (entry : Entry) → slice_get (xs ++ entry ∷ ys) (length xs) ≡ Some entry
+behind_is [] ys entry = refl
+behind_is (x ∷ xs) ys entry = behind_is xs ys entry
 
 no_entries : (es : List Entry) → commands_of es ≡ [] → es ≡ []
 no_entries [] none = refl
@@ -48,7 +48,7 @@ driven_front u [] ys driven = tt
 driven_front u (e ∷ xs) ys driven = (driven.0, driven_front (used u e.reply) xs ys driven.1)
 
 -- a command of the table asks for 5 words at most
-few_asked : (c : Choice) (s : Spot) → words_asked (Some (command_coming c s)) ≤ 5
+few_asked : (c : Choice) (spot : Spot) → words_asked (Some (command_coming c spot)) ≤ 5
 few_asked (choice.Put value) Rests = omega arith
 few_asked choice.Take Rests = omega arith
 few_asked c MakesAnchor = omega arith
@@ -72,19 +72,19 @@ few_asked c Reads = omega arith
 few_asked c (Unlinks value) = omega arith
 
 -- so does each command of a user
-each_asks : (u : Use) (es : List Entry) → IsDriven u es → (n : ℕ) → words_asked (slice_get (commands_of es) n) ≤ 5
-each_asks u [] driven n = omega arith
+each_asks : (u : Use) (es : List Entry) → IsDriven u es → (index : ℕ) → words_asked (slice_get (commands_of es) index) ≤ 5
+each_asks u [] driven index = omega arith
 each_asks u (e ∷ es) driven zero =
     let goes = going u e.command driven.0 in
     subst (λ c. words_asked (Some c) ≤ 5) goes.command (few_asked (chosen u.plan) u.spot)
-each_asks u (e ∷ es) driven (suc n) = each_asks (used u e.reply) es driven.1 n
+each_asks u (e ∷ es) driven (suc index) = each_asks (used u e.reply) es driven.1 index
 
-behind_asks : (u : Use) (xs ys : List Entry) (e : Entry) → IsDriven u (xs ++ e ∷ ys) → words_asked (Some e.command) ≤ 5
-behind_asks u [] ys e driven = each_asks u (e ∷ ys) driven 0
-behind_asks u (x ∷ xs) ys e driven = behind_asks (used u x.reply) xs ys e driven.1
+behind_asks : (u : Use) (xs ys : List Entry) (entry : Entry) → IsDriven u (xs ++ entry ∷ ys) → words_asked (Some entry.command) ≤ 5
+behind_asks u [] ys entry driven = each_asks u (entry ∷ ys) driven 0
+behind_asks u (x ∷ xs) ys entry driven = behind_asks (used u x.reply) xs ys entry driven.1
 
 -- a user makes no more than is to come
-one_made : (c : Command) → (made_by c ≡ 0) ⊎ ((made_by c ≡ 1) × IsNew c)
+one_made : (command : Command) → (made_by command ≡ 0) ⊎ ((made_by command ≡ 1) × IsNew command)
 one_made (New dst refs nums) = inr (refl, tt)
 one_made (Get dst src field) = inl refl
 one_made (Set obj field val) = inl refl
@@ -99,10 +99,10 @@ one_made Gc = inl refl
 one_made (Pin slot obj) = inl refl
 one_made (Unpin slot) = inl refl
 
-made_low : (e : Entry) → (if is_full e.reply then 0 else made_by e.command) ≤ made_by e.command
-made_low e = by_test (is_full e.reply)
+made_low : (entry : Entry) → (if is_full entry.reply then 0 else made_by entry.command) ≤ made_by entry.command
+made_low entry = by_test (is_full entry.reply)
   where
-    by_test : (b : Bool) → (if b then 0 else made_by e.command) ≤ made_by e.command
+    by_test : (holds : Bool) → (if holds then 0 else made_by entry.command) ≤ made_by entry.command
     by_test true = omega arith
     by_test false = omega arith
 
@@ -119,33 +119,33 @@ makes_few u (e ∷ es) driven =
 
 -- ---- the threads
 
-not_zero : (e : Entry) (es : List Entry) → of_thread (e ∷ es) e.thread ≡ [] → ⊥
-not_zero e es none = let some : e ∷ of_thread es e.thread ≡ [] = sym (of_here e es) ∙ none in cc
+not_zero : (entry : Entry) (es : List Entry) → of_thread (entry ∷ es) entry.thread ≡ [] → ⊥
+not_zero entry es none = let some : entry ∷ of_thread es entry.thread ≡ [] = sym (of_here entry es) ∙ none in cc
 
-none_later : (e : Entry) (es : List Entry) (t : ℕ) → of_thread (e ∷ es) t ≡ [] → of_thread es t ≡ []
-none_later e es t none = ⊎_elim
-    (λ (same : t ≡ e.thread). absurd (not_zero e es (ap (of_thread (e ∷ es)) (sym same) ∙ none)))
-    (λ (other : t ≡ e.thread → ⊥). sym (of_there e es t other) ∙ none)
-    (cases_eq t e.thread)
+none_later : (entry : Entry) (es : List Entry) (thread : ℕ) → of_thread (entry ∷ es) thread ≡ [] → of_thread es thread ≡ []
+none_later entry es thread none = ⊎_elim
+    (λ (same : thread ≡ entry.thread). absurd (not_zero entry es (ap (of_thread (entry ∷ es)) (sym same) ∙ none)))
+    (λ (other : thread ≡ entry.thread → ⊥). sym (of_there entry es thread other) ∙ none)
+    (cases_eq thread entry.thread)
 
-are_four : (es : List Entry) → ((t : ℕ) → (t ≡ 0) ⊎ (4 < t) → of_thread es t ≡ []) → AreOf 4 es
+are_four : (es : List Entry) → ((thread : ℕ) → (thread ≡ 0) ⊎ (4 < thread) → of_thread es thread ≡ []) → AreOf 4 es
 are_four [] none = tt
 are_four (e ∷ es) none = (
   ⊎_elim (λ (zeroth : e.thread ≡ 0). absurd (not_zero e es (none e.thread (inl zeroth)))) (λ (other : e.thread ≡ 0 → ⊥). omega (arith, other)) (cases_eq e.thread 0),
   ⊎_elim (λ (past : 4 < e.thread). absurd (not_zero e es (none e.thread (inr past)))) (λ (within : e.thread ≤ 4). within) (cases_lt 4 e.thread),
-  are_four es (λ t out. none_later e es t (none t out)),
+  are_four es (λ thread out. none_later e es thread (none thread out)),
 )
 
-of_member : (before rest : List Entry) (e : Entry) → AreOf 4 (before ++ e ∷ rest) → (1 ≤ e.thread) × (e.thread ≤ 4)
-of_member [] rest e of = (of.0, of.1)
-of_member (x ∷ before) rest e of = of_member before rest e of.2
+of_member : (before rest : List Entry) (entry : Entry) → AreOf 4 (before ++ entry ∷ rest) → (1 ≤ entry.thread) × (entry.thread ≤ 4)
+of_member [] rest entry of = (of.0, of.1)
+of_member (x ∷ before) rest entry of = of_member before rest entry of.2
 
 -- what is made is made by one of the four
-made_here : (e : Entry) (es : List Entry) (t : ℕ) → e.thread ≡ t → makings (of_thread (e ∷ es) t) ≡ (if is_full e.reply then 0 else made_by e.command) + makings (of_thread es t)
-made_here e es t same = ap (λ k. makings (of_thread (e ∷ es) k)) (sym same) ∙ ap makings (of_here e es) ∙ ap (λ k. (if is_full e.reply then 0 else made_by e.command) + makings (of_thread es k)) same
+made_here : (entry : Entry) (es : List Entry) (thread : ℕ) → entry.thread ≡ thread → makings (of_thread (entry ∷ es) thread) ≡ (if is_full entry.reply then 0 else made_by entry.command) + makings (of_thread es thread)
+made_here entry es thread same = ap (λ k. makings (of_thread (entry ∷ es) k)) (sym same) ∙ ap makings (of_here entry es) ∙ ap (λ k. (if is_full entry.reply then 0 else made_by entry.command) + makings (of_thread es k)) same
 
-made_there : (e : Entry) (es : List Entry) (t : ℕ) → (t ≡ e.thread → ⊥) → makings (of_thread (e ∷ es) t) ≡ makings (of_thread es t)
-made_there e es t other = ap makings (of_there e es t other)
+made_there : (entry : Entry) (es : List Entry) (thread : ℕ) → (thread ≡ entry.thread → ⊥) → makings (of_thread (entry ∷ es) thread) ≡ makings (of_thread es thread)
+made_there entry es thread other = ap makings (of_there entry es thread other)
 
 made_by_four : (es : List Entry) → AreOf 4 es → makings es ≡ makings (of_thread es 1) + (makings (of_thread es 2) + (makings (of_thread es 3) + makings (of_thread es 4)))
 made_by_four [] of = refl
@@ -175,15 +175,15 @@ made_by_four (e ∷ es) of =
 
 module _ (count : ℕ) (history : List Entry) (small : count ≤ 390) (run : IsQueueRun count history) where
   -- a thread that is none has no entry
-  none_of : (t : ℕ) → (t ≡ 0) ⊎ (4 < t) → of_thread history t ≡ []
-  none_of t out = no_entries (of_thread history t) (run.follows t ∙ no_script t out)
+  none_of : (thread : ℕ) → (thread ≡ 0) ⊎ (4 < thread) → of_thread history thread ≡ []
+  none_of thread out = no_entries (of_thread history thread) (run.follows thread ∙ no_script thread out)
     where
       past_end : (scripts : List (List Command)) (k : ℕ) → length scripts ≤ k → slice_index_or scripts k [] ≡ []
       past_end [] k low = refl
       past_end (s ∷ scripts) zero low = absurd (omega (arith, low))
       past_end (s ∷ scripts) (suc k) low = past_end scripts k (omega (arith, low))
 
-      no_script : (t : ℕ) → (t ≡ 0) ⊎ (4 < t) → script_of run.scripts t ≡ []
+      no_script : (thread : ℕ) → (thread ≡ 0) ⊎ (4 < thread) → script_of run.scripts thread ≡ []
       no_script zero out = refl
       no_script (suc k) (inl zeroth) = absurd (omega (arith, zeroth))
       no_script (suc k) (inr past) = past_end run.scripts k (let long = run.threads in omega (arith, past, long))
@@ -192,8 +192,8 @@ module _ (count : ℕ) (history : List Entry) (small : count ≤ 390) (run : IsQ
   threads_are = are_four history none_of
 
   module _ (before rest : List Entry) (split : before ++ rest ≡ history) (given : IsWithoutFull before) where
-    parts : (t : ℕ) → of_thread history t ≡ of_thread before t ++ of_thread rest t
-    parts t = ap (λ es. of_thread es t) (sym split) ∙ filter-append (λ e. e.thread == t) before rest
+    parts : (thread : ℕ) → of_thread history thread ≡ of_thread before thread ++ of_thread rest thread
+    parts thread = ap (λ es. of_thread es thread) (sym split) ∙ filter-append (λ e. e.thread == thread) before rest
 
     driven : (m : ℕ) → m < 4 → IsDriven (queue_user count m) (of_thread before (m + 1))
     driven m low = driven_front (queue_user count m) (of_thread before (m + 1)) (of_thread rest (m + 1)) (subst (IsDriven (queue_user count m)) (parts (m + 1)) (run.driven m low))
@@ -202,8 +202,8 @@ module _ (count : ℕ) (history : List Entry) (small : count ≤ 390) (run : IsQ
     plays m low fine spot = subst (λ s. IsPlayed s (of_thread before (m + 1))) spot
         (users_play (queue_user count m) (of_thread before (m + 1)) fine (All-filter (λ e. e.thread == (m + 1)) (λ e. e.reply ≢ reply.Full) before given) (driven m low)).0
 
-    none_before : (t : ℕ) → (t ≡ 0) ⊎ (4 < t) → of_thread before t ≡ []
-    none_before t out = front_empty (of_thread before t) (of_thread rest t) (sym (parts t) ∙ none_of t out)
+    none_before : (thread : ℕ) → (thread ≡ 0) ⊎ (4 < thread) → of_thread before thread ≡ []
+    none_before thread out = front_empty (of_thread before thread) (of_thread rest thread) (sym (parts thread) ∙ none_of thread out)
       where
         front_empty : (xs ys : List Entry) → xs ++ ys ≡ [] → xs ≡ []
         front_empty [] ys none = refl
@@ -261,40 +261,40 @@ module _ (count : ℕ) (history : List Entry) (small : count ≤ 390) (run : IsQ
             omega (arith, sum_by-cons f 1 (2 ∷ 3 ∷ 4 ∷ []), sum_by-cons f 2 (3 ∷ 4 ∷ []), sum_by-cons f 3 (4 ∷ []), sum_by-cons f 4 [], a, b, c, d)
 
   -- the entry that follows is not refused
-  not_refused : (before rest : List Entry) (e : Entry) → before ++ e ∷ rest ≡ history → IsWithoutFull before → e.reply ≢ reply.Full
-  not_refused before rest e split given full =
-      let here : slice_get history (length before) ≡ Some e = ap (λ es. slice_get es (length before)) (sym split) ∙ behind_is before rest e in
-      let front : take (length before) history ≡ before = ap (take (length before)) (sym split) ∙ front_is before (e ∷ rest) in
-      let crowd = subst (λ es. IsCrowded 16 256 (opening (length run.scripts)) run.scripts es e) front (run.legal.crowded (length before) e here full) in
-      let live = few_are_live (length run.scripts) crowd.0 before (played before (e ∷ rest) split given) crowd.3 in
-      let makes = makings_low before (e ∷ rest) split given in
-      let waiting = open_low before (e ∷ rest) split given e.thread in
-      let asked = asked_low before rest e split in
-      let none : crowd.2 ≡ 0 = none_pinned (length run.scripts) 256 crowd.2 before (played before (e ∷ rest) split given) crowd.5 in
-      let full_regions : 16 * (256 - words_asked (Some e.command) + 1) ≤ crowd.0 - crowd.1 + words_open run.scripts before e.thread =
-      subst (λ (p : ℕ). (16 - p) * (256 - words_asked (Some e.command) + 1) ≤ crowd.0 - crowd.1 + words_open run.scripts before e.thread) none crowd.6 in
+  not_refused : (before rest : List Entry) (entry : Entry) → before ++ entry ∷ rest ≡ history → IsWithoutFull before → entry.reply ≢ reply.Full
+  not_refused before rest entry split given full =
+      let here : slice_get history (length before) ≡ Some entry = ap (λ es. slice_get es (length before)) (sym split) ∙ behind_is before rest entry in
+      let front : take (length before) history ≡ before = ap (take (length before)) (sym split) ∙ front_is before (entry ∷ rest) in
+      let crowd = subst (λ es. IsCrowded 16 256 (opening (length run.scripts)) run.scripts es entry) front (run.legal.crowded (length before) entry here full) in
+      let live = few_are_live (length run.scripts) crowd.0 before (played before (entry ∷ rest) split given) crowd.3 in
+      let makes = makings_low before (entry ∷ rest) split given in
+      let waiting = open_low before (entry ∷ rest) split given entry.thread in
+      let asked = asked_low before rest entry split in
+      let none : crowd.2 ≡ 0 = none_pinned (length run.scripts) 256 crowd.2 before (played before (entry ∷ rest) split given) crowd.5 in
+      let full_regions : 16 * (256 - words_asked (Some entry.command) + 1) ≤ crowd.0 - crowd.1 + words_open run.scripts before entry.thread =
+      subst (λ (p : ℕ). (16 - p) * (256 - words_asked (Some entry.command) + 1) ≤ crowd.0 - crowd.1 + words_open run.scripts before entry.thread) none crowd.6 in
       absurd (omega (arith, live, makes, waiting, asked, full_regions))
     where
-      asked_low : (before rest : List Entry) (e : Entry) → before ++ e ∷ rest ≡ history → words_asked (Some e.command) ≤ 5
-      asked_low before rest e split =
-          let its = of_member before rest e (subst (AreOf 4) (sym split) threads_are) in
+      asked_low : (before rest : List Entry) (entry : Entry) → before ++ entry ∷ rest ≡ history → words_asked (Some entry.command) ≤ 5
+      asked_low before rest entry split =
+          let its = of_member before rest entry (subst (AreOf 4) (sym split) threads_are) in
           let least = its.0 in
           let most = its.1 in
-          let m : ℕ = e.thread - 1 in
-          let back : m + 1 ≡ e.thread = omega (arith, least) in
+          let m : ℕ = entry.thread - 1 in
+          let back : m + 1 ≡ entry.thread = omega (arith, least) in
           let low : m < 4 = omega (arith, least, most) in
-          let parts : of_thread history e.thread ≡ of_thread before e.thread ++ (e ∷ of_thread rest e.thread) =
-          ap (λ es. of_thread es e.thread) (sym split) ∙ filter-append (λ x. x.thread == e.thread) before (e ∷ rest) ∙ ap (λ xs. of_thread before e.thread ++ xs) (of_here e rest) in
-          behind_asks (queue_user count m) (of_thread before e.thread) (of_thread rest e.thread) e
+          let parts : of_thread history entry.thread ≡ of_thread before entry.thread ++ (entry ∷ of_thread rest entry.thread) =
+          ap (λ es. of_thread es entry.thread) (sym split) ∙ filter-append (λ x. x.thread == entry.thread) before (entry ∷ rest) ∙ ap (λ xs. of_thread before entry.thread ++ xs) (of_here entry rest) in
+          behind_asks (queue_user count m) (of_thread before entry.thread) (of_thread rest entry.thread) entry
           (subst (IsDriven (queue_user count m)) parts (subst (λ k. IsDriven (queue_user count m) (of_thread history k)) back (run.driven m low)))
 
   given_on : (before rest : List Entry) → before ++ rest ≡ history → IsWithoutFull before → IsWithoutFull history
   given_on before [] split given = subst IsWithoutFull (sym (append-nil before) ∙ split) given
   given_on before (e ∷ rest) split given =
-      given_on (before ++ e ∷ []) rest (append_assoc before (e ∷ []) rest ∙ split) (All-push (λ (x : Entry). x.reply ≢ reply.Full) before e given (not_refused before rest e split given))
+      given_on (before ++ e ∷ []) rest (append_assoc before (e ∷ []) rest ∙ split) (All-push (λ (entry : Entry). entry.reply ≢ reply.Full) before e given (not_refused before rest e split given))
 
   pub none_is_refused : IsWithoutFull history
-  none_is_refused = given_on [] history refl (All-nil (λ (x : Entry). x.reply ≢ reply.Full))
+  none_is_refused = given_on [] history refl (All-nil (λ (entry : Entry). entry.reply ≢ reply.Full))
 
   pub all_played : ArePlayed history
   all_played = played history [] (append-nil history) none_is_refused

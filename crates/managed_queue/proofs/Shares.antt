@@ -45,16 +45,16 @@ shared weight threads [] spots of = sym (no_terms 1 threads)
 shared weight threads (e ∷ es) spots of =
     let t = e.thread in
     let now = fixed_at (spots t) e.reply in
-    let f = λ (u : ℕ). sum_by weight (fixed_in (spots u) (of_thread (e ∷ es) u)) in
-    let g = λ (u : ℕ). sum_by weight (fixed_in (spot_moved spots e u) (of_thread es u)) in
+    let f = λ (thread : ℕ). sum_by weight (fixed_in (spots thread) (of_thread (e ∷ es) thread)) in
+    let g = λ (thread : ℕ). sum_by weight (fixed_in (spot_moved spots e thread) (of_thread es thread)) in
     let later = shared weight threads es (spot_moved spots e) of.2 in
     let here : f t ≡ sum_by weight now + g t =
     ap (λ l. sum_by weight (fixed_in (spots t) l)) (of_here e es)
     ∙ sum_by-append weight now (fixed_in (next_spot (spots t) e.command e.reply) (of_thread es t))
     ∙ ap (λ s. sum_by weight now + sum_by weight (fixed_in s (of_thread es t))) (sym (on_here spots t e.command e.reply)) in
-    let there : (u : ℕ) → u ≢ t → f u ≡ g u = λ u other.
-    ap (λ l. sum_by weight (fixed_in (spots u) l)) (of_there e es u other)
-    ∙ ap (λ s. sum_by weight (fixed_in s (of_thread es u))) (sym (on_there spots t e.command e.reply u other)) in
+    let there : (thread : ℕ) → thread ≢ t → f thread ≡ g thread = λ thread other.
+    ap (λ l. sum_by weight (fixed_in (spots thread) l)) (of_there e es thread other)
+    ∙ ap (λ s. sum_by weight (fixed_in s (of_thread es thread))) (sym (on_there spots t e.command e.reply thread other)) in
     sum_by-append weight now (fixed (spot_moved spots e) es)
     ∙ ap (λ n. sum_by weight now + n) later
     ∙ sym (one_term f g (sum_by weight now) t 1 threads of.0 (omega (arith, of.1)) here there)

@@ -20,89 +20,89 @@ use Rattle.managed_queue.proofs.Moves.{by_name}
 
 -- the most words of the object of a name
 abbrev pub most : Name → ℕ
-most n = if same_name hub n then 19 else 5
+most name = if same_name hub name then 19 else 5
 
-five_most : (n : Name) → 5 ≤ most n
-five_most n = at (same_name hub n)
+five_most : (name : Name) → 5 ≤ most name
+five_most name = at (same_name hub name)
   where
-    at : (b : Bool) → 5 ≤ (if b then 19 else 5)
+    at : (holds : Bool) → 5 ≤ (if holds then 19 else 5)
     at true = omega arith
     at false = omega arith
 
 -- All names that are held are among these, objects are small, and no pin slot holds one.
-pub record AreSmall (g : Graph) (names : List Name) : Type 0 where
-  pub roots : (t r : ℕ) (n : Name) → g.root t r ≡ Some n → Contains names n
-  pub fields : (m : Name) (f : ℕ) (n : Name) → slice_get (named g (Some m)).refs f ≡ Some (Some n) → Contains names n
-  pub sizes : (m : Name) → size (named g (Some m)) ≤ most m
-  pub no_pin : (t s : ℕ) → g.pin t s ≡ None
+pub record AreSmall (graph : Graph) (names : List Name) : Type 0 where
+  pub roots : (thread r : ℕ) (name : Name) → graph.root thread r ≡ Some name → Contains names name
+  pub fields : (other_name : Name) (f : ℕ) (name : Name) → slice_get (named graph (Some other_name)).refs f ≡ Some (Some name) → Contains names name
+  pub sizes : (other_name : Name) → size (named graph (Some other_name)) ≤ most other_name
+  pub no_pin : (thread s : ℕ) → graph.pin thread s ≡ None
 
-more : (x : Name) (names : List Name) (n : Name) → Contains names n → Contains (x ∷ names) n
-more x names n there = Contains-append_right (x ∷ []) names n there
+more : (name : Name) (names : List Name) (other_name : Name) → Contains names other_name → Contains (name ∷ names) other_name
+more name names other_name there = Contains-append_right (name ∷ []) names other_name there
 
-small_more : (g : Graph) (names : List Name) (x : Name) → AreSmall g names → AreSmall g (x ∷ names)
-small_more g names x small = record {
-  roots = λ t r n is. more x names n (small.roots t r n is);
-  fields = λ m f n is. more x names n (small.fields m f n is);
+small_more : (graph : Graph) (names : List Name) (name : Name) → AreSmall graph names → AreSmall graph (name ∷ names)
+small_more graph names name small = record {
+  roots = λ t r n is. more name names n (small.roots t r n is);
+  fields = λ m f n is. more name names n (small.fields m f n is);
   sizes = small.sizes;
   no_pin = small.no_pin;
 }
 
 -- a root is another
-small_root : (g : Graph) (names : List Name) (t r : ℕ) (v : Reference) → AreSmall g names → ((n : Name) → v ≡ Some n → Contains names n) → AreSmall (with_root g t r v) names
-small_root g names t r v small held = record {
-  roots = λ u s n. at ((u == t) && (s == r)) u s n;
+small_root : (graph : Graph) (names : List Name) (t r : ℕ) (reference : Reference) → AreSmall graph names → ((name : Name) → reference ≡ Some name → Contains names name) → AreSmall (with_root graph t r reference) names
+small_root graph names t r reference small held = record {
+  roots = λ thread s name. at ((thread == t) && (s == r)) thread s name;
   fields = small.fields;
   sizes = small.sizes;
   no_pin = small.no_pin;
 }
   where
-    at : (b : Bool) (u s : ℕ) (n : Name) → (if b then v else g.root u s) ≡ Some n → Contains names n
-    at true u s n is = held n is
-    at false u s n is = small.roots u s n is
+    at : (holds : Bool) (thread s : ℕ) (name : Name) → (if holds then reference else graph.root thread s) ≡ Some name → Contains names name
+    at true thread s name is = held name is
+    at false thread s name is = small.roots thread s name is
 
 -- an object is another
-small_object : (g : Graph) (names : List Name) (name : Name) (o : Object) → AreSmall g names → ((f : ℕ) (n : Name) → slice_get o.refs f ≡ Some (Some n) → Contains names n) → size o ≤ most name → AreSmall (with_object g name o) names
-small_object g names name o small held low = record {
+small_object : (graph : Graph) (names : List Name) (name : Name) (object : Object) → AreSmall graph names → ((f : ℕ) (other_name : Name) → slice_get object.refs f ≡ Some (Some other_name) → Contains names other_name) → size object ≤ most name → AreSmall (with_object graph name object) names
+small_object graph names name object small held low = record {
   roots = small.roots;
-  fields = λ m f n. by_name (λ (x : Option Object). slice_get (unwrap_or {T = Object} x (record { refs = []; nums = [] })).refs f ≡ Some (Some n) → Contains names n) m name (Some o) (g.object m) (λ _ is. held f n is) (λ _ is. small.fields m f n is);
-  sizes = λ m. by_name (λ (x : Option Object). size (unwrap_or {T = Object} x (record { refs = []; nums = [] })) ≤ most m) m name (Some o) (g.object m) (λ e. subst (λ (k : Name). size o ≤ most k) (sym e) low) (λ _. small.sizes m);
+  fields = λ m f other_name. by_name (λ (found : Option Object). slice_get (unwrap_or {T = Object} found (record { refs = []; nums = [] })).refs f ≡ Some (Some other_name) → Contains names other_name) m name (Some object) (graph.object m) (λ _ is. held f other_name is) (λ _ is. small.fields m f other_name is);
+  sizes = λ m. by_name (λ (found : Option Object). size (unwrap_or {T = Object} found (record { refs = []; nums = [] })) ≤ most m) m name (Some object) (graph.object m) (λ e. subst (λ (name : Name). size object ≤ most name) (sym e) low) (λ _. small.sizes m);
   no_pin = small.no_pin;
 }
 
 -- a field that was set is the new one, or was there
-was_field : (xs : List Reference) (k : ℕ) (v : Reference) (f : ℕ) (n : Name) → slice_get (slice_set xs k v) f ≡ Some (Some n) → (v ≡ Some n) ⊎ (slice_get xs f ≡ Some (Some n))
-was_field [] k v f n is = inr is
-was_field (x ∷ xs) zero v zero n is = inl cc
-was_field (x ∷ xs) zero v (suc f) n is = inr is
-was_field (x ∷ xs) (suc k) v zero n is = inr is
-was_field (x ∷ xs) (suc k) v (suc f) n is = was_field xs k v f n is
+was_field : (xs : List Reference) (k : ℕ) (reference : Reference) (index : ℕ) (name : Name) → slice_get (slice_set xs k reference) index ≡ Some (Some name) → (reference ≡ Some name) ⊎ (slice_get xs index ≡ Some (Some name))
+was_field [] k reference index name is = inr is
+was_field (x ∷ xs) zero reference zero name is = inl cc
+was_field (x ∷ xs) zero reference (suc index) name is = inr is
+was_field (x ∷ xs) (suc k) reference zero name is = inr is
+was_field (x ∷ xs) (suc k) reference (suc index) name is = was_field xs k reference index name is
 
-small_field : (g : Graph) (names : List Name) (r : Reference) (k : ℕ) (v : Reference) → AreSmall g names → ((n : Name) → v ≡ Some n → Contains names n)
-    → AreSmall (with_named g r (record { refs = slice_set (named g r).refs k v; nums = (named g r).nums })) names
-small_field g names None k v small held = small
-small_field g names (Some m) k v small held =
-    small_object g names m _ small (λ f n is. elim (was_field (named g (Some m)).refs k v f n is) [ inl here ↦ held n here | inr there ↦ small.fields m f n there ])
-    (let low = small.sizes m in let long = length-set (named g (Some m)).refs k v in omega (arith, low, long))
+small_field : (graph : Graph) (names : List Name) (reference : Reference) (k : ℕ) (other_reference : Reference) → AreSmall graph names → ((name : Name) → other_reference ≡ Some name → Contains names name)
+    → AreSmall (with_named graph reference (record { refs = slice_set (named graph reference).refs k other_reference; nums = (named graph reference).nums })) names
+small_field graph names None k other_reference small held = small
+small_field graph names (Some m) k other_reference small held =
+    small_object graph names m _ small (λ f name is. elim (was_field (named graph (Some m)).refs k other_reference f name is) [ inl here ↦ held name here | inr there ↦ small.fields m f name there ])
+    (let low = small.sizes m in let long = length-set (named graph (Some m)).refs k other_reference in omega (arith, low, long))
 
-small_number : (g : Graph) (names : List Name) (r : Reference) (k v : ℕ) → AreSmall g names → AreSmall (with_named g r (record { refs = (named g r).refs; nums = slice_set (named g r).nums k v })) names
-small_number g names None k v small = small
-small_number g names (Some m) k v small =
-    small_object g names m _ small (λ f n is. small.fields m f n is) (let low = small.sizes m in let long = length-set (named g (Some m)).nums k v in omega (arith, low, long))
+small_number : (graph : Graph) (names : List Name) (reference : Reference) (k v : ℕ) → AreSmall graph names → AreSmall (with_named graph reference (record { refs = (named graph reference).refs; nums = slice_set (named graph reference).nums k v })) names
+small_number graph names None k v small = small
+small_number graph names (Some m) k v small =
+    small_object graph names m _ small (λ f n is. small.fields m f n is) (let low = small.sizes m in let long = length-set (named graph (Some m)).nums k v in omega (arith, low, long))
 
 -- a new object holds nothing
-blank_holds : (k f : ℕ) (n : Name) → slice_get (replicate k None) f ≡ Some (Some n) → ⊥
-blank_holds zero f n is = let never : None ≡ Some (Some n) = is in absurd cc
-blank_holds (suc k) zero n is = let never : Some None ≡ Some (Some n) = is in absurd cc
-blank_holds (suc k) (suc f) n is = blank_holds k f n is
+blank_holds : (k index : ℕ) (name : Name) → slice_get (replicate k None) index ≡ Some (Some name) → ⊥
+blank_holds zero index name is = let never : None ≡ Some (Some name) = is in absurd cc
+blank_holds (suc k) zero name is = let never : Some None ≡ Some (Some name) = is in absurd cc
+blank_holds (suc k) (suc index) name is = blank_holds k index name is
 
-small_fresh : (g : Graph) (names : List Name) (t dst refs nums : ℕ) → AreSmall g names → refs + nums ≤ 2 → AreSmall (with_root (with_fresh g t (blank refs nums)) t dst (Some (fresh g t))) (fresh g t ∷ names)
-small_fresh g names t dst refs nums small few =
-    let low : size (blank refs nums) ≤ most (fresh g t) =
-    let least = five_most (fresh g t) in
+small_fresh : (graph : Graph) (names : List Name) (t dst refs nums : ℕ) → AreSmall graph names → refs + nums ≤ 2 → AreSmall (with_root (with_fresh graph t (blank refs nums)) t dst (Some (fresh graph t))) (fresh graph t ∷ names)
+small_fresh graph names t dst refs nums small few =
+    let low : size (blank refs nums) ≤ most (fresh graph t) =
+    let least = five_most (fresh graph t) in
     omega (arith, few, least, length-replicate {A = Reference} refs None, length-replicate {A = ℕ} nums 0) in
-    let made = small_object g (fresh g t ∷ names) (fresh g t) (blank refs nums) (small_more g names (fresh g t) small) (λ f n is. absurd (blank_holds refs f n is)) low in
-    small_root (with_fresh g t (blank refs nums)) (fresh g t ∷ names) t dst (Some (fresh g t)) (record { roots = made.roots; fields = made.fields; sizes = made.sizes; no_pin = made.no_pin })
-    (λ n is. let same : fresh g t ≡ n = cc in Contains-append_left (fresh g t ∷ []) names n (0, omega arith, same))
+    let made = small_object graph (fresh graph t ∷ names) (fresh graph t) (blank refs nums) (small_more graph names (fresh graph t) small) (λ f n is. absurd (blank_holds refs f n is)) low in
+    small_root (with_fresh graph t (blank refs nums)) (fresh graph t ∷ names) t dst (Some (fresh graph t)) (record { roots = made.roots; fields = made.fields; sizes = made.sizes; no_pin = made.no_pin })
+    (λ n is. let same : fresh graph t ≡ n = cc in Contains-append_left (fresh graph t ∷ []) names n (0, omega arith, same))
 
 -- the commands of the table
 abbrev pub IsSmall : Command → Type 0
@@ -115,7 +115,7 @@ IsSmall (Pin slot obj) = ⊥
 IsSmall (Unpin slot) = ⊥
 IsSmall _ = Unit {0}
 
-pub next_small : (s : Spot) (c : Command) → MayCome s c → IsSmall c
+pub next_small : (spot : Spot) (command : Command) → MayCome spot command → IsSmall command
 next_small _ _ anchor_made = omega arith
 next_small _ _ first_made = omega arith
 next_small _ _ head_set = tt
@@ -140,7 +140,7 @@ next_small _ _ (unlinked value) = tt
 
 -- none of them is to pin an object
 
-small_pins_none : (c : Command) → IsSmall c → IsPin c → ⊥
+small_pins_none : (command : Command) → IsSmall command → IsPin command → ⊥
 small_pins_none (Pin slot obj) few is = few
 small_pins_none (New dst refs nums) few is = is
 small_pins_none (Get dst src field) few is = is
@@ -155,77 +155,77 @@ small_pins_none (Same a b) few is = is
 small_pins_none Gc few is = is
 small_pins_none (Unpin slot) few is = is
 
-pub next_pins_none : (s : Spot) (c : Command) → MayCome s c → IsPin c → ⊥
-next_pins_none s c next = small_pins_none c (next_small s c next)
+pub next_pins_none : (spot : Spot) (command : Command) → MayCome spot command → IsPin command → ⊥
+next_pins_none spot command next = small_pins_none command (next_small spot command next)
 
-on_small : {A : Type 0} (g : Graph) (names : List Name) (o : Option A) (f : A → Outcome) → AreSmall g names → ((v : A) → o ≡ Some v → AreSmall (f v).graph names) → AreSmall (on o g f).graph names
-on_small g names None f small step = small
-on_small g names (Some v) f small step = step v refl
+on_small : {A : Type 0} (graph : Graph) (names : List Name) (found : Option A) (f : A → Outcome) → AreSmall graph names → ((v : A) → found ≡ Some v → AreSmall (f v).graph names) → AreSmall (on found graph f).graph names
+on_small graph names None f small step = small
+on_small graph names (Some v) f small step = step v refl
 
 -- what a root's object has in a field is held
-loaded : (g : Graph) (names : List Name) (r : Reference) (k : ℕ) (v : Reference) → AreSmall g names → slice_get (named g r).refs k ≡ Some v → (n : Name) → v ≡ Some n → Contains names n
-loaded g names None k v small is n held = let never : None ≡ Some v = is in absurd cc
-loaded g names (Some m) k v small is n held = small.fields m k n (is ∙ ap Some held)
+loaded : (graph : Graph) (names : List Name) (reference : Reference) (k : ℕ) (other_reference : Reference) → AreSmall graph names → slice_get (named graph reference).refs k ≡ Some other_reference → (name : Name) → other_reference ≡ Some name → Contains names name
+loaded graph names None k other_reference small is name held = let never : None ≡ Some other_reference = is in absurd cc
+loaded graph names (Some m) k other_reference small is name held = small.fields m k name (is ∙ ap Some held)
 
 -- What is given and held after an outcome.
-pub record Stays (g : Graph) (names : List Name) (made : ℕ) : Type 0 where
+pub record Stays (graph : Graph) (names : List Name) (made : ℕ) : Type 0 where
   pub new_names : List Name
-  pub small : AreSmall g new_names
+  pub small : AreSmall graph new_names
   pub count : length new_names ≡ length names + made
 
-same_names : (g : Graph) (names : List Name) → AreSmall g names → Stays g names 0
-same_names g names small = record { new_names = names; small = small; count = omega arith }
+same_names : (graph : Graph) (names : List Name) → AreSmall graph names → Stays graph names 0
+same_names graph names small = record { new_names = names; small = small; count = omega arith }
 
-small_stays : (g : Graph) (names : List Name) (t : ℕ) (c : Command) → IsSmall c → AreSmall g names → Stays (outcome g t c).graph names (made_by c)
-small_stays g names t (New dst refs nums) few small = record { new_names = fresh g t ∷ names; small = small_fresh g names t dst refs nums small few; count = omega arith }
-small_stays g names t (Get dst src field) few small = same_names _ names (
-    on_small g names (field_at g t src field) (λ v. answers (shown v) (with_root g t dst v)) small (λ v is. small_root g names t dst v small (loaded g names (g.root t src) field v small is))
+small_stays : (graph : Graph) (names : List Name) (thread : ℕ) (command : Command) → IsSmall command → AreSmall graph names → Stays (outcome graph thread command).graph names (made_by command)
+small_stays graph names thread (New dst refs nums) few small = record { new_names = fresh graph thread ∷ names; small = small_fresh graph names thread dst refs nums small few; count = omega arith }
+small_stays graph names thread (Get dst src field) few small = same_names _ names (
+    on_small graph names (field_at graph thread src field) (λ v. answers (shown v) (with_root graph thread dst v)) small (λ v is. small_root graph names thread dst v small (loaded graph names (graph.root thread src) field v small is))
     )
-small_stays g names t (Set obj field val) few small = same_names _ names (
-    on_small g names (field_at g t obj field) (λ _. answers reply.Ok (with_field g t obj field (g.root t val))) small (λ v is. small_field g names (g.root t obj) field (g.root t val) small (small.roots t val))
+small_stays graph names thread (Set obj field val) few small = same_names _ names (
+    on_small graph names (field_at graph thread obj field) (λ _. answers reply.Ok (with_field graph thread obj field (graph.root thread val))) small (λ v is. small_field graph names (graph.root thread obj) field (graph.root thread val) small (small.roots thread val))
     )
-small_stays g names t (Cas obj field expect val) few small = same_names _ names (
-    on_small g names (field_at g t obj field) (λ v. if same_reference v (g.root t expect) then answers reply.Yes (with_field g t obj field (g.root t val)) else answers reply.No g) small
-    (λ v is. tested (same_reference v (g.root t expect)))
+small_stays graph names thread (Cas obj field expect val) few small = same_names _ names (
+    on_small graph names (field_at graph thread obj field) (λ v. if same_reference v (graph.root thread expect) then answers reply.Yes (with_field graph thread obj field (graph.root thread val)) else answers reply.No graph) small
+    (λ v is. tested (same_reference v (graph.root thread expect)))
     )
   where
-    tested : (b : Bool) → AreSmall (if b then answers reply.Yes (with_field g t obj field (g.root t val)) else answers reply.No g).graph names
-    tested true = small_field g names (g.root t obj) field (g.root t val) small (small.roots t val)
+    tested : (holds : Bool) → AreSmall (if holds then answers reply.Yes (with_field graph thread obj field (graph.root thread val)) else answers reply.No graph).graph names
+    tested true = small_field graph names (graph.root thread obj) field (graph.root thread val) small (small.roots thread val)
     tested false = small
-small_stays g names t (Rd obj index) few small = same_names _ names (on_small g names (number_at g t obj index) (λ n. answers (reply.Number n) g) small (λ v is. small))
-small_stays g names t (Wr obj index value) few small = same_names _ names (
-    on_small g names (number_at g t obj index) (λ _. answers reply.Ok (with_number g t obj index value)) small (λ v is. small_number g names (g.root t obj) index value small)
+small_stays graph names thread (Rd obj index) few small = same_names _ names (on_small graph names (number_at graph thread obj index) (λ n. answers (reply.Number n) graph) small (λ v is. small))
+small_stays graph names thread (Wr obj index value) few small = same_names _ names (
+    on_small graph names (number_at graph thread obj index) (λ _. answers reply.Ok (with_number graph thread obj index value)) small (λ v is. small_number graph names (graph.root thread obj) index value small)
     )
-small_stays g names t (Same a b) few small = same_names _ names small
-small_stays g names t (Xchg dst obj field val) few small = absurd few
-small_stays g names t (Copy dst src) few small = absurd few
-small_stays g names t (Drop dst) few small = absurd few
-small_stays g names t Gc few small = absurd few
-small_stays g names t (Pin slot obj) few small = absurd few
-small_stays g names t (Unpin slot) few small = absurd few
+small_stays graph names thread (Same a holds) few small = same_names _ names small
+small_stays graph names thread (Xchg dst obj field val) few small = absurd few
+small_stays graph names thread (Copy dst src) few small = absurd few
+small_stays graph names thread (Drop dst) few small = absurd few
+small_stays graph names thread Gc few small = absurd few
+small_stays graph names thread (Pin slot obj) few small = absurd few
+small_stays graph names thread (Unpin slot) few small = absurd few
 
 -- after an entry
-pub entry_stays : (g : Graph) (names : List Name) (e : Entry) → IsSmall e.command → AreSmall g names → Stays (after_entry g e) names (if is_full e.reply then 0 else made_by e.command)
-entry_stays g names e few small = at (is_full e.reply)
+pub entry_stays : (graph : Graph) (names : List Name) (entry : Entry) → IsSmall entry.command → AreSmall graph names → Stays (after_entry graph entry) names (if is_full entry.reply then 0 else made_by entry.command)
+entry_stays graph names entry few small = at (is_full entry.reply)
   where
-    at : (b : Bool) → Stays (if b then g else after_reply g e.thread e.command e.reply) names (if b then 0 else made_by e.command)
-    at true = same_names g names small
-    at false = subst (λ (h : Graph). Stays h names (made_by e.command)) (sym (leaves_outcome g e.thread e.command e.reply (small_pins_none e.command few))) (small_stays g names e.thread e.command few small)
+    at : (holds : Bool) → Stays (if holds then graph else after_reply graph entry.thread entry.command entry.reply) names (if holds then 0 else made_by entry.command)
+    at true = same_names graph names small
+    at false = subst (λ (graph : Graph). Stays graph names (made_by entry.command)) (sym (leaves_outcome graph entry.thread entry.command entry.reply (small_pins_none entry.command few))) (small_stays graph names entry.thread entry.command few small)
 
 -- at the start there is the hub alone
 pub small_opening : (threads : ℕ) → AreSmall (opening threads) (hub ∷ [])
 small_opening threads = record {
-  roots = λ t r n. only (nat_le 1 t && nat_le t threads && (r == 0)) n;
-  fields = λ m f n. by_name (λ (x : Option Object). slice_get (unwrap_or {T = Object} x (record { refs = []; nums = [] })).refs f ≡ Some (Some n) → Contains (hub ∷ []) n) m hub (Some (blank 16 0)) None
-      (λ _ is. absurd (blank_holds 16 f n is)) (λ _ is. absurd (empty_holds f n is));
-  sizes = λ m. by_name (λ (x : Option Object). size (unwrap_or {T = Object} x (record { refs = []; nums = [] })) ≤ most m) m hub (Some (blank 16 0)) None
-      (λ e. subst (λ (k : Name). 19 ≤ most k) (sym e) (omega arith)) (λ _. let least = five_most m in omega (arith, least));
+  roots = λ t r name. only (nat_le 1 t && nat_le t threads && (r == 0)) name;
+  fields = λ m f name. by_name (λ (found : Option Object). slice_get (unwrap_or {T = Object} found (record { refs = []; nums = [] })).refs f ≡ Some (Some name) → Contains (hub ∷ []) name) m hub (Some (blank 16 0)) None
+      (λ _ is. absurd (blank_holds 16 f name is)) (λ _ is. absurd (empty_holds f name is));
+  sizes = λ m. by_name (λ (found : Option Object). size (unwrap_or {T = Object} found (record { refs = []; nums = [] })) ≤ most m) m hub (Some (blank 16 0)) None
+      (λ e. subst (λ (name : Name). 19 ≤ most name) (sym e) (omega arith)) (λ _. let least = five_most m in omega (arith, least));
   no_pin = λ t s. refl;
 }
   where
-    only : (b : Bool) (n : Name) → (if b then Some hub else None) ≡ Some n → Contains (hub ∷ []) n
-    only true n is = let same : hub ≡ n = cc in (0, omega arith, same)
-    only false n is = let never : None ≡ Some n = is in absurd cc
+    only : (holds : Bool) (name : Name) → (if holds then Some hub else None) ≡ Some name → Contains (hub ∷ []) name
+    only true name is = let same : hub ≡ name = cc in (0, omega arith, same)
+    only false name is = let never : None ≡ Some name = is in absurd cc
 
-    empty_holds : (f : ℕ) (n : Name) → slice_get {X = Reference} [] f ≡ Some (Some n) → ⊥
-    empty_holds f n is = let never : None ≡ Some (Some n) = is in absurd cc
+    empty_holds : (f : ℕ) (name : Name) → slice_get {X = Reference} [] f ≡ Some (Some name) → ⊥
+    empty_holds f name is = let never : None ≡ Some (Some name) = is in absurd cc

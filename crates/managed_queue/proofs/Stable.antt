@@ -5,8 +5,8 @@ use Rattle.managed_queue.specs.declared.spot.Spot.{Spot}
 use Rattle.managed_queue.specs.declared.spot.Spot.TheVariants.{MakesAnchor, MakesFirst, SetsHead, SetsTail, Shows, Joins, Rests, Fills, Looks, Follows, Links, Helps, Swings, Turns, TookHead, TookTail, Compares, Pushes, Reads, Unlinks}
 use Rattle.managed_queue.proofs.Facts.{Objects, Chain, IsOwn, IsAt, IsEdge, IsPair, Facts, Rely}
 
-pub own_stays : (t : ℕ) (object : Objects) (chain : Chain) (new_object : Objects) (new_chain : Chain) (r : Reference) (value : ℕ) → Rely t object chain new_object new_chain → IsOwn t object chain r value → IsOwn t new_object new_chain r value
-own_stays t object chain new_object new_chain r value rely o = record {
+pub own_stays : (t : ℕ) (object : Objects) (chain : Chain) (new_object : Objects) (new_chain : Chain) (reference : Reference) (value : ℕ) → Rely t object chain new_object new_chain → IsOwn t object chain reference value → IsOwn t new_object new_chain reference value
+own_stays t object chain new_object new_chain reference value rely o = record {
   name = o.name;
   is = o.is;
   mine = o.mine;
@@ -14,8 +14,8 @@ own_stays t object chain new_object new_chain r value rely o = record {
   whole = rely.own o.name value o.mine o.apart o.whole;
 }
 
-abbrev pub at_stays : (t : ℕ) (object : Objects) (chain : Chain) (new_object : Objects) (new_chain : Chain) (r : Reference) (bound new_bound : ℕ) → Rely t object chain new_object new_chain → bound ≤ new_bound → IsAt chain r bound → IsAt new_chain r new_bound
-at_stays t object chain new_object new_chain r bound new_bound rely more a = record {
+abbrev pub at_stays : (t : ℕ) (object : Objects) (chain : Chain) (new_object : Objects) (new_chain : Chain) (reference : Reference) (bound new_bound : ℕ) → Rely t object chain new_object new_chain → bound ≤ new_bound → IsAt chain reference bound → IsAt new_chain reference new_bound
+at_stays t object chain new_object new_chain reference bound new_bound rely more a = record {
   name = a.name;
   index = a.index;
   is = a.is;
@@ -23,8 +23,8 @@ at_stays t object chain new_object new_chain r bound new_bound rely more a = rec
   low = omega (arith, more, a.low);
 }
 
-abbrev pub edge_stays : (t : ℕ) (object : Objects) (chain : Chain) (new_object : Objects) (new_chain : Chain) (a b : Reference) → Rely t object chain new_object new_chain → IsEdge object chain a b → IsEdge new_object new_chain a b
-edge_stays t object chain new_object new_chain a b rely e = record {
+abbrev pub edge_stays : (t : ℕ) (object : Objects) (chain : Chain) (new_object : Objects) (new_chain : Chain) (reference other_reference : Reference) → Rely t object chain new_object new_chain → IsEdge object chain reference other_reference → IsEdge new_object new_chain reference other_reference
+edge_stays t object chain new_object new_chain reference other_reference rely e = record {
   from = e.from;
   to = e.to;
   index = e.index;
@@ -36,10 +36,10 @@ edge_stays t object chain new_object new_chain a b rely e = record {
   whole = rely.inner e.from e.to e.index e.value e.at e.whole;
 }
 
-pub pair_stays : (t : ℕ) (object : Objects) (chain : Chain) (new_object : Objects) (new_chain : Chain) (a b : Reference) → Rely t object chain new_object new_chain → IsPair chain a b → IsPair new_chain a b
-pair_stays t object chain new_object new_chain a b rely p = record {
-  front = at_stays t object chain new_object new_chain a chain.head new_chain.head rely rely.heads p.front;
-  back = at_stays t object chain new_object new_chain b chain.tail new_chain.tail rely rely.tails p.back;
+pub pair_stays : (t : ℕ) (object : Objects) (chain : Chain) (new_object : Objects) (new_chain : Chain) (reference other_reference : Reference) → Rely t object chain new_object new_chain → IsPair chain reference other_reference → IsPair new_chain reference other_reference
+pair_stays t object chain new_object new_chain reference other_reference rely p = record {
+  front = at_stays t object chain new_object new_chain reference chain.head new_chain.head rely rely.heads p.front;
+  back = at_stays t object chain new_object new_chain other_reference chain.tail new_chain.tail rely rely.tails p.back;
   order = p.order;
 }
 

@@ -7,7 +7,7 @@ use Rattle.managed_queue.specs.Spots.{MayCome}
 use Rattle.managed_queue.specs.Spots.MayCome.{anchor_made, first_made, head_set, tail_set, anchor_shown, joined, put_begun, take_begun, filled, looked, followed, linked, helped, swung, turned, tail_taken, next_taken, compared, pushed, read, unlinked}
 use Rattle.managed_queue.specs.Machines.{command_coming}
 
-pub command_is_next : (c : Choice) (s : Spot) → MayCome s (command_coming c s)
+pub command_is_next : (c : Choice) (spot : Spot) → MayCome spot (command_coming c spot)
 command_is_next c MakesAnchor = anchor_made
 command_is_next c MakesFirst = first_made
 command_is_next c SetsHead = head_set

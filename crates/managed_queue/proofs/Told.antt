@@ -133,20 +133,20 @@ never_refused : (u : Use) (es : List Entry) → u.refused ≡ false → IsWithou
 never_refused u [] fine given driven = fine
 never_refused u (e ∷ es) fine given driven =
     let goes = going u e.command driven.0 in
-    let first = All-head (λ (x : Entry). x.reply ≢ reply.Full) e es given in
+    let first = All-head (λ (entry : Entry). entry.reply ≢ reply.Full) e es given in
     let still : (used u e.reply).refused ≡ false = ap (λ x. x.refused) (used_is u e.reply goes.on) ∙ not_refused (command_of u) e.reply first in
-    never_refused (used u e.reply) es still (All-tail (λ (x : Entry). x.reply ≢ reply.Full) e es given) driven.1
+    never_refused (used u e.reply) es still (All-tail (λ (entry : Entry). entry.reply ≢ reply.Full) e es given) driven.1
 
-rests_at : (s : Spot) → is_rest s ≡ true → open_at s ≡ []
+rests_at : (spot : Spot) → is_rest spot ≡ true → open_at spot ≡ []
 rests_at Rests rest = refl
 rests_at _ rest = absurd cc
 
 at_end : (u : Use) → u.refused ≡ false → next_of u ≡ None → is_rest u.spot ≡ true
 at_end u fine ended = by_tests (is_rest u.spot) (left_in_plan u.plan == 0) (ap (λ b. if b || (is_rest u.spot && (left_in_plan u.plan == 0)) then None else Some (command_of u)) (sym fine) ∙ ended)
   where
-    by_tests : (x y : Bool) → (if false || (x && y) then None else Some (command_of u)) ≡ None → x ≡ true
-    by_tests true y is = refl
-    by_tests false y is = let never : Some (command_of u) ≡ None = is in absurd cc
+    by_tests : (holds other_holds : Bool) → (if false || (holds && other_holds) then None else Some (command_of u)) ≡ None → holds ≡ true
+    by_tests true other_holds is = refl
+    by_tests false other_holds is = let never : Some (command_of u) ≡ None = is in absurd cc
 
 module _ (count : ℕ) (history : List Entry) (small : count ≤ 390) (run : IsQueueRun count history) where
   abbrev entries : ℕ → List Entry

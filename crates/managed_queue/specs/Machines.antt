@@ -63,7 +63,7 @@ untouched c = record { choice = c; spot = Rests; done = None }
 
 -- It goes on by a reply, unless it has answered.
 abbrev pub replied : Course → Reply → Course
-replied c r = elim (c.done) [
-  | None ↦ record { choice = c.choice; spot = next_spot c.spot (command_coming c.choice c.spot) r; done = answer_told (operation_ended c.spot r) }
-  | Some a ↦ c
+replied course reply = elim (course.done) [
+  | None ↦ record { choice = course.choice; spot = next_spot course.spot (command_coming course.choice course.spot) reply; done = answer_told (operation_ended course.spot reply) }
+  | Some a ↦ course
 ]

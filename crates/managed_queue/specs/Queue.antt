@@ -55,7 +55,7 @@ ended_in spot (e ∷ es) = operation_ended spot e.reply ++ ended_in (next_spot s
 
 -- one thread's spot goes on
 abbrev pub spot_moved : (ℕ → Spot) → Entry → ℕ → Spot
-spot_moved spots e thread = if e.thread == thread then next_spot (spots thread) e.command e.reply else spots thread
+spot_moved spots entry thread = if entry.thread == thread then next_spot (spots thread) entry.command entry.reply else spots thread
 
 -- the operations in the order in which they take effect
 abbrev pub fixed : (ℕ → Spot) → List Entry → List Operation

@@ -83,26 +83,26 @@ number_of _ = 0
 
 -- Where a reply leads. Each reply leads somewhere, also one that never comes.
 abbrev pub next_spot : Spot → Command → Reply → Spot
-next_spot MakesAnchor c r = MakesFirst
-next_spot MakesFirst c r = SetsHead
-next_spot SetsHead c r = SetsTail
-next_spot SetsTail c r = Shows
-next_spot Shows c r = Rests
-next_spot Joins c r = after_join r
-next_spot Rests c r = after_rest c r
-next_spot Fills c r = Looks (number_of c)
-next_spot (Looks value) c r = Follows value
-next_spot (Follows value) c r = behind_tail value r
-next_spot (Links value) c r = after_link value r
-next_spot (Helps value) c r = Looks value
-next_spot (Swings value) c r = Rests
-next_spot Turns c r = TookHead
-next_spot TookHead c r = TookTail
-next_spot TookTail c r = Compares (is_null r)
-next_spot (Compares nothing) c r = after_same nothing r
-next_spot Pushes c r = Turns
-next_spot Reads c r = Unlinks (number_in r)
-next_spot (Unlinks value) c r = after_unlink r
+next_spot MakesAnchor command r = MakesFirst
+next_spot MakesFirst command r = SetsHead
+next_spot SetsHead command r = SetsTail
+next_spot SetsTail command r = Shows
+next_spot Shows command r = Rests
+next_spot Joins command r = after_join r
+next_spot Rests command r = after_rest command r
+next_spot Fills command r = Looks (number_of command)
+next_spot (Looks value) command r = Follows value
+next_spot (Follows value) command r = behind_tail value r
+next_spot (Links value) command r = after_link value r
+next_spot (Helps value) command r = Looks value
+next_spot (Swings value) command r = Rests
+next_spot Turns command r = TookHead
+next_spot TookHead command r = TookTail
+next_spot TookTail command r = Compares (is_null r)
+next_spot (Compares nothing) command r = after_same nothing r
+next_spot Pushes command r = Turns
+next_spot Reads command r = Unlinks (number_in r)
+next_spot (Unlinks value) command r = after_unlink r
 
 -- one where the reply is Yes
 abbrev pub on_yes : Operation → Reply → List Operation

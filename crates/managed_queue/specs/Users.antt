@@ -61,16 +61,16 @@ got_after (Takes left) got (Some (queue_reply.Got value)) = if nat_lt 0 left the
 got_after _ got _ = got
 
 abbrev pub is_refused : Command → Reply → Bool
-is_refused (New dst refs nums) r = is_full r
-is_refused _ r = false
+is_refused (New dst refs nums) reply = is_full reply
+is_refused _ reply = false
 
 -- It goes on by a reply, unless it has ended.
 abbrev pub used : Use → Reply → Use
-used u r = if has_ended u then u else record {
-  spot = next_spot u.spot (command_of u) r;
-  plan = plan_after u.plan (answer_told (operation_ended u.spot r));
-  got = got_after u.plan u.got (answer_told (operation_ended u.spot r));
-  refused = is_refused (command_of u) r;
+used u reply = if has_ended u then u else record {
+  spot = next_spot u.spot (command_of u) reply;
+  plan = plan_after u.plan (answer_told (operation_ended u.spot reply));
+  got = got_after u.plan u.got (answer_told (operation_ended u.spot reply));
+  refused = is_refused (command_of u) reply;
 }
 
 -- how users begin

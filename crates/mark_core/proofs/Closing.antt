@@ -29,53 +29,53 @@ use Rattle.mark_core.proofs.Tracing.{traced_inside}
 use Rattle.mark_core.proofs.MarkingBegun.{below_and_past}
 
 -- where marking runs, what tracing comes to can be found
-module _ (c : Config) (m : Word → ℕ) (block : Plot) (owner : ℕ → Option ℕ) (p : Promises) (g : Graph) (holds : HoldsBy c m block owner p g) (marking : IsMarking c m block) where
-  object : (a : ℕ) → IsTraced c m a → IsObjectAt m block a
-  object a traced = markable_object c m block owner p g holds marking a (traced_markable c m block owner p g holds marking a traced)
+module _ (config : Config) (memory : Word → ℕ) (block : Plot) (owner : ℕ → Option ℕ) (promises : Promises) (graph : Graph) (holds : HoldsBy config memory block owner promises graph) (marking : IsMarking config memory block) where
+  object : (address : ℕ) → IsTraced config memory address → IsObjectAt memory block address
+  object address traced = markable_object config memory block owner promises graph holds marking address (traced_markable config memory block owner promises graph holds marking address traced)
 
-  can_trace : CanTrace c m
+  can_trace : CanTrace config memory
   can_trace = record {
-    above = λ a traced. (let is = object a traced in (object_above c m block owner p g holds marking.uncollected a is.refs is.nums is.name is.here).0);
+    above = λ a traced. (let is = object a traced in (object_above config memory block owner promises graph holds marking.uncollected a is.refs is.nums is.name is.here).0);
     below = λ a traced.
         let is = object a traced in
-        let refs : refs_in (m (Heap (a + 1))) ≡ is.refs = ap refs_in is.shape ∙ refs_read is.refs is.nums is.few_refs is.few_nums in
-        let end = (object_above c m block owner p g holds marking.uncollected a is.refs is.nums is.name is.here).1 in
+        let refs : refs_in (memory (Heap (a + 1))) ≡ is.refs = ap refs_in is.shape ∙ refs_read is.refs is.nums is.few_refs is.few_nums in
+        let end = (object_above config memory block owner promises graph holds marking.uncollected a is.refs is.nums is.name is.here).1 in
         omega (arith, refs, end);
     counts = (marking.marked.marking refl).entries.few;
   }
 
-trace_prop : (c : Config) (m : Word → ℕ) → IsProp (CanTrace c m)
-trace_prop c m = hlevel (le_prop)
+trace_prop : (config : Config) (memory : Word → ℕ) → IsProp (CanTrace config memory)
+trace_prop config memory = hlevel (le_prop)
 
-pub can_trace_some : (c : Config) (m : Word → ℕ) → MarksSome c m → CanTrace c m
-can_trace_some c m marks = ∥∥₁_elim marks (trace_prop c m) (λ h. can_trace c m h.1 h.2 h.3 h.0 h.4 h.5)
+pub can_trace_some : (config : Config) (memory : Word → ℕ) → MarksSome config memory → CanTrace config memory
+can_trace_some config memory marks = ∥∥₁_elim marks (trace_prop config memory) (λ h. can_trace config memory h.1 h.2 h.3 h.0 h.4 h.5)
 
-module _ (c : Config) (words : List ℕ) (can : CanTrace c (view c words)) where
+module _ (config : Config) (words : List ℕ) (can : CanTrace config (view config words)) where
   abbrev m : Word → ℕ
-  m = view c words
+  m = view config words
 
   abbrev set : ℕ → Bool
-  set = has (traced_in c m)
+  set = has (traced_in config m)
 
-  no_bits : (n : ℕ) → bit_words c ≤ n → mark_bits c set n ≡ 0
-  no_bits n past = bits_none set (c.region_words + 64 * n) 64
-      (λ k few. false_from_ne_true (set (c.region_words + 64 * n + k))
+  no_bits : (n : ℕ) → bit_words config ≤ n → mark_bits config set n ≡ 0
+  no_bits n past = bits_none set (config.region_words + 64 * n) 64
+      (λ k few. false_from_ne_true (set (config.region_words + 64 * n + k))
       (λ is.
-      let at = traced_inside c m can (c.region_words + 64 * n + k) (listed_traced c m (c.regions * c.region_words) (c.region_words + 64 * n + k) is) in
+      let at = traced_inside config m can (config.region_words + 64 * n + k) (listed_traced config m (config.regions * config.region_words) (config.region_words + 64 * n + k) is) in
       omega (arith, at.1, past)))
 
   neither : (x y : ℕ) → x ≡ 0 → y ≡ 0 → x ≡ bit_or x y
   neither x y first second = first ∙ sym (ap (λ z. bit_or z y) first ∙ ap (bit_or 0) second)
 
-  closed_at : (w : Word) → emptied c.mutators (marked c set (bit_words c) m) w ≡ closed c m w
-  closed_at (Grey n) = below_and_past n (bit_words c) (bit_or (m (Grey n)) (mark_bits c set n)) (m (Grey n)) (bit_or (m (Grey n)) (mark_bits c set n))
+  closed_at : (word : Word) → emptied config.mutators (marked config set (bit_words config) m) word ≡ closed config m word
+  closed_at (Grey n) = below_and_past n (bit_words config) (bit_or (m (Grey n)) (mark_bits config set n)) (m (Grey n)) (bit_or (m (Grey n)) (mark_bits config set n))
       (λ below. refl)
-      (λ no past. neither (m (Grey n)) (mark_bits c set n) (view_none c words (Grey n) no) (no_bits n past))
-  closed_at (Black n) = below_and_past n (bit_words c) (bit_or (m (Black n)) (mark_bits c set n)) (m (Black n)) (bit_or (m (Black n)) (mark_bits c set n))
+      (λ no past. neither (m (Grey n)) (mark_bits config set n) (view_none config words (Grey n) no) (no_bits n past))
+  closed_at (Black n) = below_and_past n (bit_words config) (bit_or (m (Black n)) (mark_bits config set n)) (m (Black n)) (bit_or (m (Black n)) (mark_bits config set n))
       (λ below. refl)
-      (λ no past. neither (m (Black n)) (mark_bits c set n) (view_none c words (Black n) no) (no_bits n past))
-  closed_at (Count t) = below_and_past t c.mutators 0 (m (Count t)) 0 (λ below. refl) (λ no past. view_none c words (Count t) no)
+      (λ no past. neither (m (Black n)) (mark_bits config set n) (view_none config words (Black n) no) (no_bits n past))
+  closed_at (Count t) = below_and_past t config.mutators 0 (m (Count t)) 0 (λ below. refl) (λ no past. view_none config words (Count t) no)
   closed_at _ = refl
 
-  pub closed_is : emptied c.mutators (marked c set (bit_words c) m) ≡ closed c m
+  pub closed_is : emptied config.mutators (marked config set (bit_words config) m) ≡ closed config m
   closed_is = fun_ext closed_at

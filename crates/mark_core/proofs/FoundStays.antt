@@ -7,11 +7,11 @@ use Rattle.image_graph.proofs.HeldFound.{has_at}
 use Rattle.image_graph.specs.declared.image.Image.{Image}
 use Rattle.image_graph.specs.State.{config_of, marks_of, found_of, AreFound}
 
-pub still_found : (i j : Image) → config_of j ≡ config_of i → marks_of j ≡ marks_of i → found_of j ≡ found_of i → AreFound i → AreFound j
-still_found i j config marks found are =
-    subst (λ (k : Config). IsMarked k.region_words (marks_of j) (found_of j)) (sym config)
-    (subst (λ ms. IsMarked (config_of i).region_words ms (found_of j)) (sym marks)
-    (subst (IsMarked (config_of i).region_words (marks_of i)) (sym found) are))
+pub still_found : (image other_image : Image) → config_of other_image ≡ config_of image → marks_of other_image ≡ marks_of image → found_of other_image ≡ found_of image → AreFound image → AreFound other_image
+still_found image other_image config marks found are =
+    subst (λ (config : Config). IsMarked config.region_words (marks_of other_image) (found_of other_image)) (sym config)
+    (subst (λ ms. IsMarked (config_of image).region_words ms (found_of other_image)) (sym marks)
+    (subst (IsMarked (config_of image).region_words (marks_of image)) (sym found) are))
 
-pub found_inside : (i : Image) (n a : ℕ) → AreFound i → slice_get (found_of i) n ≡ Some a → IsWord (config_of i) (Heap a)
-found_inside i n a are at = let among = are.among a (has_at (found_of i) n a at) in (among.0, omega (arith, among.1, i.all_marks))
+pub found_inside : (image : Image) (index address : ℕ) → AreFound image → slice_get (found_of image) index ≡ Some address → IsWord (config_of image) (Heap address)
+found_inside image index address are at = let among = are.among address (has_at (found_of image) index address at) in (among.0, omega (arith, among.1, image.all_marks))

@@ -17,17 +17,17 @@ use Rattle.mark_core.specs.Steps.{freed_one, freed_below}
 
 -- one region
 
-freed_by_stores_at : (r : ℕ) (m : Word → ℕ) (w : Word)
-    → write (write (write (write m Free (bit_or (m Free) (1 * 2 ^ r % 2 ^ 64))) (Top r) 0) (Tams r) 0) (Limit r) 0 w ≡ freed_one r m w
-freed_by_stores_at r m Free = refl
-freed_by_stores_at r m (Top q) = refl
-freed_by_stores_at r m (Tams q) = refl
-freed_by_stores_at r m (Limit q) = refl
-freed_by_stores_at r m _ = refl
+freed_by_stores_at : (region : ℕ) (memory : Word → ℕ) (word : Word)
+    → write (write (write (write memory Free (bit_or (memory Free) (1 * 2 ^ region % 2 ^ 64))) (Top region) 0) (Tams region) 0) (Limit region) 0 word ≡ freed_one region memory word
+freed_by_stores_at region memory Free = refl
+freed_by_stores_at region memory (Top q) = refl
+freed_by_stores_at region memory (Tams q) = refl
+freed_by_stores_at region memory (Limit q) = refl
+freed_by_stores_at region memory _ = refl
 
-pub freed_by_stores : (r : ℕ) (m : Word → ℕ)
-    → write (write (write (write m Free (bit_or (m Free) (1 * 2 ^ r % 2 ^ 64))) (Top r) 0) (Tams r) 0) (Limit r) 0 ≡ freed_one r m
-freed_by_stores r m = fun_ext (λ w. freed_by_stores_at r m w)
+pub freed_by_stores : (region : ℕ) (memory : Word → ℕ)
+    → write (write (write (write memory Free (bit_or (memory Free) (1 * 2 ^ region % 2 ^ 64))) (Top region) 0) (Tams region) 0) (Limit region) 0 ≡ freed_one region memory
+freed_by_stores region memory = fun_ext (λ w. freed_by_stores_at region memory w)
 
 -- one bit more in a word
 
@@ -69,25 +69,25 @@ module _ (out : ℕ → Bool) where
   turned_left : (k j x : ℕ) → out k ≡ false → cond (nat_lt j k && out j) 0 x ≡ cond (nat_lt j (k + 1) && out j) 0 x
   turned_left k j x is = grind (arith, nat_tests)
 
-  freed_next_at : (k : ℕ) (m : Word → ℕ) (w : Word) → k < 64 → out k ≡ true → freed_one k (freed_below out k m) w ≡ freed_below out (k + 1) m w
-  freed_next_at k m Free few is = bit_set (m Free) k few is
-  freed_next_at k m (Top r) few is = turned_out k r (m (Top r)) is
-  freed_next_at k m (Tams r) few is = turned_out k r (m (Tams r)) is
-  freed_next_at k m (Limit r) few is = turned_out k r (m (Limit r)) is
-  freed_next_at k m _ few is = refl
+  freed_next_at : (k : ℕ) (memory : Word → ℕ) (word : Word) → k < 64 → out k ≡ true → freed_one k (freed_below out k memory) word ≡ freed_below out (k + 1) memory word
+  freed_next_at k memory Free few is = bit_set (memory Free) k few is
+  freed_next_at k memory (Top r) few is = turned_out k r (memory (Top r)) is
+  freed_next_at k memory (Tams r) few is = turned_out k r (memory (Tams r)) is
+  freed_next_at k memory (Limit r) few is = turned_out k r (memory (Limit r)) is
+  freed_next_at k memory _ few is = refl
 
-  pub freed_next : (k : ℕ) (m : Word → ℕ) → k < 64 → out k ≡ true → freed_one k (freed_below out k m) ≡ freed_below out (k + 1) m
-  freed_next k m few is = fun_ext (λ w. freed_next_at k m w few is)
+  pub freed_next : (k : ℕ) (memory : Word → ℕ) → k < 64 → out k ≡ true → freed_one k (freed_below out k memory) ≡ freed_below out (k + 1) memory
+  freed_next k memory few is = fun_ext (λ w. freed_next_at k memory w few is)
 
-  left_next_at : (k : ℕ) (m : Word → ℕ) (w : Word) → out k ≡ false → freed_below out k m w ≡ freed_below out (k + 1) m w
-  left_next_at k m Free is = bit_left (m Free) k is
-  left_next_at k m (Top r) is = turned_left k r (m (Top r)) is
-  left_next_at k m (Tams r) is = turned_left k r (m (Tams r)) is
-  left_next_at k m (Limit r) is = turned_left k r (m (Limit r)) is
-  left_next_at k m _ is = refl
+  left_next_at : (k : ℕ) (memory : Word → ℕ) (word : Word) → out k ≡ false → freed_below out k memory word ≡ freed_below out (k + 1) memory word
+  left_next_at k memory Free is = bit_left (memory Free) k is
+  left_next_at k memory (Top r) is = turned_left k r (memory (Top r)) is
+  left_next_at k memory (Tams r) is = turned_left k r (memory (Tams r)) is
+  left_next_at k memory (Limit r) is = turned_left k r (memory (Limit r)) is
+  left_next_at k memory _ is = refl
 
-  pub left_next : (k : ℕ) (m : Word → ℕ) → out k ≡ false → freed_below out k m ≡ freed_below out (k + 1) m
-  left_next k m is = fun_ext (λ w. left_next_at k m w is)
+  pub left_next : (k : ℕ) (memory : Word → ℕ) → out k ≡ false → freed_below out k memory ≡ freed_below out (k + 1) memory
+  left_next k memory is = fun_ext (λ w. left_next_at k memory w is)
 
   -- none yet
 
@@ -98,15 +98,15 @@ module _ (out : ℕ → Bool) where
   unfolding bits_of
   no_bit x = same_from_bits x (bit_or x 0) (λ i. omega (arith, bit_at_or x 0 i, bit_at_above 0 0 i))
 
-  freed_none_at : (m : Word → ℕ) (w : Word) → m w ≡ freed_below out 0 m w
-  freed_none_at m Free = no_bit (m Free)
-  freed_none_at m (Top r) = none_yet r (m (Top r))
-  freed_none_at m (Tams r) = none_yet r (m (Tams r))
-  freed_none_at m (Limit r) = none_yet r (m (Limit r))
-  freed_none_at m _ = refl
+  freed_none_at : (memory : Word → ℕ) (word : Word) → memory word ≡ freed_below out 0 memory word
+  freed_none_at memory Free = no_bit (memory Free)
+  freed_none_at memory (Top r) = none_yet r (memory (Top r))
+  freed_none_at memory (Tams r) = none_yet r (memory (Tams r))
+  freed_none_at memory (Limit r) = none_yet r (memory (Limit r))
+  freed_none_at memory _ = refl
 
-  pub freed_none : (m : Word → ℕ) → m ≡ freed_below out 0 m
-  freed_none m = fun_ext (λ w. freed_none_at m w)
+  pub freed_none : (memory : Word → ℕ) → memory ≡ freed_below out 0 memory
+  freed_none memory = fun_ext (λ w. freed_none_at memory w)
 
   -- the region whose turn comes is dead exactly if it was at first
 
@@ -116,31 +116,31 @@ module _ (out : ℕ → Bool) where
   not_turned : (k x : ℕ) → cond (nat_lt k k && out k) 0 x ≡ x
   not_turned k x = grind (arith, nat_tests)
 
-  pub dead_still : (c : Config) (k : ℕ) (m : Word → ℕ) → is_dead c (freed_below out k m) k ≡ is_dead c m k
-  dead_still c k m =
-      ap (λ b. (b == 0) && not (is_pinned c m k) && not (is_current c m k) && (freed_below out k m (Top k) == freed_below out k m (Tams k)) && not (has_black c m k)) (bit_stays (m Free) k)
-      ∙ ap (λ t. (bit_at (m Free) k == 0) && not (is_pinned c m k) && not (is_current c m k) && (t == freed_below out k m (Tams k)) && not (has_black c m k)) (not_turned k (m (Top k)))
-      ∙ ap (λ t. (bit_at (m Free) k == 0) && not (is_pinned c m k) && not (is_current c m k) && (m (Top k) == t) && not (has_black c m k)) (not_turned k (m (Tams k)))
+  pub dead_still : (config : Config) (region : ℕ) (memory : Word → ℕ) → is_dead config (freed_below out region memory) region ≡ is_dead config memory region
+  dead_still config region memory =
+      ap (λ b. (b == 0) && not (is_pinned config memory region) && not (is_current config memory region) && (freed_below out region memory (Top region) == freed_below out region memory (Tams region)) && not (has_black config memory region)) (bit_stays (memory Free) region)
+      ∙ ap (λ t. (bit_at (memory Free) region == 0) && not (is_pinned config memory region) && not (is_current config memory region) && (t == freed_below out region memory (Tams region)) && not (has_black config memory region)) (not_turned region (memory (Top region)))
+      ∙ ap (λ t. (bit_at (memory Free) region == 0) && not (is_pinned config memory region) && not (is_current config memory region) && (memory (Top region) == t) && not (has_black config memory region)) (not_turned region (memory (Tams region)))
 
 -- all regions
 
-module _ (c : Config) (words : List ℕ) (out : ℕ → Bool) where
+module _ (config : Config) (words : List ℕ) (out : ℕ → Bool) where
   abbrev m : Word → ℕ
-  m = view c words
+  m = view config words
 
-  below_all : (r x : ℕ) → (nat_lt r c.regions ≡ false → x ≡ 0) → cond (nat_lt r c.regions && out r) 0 x ≡ cond (out r) 0 x
-  below_all r x none = by_test (nat_lt r c.regions) (out r) x none
+  below_all : (r x : ℕ) → (nat_lt r config.regions ≡ false → x ≡ 0) → cond (nat_lt r config.regions && out r) 0 x ≡ cond (out r) 0 x
+  below_all r x none = by_test (nat_lt r config.regions) (out r) x none
     where
-      by_test : (a b : Bool) (y : ℕ) → (a ≡ false → y ≡ 0) → cond (a && b) 0 y ≡ cond b 0 y
-      by_test true b y is_none = refl
+      by_test : (holds other_holds : Bool) (y : ℕ) → (holds ≡ false → y ≡ 0) → cond (holds && other_holds) 0 y ≡ cond other_holds 0 y
+      by_test true other_holds y is_none = refl
       by_test false true y is_none = is_none refl
       by_test false false y is_none = refl
 
-  freed_all_at : (w : Word) → freed_below out c.regions m w ≡ freed c out m w
-  freed_all_at (Top r) = below_all r (m (Top r)) (λ no. view_none c words (Top r) no)
-  freed_all_at (Tams r) = below_all r (m (Tams r)) (λ no. view_none c words (Tams r) no)
-  freed_all_at (Limit r) = below_all r (m (Limit r)) (λ no. view_none c words (Limit r) no)
+  freed_all_at : (word : Word) → freed_below out config.regions m word ≡ freed config out m word
+  freed_all_at (Top r) = below_all r (m (Top r)) (λ no. view_none config words (Top r) no)
+  freed_all_at (Tams r) = below_all r (m (Tams r)) (λ no. view_none config words (Tams r) no)
+  freed_all_at (Limit r) = below_all r (m (Limit r)) (λ no. view_none config words (Limit r) no)
   freed_all_at _ = refl
 
-  pub freed_all : freed_below out c.regions m ≡ freed c out m
+  pub freed_all : freed_below out config.regions m ≡ freed config out m
   freed_all = fun_ext freed_all_at

@@ -24,74 +24,74 @@ none_more order [] = refl
 none_more order (x ∷ xs) = none_more (with_address order x) xs
 
 -- one word more of a list, where a test says so
-if_more : (b : Bool) (x : ℕ) (order xs : List ℕ) → b ≡ true → with_address (with_addresses order xs) x ≡ with_addresses order (xs ++ cond b (x ∷ []) [])
-if_more b x order xs is = sym (with_addresses-push order xs x) ∙ ap (λ ys. with_addresses order (xs ++ ys)) (sym (cond-true b (x ∷ []) [] is))
+if_more : (holds : Bool) (x : ℕ) (order xs : List ℕ) → holds ≡ true → with_address (with_addresses order xs) x ≡ with_addresses order (xs ++ cond holds (x ∷ []) [])
+if_more holds x order xs is = sym (with_addresses-push order xs x) ∙ ap (λ ys. with_addresses order (xs ++ ys)) (sym (cond-true holds (x ∷ []) [] is))
 
-if_none : (b : Bool) (x : ℕ) (order xs : List ℕ) → b ≡ false → with_addresses order xs ≡ with_addresses order (xs ++ cond b (x ∷ []) [])
-if_none b x order xs is = none_more order xs ∙ ap (λ ys. with_addresses order (xs ++ ys)) (sym (cond-false b (x ∷ []) [] is))
+if_none : (holds : Bool) (x : ℕ) (order xs : List ℕ) → holds ≡ false → with_addresses order xs ≡ with_addresses order (xs ++ cond holds (x ∷ []) [])
+if_none holds x order xs is = none_more order xs ∙ ap (λ ys. with_addresses order (xs ++ ys)) (sym (cond-false holds (x ∷ []) [] is))
 
-module _ (m : Word → ℕ) where
+module _ (memory : Word → ℕ) where
   -- the roots of one mutator more
-  pub roots_more : (t : ℕ) (order : List ℕ)
-      → with_addresses (with_addresses order (roots_below m t)) (map (λ i. m (Root t i)) (range_with_len 0 16)) ≡ with_addresses order (roots_below m (t + 1))
-  roots_more t order =
-      let next : suc t ≡ t + 1 = omega arith in
-      noted_both order (roots_below m t) (map (λ i. m (Root t i)) (range_with_len 0 16)) ∙ ap (λ n. with_addresses order (roots_below m n)) next
+  pub roots_more : (mutator : ℕ) (order : List ℕ)
+      → with_addresses (with_addresses order (roots_below memory mutator)) (map (λ i. memory (Root mutator i)) (range_with_len 0 16)) ≡ with_addresses order (roots_below memory (mutator + 1))
+  roots_more mutator order =
+      let next : suc mutator ≡ mutator + 1 = omega arith in
+      noted_both order (roots_below memory mutator) (map (λ i. memory (Root mutator i)) (range_with_len 0 16)) ∙ ap (λ n. with_addresses order (roots_below memory n)) next
 
   -- the pin slots of one mutator more
-  pub pins_more : (t : ℕ) (order : List ℕ)
-      → with_addresses (with_addresses order (pins_below m t)) (map (λ i. m (Pin t i)) (range_with_len 0 4)) ≡ with_addresses order (pins_below m (t + 1))
-  pins_more t order =
-      let next : suc t ≡ t + 1 = omega arith in
-      noted_both order (pins_below m t) (map (λ i. m (Pin t i)) (range_with_len 0 4)) ∙ ap (λ n. with_addresses order (pins_below m n)) next
+  pub pins_more : (mutator : ℕ) (order : List ℕ)
+      → with_addresses (with_addresses order (pins_below memory mutator)) (map (λ i. memory (Pin mutator i)) (range_with_len 0 4)) ≡ with_addresses order (pins_below memory (mutator + 1))
+  pins_more mutator order =
+      let next : suc mutator ≡ mutator + 1 = omega arith in
+      noted_both order (pins_below memory mutator) (map (λ i. memory (Pin mutator i)) (range_with_len 0 4)) ∙ ap (λ n. with_addresses order (pins_below memory n)) next
 
   -- the answer of one mutator more, if it is an address
-  pub answer_more : (t : ℕ) (order : List ℕ) → 1 < m (Answer t)
-      → with_address (with_addresses order (answers_below m t)) (m (Answer t)) ≡ with_addresses order (answers_below m (t + 1))
-  answer_more t order some =
-      let next : suc t ≡ t + 1 = omega arith in
-      let one : cond (nat_le (m (Answer t)) 1) [] (m (Answer t) ∷ []) ≡ m (Answer t) ∷ [] = cond-false (nat_le (m (Answer t)) 1) [] (m (Answer t) ∷ []) (lt-leb (m (Answer t)) 1 some) in
-      sym (with_addresses-push order (answers_below m t) (m (Answer t)))
-      ∙ ap (λ xs. with_addresses order (answers_below m t ++ xs)) (sym one)
-      ∙ ap (λ n. with_addresses order (answers_below m n)) next
+  pub answer_more : (mutator : ℕ) (order : List ℕ) → 1 < memory (Answer mutator)
+      → with_address (with_addresses order (answers_below memory mutator)) (memory (Answer mutator)) ≡ with_addresses order (answers_below memory (mutator + 1))
+  answer_more mutator order some =
+      let next : suc mutator ≡ mutator + 1 = omega arith in
+      let one : cond (nat_le (memory (Answer mutator)) 1) [] (memory (Answer mutator) ∷ []) ≡ memory (Answer mutator) ∷ [] = cond-false (nat_le (memory (Answer mutator)) 1) [] (memory (Answer mutator) ∷ []) (lt-leb (memory (Answer mutator)) 1 some) in
+      sym (with_addresses-push order (answers_below memory mutator) (memory (Answer mutator)))
+      ∙ ap (λ xs. with_addresses order (answers_below memory mutator ++ xs)) (sym one)
+      ∙ ap (λ n. with_addresses order (answers_below memory n)) next
 
-  pub answer_none : (t : ℕ) (order : List ℕ) → m (Answer t) ≤ 1 → with_addresses order (answers_below m t) ≡ with_addresses order (answers_below m (t + 1))
-  answer_none t order none =
-      let next : suc t ≡ t + 1 = omega arith in
-      let empty : cond (nat_le (m (Answer t)) 1) [] (m (Answer t) ∷ []) ≡ [] = cond-true (nat_le (m (Answer t)) 1) [] (m (Answer t) ∷ []) (le-leb (m (Answer t)) 1 none) in
-      none_more order (answers_below m t)
-      ∙ ap (λ xs. with_addresses order (answers_below m t ++ xs)) (sym empty)
-      ∙ ap (λ n. with_addresses order (answers_below m n)) next
+  pub answer_none : (mutator : ℕ) (order : List ℕ) → memory (Answer mutator) ≤ 1 → with_addresses order (answers_below memory mutator) ≡ with_addresses order (answers_below memory (mutator + 1))
+  answer_none mutator order none =
+      let next : suc mutator ≡ mutator + 1 = omega arith in
+      let empty : cond (nat_le (memory (Answer mutator)) 1) [] (memory (Answer mutator) ∷ []) ≡ [] = cond-true (nat_le (memory (Answer mutator)) 1) [] (memory (Answer mutator) ∷ []) (le-leb (memory (Answer mutator)) 1 none) in
+      none_more order (answers_below memory mutator)
+      ∙ ap (λ xs. with_addresses order (answers_below memory mutator ++ xs)) (sym empty)
+      ∙ ap (λ n. with_addresses order (answers_below memory n)) next
 
   -- the entries of one buffer more
-  pub entries_more : (t : ℕ) (order : List ℕ)
-      → with_addresses (with_addresses order (entries_below m t)) (map (λ i. m (Buffer t i)) (range_with_len 0 (m (Count t)))) ≡ with_addresses order (entries_below m (t + 1))
-  entries_more t order =
-      let next : suc t ≡ t + 1 = omega arith in
-      noted_both order (entries_below m t) (map (λ i. m (Buffer t i)) (range_with_len 0 (m (Count t)))) ∙ ap (λ n. with_addresses order (entries_below m n)) next
+  pub entries_more : (mutator : ℕ) (order : List ℕ)
+      → with_addresses (with_addresses order (entries_below memory mutator)) (map (λ i. memory (Buffer mutator i)) (range_with_len 0 (memory (Count mutator)))) ≡ with_addresses order (entries_below memory (mutator + 1))
+  entries_more mutator order =
+      let next : suc mutator ≡ mutator + 1 = omega arith in
+      noted_both order (entries_below memory mutator) (map (λ i. memory (Buffer mutator i)) (range_with_len 0 (memory (Count mutator)))) ∙ ap (λ n. with_addresses order (entries_below memory n)) next
 
   -- one address more, which is grey or is not
-  pub grey_more : (c : Config) (k : ℕ) (order : List ℕ) → is_grey c m (c.region_words + k) ≡ true
-      → with_address (with_addresses order (greys_below c m k)) (c.region_words + k) ≡ with_addresses order (greys_below c m (k + 1))
-  grey_more c k order is =
+  pub grey_more : (config : Config) (k : ℕ) (order : List ℕ) → is_grey config memory (config.region_words + k) ≡ true
+      → with_address (with_addresses order (greys_below config memory k)) (config.region_words + k) ≡ with_addresses order (greys_below config memory (k + 1))
+  grey_more config k order is =
       let next : suc k ≡ k + 1 = omega arith in
-      if_more (is_grey c m (c.region_words + k)) (c.region_words + k) order (greys_below c m k) is ∙ ap (λ n. with_addresses order (greys_below c m n)) next
+      if_more (is_grey config memory (config.region_words + k)) (config.region_words + k) order (greys_below config memory k) is ∙ ap (λ n. with_addresses order (greys_below config memory n)) next
 
-  pub grey_none : (c : Config) (k : ℕ) (order : List ℕ) → is_grey c m (c.region_words + k) ≡ false
-      → with_addresses order (greys_below c m k) ≡ with_addresses order (greys_below c m (k + 1))
-  grey_none c k order is =
+  pub grey_none : (config : Config) (k : ℕ) (order : List ℕ) → is_grey config memory (config.region_words + k) ≡ false
+      → with_addresses order (greys_below config memory k) ≡ with_addresses order (greys_below config memory (k + 1))
+  grey_none config k order is =
       let next : suc k ≡ k + 1 = omega arith in
-      if_none (is_grey c m (c.region_words + k)) (c.region_words + k) order (greys_below c m k) is ∙ ap (λ n. with_addresses order (greys_below c m n)) next
+      if_none (is_grey config memory (config.region_words + k)) (config.region_words + k) order (greys_below config memory k) is ∙ ap (λ n. with_addresses order (greys_below config memory n)) next
 
   -- addresses none of which is grey
-  pub greys_pass : (c : Config) (k n : ℕ) (order : List ℕ) → ((a : ℕ) → c.region_words + k ≤ a → a < c.region_words + (k + n) → is_grey c m a ≡ false)
-      → with_addresses order (greys_below c m k) ≡ with_addresses order (greys_below c m (k + n))
-  greys_pass c k zero order none = let same : k ≡ k + 0 = omega arith in ap (λ j. with_addresses order (greys_below c m j)) same
-  greys_pass c k (suc n) order none =
+  pub greys_pass : (config : Config) (k n : ℕ) (order : List ℕ) → ((a : ℕ) → config.region_words + k ≤ a → a < config.region_words + (k + n) → is_grey config memory a ≡ false)
+      → with_addresses order (greys_below config memory k) ≡ with_addresses order (greys_below config memory (k + n))
+  greys_pass config k zero order none = let same : k ≡ k + 0 = omega arith in ap (λ j. with_addresses order (greys_below config memory j)) same
+  greys_pass config k (suc n) order none =
       let next : k + n + 1 ≡ k + suc n = omega arith in
-      greys_pass c k n order (λ a from below. none a from (omega (arith, below)))
-      ∙ grey_none c (k + n) order (none (c.region_words + (k + n)) (omega arith) (omega arith))
-      ∙ ap (λ j. with_addresses order (greys_below c m j)) next
+      greys_pass config k n order (λ a from below. none a from (omega (arith, below)))
+      ∙ grey_none config (k + n) order (none (config.region_words + (k + n)) (omega arith) (omega arith))
+      ∙ ap (λ j. with_addresses order (greys_below config memory j)) next
 
 -- one word of a row was noted
 pub noted_step : (before now after : List ℕ) (f : ℕ → ℕ) (n word : ℕ) → now ≡ with_addresses before (map f (range_with_len 0 n)) → word ≡ f n → after ≡ with_address now word

@@ -19,40 +19,40 @@ none_yet x y j = grind (arith, nat_tests)
 
 -- buffers
 
-emptied_next_at : (t : ℕ) (m : Word → ℕ) (w : Word) → write (emptied t m) (Count t) 0 w ≡ emptied (t + 1) m w
-emptied_next_at t m (Count u) = one_more (λ x. m (Count x)) (λ x. 0) t u
-emptied_next_at t m _ = refl
+emptied_next_at : (mutator : ℕ) (memory : Word → ℕ) (word : Word) → write (emptied mutator memory) (Count mutator) 0 word ≡ emptied (mutator + 1) memory word
+emptied_next_at mutator memory (Count u) = one_more (λ x. memory (Count x)) (λ x. 0) mutator u
+emptied_next_at mutator memory _ = refl
 
-pub emptied_next : (t : ℕ) (m : Word → ℕ) → write (emptied t m) (Count t) 0 ≡ emptied (t + 1) m
-emptied_next t m = fun_ext (λ w. emptied_next_at t m w)
+pub emptied_next : (mutator : ℕ) (memory : Word → ℕ) → write (emptied mutator memory) (Count mutator) 0 ≡ emptied (mutator + 1) memory
+emptied_next mutator memory = fun_ext (λ w. emptied_next_at mutator memory w)
 
 -- edges
 
-pub edge_noted : (c : Config) (r q : ℕ) (m : Word → ℕ) → edge c (noted c r m) q ≡ edge c m q
-edge_noted c r q m = edges_same c m (noted c r m) q (λ k. refl) (λ seat. refl) (seat_count c.mutators c.helpers)
+pub edge_noted : (config : Config) (r q : ℕ) (memory : Word → ℕ) → edge config (noted config r memory) q ≡ edge config memory q
+edge_noted config r q memory = edges_same config memory (noted config r memory) q (λ k. refl) (λ seat. refl) (seat_count config.mutators config.helpers)
 
-noted_next_at : (c : Config) (r : ℕ) (m : Word → ℕ) (w : Word) → write (noted c r m) (Tams r) (edge c m r) w ≡ noted c (r + 1) m w
-noted_next_at c r m (Tams q) = one_more (λ x. m (Tams x)) (edge c m) r q
-noted_next_at c r m _ = refl
+noted_next_at : (config : Config) (region : ℕ) (memory : Word → ℕ) (word : Word) → write (noted config region memory) (Tams region) (edge config memory region) word ≡ noted config (region + 1) memory word
+noted_next_at config region memory (Tams q) = one_more (λ x. memory (Tams x)) (edge config memory) region q
+noted_next_at config region memory _ = refl
 
-pub noted_next : (c : Config) (r : ℕ) (m : Word → ℕ) → write (noted c r m) (Tams r) (edge c m r) ≡ noted c (r + 1) m
-noted_next c r m = fun_ext (λ w. noted_next_at c r m w)
+pub noted_next : (config : Config) (region : ℕ) (memory : Word → ℕ) → write (noted config region memory) (Tams region) (edge config memory region) ≡ noted config (region + 1) memory
+noted_next config region memory = fun_ext (λ w. noted_next_at config region memory w)
 
 -- marks
 
-module _ (c : Config) (set : ℕ → Bool) where
-  greyed_none_at : (m : Word → ℕ) (w : Word) → m w ≡ greyed c set 0 m w
-  greyed_none_at m (Grey n) = none_yet (mark_bits c set n) (m (Grey n)) n
-  greyed_none_at m (Black n) = none_yet 0 (m (Black n)) n
-  greyed_none_at m _ = refl
+module _ (config : Config) (set : ℕ → Bool) where
+  greyed_none_at : (memory : Word → ℕ) (word : Word) → memory word ≡ greyed config set 0 memory word
+  greyed_none_at memory (Grey n) = none_yet (mark_bits config set n) (memory (Grey n)) n
+  greyed_none_at memory (Black n) = none_yet 0 (memory (Black n)) n
+  greyed_none_at memory _ = refl
 
-  pub greyed_none : (m : Word → ℕ) → m ≡ greyed c set 0 m
-  greyed_none m = fun_ext (λ w. greyed_none_at m w)
+  pub greyed_none : (memory : Word → ℕ) → memory ≡ greyed config set 0 memory
+  greyed_none memory = fun_ext (λ w. greyed_none_at memory w)
 
-  greyed_next_at : (k : ℕ) (m : Word → ℕ) (w : Word) → write (write (greyed c set k m) (Grey k) (mark_bits c set k)) (Black k) 0 w ≡ greyed c set (k + 1) m w
-  greyed_next_at k m (Grey n) = one_more (λ x. m (Grey x)) (mark_bits c set) k n
-  greyed_next_at k m (Black n) = one_more (λ x. m (Black x)) (λ x. 0) k n
-  greyed_next_at k m _ = refl
+  greyed_next_at : (k : ℕ) (memory : Word → ℕ) (word : Word) → write (write (greyed config set k memory) (Grey k) (mark_bits config set k)) (Black k) 0 word ≡ greyed config set (k + 1) memory word
+  greyed_next_at k memory (Grey n) = one_more (λ x. memory (Grey x)) (mark_bits config set) k n
+  greyed_next_at k memory (Black n) = one_more (λ x. memory (Black x)) (λ x. 0) k n
+  greyed_next_at k memory _ = refl
 
-  pub greyed_next : (k : ℕ) (m : Word → ℕ) → write (write (greyed c set k m) (Grey k) (mark_bits c set k)) (Black k) 0 ≡ greyed c set (k + 1) m
-  greyed_next k m = fun_ext (λ w. greyed_next_at k m w)
+  pub greyed_next : (k : ℕ) (memory : Word → ℕ) → write (write (greyed config set k memory) (Grey k) (mark_bits config set k)) (Black k) 0 ≡ greyed config set (k + 1) memory
+  greyed_next k memory = fun_ext (λ w. greyed_next_at k memory w)

@@ -14,5 +14,5 @@ pub final_words : (old one new : Image) → config_of one ≡ config_of old → 
 final_words old one new config words freed_is =
     freed_is
     ∙ freed_all (config_of one) (words_of one) (is_dead (config_of one) (memory_of one))
-    ∙ ap (λ (k : Config). freed k (is_dead k (memory_of one)) (memory_of one)) config
+    ∙ ap (λ (config : Config). freed config (is_dead config (memory_of one)) (memory_of one)) config
     ∙ ap (λ n. freed (config_of old) (is_dead (config_of old) n) n) words

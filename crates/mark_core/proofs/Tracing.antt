@@ -7,17 +7,17 @@ use Rattle.cycle_words.specs.Marking.Marks.{is_black}
 use Rattle.cycle_words.specs.Marking.Close.{IsTraced, from_buffer, from_field}
 use Rattle.mark_core.specs.Trace.{IsNullOrInside, CanTrace}
 
-module _ (c : Config) (m : Word → ℕ) (can : CanTrace c m) where
+module _ (config : Config) (memory : Word → ℕ) (can : CanTrace config memory) where
   -- an object with its references
-  pub part_inside : (a i : ℕ) → IsTraced c m a → i < 3 + refs_in (m (Heap (a + 1))) → IsWord c (Heap (a + i))
-  part_inside a i traced few = (let low = can.above a traced in omega (arith, low), let high = can.below a traced in omega (arith, high, few))
+  pub part_inside : (address i : ℕ) → IsTraced config memory address → i < 3 + refs_in (memory (Heap (address + 1))) → IsWord config (Heap (address + i))
+  part_inside address i traced few = (let low = can.above address traced in omega (arith, low), let high = can.below address traced in omega (arith, high, few))
 
-  pub traced_inside : (a : ℕ) → IsTraced c m a → IsWord c (Heap a)
-  traced_inside a traced = (can.above a traced, let high = can.below a traced in omega (arith, high))
+  pub traced_inside : (address : ℕ) → IsTraced config memory address → IsWord config (Heap address)
+  traced_inside address traced = (can.above address traced, let high = can.below address traced in omega (arith, high))
 
   -- an entry, and what a reference names
-  pub entry_inside : (t i : ℕ) → t < c.mutators → i < m (Count t) → IsNullOrInside c (m (Buffer t i))
-  entry_inside t i below few some = traced_inside (m (Buffer t i)) (from_buffer t i below few some)
+  pub entry_inside : (mutator index : ℕ) → mutator < config.mutators → index < memory (Count mutator) → IsNullOrInside config (memory (Buffer mutator index))
+  entry_inside mutator index below few some = traced_inside (memory (Buffer mutator index)) (from_buffer mutator index below few some)
 
-  pub field_inside : (a i : ℕ) → IsTraced c m a → is_black c m a ≡ false → i < refs_in (m (Heap (a + 1))) → IsNullOrInside c (m (Heap (a + 3 + i)))
-  field_inside a i traced plain few some = traced_inside (m (Heap (a + 3 + i))) (from_field a i traced plain few some)
+  pub field_inside : (address i : ℕ) → IsTraced config memory address → is_black config memory address ≡ false → i < refs_in (memory (Heap (address + 1))) → IsNullOrInside config (memory (Heap (address + 3 + i)))
+  field_inside address i traced plain few some = traced_inside (memory (Heap (address + 3 + i))) (from_field address i traced plain few some)

@@ -13,26 +13,26 @@ use Rattle.cycle_words.specs.Marking.Laws.{BeginsMarking, AreClosed}
 
 -- the words hold some graph while marking runs
 abbrev pub MarksSome : Config → (Word → ℕ) → Type 0
-MarksSome c memory = ∥ ((g : Graph) × (block : Plot) × (owner : ℕ → Option ℕ) × (p : Promises) × HoldsBy c memory block owner p g × IsMarking c memory block) ∥₁
+MarksSome config memory = ∥ ((graph : Graph) × (block : Plot) × (owner : ℕ → Option ℕ) × (promises : Promises) × HoldsBy config memory block owner promises graph × IsMarking config memory block) ∥₁
 
 -- whatever graph the words held, in whatever way, they hold it afterwards in the same way, and without garbage, and marking runs
 abbrev pub BeginsToMark : Config → (before after : Word → ℕ) → Type 0
-BeginsToMark c before after = (block : Plot) (owner : ℕ → Option ℕ) (p : Promises) (g : Graph) → HoldsBy c before block owner p g → BeginsMarking c before after block owner p g
+BeginsToMark config before after = (block : Plot) (owner : ℕ → Option ℕ) (promises : Promises) (graph : Graph) → HoldsBy config before block owner promises graph → BeginsMarking config before after block owner promises graph
 
 -- exactly what tracing comes to has become grey and black
 abbrev pub MarksTheTraced : Config → (before after : Word → ℕ) → Type 0
-MarksTheTraced c before after = (block : Plot) (owner : ℕ → Option ℕ) (p : Promises) (g : Graph) → HoldsBy c before block owner p g → IsMarking c before block → AreClosed c before after
+MarksTheTraced config before after = (block : Plot) (owner : ℕ → Option ℕ) (promises : Promises) (graph : Graph) → HoldsBy config before block owner promises graph → IsMarking config before block → AreClosed config before after
 
 -- whatever graph the words held while marking ran, they hold it afterwards in the same way, and all that can be reached is kept
 abbrev pub MarksThrough : Config → (before after : Word → ℕ) → Type 0
-MarksThrough c before after = (block : Plot) (owner : ℕ → Option ℕ) (p : Promises) (g : Graph) → HoldsBy c before block owner p g → IsMarking c before block
-    → HoldsBy c after block owner p g × IsMarkedThrough c after block
+MarksThrough config before after = (block : Plot) (owner : ℕ → Option ℕ) (promises : Promises) (graph : Graph) → HoldsBy config before block owner promises graph → IsMarking config before block
+    → HoldsBy config after block owner promises graph × IsMarkedThrough config after block
 
 -- they hold it without the pieces of the regions that were freed, and all that can be reached is kept
 abbrev pub EndsMarking : Config → (out : ℕ → Bool) → (before after : Word → ℕ) → Type 0
-EndsMarking c out before after = (block : Plot) (owner : ℕ → Option ℕ) (p : Promises) (g : Graph) → HoldsBy c before block owner p g → IsMarking c before block
-    → HoldsBy c after (freed_block c out block) (freed_owner out owner) p g × IsMarkedThrough c after (freed_block c out block)
+EndsMarking config out before after = (block : Plot) (owner : ℕ → Option ℕ) (promises : Promises) (graph : Graph) → HoldsBy config before block owner promises graph → IsMarking config before block
+    → HoldsBy config after (freed_block config out block) (freed_owner out owner) promises graph × IsMarkedThrough config after (freed_block config out block)
 
 -- the regions that are free afterwards: those that were, and those that are dead once the marks are closed
 abbrev pub FreesTheDead : Config → (before closed after : Word → ℕ) → Type 0
-FreesTheDead c before closed after = (r : ℕ) → r < c.regions → IsIn (after Free) r ↔ (IsIn (before Free) r ⊎ IsDead c closed r)
+FreesTheDead config before closed after = (region : ℕ) → region < config.regions → IsIn (after Free) region ↔ (IsIn (before Free) region ⊎ IsDead config closed region)

@@ -8,20 +8,20 @@ use Rattle.cycle_words.specs.Marking.Marks.{bits_of, mark_bits}
 
 -- in so many words of marks exactly a set is grey, and nothing is black
 abbrev pub greyed : Config → (ℕ → Bool) → ℕ → (Word → ℕ) → Word → ℕ
-greyed c set words memory (Grey n) = if nat_lt n words then mark_bits c set n else memory (Grey n)
-greyed c set words memory (Black n) = if nat_lt n words then 0 else memory (Black n)
-greyed c set words memory word = memory word
+greyed config set words memory (Grey n) = if nat_lt n words then mark_bits config set n else memory (Grey n)
+greyed config set words memory (Black n) = if nat_lt n words then 0 else memory (Black n)
+greyed config set words memory word = memory word
 
 -- in so many words of marks a set has become grey and black
 abbrev pub marked : Config → (ℕ → Bool) → ℕ → (Word → ℕ) → Word → ℕ
-marked c set words memory (Grey n) = if nat_lt n words then bit_or (memory (Grey n)) (mark_bits c set n) else memory (Grey n)
-marked c set words memory (Black n) = if nat_lt n words then bit_or (memory (Black n)) (mark_bits c set n) else memory (Black n)
-marked c set words memory word = memory word
+marked config set words memory (Grey n) = if nat_lt n words then bit_or (memory (Grey n)) (mark_bits config set n) else memory (Grey n)
+marked config set words memory (Black n) = if nat_lt n words then bit_or (memory (Black n)) (mark_bits config set n) else memory (Black n)
+marked config set words memory word = memory word
 
 -- the edges of so many regions are noted
 abbrev pub noted : Config → ℕ → (Word → ℕ) → Word → ℕ
-noted c regions memory (Tams r) = if nat_lt r regions then edge c memory r else memory (Tams r)
-noted c regions memory word = memory word
+noted config regions memory (Tams r) = if nat_lt r regions then edge config memory r else memory (Tams r)
+noted config regions memory word = memory word
 
 -- the buffers of so many mutators are empty
 abbrev pub emptied : ℕ → (Word → ℕ) → Word → ℕ

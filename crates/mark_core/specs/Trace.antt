@@ -8,16 +8,16 @@ use Rattle.cycle_words.specs.Marking.Close.{IsTraced}
 
 -- a word is null or an address of the heap
 abbrev pub IsNullOrInside : Config → ℕ → Type 0
-IsNullOrInside c word = word ≢ 0 → IsWord c (Heap word)
+IsNullOrInside config word = word ≢ 0 → IsWord config (Heap word)
 
 -- roots, pin slots, and answers that are addresses, are null or of the heap
-pub record HasRootsInside (c : Config) (memory : Word → ℕ) : Type 0 where
-  pub roots : (t i : ℕ) → t < c.mutators → i < 16 → IsNullOrInside c (memory (Root t i))
-  pub pins : (t i : ℕ) → t < c.mutators → i < 4 → IsNullOrInside c (memory (Pin t i))
-  pub answers : (t : ℕ) → t < c.mutators → 1 < memory (Answer t) → IsNullOrInside c (memory (Answer t))
+pub record HasRootsInside (config : Config) (memory : Word → ℕ) : Type 0 where
+  pub roots : (mutator index : ℕ) → mutator < config.mutators → index < 16 → IsNullOrInside config (memory (Root mutator index))
+  pub pins : (mutator index : ℕ) → mutator < config.mutators → index < 4 → IsNullOrInside config (memory (Pin mutator index))
+  pub answers : (mutator : ℕ) → mutator < config.mutators → 1 < memory (Answer mutator) → IsNullOrInside config (memory (Answer mutator))
 
 -- what tracing comes to lies in the heap with its references, and no buffer has more entries than it has room for
-pub record CanTrace (c : Config) (memory : Word → ℕ) : Type 0 where
-  pub above : (a : ℕ) → IsTraced c memory a → c.region_words ≤ a
-  pub below : (a : ℕ) → IsTraced c memory a → a + 3 + refs_in (memory (Heap (a + 1))) ≤ heap_end c
-  pub counts : (t : ℕ) → t < c.mutators → memory (Count t) ≤ 8
+pub record CanTrace (config : Config) (memory : Word → ℕ) : Type 0 where
+  pub above : (address : ℕ) → IsTraced config memory address → config.region_words ≤ address
+  pub below : (address : ℕ) → IsTraced config memory address → address + 3 + refs_in (memory (Heap (address + 1))) ≤ heap_end config
+  pub counts : (mutator : ℕ) → mutator < config.mutators → memory (Count mutator) ≤ 8

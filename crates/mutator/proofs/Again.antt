@@ -40,10 +40,10 @@ enters_where_it_waits enter.Lower next got = (λ is. cc, λ waits. absurd waits)
 enters_where_it_waits enter.Inside next got = (λ is. cc, λ waits. absurd waits)
 
 -- one that makes an object where its taking of room does
-pub makes_where_it_waits : (c : Config) (command : Command) (at : MakeSpot) (got : ℕ) → (make_says c command at got ≡ Again) ↔ WaitsAt (Making at) got
-makes_where_it_waits c command (Taking take) got =
-    let by = taking.says_where_it_waits c (words_made command) Fresh take got in (λ is. by.0 ((says_again _).0 is), λ waits. (says_again _).1 (by.1 waits))
-makes_where_it_waits c command _ got = (λ is. cc, λ waits. absurd waits)
+pub makes_where_it_waits : (config : Config) (command : Command) (at : MakeSpot) (got : ℕ) → (make_says config command at got ≡ Again) ↔ WaitsAt (Making at) got
+makes_where_it_waits config command (Taking take) got =
+    let by = taking.says_where_it_waits config (words_made command) Fresh take got in (λ is. by.0 ((says_again _).0 is), λ waits. (says_again _).1 (by.1 waits))
+makes_where_it_waits config command _ got = (λ is. cc, λ waits. absurd waits)
 
 -- and one that waits for its object where there is no answer yet
 pub polls_where_it_waits : (at : WaitSpot) (got : ℕ) → (wait_says at got ≡ Again) ↔ WaitsAt (Waiting at) got

@@ -10,15 +10,15 @@ use Rattle.mutator.specs.Orders.{takes_commands}
 use Rattle.mutator.specs.Rows.{Mutating, next_at, call_begun, answer_at}
 use Rattle.mutator.specs.Waits.{WaitsAt}
 
-pub begins : (c : Config) (m : Mutating) (order : Order) (got : ℕ) (spot : Spot) → takes_commands spot ≡ true → next_at c m order got spot ≡ call_begun order m
-begins c m order got Rest is = refl
-begins c m order got (Ended reply) is = refl
-begins c m order got _ is = absurd (cc (is))
+pub begins : (config : Config) (mutator : Mutating) (order : Order) (got : ℕ) (spot : Spot) → takes_commands spot ≡ true → next_at config mutator order got spot ≡ call_begun order mutator
+begins config mutator order got Rest is = refl
+begins config mutator order got (Ended reply) is = refl
+begins config mutator order got _ is = absurd (cc (is))
 
-pub says_more : (c : Config) (kept : Kept) (spot : Spot) (got : ℕ) → takes_commands spot ≡ true → answer_at c kept spot got ≡ More
-says_more c kept Rest got is = refl
-says_more c kept (Ended reply) got is = refl
-says_more c kept _ got is = absurd (cc (is))
+pub says_more : (config : Config) (kept : Kept) (spot : Spot) (got : ℕ) → takes_commands spot ≡ true → answer_at config kept spot got ≡ More
+says_more config kept Rest got is = refl
+says_more config kept (Ended reply) got is = refl
+says_more config kept _ got is = absurd (cc (is))
 
 pub waits_nowhere : (spot : Spot) (got : ℕ) → takes_commands spot ≡ true → WaitsAt spot got → ⊥
 waits_nowhere Rest got is waits = waits

@@ -20,12 +20,12 @@ says_again took.More = (λ is. cc, λ is. cc)
 says_again took.Done = (λ is. cc, λ is. cc)
 
 -- the resolving can make its next access
-resolving_ready : (c : Config) (seat made : ℕ) (kept : Kept) (address : ℕ) (at : ResolveSpot) (next : Loaded) → is_ready c seat made kept (Resolving address at next) ≡ true → resolves.is_ready c seat address at ≡ true
-resolving_ready c seat made kept address at next ready = (and_parts _ _ (and_parts _ _ (and_parts _ _ ready).1).1).0
+resolving_ready : (config : Config) (seat made : ℕ) (kept : Kept) (address : ℕ) (at : ResolveSpot) (next : Loaded) → is_ready config seat made kept (Resolving address at next) ≡ true → resolves.is_ready config seat address at ≡ true
+resolving_ready config seat made kept address at next ready = (and_parts _ _ (and_parts _ _ (and_parts _ _ ready).1).1).0
 
-pub part_ready : (c : Config) (seat made : ℕ) (kept : Kept) (spot : Spot) (address : ℕ) (at : ResolveSpot) (next : Loaded) → spot ≡ Resolving address at next → is_ready c seat made kept spot ≡ true → resolves.is_ready c seat address at ≡ true
-part_ready c seat made kept spot address at next is ready = resolving_ready c seat made kept address at next (subst (λ s. is_ready c seat made kept s ≡ true) is ready)
+pub part_ready : (config : Config) (seat made : ℕ) (kept : Kept) (spot : Spot) (address : ℕ) (at : ResolveSpot) (next : Loaded) → spot ≡ Resolving address at next → is_ready config seat made kept spot ≡ true → resolves.is_ready config seat address at ≡ true
+part_ready config seat made kept spot address at next is ready = resolving_ready config seat made kept address at next (subst (λ s. is_ready config seat made kept s ≡ true) is ready)
 
 -- and goes on with a word that is fit for it
-pub part_goes : (c : Config) (seat : ℕ) (kept : Kept) (spot : Spot) (address : ℕ) (at : ResolveSpot) (next : Loaded) (got : ℕ) → spot ≡ Resolving address at next → PartFit c seat kept spot got → resolves.goes_on c seat address kept.phase at got ≡ true
-part_goes c seat kept spot address at next got is fit = (subst (λ s. PartFit c seat kept s got) is fit).0
+pub part_goes : (config : Config) (seat : ℕ) (kept : Kept) (spot : Spot) (address : ℕ) (at : ResolveSpot) (next : Loaded) (got : ℕ) → spot ≡ Resolving address at next → PartFit config seat kept spot got → resolves.goes_on config seat address kept.phase at got ≡ true
+part_goes config seat kept spot address at next got is fit = (subst (λ s. PartFit config seat kept s got) is fit).0

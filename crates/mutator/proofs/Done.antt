@@ -20,7 +20,7 @@ use Rattle.mutator.specs.WaitRows.{call_says}
 use Rattle.mutator.specs.Rows.{given_at, take_next, make_says, answer_at}
 
 -- a step that says one of two things, of which neither is Done, is not done
-not_done : (b : Bool) (one other : Took) → (one ≡ took.Done → ⊥) → (other ≡ took.Done → ⊥) → (if b then one else other) ≡ took.Done → ⊥
+not_done : (holds : Bool) (one other : Took) → (one ≡ took.Done → ⊥) → (other ≡ took.Done → ⊥) → (if holds then one else other) ≡ took.Done → ⊥
 not_done true one other first second is = first is
 not_done false one other first second is = second is
 
@@ -30,18 +30,18 @@ goes_on took.Again is = cc
 goes_on _ is = cc
 
 -- nor does the making of an object
-pub makes_go_on : (c : Config) (command : Command) (at : MakeSpot) (got : ℕ) → make_says c command at got ≡ took.Done → ⊥
-makes_go_on c command (Taking take) got is = goes_on (takes.says_at take (take_next c command take got)) is
-makes_go_on c command _ got is = cc
+pub makes_go_on : (config : Config) (command : Command) (at : MakeSpot) (got : ℕ) → make_says config command at got ≡ took.Done → ⊥
+makes_go_on config command (Taking take) got is = goes_on (takes.says_at take (take_next config command take got)) is
+makes_go_on config command _ got is = cc
 
 -- a step that says Done gives its reply, and no other step does
-pub done_gives : (c : Config) (kept : Kept) (spot : Spot) (got : ℕ) → answer_at c kept spot got ≡ took.Done → (r : Reply) × (given_at spot ≡ Some r)
-done_gives c kept (Leave r) got is = (r, refl)
-done_gives c kept (Entering at next) got is = absurd (goes_on (enter_says at got) is)
-done_gives c kept (OnField object (Exchange found expect value)) got is = absurd (not_done (got == found) took.More took.Again (λ e. cc) (λ e. cc) is)
-done_gives c kept (Resolving address at next) got is = absurd (goes_on (resolves.says_at c address kept.phase at got) is)
-done_gives c kept (Waiting Poll) got is = absurd (not_done (got == 0) took.Again took.More (λ e. cc) (λ e. cc) is)
-done_gives c kept (OnField object at) got is = absurd (cc)
-done_gives c kept (Making at) got is = absurd (makes_go_on c kept.command at got is)
-done_gives c kept (Waiting at) got is = absurd (cc)
-done_gives c kept _ got is = absurd (cc)
+pub done_gives : (config : Config) (kept : Kept) (spot : Spot) (got : ℕ) → answer_at config kept spot got ≡ took.Done → (reply : Reply) × (given_at spot ≡ Some reply)
+done_gives config kept (Leave reply) got is = (reply, refl)
+done_gives config kept (Entering at next) got is = absurd (goes_on (enter_says at got) is)
+done_gives config kept (OnField object (Exchange found expect value)) got is = absurd (not_done (got == found) took.More took.Again (λ e. cc) (λ e. cc) is)
+done_gives config kept (Resolving address at next) got is = absurd (goes_on (resolves.says_at config address kept.phase at got) is)
+done_gives config kept (Waiting Poll) got is = absurd (not_done (got == 0) took.Again took.More (λ e. cc) (λ e. cc) is)
+done_gives config kept (OnField object at) got is = absurd (cc)
+done_gives config kept (Making at) got is = absurd (makes_go_on config kept.command at got is)
+done_gives config kept (Waiting at) got is = absurd (cc)
+done_gives config kept _ got is = absurd (cc)

@@ -14,9 +14,9 @@ pub pending : (spot : Spot) (made : ℕ) (order : Order) → order ≡ Nothing �
 pending spot made order none = subst (λ o. is_pending spot made o ≡ true) (sym none) refl
 
 -- what a mutator is after a step by the row of its spot, its next access can be made from there
-pub ready_next : (c : Config) (m : Mutating) (order : Order) (got : ℕ) (spot : Spot) (n : Mutating) → m.spot ≡ spot → next_at c m order got spot ≡ n → IsReady c (next_of c m order got) → IsReady c n
-ready_next c m order got spot n is row ready = subst (IsReady c) row (subst (λ s. IsReady c (next_at c m order got s)) is ready)
+pub ready_next : (config : Config) (mutator : Mutating) (order : Order) (got : ℕ) (spot : Spot) (other_mutator : Mutating) → mutator.spot ≡ spot → next_at config mutator order got spot ≡ other_mutator → IsReady config (next_of config mutator order got) → IsReady config other_mutator
+ready_next config mutator order got spot other_mutator is row ready = subst (IsReady config) row (subst (λ s. IsReady config (next_at config mutator order got s)) is ready)
 
 -- a word that is fit for the part of a spot is so for the part by its own name
-pub part_at : (c : Config) (seat : ℕ) (kept : Kept) (spot at : Spot) (got : ℕ) → spot ≡ at → PartFit c seat kept spot got → PartFit c seat kept at got
-part_at c seat kept spot at got is fit = subst (λ s. PartFit c seat kept s got) is fit
+pub part_at : (config : Config) (seat : ℕ) (kept : Kept) (spot at : Spot) (got : ℕ) → spot ≡ at → PartFit config seat kept spot got → PartFit config seat kept at got
+part_at config seat kept spot at got is fit = subst (λ s. PartFit config seat kept s got) is fit

@@ -17,36 +17,36 @@ use Rattle.mutator.specs.Rows.{touch_at}
 use Rattle.mutator.specs.Fit.{is_ready, stores_fit, numbers_fit}
 
 -- between two calls too, where the access is by the order
-touch_word : (c : Config) (seat made : ℕ) (kept : Kept) (order : Order) (spot : Spot) → is_word c (touch_at c seat made kept Nothing spot).word ≡ true → IsWord c (touch_at c seat made kept order spot).word
-touch_word c seat made kept End Rest is = tt
-touch_word c seat made kept Nothing Rest is = is_word_true c (touch_at c seat made kept Nothing Rest).word is
-touch_word c seat made kept (Begin command) Rest is = is_word_true c (touch_at c seat made kept Nothing Rest).word is
-touch_word c seat made kept (Hint address) Rest is = is_word_true c (touch_at c seat made kept Nothing Rest).word is
-touch_word c seat made kept End (Ended reply) is = tt
-touch_word c seat made kept Nothing (Ended reply) is = is_word_true c (touch_at c seat made kept Nothing Rest).word is
-touch_word c seat made kept (Begin command) (Ended reply) is = is_word_true c (touch_at c seat made kept Nothing Rest).word is
-touch_word c seat made kept (Hint address) (Ended reply) is = is_word_true c (touch_at c seat made kept Nothing Rest).word is
-touch_word c seat made kept order spot is = is_word_true c (touch_at c seat made kept Nothing spot).word is
+touch_word : (config : Config) (seat made : ℕ) (kept : Kept) (order : Order) (spot : Spot) → is_word config (touch_at config seat made kept Nothing spot).word ≡ true → IsWord config (touch_at config seat made kept order spot).word
+touch_word config seat made kept End Rest is = tt
+touch_word config seat made kept Nothing Rest is = is_word_true config (touch_at config seat made kept Nothing Rest).word is
+touch_word config seat made kept (Begin command) Rest is = is_word_true config (touch_at config seat made kept Nothing Rest).word is
+touch_word config seat made kept (Hint address) Rest is = is_word_true config (touch_at config seat made kept Nothing Rest).word is
+touch_word config seat made kept End (Ended reply) is = tt
+touch_word config seat made kept Nothing (Ended reply) is = is_word_true config (touch_at config seat made kept Nothing Rest).word is
+touch_word config seat made kept (Begin command) (Ended reply) is = is_word_true config (touch_at config seat made kept Nothing Rest).word is
+touch_word config seat made kept (Hint address) (Ended reply) is = is_word_true config (touch_at config seat made kept Nothing Rest).word is
+touch_word config seat made kept order spot is = is_word_true config (touch_at config seat made kept Nothing spot).word is
 
 -- an access of a word is inside the table
-placed_inside : (c : Config) (t : Touch) → IsWord c t.word → table_index (placed c t) < table_words c
-placed_inside c t is = subst (λ k. k < table_words c) (sym (table_index-access_at (word_at c t.word) t.form)) (word_inside c t.word is)
+placed_inside : (config : Config) (touch : Touch) → IsWord config touch.word → table_index (placed config touch) < table_words config
+placed_inside config touch is = subst (λ k. k < table_words config) (sym (table_index-access_at (word_at config touch.word) touch.form)) (word_inside config touch.word is)
 
-pub touch_inside : (c : Config) (seat made : ℕ) (kept : Kept) (order : Order) (spot : Spot) → is_word c (touch_at c seat made kept Nothing spot).word ≡ true → table_index (placed c (touch_at c seat made kept order spot)) < table_words c
-touch_inside c seat made kept order spot is = placed_inside c (touch_at c seat made kept order spot) (touch_word c seat made kept order spot is)
+pub touch_inside : (config : Config) (seat made : ℕ) (kept : Kept) (order : Order) (spot : Spot) → is_word config (touch_at config seat made kept Nothing spot).word ≡ true → table_index (placed config (touch_at config seat made kept order spot)) < table_words config
+touch_inside config seat made kept order spot is = placed_inside config (touch_at config seat made kept order spot) (touch_word config seat made kept order spot is)
 
 -- and the word that it finds there is the one that it is named for
-pub touch_found : (c : Config) (words : List ℕ) (seat made : ℕ) (kept : Kept) (order : Order) (spot : Spot) → is_word c (touch_at c seat made kept Nothing spot).word ≡ true
-    → view c words (touch_at c seat made kept order spot).word ≡ get_or words (table_index (placed c (touch_at c seat made kept order spot))) 0
-touch_found c words seat made kept order spot is =
-    let t : Touch = touch_at c seat made kept order spot in
-    view_word c words t.word (touch_word c seat made kept order spot is)
-    ∙ ap (λ k. get_or words k 0) (sym (table_index-access_at (word_at c t.word) t.form))
+pub touch_found : (config : Config) (words : List ℕ) (seat made : ℕ) (kept : Kept) (order : Order) (spot : Spot) → is_word config (touch_at config seat made kept Nothing spot).word ≡ true
+    → view config words (touch_at config seat made kept order spot).word ≡ get_or words (table_index (placed config (touch_at config seat made kept order spot))) 0
+touch_found config words seat made kept order spot is =
+    let t : Touch = touch_at config seat made kept order spot in
+    view_word config words t.word (touch_word config seat made kept order spot is)
+    ∙ ap (λ k. get_or words k 0) (sym (table_index-access_at (word_at config t.word) t.form))
 
 -- where a mutator that is ready stands at a spot, the numbers of the access are in range, and so are those of the spot
-pub ready_at : (c : Config) (seat made : ℕ) (kept : Kept) (spot at : Spot) → spot ≡ at → is_ready c seat made kept spot ≡ true
-    → ((is_word c (touch_at c seat made kept Nothing at).word && stores_fit c seat made kept at) ≡ true) × (numbers_fit c seat made kept at ≡ true)
-ready_at c seat made kept spot at is ready = and_parts _ _ (subst (λ s. is_ready c seat made kept s ≡ true) is ready)
+pub ready_at : (config : Config) (seat made : ℕ) (kept : Kept) (spot at : Spot) → spot ≡ at → is_ready config seat made kept spot ≡ true
+    → ((is_word config (touch_at config seat made kept Nothing at).word && stores_fit config seat made kept at) ≡ true) × (numbers_fit config seat made kept at ≡ true)
+ready_at config seat made kept spot at is ready = and_parts _ _ (subst (λ s. is_ready config seat made kept s ≡ true) is ready)
 
 -- a part that goes on has not ended
 pub not_ended : (ended : Bool) → cond ended false true ≡ true → ended ≡ false

@@ -150,23 +150,23 @@ leaves order (Waiting at) is = absurd (waits_elsewhere at is)
 leaves order _ is = absurd (cc)
 
 -- as one that gives a reply does
-gives : (spot : Spot) (r : Reply) → given_at spot ≡ Some r → spot ≡ Leave r
-gives (Leave r) s is = cc
-gives _ s is = absurd (cc)
+gives : (spot : Spot) (reply : Reply) → given_at spot ≡ Some reply → spot ≡ Leave reply
+gives (Leave reply) other_reply is = cc
+gives _ other_reply is = absurd (cc)
 
-done_leaves : (c : Config) (kept : Kept) (spot : Spot) (got : ℕ) → answer_at c kept spot got ≡ took.Done → (r : Reply) × (spot ≡ Leave r)
-done_leaves c kept spot got is = let given = done_gives c kept spot got is in (given.0, gives spot given.0 given.1)
+done_leaves : (config : Config) (kept : Kept) (spot : Spot) (got : ℕ) → answer_at config kept spot got ≡ took.Done → (reply : Reply) × (spot ≡ Leave reply)
+done_leaves config kept spot got is = let given = done_gives config kept spot got is in (given.0, gives spot given.0 given.1)
 
 -- a call ends exactly there
-pub ends : (c : Config) (kept : Kept) (order : Order) (spot : Spot) (got : ℕ) → (answer_at c kept spot got ≡ took.Done) ↔ (place_at order spot ≡ LV)
-ends c kept order spot got = (
-  λ is. ap (place_at order) (done_leaves c kept spot got is).1,
-  λ is. ap (λ s. answer_at c kept s got) (leaves order spot is).1,
+pub ends : (config : Config) (kept : Kept) (order : Order) (spot : Spot) (got : ℕ) → (answer_at config kept spot got ≡ took.Done) ↔ (place_at order spot ≡ LV)
+ends config kept order spot got = (
+  λ is. ap (place_at order) (done_leaves config kept spot got is).1,
+  λ is. ap (λ s. answer_at config kept s got) (leaves order spot is).1,
 )
 
 -- and then there is a reply
-pub replies : (c : Config) (m : Mutating) (order : Order) (got : ℕ) (spot : Spot) → answer_at c m.kept spot got ≡ took.Done → reply_at (next_at c m order got spot).spot ≡ None → ⊥
-replies c m order got spot is none =
-    let left = done_leaves c m.kept spot got is in
-    let given : reply_at (next_at c m order got spot).spot ≡ Some left.0 = ap (λ s. reply_at (next_at c m order got s).spot) left.1 in
+pub replies : (config : Config) (mutator : Mutating) (order : Order) (got : ℕ) (spot : Spot) → answer_at config mutator.kept spot got ≡ took.Done → reply_at (next_at config mutator order got spot).spot ≡ None → ⊥
+replies config mutator order got spot is none =
+    let left = done_leaves config mutator.kept spot got is in
+    let given : reply_at (next_at config mutator order got spot).spot ≡ Some left.0 = ap (λ s. reply_at (next_at config mutator order got s).spot) left.1 in
     cc

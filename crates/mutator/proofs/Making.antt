@@ -19,27 +19,27 @@ use Rattle.std.specs.Prelude.{◌&&◌}
 use Rattle.mutator.specs.Fit.{is_ready, can_make, is_going, IsReady, make_goes}
 
 -- where it can make its next access
-makes_more : (c : Config) (seat made : ℕ) (kept : Kept) (at : MakeSpot) → is_ready c seat made kept (Making at) ≡ true → made < most_objects
-makes_more c seat made kept at ready = ltb-true _ _ (and_parts _ _ (and_parts _ _ (and_parts _ _ ready).1).0).0
+makes_more : (config : Config) (seat made : ℕ) (kept : Kept) (at : MakeSpot) → is_ready config seat made kept (Making at) ≡ true → made < most_objects
+makes_more config seat made kept at ready = ltb-true _ _ (and_parts _ _ (and_parts _ _ (and_parts _ _ ready).1).0).0
 
-pub can_make_more : (c : Config) (seat made : ℕ) (kept : Kept) (spot : Spot) (at : MakeSpot) → spot ≡ Making at → is_ready c seat made kept spot ≡ true → made < most_objects
-can_make_more c seat made kept spot at is ready = makes_more c seat made kept at (subst (λ s. is_ready c seat made kept s ≡ true) is ready)
+pub can_make_more : (config : Config) (seat made : ℕ) (kept : Kept) (spot : Spot) (at : MakeSpot) → spot ≡ Making at → is_ready config seat made kept spot ≡ true → made < most_objects
+can_make_more config seat made kept spot at is ready = makes_more config seat made kept at (subst (λ s. is_ready config seat made kept s ≡ true) is ready)
 
 -- where it goes on with a taking of room, the taking can make its next access
-going_ready : (c : Config) (seat made : ℕ) (kept : Kept) (next : TakeSpot) → is_ready c seat made kept (Making (Taking next)) ≡ true → takes.is_ready c seat (words_made kept.command) next ≡ true
-going_ready c seat made kept next ready =
-    let fits = touch_fits c (takes.touch_at seat (words_made kept.command) next) in
-    let numbers = takes.numbers_fit c (words_made kept.command) next in
+going_ready : (config : Config) (seat made : ℕ) (kept : Kept) (next : TakeSpot) → is_ready config seat made kept (Making (Taking next)) ≡ true → takes.is_ready config seat (words_made kept.command) next ≡ true
+going_ready config seat made kept next ready =
+    let fits = touch_fits config (takes.touch_at seat (words_made kept.command) next) in
+    let numbers = takes.numbers_fit config (words_made kept.command) next in
     let both = and_parts fits (can_make made kept.command && (is_going next && numbers)) ready in
     and_from fits numbers both.0 (and_parts (is_going next) numbers (and_parts (can_make made kept.command) (is_going next && numbers) both.1).1).1
 
-take_ready : (c : Config) (seat made : ℕ) (kept : Kept) (next : TakeSpot) → is_ready c seat made kept (after_take next) ≡ true → takes.is_ready c seat (words_made kept.command) next ≡ true
-take_ready c seat made kept (Ended (At address) end) ready = refl
-take_ready c seat made kept (Ended NoRoom end) ready = refl
-take_ready c seat made kept next ready = going_ready c seat made kept next ready
+take_ready : (config : Config) (seat made : ℕ) (kept : Kept) (next : TakeSpot) → is_ready config seat made kept (after_take next) ≡ true → takes.is_ready config seat (words_made kept.command) next ≡ true
+take_ready config seat made kept (Ended (At address) end) ready = refl
+take_ready config seat made kept (Ended NoRoom end) ready = refl
+take_ready config seat made kept next ready = going_ready config seat made kept next ready
 
 -- so where it is ready after a step of the making, the making can go on
-pub making_goes : (c : Config) (m : Mutating) (at : MakeSpot) (got : ℕ) → IsReady c (next_at c m Nothing got (Making at)) → make_goes c m.seat m.kept.command at got ≡ true
-making_goes c m (Taking take) got ready = take_ready c m.seat m.made m.kept (take_next c m.kept.command take got) ready
-making_goes c m (StoreWord address done) got ready = refl
-making_goes c m (StoreRoot address) got ready = refl
+pub making_goes : (config : Config) (mutator : Mutating) (at : MakeSpot) (got : ℕ) → IsReady config (next_at config mutator Nothing got (Making at)) → make_goes config mutator.seat mutator.kept.command at got ≡ true
+making_goes config mutator (Taking take) got ready = take_ready config mutator.seat mutator.made mutator.kept (take_next config mutator.kept.command take got) ready
+making_goes config mutator (StoreWord address done) got ready = refl
+making_goes config mutator (StoreRoot address) got ready = refl

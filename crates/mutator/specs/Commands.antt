@@ -20,7 +20,7 @@ command_roots (Pin slot obj) = obj ∷ []
 command_roots _ = []
 
 abbrev pub command_root : Command → ℕ → ℕ
-command_root command k = slice_index (command_roots command) k
+command_root command index = slice_index (command_roots command) index
 
 -- the root that a command changes, if it changes one
 abbrev pub dst_of : Command → ℕ

@@ -46,9 +46,9 @@ is_still_outside at = if is_entered at then false else true
 
 -- whether the numbers of a spot of the making of an object are in range
 abbrev pub make_fits : Config → Command → MakeSpot → Bool
-make_fits c command (Taking take) = is_going take && takes.numbers_fit c (words_made command) take
-make_fits c command (StoreWord address done) = nat_lt done (words_made command)
-make_fits c command (StoreRoot address) = true
+make_fits config command (Taking take) = is_going take && takes.numbers_fit config (words_made command) take
+make_fits config command (StoreWord address done) = nat_lt done (words_made command)
+make_fits config command (StoreRoot address) = true
 
 -- whether a mutator that has made so many objects can count one more, where its step counts one
 abbrev pub can_count : ℕ → WaitSpot → Bool
@@ -62,40 +62,40 @@ wait_fits made command at = can_count made at
 
 -- whether the recording of an address of the heap has not ended, and its numbers are in range
 abbrev pub remember_fits : Config → ℕ → RememberSpot → Bool
-remember_fits c address at = (if satb.is_ended at then false else true) && (satb.is_ready c at && is_word c (Heap address))
+remember_fits config address at = (if satb.is_ended at then false else true) && (satb.is_ready config at && is_word config (Heap address))
 
 -- whether the resolving of an address of the heap, by the mutator of a seat, has not ended, and its numbers are in range
 abbrev pub resolve_fits : Config → ℕ → ℕ → ResolveSpot → Bool
-resolve_fits c seat address at = is_word c (Heap address) && resolve_ready c seat address at
+resolve_fits config seat address at = is_word config (Heap address) && resolve_ready config seat address at
 
 -- Whether the numbers of a spot, beside those of its access, are in range. The phase is 0 to 3 wherever a call has begun.
 abbrev pub numbers_fit : Config → ℕ → ℕ → Kept → Spot → Bool
-numbers_fit c seat made kept (Entering at next) = is_still_outside at
-numbers_fit c seat made kept LoadSet = nat_lt kept.phase 4
-numbers_fit c seat made kept (Resolving address at next) = resolve_fits c seat address at
-numbers_fit c seat made kept (Recording at address next) = remember_fits c address at
-numbers_fit c seat made kept (Making at) = can_make made kept.command && make_fits c kept.command at
-numbers_fit c seat made kept (Waiting at) = wait_fits made kept.command at
-numbers_fit c seat made kept _ = true
+numbers_fit config seat made kept (Entering at next) = is_still_outside at
+numbers_fit config seat made kept LoadSet = nat_lt kept.phase 4
+numbers_fit config seat made kept (Resolving address at next) = resolve_fits config seat address at
+numbers_fit config seat made kept (Recording at address next) = remember_fits config address at
+numbers_fit config seat made kept (Making at) = can_make made kept.command && make_fits config kept.command at
+numbers_fit config seat made kept (Waiting at) = wait_fits made kept.command at
+numbers_fit config seat made kept _ = true
 
 -- whether the numbers of the next access are words: what is stored into a copy of an object was found in a word
 abbrev pub stores_fit : Config → ℕ → ℕ → Kept → Spot → Bool
-stores_fit c seat made kept (Resolving address at next) = true
-stores_fit c seat made kept spot = form_fits (touch_at c seat made kept Nothing spot).form
+stores_fit config seat made kept (Resolving address at next) = true
+stores_fit config seat made kept spot = form_fits (touch_at config seat made kept Nothing spot).form
 
 -- Whether the next access can be made from a spot. Between two calls it is that of the begin of a call; the one by which a
 -- mutator ends can always be made.
 abbrev pub is_ready : Config → ℕ → ℕ → Kept → Spot → Bool
-is_ready c seat made kept spot = (is_word c (touch_at c seat made kept Nothing spot).word && stores_fit c seat made kept spot) && numbers_fit c seat made kept spot
+is_ready config seat made kept spot = (is_word config (touch_at config seat made kept Nothing spot).word && stores_fit config seat made kept spot) && numbers_fit config seat made kept spot
 
 -- the mutator's next access can be made
 abbrev pub IsReady : Config → Mutating → Type 0
-IsReady c m = is_ready c m.seat m.made m.kept m.spot ≡ true
+IsReady config mutator = is_ready config mutator.seat mutator.made mutator.kept mutator.spot ≡ true
 
 -- whether a making can go on with the word: its taking of room can
 abbrev pub make_goes : Config → ℕ → Command → MakeSpot → ℕ → Bool
-make_goes c seat command (Taking take) got = takes.is_ready c seat (words_made command) (take_next c command take got)
-make_goes c seat command _ got = true
+make_goes config seat command (Taking take) got = takes.is_ready config seat (words_made command) (take_next config command take got)
+make_goes config seat command _ got = true
 
 -- the count of mutators that have not ended is not 0 where one of them ends
 abbrev pub EndsFit : Order → ℕ → Type 0
@@ -104,21 +104,21 @@ EndsFit _ got = Unit {0}
 
 -- whether a word is null or an address of the heap
 abbrev pub is_reference_word : Config → ℕ → Bool
-is_reference_word c word = if word == 0 then true else is_word c (Heap word)
+is_reference_word config word = if word == 0 then true else is_word config (Heap word)
 
 -- whether a word that was found in a field can be gone on with: one that is to be used is a reference
 abbrev pub field_goes : Config → FieldSpot → ℕ → Bool
-field_goes c fields.Load got = is_reference_word c got
-field_goes c (fields.LoadExpected expect value) got = is_reference_word c got
-field_goes c (fields.Swap value) got = is_reference_word c got
-field_goes c _ got = true
+field_goes config fields.Load got = is_reference_word config got
+field_goes config (fields.LoadExpected expect value) got = is_reference_word config got
+field_goes config (fields.Swap value) got = is_reference_word config got
+field_goes config _ got = true
 
 -- the word is fit for the part: a reference that is to be used is one, and a resolving can go on
 abbrev pub PartFit : Config → ℕ → Kept → Spot → ℕ → Type 0
-PartFit c seat kept (OnField object at) got = field_goes c at got ≡ true
-PartFit c seat kept (Resolving address at next) got = resolves.IsFit c seat address kept.phase at got
-PartFit c seat kept _ got = Unit {0}
+PartFit config seat kept (OnField object at) got = field_goes config at got ≡ true
+PartFit config seat kept (Resolving address at next) got = resolves.IsFit config seat address kept.phase at got
+PartFit config seat kept _ got = Unit {0}
 
 -- the word is fit: the access that follows can be made, the part can go on, and nobody ends that is not counted
 abbrev pub IsFit : Config → Mutating → Order → ℕ → Type 0
-IsFit c m order got = IsReady c (next_of c m order got) × PartFit c m.seat m.kept m.spot got × EndsFit order got
+IsFit config mutator order got = IsReady config (next_of config mutator order got) × PartFit config mutator.seat mutator.kept mutator.spot got × EndsFit order got

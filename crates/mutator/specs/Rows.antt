@@ -177,27 +177,27 @@ first_touch seat order = enters.touch_at seat Raise
 
 -- and of a mutator. One that has ended makes none
 abbrev pub touch_at : Config → ℕ → ℕ → Kept → Order → Spot → Touch
-touch_at c seat made kept order Rest = first_touch seat order
-touch_at c seat made kept order (Ended reply) = first_touch seat order
-touch_at c seat made kept order (Entering at next) = enters.touch_at seat at
-touch_at c seat made kept order LoadPhase = touch Phase loads
-touch_at c seat made kept order LoadSet = touch Cset loads
-touch_at c seat made kept order (Loading at) = load_touch seat kept.command at
-touch_at c seat made kept order (OnField object at) = field_touch object kept.command at
-touch_at c seat made kept order (Resolving address at next) = resolves.touch_at c seat address at
-touch_at c seat made kept order (Recording at address next) = satb.touch_at c seat address at
-touch_at c seat made kept order (OnNumber object refs at) = number_touch object refs kept.command at
-touch_at c seat made kept order (Showing value at) = show_touch seat value kept.command at
-touch_at c seat made kept order (StoreRoot value) = touch (Root seat (dst_of kept.command)) (stores value)
-touch_at c seat made kept order (Making at) = make_touch seat made kept.command at
-touch_at c seat made kept order AskCycle = touch Ask (sets_bits 1)
-touch_at c seat made kept order (Pinning value at) = pin_touch seat value kept.command at
-touch_at c seat made kept order (Waiting at) = wait_touch seat made kept.command at
-touch_at c seat made kept order (Leave reply) = touch (State seat) (stores 0)
-touch_at c seat made kept order Gone = touch Left loads
+touch_at config seat made kept order Rest = first_touch seat order
+touch_at config seat made kept order (Ended reply) = first_touch seat order
+touch_at config seat made kept order (Entering at next) = enters.touch_at seat at
+touch_at config seat made kept order LoadPhase = touch Phase loads
+touch_at config seat made kept order LoadSet = touch Cset loads
+touch_at config seat made kept order (Loading at) = load_touch seat kept.command at
+touch_at config seat made kept order (OnField object at) = field_touch object kept.command at
+touch_at config seat made kept order (Resolving address at next) = resolves.touch_at config seat address at
+touch_at config seat made kept order (Recording at address next) = satb.touch_at config seat address at
+touch_at config seat made kept order (OnNumber object refs at) = number_touch object refs kept.command at
+touch_at config seat made kept order (Showing value at) = show_touch seat value kept.command at
+touch_at config seat made kept order (StoreRoot value) = touch (Root seat (dst_of kept.command)) (stores value)
+touch_at config seat made kept order (Making at) = make_touch seat made kept.command at
+touch_at config seat made kept order AskCycle = touch Ask (sets_bits 1)
+touch_at config seat made kept order (Pinning value at) = pin_touch seat value kept.command at
+touch_at config seat made kept order (Waiting at) = wait_touch seat made kept.command at
+touch_at config seat made kept order (Leave reply) = touch (State seat) (stores 0)
+touch_at config seat made kept order Gone = touch Left loads
 
 abbrev pub touch_of : Config → Mutating → Order → Touch
-touch_of c m order = touch_at c m.seat m.made m.kept order m.spot
+touch_of config mutator order = touch_at config mutator.seat mutator.made mutator.kept order mutator.spot
 
 -- where a call goes on once the collection set was loaded
 abbrev pub first_spot : Command → Spot
@@ -263,7 +263,7 @@ after_resolved found answer (ToCompare object expect value) = after_expected obj
 -- where a call that has loaded this phase and this collection set goes on with what it found in the field: a reference into the
 -- set is resolved first
 abbrev pub with_loaded : Config → (phase cset found : ℕ) → Loaded → Spot
-with_loaded c phase cset found next = if must_resolve c phase cset found then Resolving found LoadHeader next else after_resolved found found next
+with_loaded config phase cset found next = if must_resolve config phase cset found then Resolving found LoadHeader next else after_resolved found found next
 
 -- where it goes on that resolves what it found in the field and stands so
 abbrev pub after_resolve : (found : ℕ) → Loaded → ResolveSpot → Spot
@@ -286,7 +286,7 @@ overwritten phase found next = if is_to_record phase found then Recording LoadCo
 
 -- where a call goes on with the reference that it has swapped out of the field, for a root
 abbrev pub after_swap : Config → (phase cset found : ℕ) → Spot
-after_swap c phase cset found = if is_to_record phase found then Recording LoadCount found overwrites.Xchg else with_loaded c phase cset found ForRoot
+after_swap config phase cset found = if is_to_record phase found then Recording LoadCount found overwrites.Xchg else with_loaded config phase cset found ForRoot
 
 -- where it goes on that records an address and stands so
 abbrev pub after_remember : ℕ → Overwritten → RememberSpot → Spot
@@ -305,7 +305,7 @@ after_take take = Making (make.Taking take)
 
 -- where a taking of room stands after the access
 abbrev pub take_next : Config → Command → TakeSpot → ℕ → TakeSpot
-take_next c command take got = takes.next_at c (words_made command) Fresh take got
+take_next config command take got = takes.next_at config (words_made command) Fresh take got
 
 -- where it goes on with an object of so many words, once so many of them were stored
 abbrev pub after_word : ℕ → ℕ → ℕ → Spot
@@ -319,12 +319,12 @@ load_next phase command (load.Third first second) got = after_roots command firs
 load_next phase command (load.Shape object second third) got = after_shape phase command object second third got
 
 abbrev pub field_next : Config → (phase cset object : ℕ) → FieldSpot → ℕ → Spot
-field_next c phase cset object fields.Load got = with_loaded c phase cset got ForRoot
-field_next c phase cset object (fields.LoadExpected expect value) got = with_loaded c phase cset got (ToCompare object expect value)
-field_next c phase cset object (fields.LoadOld value) got = overwritten phase got (overwrites.Set object value)
-field_next c phase cset object (fields.Store value) got = Leave reply.Ok
-field_next c phase cset object (fields.Swap value) got = after_swap c phase cset got
-field_next c phase cset object (fields.Exchange found expect value) got = if got == found then overwritten phase found overwrites.Cas else OnField object (fields.LoadExpected expect value)
+field_next config phase cset object fields.Load got = with_loaded config phase cset got ForRoot
+field_next config phase cset object (fields.LoadExpected expect value) got = with_loaded config phase cset got (ToCompare object expect value)
+field_next config phase cset object (fields.LoadOld value) got = overwritten phase got (overwrites.Set object value)
+field_next config phase cset object (fields.Store value) got = Leave reply.Ok
+field_next config phase cset object (fields.Swap value) got = after_swap config phase cset got
+field_next config phase cset object (fields.Exchange found expect value) got = if got == found then overwritten phase found overwrites.Cas else OnField object (fields.LoadExpected expect value)
 
 abbrev pub number_next : NumberSpot → ℕ → Spot
 number_next number.Load got = Leave (reply.Number got)
@@ -339,9 +339,9 @@ pin_next value command pin.Look got = if fits_slot command got then Pinning valu
 pin_next value command pin.Store got = Leave (pin_reply command value)
 
 abbrev pub make_next : Config → ℕ → ℕ → Command → MakeSpot → ℕ → Spot
-make_next c seat made command (make.Taking take) got = after_take (take_next c command take got)
-make_next c seat made command (make.StoreWord address done) got = after_word (words_made command) address (done + 1)
-make_next c seat made command (make.StoreRoot address) got = Leave (reply.Ref (next_name seat made))
+make_next config seat made command (make.Taking take) got = after_take (take_next config command take got)
+make_next config seat made command (make.StoreWord address done) got = after_word (words_made command) address (done + 1)
+make_next config seat made command (make.StoreRoot address) got = Leave (reply.Ref (next_name seat made))
 
 -- how many objects were made then
 abbrev pub made_after : ℕ → MakeSpot → ℕ
@@ -350,34 +350,34 @@ made_after made _ = made
 
 -- what a mutator between two calls is after its access: by its order it enters the heap for a call, or has ended
 abbrev pub call_begun : Order → Mutating → Mutating
-call_begun Nothing m = m
-call_begun (Begin command) m = record m { kept = record m.kept { command = command }; spot = Entering Look Call }
-call_begun End m = record m { spot = Gone }
-call_begun (Hint address) m = m
+call_begun Nothing mutator = mutator
+call_begun (Begin command) mutator = record mutator { kept = record mutator.kept { command = command }; spot = Entering Look Call }
+call_begun End mutator = record mutator { spot = Gone }
+call_begun (Hint address) mutator = mutator
 
 -- what a mutator is after the access, by the word that it was told
 abbrev pub next_at : Config → Mutating → Order → ℕ → Spot → Mutating
-next_at c m order got Rest = call_begun order m
-next_at c m order got (Ended reply) = call_begun order m
-next_at c m order got (Entering at next) = record m { spot = after_enter next (enters.next_at at got) }
-next_at c m order got LoadPhase = record m { kept = record m.kept { phase = got }; spot = LoadSet }
-next_at c m order got LoadSet = record m { kept = record m.kept { cset = got }; spot = first_spot m.kept.command }
-next_at c m order got (Loading at) = record m { spot = load_next m.kept.phase m.kept.command at got }
-next_at c m order got (OnField object at) = record m { spot = field_next c m.kept.phase m.kept.cset object at got }
-next_at c m order got (Resolving address at next) = record m { spot = after_resolve address next (resolves.next_at c address m.kept.phase at got) }
-next_at c m order got (Recording at address next) = record m { spot = after_remember address next (satb.next_at at got) }
-next_at c m order got (OnNumber object refs at) = record m { spot = number_next at got }
-next_at c m order got (Showing value at) = record m { spot = show_next value at got }
-next_at c m order got (StoreRoot value) = record m { spot = Leave reply.Ok }
-next_at c m order got (Making at) = record m { made = made_after m.made at; spot = make_next c m.seat m.made m.kept.command at got }
-next_at c m order got AskCycle = record m { spot = Leave reply.Ok }
-next_at c m order got (Pinning value at) = record m { spot = pin_next value m.kept.command at got }
-next_at c m order got (Waiting at) = record m { made = wait_made m.made at; spot = wait_next m.seat m.made at got }
-next_at c m order got (Leave reply) = record m { spot = Ended reply }
-next_at c m order got Gone = m
+next_at config mutator order got Rest = call_begun order mutator
+next_at config mutator order got (Ended reply) = call_begun order mutator
+next_at config mutator order got (Entering at next) = record mutator { spot = after_enter next (enters.next_at at got) }
+next_at config mutator order got LoadPhase = record mutator { kept = record mutator.kept { phase = got }; spot = LoadSet }
+next_at config mutator order got LoadSet = record mutator { kept = record mutator.kept { cset = got }; spot = first_spot mutator.kept.command }
+next_at config mutator order got (Loading at) = record mutator { spot = load_next mutator.kept.phase mutator.kept.command at got }
+next_at config mutator order got (OnField object at) = record mutator { spot = field_next config mutator.kept.phase mutator.kept.cset object at got }
+next_at config mutator order got (Resolving address at next) = record mutator { spot = after_resolve address next (resolves.next_at config address mutator.kept.phase at got) }
+next_at config mutator order got (Recording at address next) = record mutator { spot = after_remember address next (satb.next_at at got) }
+next_at config mutator order got (OnNumber object refs at) = record mutator { spot = number_next at got }
+next_at config mutator order got (Showing value at) = record mutator { spot = show_next value at got }
+next_at config mutator order got (StoreRoot value) = record mutator { spot = Leave reply.Ok }
+next_at config mutator order got (Making at) = record mutator { made = made_after mutator.made at; spot = make_next config mutator.seat mutator.made mutator.kept.command at got }
+next_at config mutator order got AskCycle = record mutator { spot = Leave reply.Ok }
+next_at config mutator order got (Pinning value at) = record mutator { spot = pin_next value mutator.kept.command at got }
+next_at config mutator order got (Waiting at) = record mutator { made = wait_made mutator.made at; spot = wait_next mutator.seat mutator.made at got }
+next_at config mutator order got (Leave reply) = record mutator { spot = Ended reply }
+next_at config mutator order got Gone = mutator
 
 abbrev pub next_of : Config → Mutating → Order → ℕ → Mutating
-next_of c m order got = next_at c m order got m.spot
+next_of config mutator order got = next_at config mutator order got mutator.spot
 
 -- what the step says: of an exchange, that it was lost; of a resolving and of a taking of room, what they say; and that a mutator
 -- waits to enter, or for an object
@@ -386,17 +386,17 @@ field_says (fields.Exchange found expect value) got = if got == found then More 
 field_says _ got = More
 
 abbrev pub make_says : Config → Command → MakeSpot → ℕ → Took
-make_says c command (make.Taking take) got = call_says (takes.says_at take (take_next c command take got))
-make_says c command _ got = More
+make_says config command (make.Taking take) got = call_says (takes.says_at take (take_next config command take got))
+make_says config command _ got = More
 
 abbrev pub answer_at : Config → Kept → Spot → ℕ → Took
-answer_at c kept (Entering at next) got = call_says (enters.says_at at got)
-answer_at c kept (OnField object at) got = field_says at got
-answer_at c kept (Resolving address at next) got = call_says (resolves.says_at c address kept.phase at got)
-answer_at c kept (Making at) got = make_says c kept.command at got
-answer_at c kept (Waiting at) got = wait_says at got
-answer_at c kept (Leave reply) got = Done
-answer_at c kept _ got = More
+answer_at config kept (Entering at next) got = call_says (enters.says_at at got)
+answer_at config kept (OnField object at) got = field_says at got
+answer_at config kept (Resolving address at next) got = call_says (resolves.says_at config address kept.phase at got)
+answer_at config kept (Making at) got = make_says config kept.command at got
+answer_at config kept (Waiting at) got = wait_says at got
+answer_at config kept (Leave reply) got = Done
+answer_at config kept _ got = More
 
 -- the reply that the step gives, if it ends the call
 abbrev pub given_at : Spot → Option Reply

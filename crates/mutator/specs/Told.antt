@@ -77,4 +77,4 @@ told_at memory seat made kept (Pinning value at) = pin_told memory seat value ke
 told_at memory seat made kept _ = None
 
 abbrev pub told_of : (Word → ℕ) → Mutating → Option Reply
-told_of memory m = told_at memory m.seat m.made m.kept m.spot
+told_of memory mutator = told_at memory mutator.seat mutator.made mutator.kept mutator.spot

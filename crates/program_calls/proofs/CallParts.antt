@@ -33,8 +33,8 @@ found (Ok s) test text said sink errors broken status written reports = subst (�
     by_verdict (verdict.Stuck n) b r = record { text = text; verdict = verdict.Stuck n; is_break = b; status = refl; written = written; reports = r }
 
 -- a test came, and how its search has ended fits the status
-fits_searched : (s : Status) (input : Input) (sink errors : Output) (test : Test) → HasRead input (λ bytes. IsTest bytes (test_said test))
-    → HasSearched s test sink errors → StatusTells s input sink errors
+fits_searched : (status : Status) (input : Input) (sink errors : Output) (test : Test) → HasRead input (λ bytes. IsTest bytes (test_said test))
+    → HasSearched status test sink errors → StatusTells status input sink errors
 fits_searched Holds input sink errors test read h = record { test = test; read = read; is = h }
 fits_searched Unfinished input sink errors test read h = record { test = test; read = read; is = h }
 fits_searched Fails input sink errors test read h = record { test = test; read = read; is = h }

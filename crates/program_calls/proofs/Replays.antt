@@ -43,7 +43,7 @@ noted_text bytes answer old kept version ran again config scripts both others it
     items = schedule;
     reads =
         subst (λ (v : ℕ). Reads text.stored v again both schedule) is.0
-        (subst (λ (c : Config). Reads text.stored version c both schedule) is.1
+        (subst (λ (config : Config). Reads text.stored version config both schedule) is.1
         (subst (λ (ss : Scripts). Reads text.stored version config ss schedule) is.2 (subst (λ (all : List Item). Reads text.stored version config others all) is.3 it.reads)));
     of_steps = of_steps;
     few = subst (λ (n : ℕ). n ≤ usual_steps) count few;

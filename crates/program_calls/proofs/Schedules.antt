@@ -20,9 +20,9 @@ all_one : {X : Type 0} (P : X → Type 0) (xs : List X) (x : X) → AllByRecursi
 all_one P [] x all here = (here, tt)
 all_one P (y ∷ ys) x all here = (all.0, all_one P ys x all.1 here)
 
-pub items_one : (c : Config) (old new : List Item) (number count : ℕ) → new ≡ old ++ Steps number count ∷ [] → AllByRecursion (IsItem c) old → number < seat_count c.mutators c.helpers → 0 < count → count ≤ 4000000000
-    → AllByRecursion (IsItem c) new
-items_one c old new number count is all here some few = subst (AllByRecursion (IsItem c)) (sym is) (all_one (IsItem c) old (Steps number count) all (here, (omega (arith, some), few)))
+pub items_one : (config : Config) (old new : List Item) (number count : ℕ) → new ≡ old ++ Steps number count ∷ [] → AllByRecursion (IsItem config) old → number < seat_count config.mutators config.helpers → 0 < count → count ≤ 4000000000
+    → AllByRecursion (IsItem config) new
+items_one config old new number count is all here some few = subst (AllByRecursion (IsItem config)) (sym is) (all_one (IsItem config) old (Steps number count) all (here, (omega (arith, some), few)))
 
 pub of_steps_one : (old new : List Item) (number count : ℕ) → new ≡ old ++ Steps number count ∷ [] → AllByRecursion IsOfSteps old → AllByRecursion IsOfSteps new
 of_steps_one old new number count is all = subst (AllByRecursion IsOfSteps) (sym is) (all_one IsOfSteps old (Steps number count) all tt)
@@ -39,52 +39,52 @@ steps_one old new number count is = ap steps_named is ∙ more_one old number co
 -- ---- the bytes of a text
 
 -- an item of steps has 14 bytes at most, with its space
-item_bytes : (c : Config) (item : Item) → IsItem c item → IsOfSteps item → length (spaced_item item) ≤ 14
-item_bytes c (Steps number count) good steps =
-    let seat : number + 1 < 100 = omega (arith, good.0, c.in_range.most_mutators, c.in_range.most_helpers) in
+item_bytes : (config : Config) (item : Item) → IsItem config item → IsOfSteps item → length (spaced_item item) ≤ 14
+item_bytes config (Steps number count) good steps =
+    let seat : number + 1 < 100 = omega (arith, good.0, config.in_range.most_mutators, config.in_range.most_helpers) in
     let few : count < 10000000000 = omega (arith, good.1.1) in
     let machine : length (decimal (number + 1)) ≤ 2 = length-decimal-le 2 (number + 1) (omega arith) seat (omega (arith, seat)) in
     let aimed : length (decimal count) ≤ 10 = length-decimal-le 10 count (omega arith) few (omega (arith, few)) in
     let whole : length (spaced_item (Steps number count)) ≡ suc (length (decimal (number + 1)) + suc (length (decimal count))) = ap suc (length-append (decimal (number + 1)) (58 ∷ decimal count)) in
     omega (arith, machine, aimed, whole)
-item_bytes c (Until number place) good steps = absurd steps
-item_bytes c (Replies number count) good steps = absurd steps
+item_bytes config (Until number place) good steps = absurd steps
+item_bytes config (Replies number count) good steps = absurd steps
 
-items_bytes : (c : Config) (items : List Item) → AllByRecursion (IsItem c) items → AllByRecursion IsOfSteps items → length (flat_map spaced_item items) ≤ 14 * length items
-items_bytes c [] good steps = omega arith
-items_bytes c (item ∷ items) good steps =
+items_bytes : (config : Config) (items : List Item) → AllByRecursion (IsItem config) items → AllByRecursion IsOfSteps items → length (flat_map spaced_item items) ≤ 14 * length items
+items_bytes config [] good steps = omega arith
+items_bytes config (item ∷ items) good steps =
     let whole : length (flat_map spaced_item (item ∷ items)) ≡ length (spaced_item item) + length (flat_map spaced_item items) =
     ap length (flat_map-cons spaced_item item items) ∙ length-append (spaced_item item) (flat_map spaced_item items) in
-    omega (arith, whole, item_bytes c item good.0 steps.0, items_bytes c items good.1 steps.1)
+    omega (arith, whole, item_bytes config item good.0 steps.0, items_bytes config items good.1 steps.1)
 
 -- with the mark and the end of their line these take 16 each at most
 line_bytes : (items : List Item) → length (schedule_line items) ≡ length (flat_map spaced_item items) + 2
 line_bytes items = omega (arith, length-append (flat_map spaced_item items) (newline ∷ []))
 
-schedule_bytes : (c : Config) (items : List Item) → AllByRecursion (IsItem c) items → AllByRecursion IsOfSteps items → length (flat_map schedule_line (turns_of items)) ≤ 16 * length items
-schedule_bytes c [] good steps = omega arith
-schedule_bytes c (item ∷ items) good steps =
-    omega (arith, items_bytes c (item ∷ items) good steps, line_bytes (item ∷ items), ap length (append-nil (schedule_line (item ∷ items))))
+schedule_bytes : (config : Config) (items : List Item) → AllByRecursion (IsItem config) items → AllByRecursion IsOfSteps items → length (flat_map schedule_line (turns_of items)) ≤ 16 * length items
+schedule_bytes config [] good steps = omega arith
+schedule_bytes config (item ∷ items) good steps =
+    omega (arith, items_bytes config (item ∷ items) good steps, line_bytes (item ∷ items), ap length (append-nil (schedule_line (item ∷ items))))
 
 -- A trace that can be written can be with another schedule, too, if there is room behind its text.
-writable : (v : ℕ) (c : Config) (scripts : List (List Command)) (old new : List Item) → IsWritable v c scripts old → AllByRecursion (IsItem c) new → AllByRecursion IsOfSteps new
-    → length (spelling_of v c scripts old) + 16 * length new ≤ most_bytes → IsWritable v c scripts new
-writable v c scripts old new can good steps room = record {
+writable : (v : ℕ) (config : Config) (scripts : List (List Command)) (old new : List Item) → IsWritable v config scripts old → AllByRecursion (IsItem config) new → AllByRecursion IsOfSteps new
+    → length (spelling_of v config scripts old) + 16 * length new ≤ most_bytes → IsWritable v config scripts new
+writable v config scripts old new can good steps room = record {
   known = can.known;
   narrow = can.narrow;
   threads = can.threads;
   lines_fit = can.lines_fit;
   items_fit = good;
-  short = omega (arith, schedule_bytes c new good steps, size old, size new, room);
+  short = omega (arith, schedule_bytes config new good steps, size old, size new, room);
 }
   where
-    size : (items : List Item) → length (spelling_of v c scripts items) ≡ length (header v c) + (length (flat_map line (lines_from 1 scripts)) + length (flat_map schedule_line (turns_of items)))
+    size : (items : List Item) → length (spelling_of v config scripts items) ≡ length (header v config) + (length (flat_map line (lines_from 1 scripts)) + length (flat_map schedule_line (turns_of items)))
     size items =
-        length-append (header v c) (flat_map line (lines_from 1 scripts) ++ flat_map schedule_line (turns_of items))
-        ∙ ap (λ (n : ℕ). length (header v c) + n) (length-append (flat_map line (lines_from 1 scripts)) (flat_map schedule_line (turns_of items)))
+        length-append (header v config) (flat_map line (lines_from 1 scripts) ++ flat_map schedule_line (turns_of items))
+        ∙ ap (λ (n : ℕ). length (header v config) + n) (length-append (flat_map line (lines_from 1 scripts)) (flat_map schedule_line (turns_of items)))
 
 -- the same of the text that was written, and its size
-pub fits_behind : (v : ℕ) (c : Config) (scripts : List (List Command)) (old new : List Item) (text : List ℕ) (size count : ℕ) → IsWritable v c scripts old → AllByRecursion (IsItem c) new → AllByRecursion IsOfSteps new
-    → text ≡ spelling_of v c scripts old → size ≡ length text → count ≡ length new → size + 16 * count ≤ most_bytes → IsWritable v c scripts new
-fits_behind v c scripts old new text size count can good steps is long many room =
-    let bytes = long ∙ ap length is in writable v c scripts old new can good steps (omega (arith, bytes, many, room))
+pub fits_behind : (v : ℕ) (config : Config) (scripts : List (List Command)) (old new : List Item) (text : List ℕ) (size count : ℕ) → IsWritable v config scripts old → AllByRecursion (IsItem config) new → AllByRecursion IsOfSteps new
+    → text ≡ spelling_of v config scripts old → size ≡ length text → count ≡ length new → size + 16 * count ≤ most_bytes → IsWritable v config scripts new
+fits_behind v config scripts old new text size count can good steps is long many room =
+    let bytes = long ∙ ap length is in writable v config scripts old new can good steps (omega (arith, bytes, many, room))

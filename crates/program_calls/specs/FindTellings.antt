@@ -85,4 +85,4 @@ StatusTells BadTest input sink errors = IsTestRefused input sink errors ⊎ IsTe
 StatusTells ReadFault input sink errors = Rose input.faults_before input.faults_after × SaysLine (codes "read fault\n") sink errors
 StatusTells WriteFault input sink errors = Rose sink.before.faults sink.after.faults ⊎ Rose errors.before.faults errors.after.faults
 StatusTells NoMemory input sink errors = SaysLine (codes "out of memory\n") sink errors
-StatusTells s input sink errors = HasTest input (λ test. HasSearched s test sink errors)
+StatusTells status input sink errors = HasTest input (λ test. HasSearched status test sink errors)

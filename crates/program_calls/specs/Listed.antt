@@ -11,8 +11,8 @@ use Rattle.shen_core.specs.Progress.{Jobs, Tells}
 
 -- whatever stage memory showed, the agenda has so many events from there, cut after a limit
 abbrev pub HasEvents : Plain → Jobs → Agenda → ℕ → ℕ → Type 0
-HasEvents p jobs todo limit events = (scripts : Scripts) (s : Stage Actor) → Shows p s → Tells (config_of p) scripts jobs s → length (scheduled pause_image (config_of p) scripts limit todo s) ≡ events
+HasEvents plain jobs todo limit events = (scripts : Scripts) (stage : Stage Actor) → Shows plain stage → Tells (config_of plain) scripts jobs stage → length (scheduled pause_image (config_of plain) scripts limit todo stage) ≡ events
 
 -- and so a schedule
 abbrev pub CountsEvents : Plain → Jobs → List Item → ℕ → ℕ → Type 0
-CountsEvents p jobs items limit events = HasEvents p jobs (agenda_of items) limit events
+CountsEvents plain jobs items limit events = HasEvents plain jobs (agenda_of items) limit events

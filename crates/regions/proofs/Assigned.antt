@@ -39,60 +39,60 @@ module _ (w : ℕ) (shut : ℕ → Bool) (heap : List ℕ) (marks : List Bool) (
   inside a some = let rows = mul-le regions w 64 w few (omega arith) in omega (arith, marked.inside a some, some, tile, rows)
 
   -- the shape word of a marked object is in the heap
-  pub shape_inside : (k : ℕ) → get_or marks k false ≡ true → k + 1 < length heap
-  shape_inside k met =
-      let size = kept_marked w heap marks k met in
-      omega (arith, size, marked.inside (w + k) (omega (arith, size)))
+  pub shape_inside : (index : ℕ) → get_or marks index false ≡ true → index + 1 < length heap
+  shape_inside index met =
+      let size = kept_marked w heap marks index met in
+      omega (arith, size, marked.inside (w + index) (omega (arith, size)))
 
   -- the sums that the code makes fit
-  pub fits_behind : (k end words : ℕ) → get_or marks k false ≡ true → end ≡ end_before w shut kept (w + k) → words ≡ object_words (get_or heap (k + 1) 0)
+  pub fits_behind : (address end words : ℕ) → get_or marks address false ≡ true → end ≡ end_before w shut kept (w + address) → words ≡ object_words (get_or heap (address + 1) 0)
       → end + w + words < 2 ^ 63
-  fits_behind k end words met is words_are =
-      let size = kept_marked w heap marks k met in
-      let some : 0 < kept (w + k) = omega (arith, size) in
-      let least = end_at_object w shut kept marked.apart (w + k) some in
-      let most = marked.inside (w + k) some in
+  fits_behind address end words met is words_are =
+      let size = kept_marked w heap marks address met in
+      let some : 0 < kept (w + address) = omega (arith, size) in
+      let least = end_at_object w shut kept marked.apart (w + address) some in
+      let most = marked.inside (w + address) some in
       omega (arith, is, words_are, size, least, most, marked.small)
 
-  pub rows_fit : (k end : ℕ) → get_or marks k false ≡ true → end ≡ end_before w shut kept (w + k) → (end / w + 65) * w < 2 ^ 64
-  rows_fit k end met is =
-      let size = kept_marked w heap marks k met in
-      let some : 0 < kept (w + k) = omega (arith, size) in
-      let least = end_at_object w shut kept marked.apart (w + k) some in
-      let most = marked.inside (w + k) some in
+  pub rows_fit : (index end : ℕ) → get_or marks index false ≡ true → end ≡ end_before w shut kept (w + index) → (end / w + 65) * w < 2 ^ 64
+  rows_fit index end met is =
+      let size = kept_marked w heap marks index met in
+      let some : 0 < kept (w + index) = omega (arith, size) in
+      let least = end_at_object w shut kept marked.apart (w + index) some in
+      let most = marked.inside (w + index) some in
       omega (arith, is, least, most, marked.small, div-add-mod' end w)
 
-  pub is_placed : (k end words place : ℕ) → get_or marks k false ≡ true → shut ((w + k) / w) ≡ false → end ≡ end_before w shut kept (w + k) → words ≡ object_words (get_or heap (k + 1) 0)
-      → place ≡ place_around w shut end words → IsPlaced w shut (length heap) regions kept (w + k) words place
-  is_placed k end words place met opened is words_are place_is =
-      let size = kept_marked w heap marks k met in
-      let same : words ≡ kept (w + k) = omega (arith, size, words_are) in
-      let some : 0 < kept (w + k) = omega (arith, size) in
-      let at : place ≡ new_place w shut kept (w + k) =
-      place_is ∙ ap (λ e. place_around w shut e words) is ∙ ap (place_around w shut (end_before w shut kept (w + k))) same ∙ sym (new_open w shut kept (w + k) opened) in
-      let row : new_place w shut kept (w + k) / w ≡ place / w = ap (λ p. p / w) (sym at) in
-      let region = in_region w shut kept marked.apart (w + k) some in
-      let most = marked.inside (w + k) some in
-      let down = moves_down w shut kept marked.apart (w + k) some in
-      let here : new_place w shut kept (w + k) / w ≡ place / w - 1 + 1 = omega (arith, region, row) in
-      let counts = open_same w shut kept (w + k) opened in
-      let within = place_in_range w shut kept marked.apart regions (w + k) some (omega (arith, most, tile, some)) in
-      let top = top_is_offset w shut kept marked.apart (place / w - 1) (w + k) (omega (arith, counts, some)) here in
+  pub is_placed : (address end words place : ℕ) → get_or marks address false ≡ true → shut ((w + address) / w) ≡ false → end ≡ end_before w shut kept (w + address) → words ≡ object_words (get_or heap (address + 1) 0)
+      → place ≡ place_around w shut end words → IsPlaced w shut (length heap) regions kept (w + address) words place
+  is_placed address end words place met opened is words_are place_is =
+      let size = kept_marked w heap marks address met in
+      let same : words ≡ kept (w + address) = omega (arith, size, words_are) in
+      let some : 0 < kept (w + address) = omega (arith, size) in
+      let at : place ≡ new_place w shut kept (w + address) =
+      place_is ∙ ap (λ e. place_around w shut e words) is ∙ ap (place_around w shut (end_before w shut kept (w + address))) same ∙ sym (new_open w shut kept (w + address) opened) in
+      let row : new_place w shut kept (w + address) / w ≡ place / w = ap (λ p. p / w) (sym at) in
+      let region = in_region w shut kept marked.apart (w + address) some in
+      let most = marked.inside (w + address) some in
+      let down = moves_down w shut kept marked.apart (w + address) some in
+      let here : new_place w shut kept (w + address) / w ≡ place / w - 1 + 1 = omega (arith, region, row) in
+      let counts = open_same w shut kept (w + address) opened in
+      let within = place_in_range w shut kept marked.apart regions (w + address) some (omega (arith, most, tile, some)) in
+      let top = top_is_offset w shut kept marked.apart (place / w - 1) (w + address) (omega (arith, counts, some)) here in
       record {
         words_are = same;
         counts = omega (arith, counts, same);
         some = omega (arith, same, some);
         place_is = at;
-        end = omega (arith, end_behind w shut kept (w + k) opened, at, same);
-        low = omega (arith, at, stays_above w shut kept marked.apart (w + k) some);
+        end = omega (arith, end_behind w shut kept (w + address) opened, at, same);
+        low = omega (arith, at, stays_above w shut kept marked.apart (w + address) some);
         down = omega (arith, at, down);
         high = omega (arith, at, down, same, most);
         region_some = omega (arith, region, row);
         region_within = omega (arith, within, row);
         region_small = omega (arith, div-le_self place w, at, down, same, most, marked.small);
         here = here;
-        region_open = ap shut (sym here) ∙ same_kind w shut kept marked.apart inside (w + k) some ∙ opened;
-        room = omega (arith, top, same, stays_within w shut kept marked.apart (w + k) some);
+        region_open = ap shut (sym here) ∙ same_kind w shut kept marked.apart inside (w + address) some ∙ opened;
+        room = omega (arith, top, same, stays_within w shut kept marked.apart (w + address) some);
       }
 
   -- one address more, by the one before
@@ -122,7 +122,7 @@ module _ (w : ℕ) (shut : ℕ → Bool) (heap : List ℕ) (marks : List Bool) (
 
   -- what the tops are by then
   abbrev pub HaveTops : (old tops : List ℕ) → ℕ → Type 0
-  HaveTops old tops e = (r : ℕ) → r < length tops → get_or tops r 0 ≡ (if shut (r + 1) then get_or old r 0 else top_before w shut kept r e)
+  HaveTops old tops e = (index : ℕ) → index < length tops → get_or tops index 0 ≡ (if shut (index + 1) then get_or old index 0 else top_before w shut kept index e)
 
   pub tops_marked : (k words place : ℕ) (old tops : List ℕ) → IsPlaced w shut (length heap) regions kept (w + k) words place → length tops ≡ regions
       → HaveTops old tops (w + k) → HaveTops old (set tops (place / w - 1) (get_or tops (place / w - 1) 0 + words)) (w + (k + 1))
@@ -165,18 +165,18 @@ module _ (w : ℕ) (shut : ℕ → Bool) (heap : List ℕ) (marks : List Bool) (
   shut_counts k closed = shut_none w shut kept (w + k) closed
 
   -- an address without a marked object
-  pub unmarked_counts : (k : ℕ) → get_or marks k false ≡ false → open_kept w shut kept (w + k) ≡ 0
-  unmarked_counts k unset =
-      let none = kept_unmarked w heap marks k unset in
+  pub unmarked_counts : (index : ℕ) → get_or marks index false ≡ false → open_kept w shut kept (w + index) ≡ 0
+  unmarked_counts index unset =
+      let none = kept_unmarked w heap marks index unset in
       ⊎_elim
-      (λ (closed : shut ((w + k) / w) ≡ true). shut_none w shut kept (w + k) closed)
-      (λ (opened : shut ((w + k) / w) ≡ false). open_same w shut kept (w + k) opened ∙ none)
-      (cases_Bool (shut ((w + k) / w)))
+      (λ (closed : shut ((w + index) / w) ≡ true). shut_none w shut kept (w + index) closed)
+      (λ (opened : shut ((w + index) / w) ≡ false). open_same w shut kept (w + index) opened ∙ none)
+      (cases_Bool (shut ((w + index) / w)))
 
-  pub places_unmarked : (k : ℕ) (places : List ℕ) → get_or marks k false ≡ false
-      → ((a : ℕ) → a < w + k → 0 < kept a → word_of w places a ≡ new_place w shut kept a)
-      → (a : ℕ) → a < w + (k + 1) → 0 < kept a → word_of w places a ≡ new_place w shut kept a
-  places_unmarked k places unset before a below some = ⊎_elim
-      (λ (here : w + k ≡ a). let none = kept_unmarked w heap marks k unset in let same : kept (w + k) ≡ kept a = ap kept here in absurd (omega (arith, none, same, some)))
-      (λ (other : w + k ≢ a). before a (omega (arith, below, other)) some)
-      (cases_eq (w + k) a)
+  pub places_unmarked : (index : ℕ) (places : List ℕ) → get_or marks index false ≡ false
+      → ((a : ℕ) → a < w + index → 0 < kept a → word_of w places a ≡ new_place w shut kept a)
+      → (a : ℕ) → a < w + (index + 1) → 0 < kept a → word_of w places a ≡ new_place w shut kept a
+  places_unmarked index places unset before a below some = ⊎_elim
+      (λ (here : w + index ≡ a). let none = kept_unmarked w heap marks index unset in let same : kept (w + index) ≡ kept a = ap kept here in absurd (omega (arith, none, same, some)))
+      (λ (other : w + index ≢ a). before a (omega (arith, below, other)) some)
+      (cases_eq (w + index) a)

@@ -7,8 +7,8 @@ use Rattle.regions.proofs.Flags.{kept_marked, kept_unmarked}
 use Rattle.regions.proofs.Slid.{slid_word-same, intact, slid_more, slid_same}
 
 -- the word at an address, by its index
-pub word_at : (w : ℕ) (heap : List ℕ) (k : ℕ) → word_of w heap (w + k) ≡ get_or heap k 0
-word_at w heap k = let index : w + k - w ≡ k = omega arith in ap (λ j. get_or heap j 0) index
+pub word_at : (other_address : ℕ) (heap : List ℕ) (address : ℕ) → word_of other_address heap (other_address + address) ≡ get_or heap address 0
+word_at other_address heap address = let index : other_address + address - other_address ≡ address = omega arith in ap (λ j. get_or heap j 0) index
 
 module _ (w : ℕ) (places : List ℕ) (marks : List Bool) (before : List ℕ) (marked : IsMarkedHeap w before marks)
     (table : IsPlacing w (kept_of w before marks) places) where
@@ -22,43 +22,43 @@ module _ (w : ℕ) (places : List ℕ) (marks : List Bool) (before : List ℕ) (
   renew = from_table w places
 
   -- where the object goes is in the heap, and not above where it is
-  pub entry_low : (k : ℕ) → get_or marks k false ≡ true → w ≤ get_or places k 0
-  entry_low k set =
-      let size = kept_marked w before marks k set in
-      omega (arith, word_at w places k, table.low (w + k) (omega (arith, size)))
+  pub entry_low : (index : ℕ) → get_or marks index false ≡ true → w ≤ get_or places index 0
+  entry_low index set =
+      let size = kept_marked w before marks index set in
+      omega (arith, word_at w places index, table.low (w + index) (omega (arith, size)))
 
-  pub entry_down : (k : ℕ) → get_or marks k false ≡ true → get_or places k 0 - w ≤ k
-  entry_down k set =
-      let size = kept_marked w before marks k set in
-      omega (arith, word_at w places k, table.down (w + k) (omega (arith, size)))
+  pub entry_down : (index : ℕ) → get_or marks index false ≡ true → get_or places index 0 - w ≤ index
+  entry_down index set =
+      let size = kept_marked w before marks index set in
+      omega (arith, word_at w places index, table.down (w + index) (omega (arith, size)))
 
   -- its words are as they were
-  pub intact_at : (now : List ℕ) (k j : ℕ) → get_or marks k false ≡ true → IsSlidTo (w + k) w place kept renew (word_of w before) (word_of w now) → k ≤ j → get_or now j 0 ≡ get_or before j 0
-  intact_at now k j set slid_to behind =
-      let size = kept_marked w before marks k set in
-      sym (word_at w now j)
-      ∙ intact w place kept renew (word_of w before) marked.apart table.down (w + k) (word_of w now) slid_to (w + k) (w + j) (omega arith) (omega (arith, size)) (omega (arith, behind))
-      ∙ word_at w before j
+  pub intact_at : (now : List ℕ) (other_index index : ℕ) → get_or marks other_index false ≡ true → IsSlidTo (w + other_index) w place kept renew (word_of w before) (word_of w now) → other_index ≤ index → get_or now index 0 ≡ get_or before index 0
+  intact_at now other_index index set slid_to behind =
+      let size = kept_marked w before marks other_index set in
+      sym (word_at w now index)
+      ∙ intact w place kept renew (word_of w before) marked.apart table.down (w + other_index) (word_of w now) slid_to (w + other_index) (w + index) (omega arith) (omega (arith, size)) (omega (arith, behind))
+      ∙ word_at w before index
 
-  pub entry_inside : (now : List ℕ) (k : ℕ) → get_or marks k false ≡ true → IsSlidTo (w + k) w place kept renew (word_of w before) (word_of w now) → length now ≡ length before
-      → k + object_words (get_or now (k + 1) 0) ≤ length now
-  entry_inside now k set slid_to same =
-      let size = kept_marked w before marks k set in
-      let shape : object_words (get_or now (k + 1) 0) ≡ object_words (get_or before (k + 1) 0) = ap object_words (intact_at now k (k + 1) set slid_to (omega arith)) in
-      omega (arith, marked.inside (w + k) (omega (arith, size)), size, shape, same)
+  pub entry_inside : (now : List ℕ) (index : ℕ) → get_or marks index false ≡ true → IsSlidTo (w + index) w place kept renew (word_of w before) (word_of w now) → length now ≡ length before
+      → index + object_words (get_or now (index + 1) 0) ≤ length now
+  entry_inside now index set slid_to same =
+      let size = kept_marked w before marks index set in
+      let shape : object_words (get_or now (index + 1) 0) ≡ object_words (get_or before (index + 1) 0) = ap object_words (intact_at now index (index + 1) set slid_to (omega arith)) in
+      omega (arith, marked.inside (w + index) (omega (arith, size)), size, shape, same)
 
-  pub entry_table : (now : List ℕ) (k : ℕ) → AreInTable w kept (word_of w before) places → get_or marks k false ≡ true
-      → IsSlidTo (w + k) w place kept renew (word_of w before) (word_of w now)
-      → (i : ℕ) → i < refs_in (get_or now (k + 1) 0) → IsInTable w places (get_or now (k + (3 + i)) 0)
-  entry_table now k closed set slid_to i few =
-      let size = kept_marked w before marks k set in
-      let shape_index : w + k + 1 ≡ w + (k + 1) = omega arith in
-      let shape : refs_in (get_or now (k + 1) 0) ≡ refs_in (word_of w before (w + k + 1)) =
-      ap refs_in (intact_at now k (k + 1) set slid_to (omega arith) ∙ sym (word_at w before (k + 1)) ∙ ap (word_of w before) (sym shape_index)) in
-      let word_index : w + k + (3 + i) ≡ w + (k + (3 + i)) = omega arith in
-      let word : word_of w before (w + k + (3 + i)) ≡ get_or now (k + (3 + i)) 0 =
-      ap (word_of w before) word_index ∙ word_at w before (k + (3 + i)) ∙ sym (intact_at now k (k + (3 + i)) set slid_to (omega arith)) in
-      subst (IsInTable w places) word (closed (w + k) i (omega (arith, size)) (omega (arith, few, shape)))
+  pub entry_table : (now : List ℕ) (index : ℕ) → AreInTable w kept (word_of w before) places → get_or marks index false ≡ true
+      → IsSlidTo (w + index) w place kept renew (word_of w before) (word_of w now)
+      → (i : ℕ) → i < refs_in (get_or now (index + 1) 0) → IsInTable w places (get_or now (index + (3 + i)) 0)
+  entry_table now index closed set slid_to i few =
+      let size = kept_marked w before marks index set in
+      let shape_index : w + index + 1 ≡ w + (index + 1) = omega arith in
+      let shape : refs_in (get_or now (index + 1) 0) ≡ refs_in (word_of w before (w + index + 1)) =
+      ap refs_in (intact_at now index (index + 1) set slid_to (omega arith) ∙ sym (word_at w before (index + 1)) ∙ ap (word_of w before) (sym shape_index)) in
+      let word_index : w + index + (3 + i) ≡ w + (index + (3 + i)) = omega arith in
+      let word : word_of w before (w + index + (3 + i)) ≡ get_or now (index + (3 + i)) 0 =
+      ap (word_of w before) word_index ∙ word_at w before (index + (3 + i)) ∙ sym (intact_at now index (index + (3 + i)) set slid_to (omega arith)) in
+      subst (IsInTable w places) word (closed (w + index) i (omega (arith, size)) (omega (arith, few, shape)))
 
   -- one marked object more
   pub slid_at : (now after : List ℕ) (k : ℕ) → get_or marks k false ≡ true → IsSlidTo (w + k) w place kept renew (word_of w before) (word_of w now)
@@ -86,9 +86,9 @@ module _ (w : ℕ) (places : List ℕ) (marks : List Bool) (before : List ℕ) (
       outside))
 
   -- an address without a marked object
-  pub slid_past : (now : List ℕ) (k : ℕ) → get_or marks k false ≡ false → IsSlidTo (w + k) w place kept renew (word_of w before) (word_of w now)
-      → IsSlidTo (w + (k + 1)) w place kept renew (word_of w before) (word_of w now)
-  slid_past now k unset slid_to =
-      let next : suc (w + k) ≡ w + (k + 1) = omega arith in
+  pub slid_past : (now : List ℕ) (index : ℕ) → get_or marks index false ≡ false → IsSlidTo (w + index) w place kept renew (word_of w before) (word_of w now)
+      → IsSlidTo (w + (index + 1)) w place kept renew (word_of w before) (word_of w now)
+  slid_past now index unset slid_to =
+      let next : suc (w + index) ≡ w + (index + 1) = omega arith in
       subst (λ e. IsSlidTo e w place kept renew (word_of w before) (word_of w now)) next
-      (slid_same place kept renew (word_of w before) table.apart w (w + k) (word_of w now) table.low slid_to (kept_unmarked w before marks k unset))
+      (slid_same place kept renew (word_of w before) table.apart w (w + index) (word_of w now) table.low slid_to (kept_unmarked w before marks index unset))

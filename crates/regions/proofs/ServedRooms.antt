@@ -119,8 +119,8 @@ pub taken_elsewhere : (top : ℕ → ℕ) (n r q : ℕ) → q ≢ r → taken_in
 taken_elsewhere top n r q differs = cond-false (r == q) (top r + n) (top q) (ne_eqb r q (λ e. differs (sym e)))
 
 -- what is taken is what the sum of the tops grows by
-taken_sum : (top : ℕ → ℕ) (n regions : ℕ) (o : Option ℕ) → ((r : ℕ) → o ≡ Some r → r < regions)
-    → sum_below (taken_in top n o) regions ≡ sum_below top regions + given_by o n
+taken_sum : (top : ℕ → ℕ) (n regions : ℕ) (found : Option ℕ) → ((r : ℕ) → found ≡ Some r → r < regions)
+    → sum_below (taken_in top n found) regions ≡ sum_below top regions + given_by found n
 taken_sum top n regions None below =
     let same = sum_same (taken_in top n None) top regions (λ q _. refl) in omega (arith, same)
 taken_sum top n regions (Some r) below =
@@ -155,8 +155,8 @@ served_within w regions asked top (suc t) q within below =
     taken_within w (tops_served w regions asked top t) (asked t) regions q (room_at_turn w regions asked top t) before (λ r is. (has_room w (tops_served w regions asked top t) (asked t) regions r is).room)
     (served_next w regions asked top t q)
   where
-    taken_within : (w : ℕ) (top : ℕ → ℕ) (n regions q : ℕ) (o : Option ℕ) → top q ≤ w → ((r : ℕ) → o ≡ Some r → top r + n ≤ w)
-        → {k : ℕ} → k ≡ taken_in top n o q → k ≤ w
+    taken_within : (w : ℕ) (top : ℕ → ℕ) (n regions q : ℕ) (found : Option ℕ) → top q ≤ w → ((r : ℕ) → found ≡ Some r → top r + n ≤ w)
+        → {k : ℕ} → k ≡ taken_in top n found q → k ≤ w
     taken_within w top n regions q None before room {k = k} is = omega (arith, before, is)
     taken_within w top n regions q (Some r) before room {k = k} is = ⊎_elim
         (λ (here : r ≡ q). let more = subst (λ j. taken_in top n (Some r) j ≡ top j + n) here (taken_here top n r) in let fits = subst (λ j. top j + n ≤ w) here (room r refl) in omega (arith, is, more, fits))
@@ -164,7 +164,7 @@ served_within w regions asked top (suc t) q within below =
         (cases_eq r q)
 
 -- what is taken is at least what the sum of the tops of a set of regions grows by
-taken_where : (test : ℕ → Bool) (top : ℕ → ℕ) (n regions : ℕ) (o : Option ℕ) → tops_where test (taken_in top n o) regions ≤ tops_where test top regions + given_by o n
+taken_where : (test : ℕ → Bool) (top : ℕ → ℕ) (n regions : ℕ) (found : Option ℕ) → tops_where test (taken_in top n found) regions ≤ tops_where test top regions + given_by found n
 taken_where test top n regions None = omega arith
 taken_where test top n regions (Some r) = grows regions
   where

@@ -50,21 +50,21 @@ bit_at-all_but region r below within =
     bit_at_not w64 (1 * 2 ^ region % 2 ^ 64) r fits within ∙ ap (λ n. 1 - bit_at n r) one
 
 -- a region is in it exactly where it is another region
-pub all_but_members : (region : ℕ) → region < 64 → (r : ℕ) → IsIn (all_but region) r ↔ ((r < 64) × (r ≢ region))
-all_but_members region below r = (to, from) where
-  to : IsIn (all_but region) r → (r < 64) × (r ≢ region)
+pub all_but_members : (region : ℕ) → region < 64 → (other_region : ℕ) → IsIn (all_but region) other_region ↔ ((other_region < 64) × (other_region ≢ region))
+all_but_members region below other_region = (to, from) where
+  to : IsIn (all_but region) other_region → (other_region < 64) × (other_region ≢ region)
   to member = ⊎_elim
-      (λ (within : r < 64). (
+      (λ (within : other_region < 64). (
         within,
-        λ (same : r ≡ region).
-            let one : bit_at (2 ^ region) r ≡ 1 = ap (bit_at (2 ^ region)) same ∙ bit_at-pow_same region in
-            let none = bit_at-all_but region r below within in
+        λ (same : other_region ≡ region).
+            let one : bit_at (2 ^ region) other_region ≡ 1 = ap (bit_at (2 ^ region)) same ∙ bit_at-pow_same region in
+            let none = bit_at-all_but region other_region below within in
             omega (arith, one, none, member),
       ))
-      (λ (above : 64 ≤ r).
-      let none = bit_at_above (all_but region) 64 r (omega arith) above in
+      (λ (above : 64 ≤ other_region).
+      let none = bit_at_above (all_but region) 64 other_region (omega arith) above in
       absurd (omega (arith, none, member)))
-      (cases_lt r 64)
+      (cases_lt other_region 64)
 
-  from : (r < 64) × (r ≢ region) → IsIn (all_but region) r
-  from other = bit_at-all_but region r below other.0 ∙ ap (λ b. 1 - b) (bit_at-pow_other region r other.1)
+  from : (other_region < 64) × (other_region ≢ region) → IsIn (all_but region) other_region
+  from other = bit_at-all_but region other_region below other.0 ∙ ap (λ b. 1 - b) (bit_at-pow_other region other_region other.1)

@@ -7,9 +7,9 @@ use Rattle.regions.specs.Slide.{placed_word, slid_word, IsSlidTo, is_covered, sl
 use Rattle.regions.proofs.Placed.{covers}
 
 -- a word of an object in its new place depends on two words of the heap
-pub slid_word-same : (renew heap other : ℕ → ℕ) (a b i : ℕ) → heap (a + 1) ≡ other (b + 1) → heap (a + i) ≡ other (b + i) → slid_word renew heap a i ≡ slid_word renew other b i
-slid_word-same renew heap other a b i shapes words =
-    ap (λ shape. placed_word renew (refs_in shape) i (heap (a + i))) shapes ∙ ap (placed_word renew (refs_in (other (b + 1))) i) words
+pub slid_word-same : (renew heap other : ℕ → ℕ) (address b i : ℕ) → heap (address + 1) ≡ other (b + 1) → heap (address + i) ≡ other (b + i) → slid_word renew heap address i ≡ slid_word renew other b i
+slid_word-same renew heap other address b i shapes words =
+    ap (λ shape. placed_word renew (refs_in shape) i (heap (address + i))) shapes ∙ ap (placed_word renew (refs_in (other (b + 1))) i) words
 
 -- one step of the recursion
 pub slid_next : (place kept renew before : ℕ → ℕ) (a x : ℕ)

@@ -9,9 +9,9 @@ use Rattle.regions.specs.Place.{base_of}
 use Rattle.regions.specs.Walk.{stride_at, Walks, met_within, met_from, IsParsableStretch, MeetsExactly, WalksMeetEach, WalkGoesOn, WalkStaysInRegion}
 
 -- an element of a list with a head is the head or a later one
-head_or_later_at : (k a : ℕ) (later : List ℕ) (x : ℕ) → k < length (a ∷ later) → get_or (a ∷ later) k x ≡ x → (a ≡ x) ⊎ Contains later x
+head_or_later_at : (index a : ℕ) (later : List ℕ) (x : ℕ) → index < length (a ∷ later) → get_or (a ∷ later) index x ≡ x → (a ≡ x) ⊎ Contains later x
 head_or_later_at zero a later x below e = inl e
-head_or_later_at (suc k) a later x below e = inr (k, omega arith, e)
+head_or_later_at (suc index) a later x below e = inr (index, omega arith, e)
 
 head_or_later : (a : ℕ) (later : List ℕ) (x : ℕ) → Contains (a ∷ later) x → (a ≡ x) ⊎ Contains later x
 head_or_later a later x h = head_or_later_at h.0 a later x h.1 h.2

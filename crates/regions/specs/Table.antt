@@ -6,7 +6,7 @@ use Rattle.regions.specs.Slide.{slid_word, renewed, PlacesApart}
 
 -- the word at an address
 abbrev pub word_of : (first : ℕ) (heap : List ℕ) → ℕ → ℕ
-word_of first heap a = slice_index heap (a - first)
+word_of first heap address = slice_index heap (address - first)
 
 -- the words of the object that begins at an address, if it is marked
 abbrev pub kept_of : (first : ℕ) (heap : List ℕ) (marks : List Bool) → ℕ → ℕ
@@ -40,28 +40,28 @@ from_table first places word = if word == 0 then 0 else word_of first places wor
 
 -- each reference of a kept object is null, or the table has an entry for its address
 abbrev pub AreInTable : (first : ℕ) (kept heap : ℕ → ℕ) (places : List ℕ) → Type 0
-AreInTable first kept heap places = (a i : ℕ) → 0 < kept a → i < refs_in (heap (a + 1)) → IsInTable first places (heap (a + (3 + i)))
+AreInTable first kept heap places = (address i : ℕ) → 0 < kept address → i < refs_in (heap (address + 1)) → IsInTable first places (heap (address + (3 + i)))
 
 -- An object was moved from one index to another, and no other word was changed.
 pub record IsMovedTo (renew : ℕ → ℕ) (from to : ℕ) (before after : List ℕ) : Type 0 where
   pub moved : (i : ℕ) → i < object_words (slice_index before (from + 1)) → slice_index after (to + i) ≡ slid_word renew (slice_index before) from i
-  pub below : (k : ℕ) → k < to → slice_index after k ≡ slice_index before k
-  pub behind : (k : ℕ) → to + object_words (slice_index before (from + 1)) ≤ k → slice_index after k ≡ slice_index before k
+  pub below : (index : ℕ) → index < to → slice_index after index ≡ slice_index before index
+  pub behind : (index : ℕ) → to + object_words (slice_index before (from + 1)) ≤ index → slice_index after index ≡ slice_index before index
 
 -- the index of the current copy of what begins at an index: that of the address in its header, if that is forwarded to
 -- an address of the heap, and else its own
 abbrev pub current_index : (first : ℕ) (heap : List ℕ) → ℕ → ℕ
-current_index first heap k =
-    if is_forwarded (slice_index heap k) && (nat_le first (forwardee_in (slice_index heap k)) && nat_lt (forwardee_in (slice_index heap k)) (first + length heap))
-    then forwardee_in (slice_index heap k) - first else k
+current_index first heap address =
+    if is_forwarded (slice_index heap address) && (nat_le first (forwardee_in (slice_index heap address)) && nat_lt (forwardee_in (slice_index heap address)) (first + length heap))
+    then forwardee_in (slice_index heap address) - first else address
 
 -- what begins at an index is its own current copy
 abbrev pub IsOwnCopy : (first : ℕ) (heap : List ℕ) → ℕ → Type 0
-IsOwnCopy first heap k = current_index first heap k ≡ k
+IsOwnCopy first heap address = current_index first heap address ≡ address
 
 -- the address of the current copy of what begins at an address, by its header
 abbrev pub now_of : (first : ℕ) (heap : List ℕ) → ℕ → ℕ
-now_of first heap a = if is_forwarded (word_of first heap a) then forwardee_in (word_of first heap a) else a
+now_of first heap address = if is_forwarded (word_of first heap address) then forwardee_in (word_of first heap address) else address
 
 -- a word is null, or the address of an old or current copy in the heap whose current copy is kept
 abbrev pub LeadsToKept : (first : ℕ) (heap : List ℕ) (marks : List Bool) → ℕ → Type 0
@@ -71,8 +71,8 @@ LeadsToKept first heap marks word =
 -- What is marked can be packed: marked objects are current copies, and their references lead to marked ones.
 pub record CanCompact (first : ℕ) (heap : List ℕ) (marks : List Bool) : Type 0 where
   pub marked : IsMarkedHeap first heap marks
-  pub current : (a : ℕ) → 0 < kept_of first heap marks a → now_of first heap a ≡ a
-  pub closed : (a i : ℕ) → 0 < kept_of first heap marks a → i < refs_in (word_of first heap (a + 1)) → LeadsToKept first heap marks (word_of first heap (a + (3 + i)))
+  pub current : (address : ℕ) → 0 < kept_of first heap marks address → now_of first heap address ≡ address
+  pub closed : (address i : ℕ) → 0 < kept_of first heap marks address → i < refs_in (word_of first heap (address + 1)) → LeadsToKept first heap marks (word_of first heap (address + (3 + i)))
 
 -- the place of a marked object, around the regions that are shut
 abbrev pub place_of : (first : ℕ) (shut : ℕ → Bool) (heap : List ℕ) (marks : List Bool) → ℕ → ℕ

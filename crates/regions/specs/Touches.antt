@@ -7,8 +7,8 @@ use Rattle.regions.specs.Marks.{mark_word, mark_mask}
 
 -- the access that makes an address grey
 abbrev pub grey_touch : Config → ℕ → Touch
-grey_touch c address = touch (Grey (mark_word c address)) (sets_bits (mark_mask c address))
+grey_touch config address = touch (Grey (mark_word config address)) (sets_bits (mark_mask config address))
 
 -- the access that makes it black
 abbrev pub black_touch : Config → ℕ → Touch
-black_touch c address = touch (Black (mark_word c address)) (sets_bits (mark_mask c address))
+black_touch config address = touch (Black (mark_word config address)) (sets_bits (mark_mask config address))

@@ -94,5 +94,5 @@ abbrev pub WalkStaysInRegion : Type 0
 WalkStaysInRegion =
     (config : Config) (heap : ℕ → ℕ) (region top : ℕ) (addresses : List ℕ) → top ≤ config.region_words
     → Walks (stride_at heap) (base_of config region) (base_of config region + top) addresses
-    → (a : ℕ) → Contains addresses a
-    → IsOf config region a × IsOf config region (a + stride_at heap a - 1)
+    → (address : ℕ) → Contains addresses address
+    → IsOf config region address × IsOf config region (address + stride_at heap address - 1)

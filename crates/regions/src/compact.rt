@@ -26,8 +26,8 @@ pub fn compact_marked(
     requires few { length tops.old ≤ 64 }
     ensures slid { IsSlidTo (region_words + length heap.old) region_words (place_of region_words (placing.is_shut shut) heap.old marks.now) (kept_of region_words heap.old marks.now)
         (renewed (place_of region_words (placing.is_shut shut) heap.old marks.now) (now_of region_words heap.old)) (word_of region_words heap.old) (word_of region_words heap.new) }
-    ensures tops { (r : ℕ) → r < length tops.old → slice_index tops.new r
-        ≡ (if placing.is_shut shut (r + 1) then slice_index tops.old r else top_before region_words (placing.is_shut shut) (kept_of region_words heap.old marks.now) r (region_words + length heap.old)) }
+    ensures tops { (index : ℕ) → index < length tops.old → slice_index tops.new index
+        ≡ (if placing.is_shut shut (index + 1) then slice_index tops.old index else top_before region_words (placing.is_shut shut) (kept_of region_words heap.old marks.now) index (region_words + length heap.old)) }
     ensures renews { (word : ℕ) → LeadsToKept region_words heap.old marks.now word → IsRenewedBy region_words (placing.is_shut shut) heap.old marks.now places.new word }
 {
     assign(region_words, shut, heap, marks, places, tops);

@@ -25,8 +25,8 @@ fn current_index(first: u64, heap: &[u64], index: usize) -> usize
 pub fn follow(first: u64, heap: &[u64], places: &mut [u64])
     requires table { length places.old ≡ length heap.now }
     requires small { first + length heap.now ≤ 2 ^ 32 }
-    ensures { (k : ℕ) → k < length heap.now → IsOwnCopy first heap.now (current_index first heap.now k)
-        → slice_index places.new k ≡ slice_index places.old (current_index first heap.now k) }
+    ensures { (index : ℕ) → index < length heap.now → IsOwnCopy first heap.now (current_index first heap.now index)
+        → slice_index places.new index ≡ slice_index places.old (current_index first heap.now index) }
 {
     for index in 0..heap.len() {
         places[index] = places[current_index(first, heap, index)];

@@ -78,7 +78,7 @@ pub fn place_around(region_words: u64, shut: u64, at: u64, words: u64) -> u64
 // Makes the tops of the regions that are not shut 0.
 fn clear_open(shut: u64, tops: &mut [u64])
     ensures length { length tops.new ≡ length tops.old }
-    ensures tops { (r : ℕ) → r < length tops.old → slice_index tops.new r ≡ (if placing.is_shut shut (r + 1) then slice_index tops.old r else 0) }
+    ensures tops { (index : ℕ) → index < length tops.old → slice_index tops.new index ≡ (if placing.is_shut shut (index + 1) then slice_index tops.old index else 0) }
 {
     for (region, top) in tops.iter_mut().enumerate() {
         if !is_shut(shut, region as u64 + 1) {
@@ -103,8 +103,8 @@ pub fn assign(
     requires regions { length heap.now ≡ length tops.old * region_words }
     requires few { length tops.old ≤ 64 }
     ensures places { HavePlaces region_words (placing.is_shut shut) (kept_of region_words heap.now marks.now) places.new }
-    ensures tops { (r : ℕ) → r < length tops.old → slice_index tops.new r
-        ≡ (if placing.is_shut shut (r + 1) then slice_index tops.old r else top_before region_words (placing.is_shut shut) (kept_of region_words heap.now marks.now) r (region_words + length heap.now)) }
+    ensures tops { (index : ℕ) → index < length tops.old → slice_index tops.new index
+        ≡ (if placing.is_shut shut (index + 1) then slice_index tops.old index else top_before region_words (placing.is_shut shut) (kept_of region_words heap.now marks.now) index (region_words + length heap.now)) }
 {
     clear_open(shut, tops);
     let mut end = region_words;

@@ -24,16 +24,16 @@ recording_from memory = record { memory = memory; spot = LoadCount }
 
 -- what was recorded in one is recorded in the other
 abbrev pub KeepsRecorded : Config → ℕ → Recording → Recording → Type 0
-KeepsRecorded c mutator one other = (x : ℕ) → IsRecorded c one.memory mutator x → IsRecorded c other.memory mutator x
+KeepsRecorded config mutator one other = (x : ℕ) → IsRecorded config one.memory mutator x → IsRecorded config other.memory mutator x
 
-module _ (c : Config) (mutator address : ℕ) where
+module _ (config : Config) (mutator address : ℕ) where
   -- the word that the mutator finds
   abbrev pub word_found : Recording → ℕ
-  word_found s = s.memory (touch_at c mutator address s.spot).word
+  word_found s = s.memory (touch_at config mutator address s.spot).word
 
   -- what a move makes of it
   abbrev pub after_move : Recording → Move → Recording
-  after_move s own = record { memory = touched s.memory (touch_at c mutator address s.spot); spot = next_at s.spot (word_found s) }
+  after_move s own = record { memory = touched s.memory (touch_at config mutator address s.spot); spot = next_at s.spot (word_found s) }
   after_move s (others after) = record { memory = after; spot = s.spot }
 
   -- what moves make of it, one after the other
@@ -54,21 +54,21 @@ module _ (c : Config) (mutator address : ℕ) where
   -- what holds after each list of moves from the words in which it began
   pub record RecordingHolds (s : Recording) : Type 0 where
     -- the mutator's buffer is one
-    pub buffer : IsSatbBuffer c s.memory mutator
+    pub buffer : IsSatbBuffer config s.memory mutator
     -- its next access can be made, and the word that it finds is fit
-    pub ready : is_ready c s.spot ≡ true
-    pub fits : is_ended s.spot ≡ false → IsFit c s.spot (word_found s)
+    pub ready : is_ready config s.spot ≡ true
+    pub fits : is_ended s.spot ≡ false → IsFit config s.spot (word_found s)
     -- at the end the address is recorded
-    pub recorded : s.spot ≡ Recorded → IsRecorded c s.memory mutator address
+    pub recorded : s.spot ≡ Recorded → IsRecorded config s.memory mutator address
 
 -- The recording of an address of the heap, from words in which the mutator's buffer is one, whatever others do.
 pub record RecordingIsKept : Type 0 where
   -- at its end the address is grey or in the buffer
-  pub each : (c : Config) (mutator address : ℕ) (memory : Word → ℕ) (moves : List Move)
-      → IsWord c (Heap address) → IsSatbBuffer c memory mutator → AreMoves c mutator address (recording_from memory) moves
-      → RecordingHolds c mutator address (after_moves c mutator address (recording_from memory) moves)
+  pub each : (config : Config) (mutator address : ℕ) (memory : Word → ℕ) (moves : List Move)
+      → IsWord config (Heap address) → IsSatbBuffer config memory mutator → AreMoves config mutator address (recording_from memory) moves
+      → RecordingHolds config mutator address (after_moves config mutator address (recording_from memory) moves)
   -- and what was recorded at any time stays so
-  pub keeps : (c : Config) (mutator address : ℕ) (memory : Word → ℕ) (moves more : List Move)
-      → IsWord c (Heap address) → IsSatbBuffer c memory mutator → AreMoves c mutator address (recording_from memory) (moves ++ more)
-      → KeepsRecorded c mutator (after_moves c mutator address (recording_from memory) moves)
-      (after_moves c mutator address (recording_from memory) (moves ++ more))
+  pub keeps : (config : Config) (mutator address : ℕ) (memory : Word → ℕ) (moves more : List Move)
+      → IsWord config (Heap address) → IsSatbBuffer config memory mutator → AreMoves config mutator address (recording_from memory) (moves ++ more)
+      → KeepsRecorded config mutator (after_moves config mutator address (recording_from memory) moves)
+      (after_moves config mutator address (recording_from memory) (moves ++ more))

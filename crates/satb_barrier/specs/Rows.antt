@@ -25,13 +25,13 @@ place_at Recorded = place.BN
 
 -- the next access, of the mutator that records the address
 abbrev pub touch_at : Config → ℕ → ℕ → RememberSpot → Touch
-touch_at c mutator address LoadCount = touch (Count mutator) loads
-touch_at c mutator address (LoadEntry entry) = touch (Buffer mutator entry) loads
-touch_at c mutator address (MarkEntry entry found) = grey_touch c found
-touch_at c mutator address ClearCount = touch (Count mutator) (stores 0)
-touch_at c mutator address (StoreEntry entry) = touch (Buffer mutator entry) (stores address)
-touch_at c mutator address (StoreCount entry) = touch (Count mutator) (stores (entry + 1))
-touch_at c mutator address Recorded = touch (Count mutator) loads
+touch_at config mutator address LoadCount = touch (Count mutator) loads
+touch_at config mutator address (LoadEntry entry) = touch (Buffer mutator entry) loads
+touch_at config mutator address (MarkEntry entry found) = grey_touch config found
+touch_at config mutator address ClearCount = touch (Count mutator) (stores 0)
+touch_at config mutator address (StoreEntry entry) = touch (Buffer mutator entry) (stores address)
+touch_at config mutator address (StoreCount entry) = touch (Count mutator) (stores (entry + 1))
+touch_at config mutator address Recorded = touch (Count mutator) loads
 
 -- what follows, by the word that was found
 abbrev pub next_at : RememberSpot → ℕ → RememberSpot
@@ -61,14 +61,14 @@ says_at _ = More
 
 -- whether the numbers of a spot are in range: there is such an entry, and what was found in it is an address of the heap
 abbrev pub is_ready : Config → RememberSpot → Bool
-is_ready c (LoadEntry entry) = nat_lt entry 8
-is_ready c (MarkEntry entry found) = nat_lt entry 8 && is_word c (Heap found)
-is_ready c (StoreEntry entry) = nat_lt entry 8
-is_ready c (StoreCount entry) = nat_lt entry 8
-is_ready c _ = true
+is_ready config (LoadEntry entry) = nat_lt entry 8
+is_ready config (MarkEntry entry found) = nat_lt entry 8 && is_word config (Heap found)
+is_ready config (StoreEntry entry) = nat_lt entry 8
+is_ready config (StoreCount entry) = nat_lt entry 8
+is_ready config _ = true
 
 -- the word is fit: no count is above 8, and each entry is an address of the heap
 abbrev pub IsFit : Config → RememberSpot → ℕ → Type 0
-IsFit c LoadCount got = got ≤ 8
-IsFit c (LoadEntry entry) got = IsWord c (Heap got)
-IsFit c _ got = ⊤
+IsFit config LoadCount got = got ≤ 8
+IsFit config (LoadEntry entry) got = IsWord config (Heap got)
+IsFit config _ got = ⊤

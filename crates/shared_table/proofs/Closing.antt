@@ -29,8 +29,8 @@ module _ {R : Type 0} where
   pub whole-is : (machines : List R) → HasAllMachines (length machines) (whole machines)
   whole-is machines = record { all = ap whole (sym (machines_of-whole machines)); counts = length-whole machines }
 
-  pub whole_has_all : (machines : List R) (views : List (View R)) → IsDealt machines views → (id : ℕ) (v : View R) → get_elem? views id ≡ some v → HasAllMachines (length machines) v → machines_of v ≡ machines
-  whole_has_all machines views dealt id v at all =
-      sym (same_elements machines (machines_of v)
-      (sym all.counts ∙ ap length all.all ∙ length-whole (machines_of v))
-      (λ k r here. machine-is machines views dealt id v at k r (ap (λ x. machine_of x k) all.all ∙ machine_of-whole (machines_of v) k ∙ here)))
+  pub whole_has_all : (machines : List R) (views : List (View R)) → IsDealt machines views → (id : ℕ) (view : View R) → get_elem? views id ≡ some view → HasAllMachines (length machines) view → machines_of view ≡ machines
+  whole_has_all machines views dealt id view at all =
+      sym (same_elements machines (machines_of view)
+      (sym all.counts ∙ ap length all.all ∙ length-whole (machines_of view))
+      (λ k r here. machine-is machines views dealt id view at k r (ap (λ x. machine_of x k) all.all ∙ machine_of-whole (machines_of view) k ∙ here)))

@@ -35,31 +35,31 @@ module _ {R : Type 0} where
   -- a view has all machines where it has them without the numbers
   pub all_counted : (count : ℕ) (view : View (Counted R)) → HasAllMachines count (uncounted_view view) → HasAllMachines count view
   all_counted count view all = record {
-    all = all_here view (λ k below.
-        sym (kept_some uncounted_machine view k) ∙ ap (λ (v : View R). is_some (machine_of v k)) all.all
-        ∙ whole_here (machines_of (uncounted_view view)) k (within k below));
+    all = all_here view (λ index below.
+        sym (kept_some uncounted_machine view index) ∙ ap (λ (view : View R). is_some (machine_of view index)) all.all
+        ∙ whole_here (machines_of (uncounted_view view)) index (within index below));
     counts = sym long ∙ all.counts;
   }
     where
       long : length (uncounted_view view) ≡ length view
       long = length-kept uncounted_machine view
 
-      within : (k : ℕ) → k < length view → k < length (machines_of (uncounted_view view))
-      within k below = let whole_long : length (uncounted_view view) ≡ length (machines_of (uncounted_view view)) = ap length all.all ∙ length-whole (machines_of (uncounted_view view)) in omega (arith, below, long, whole_long)
+      within : (index : ℕ) → index < length view → index < length (machines_of (uncounted_view view))
+      within index below = let whole_long : length (uncounted_view view) ≡ length (machines_of (uncounted_view view)) = ap length all.all ∙ length-whole (machines_of (uncounted_view view)) in omega (arith, below, long, whole_long)
 
 module _ {R O : Type 0} (kind : MachineKind R O) where
-  act-uncounted : (s : Stage (Counted R)) (e : Event O) → uncounted_stage (act (counting kind) s e) ≡ act kind (uncounted_stage s) e
+  act-uncounted : (s : Stage (Counted R)) (event : Event O) → uncounted_stage (act (counting kind) s event) ≡ act kind (uncounted_stage s) event
   unfolding act
-  act-uncounted s e = by_machine (slice_get s.machines e.number) ∙ ap (act_of kind (uncounted_stage s) e) (sym (slice_get-map uncounted_machine s.machines e.number))
+  act-uncounted s event = by_machine (slice_get s.machines event.number) ∙ ap (act_of kind (uncounted_stage s) event) (sym (slice_get-map uncounted_machine s.machines event.number))
     where
-      by_order : (x : Counted R) (b : Bool)
-          → uncounted_stage (if b then moved (counting kind) s e.number x e.order else s) ≡ (if b then moved kind (uncounted_stage s) e.number x.machine e.order else uncounted_stage s)
-      by_order x true = ap (λ (rs : List R). record { words = accessed (kind.plan x.machine e.order) s.words; machines = rs }) (map-set uncounted_machine s.machines e.number _)
+      by_order : (x : Counted R) (holds : Bool)
+          → uncounted_stage (if holds then moved (counting kind) s event.number x event.order else s) ≡ (if holds then moved kind (uncounted_stage s) event.number x.machine event.order else uncounted_stage s)
+      by_order x true = ap (λ (rs : List R). record { words = accessed (kind.plan x.machine event.order) s.words; machines = rs }) (map-set uncounted_machine s.machines event.number _)
       by_order x false = refl
 
-      by_machine : (m : Option (Counted R)) → uncounted_stage (act_of (counting kind) s e m) ≡ act_of kind (uncounted_stage s) e (option_map uncounted_machine m)
+      by_machine : (found : Option (Counted R)) → uncounted_stage (act_of (counting kind) s event found) ≡ act_of kind (uncounted_stage s) event (option_map uncounted_machine found)
       by_machine None = refl
-      by_machine (Some x) = by_order x (kind.takes x.machine e.order)
+      by_machine (Some x) = by_order x (kind.takes x.machine event.order)
 
   go-uncounted : (s : Stage (Counted R)) (events : List (Event O)) → uncounted_stage (go (counting kind) s events) ≡ go kind (uncounted_stage s) events
   unfolding go

@@ -8,7 +8,7 @@ use Rattle.shared_table.proofs.ViewsShow.{machine_of-picked, machine_of-merged}
 
 module _ {R : Type 0} where
   -- views as long as each other are one where they have the same machines
-  pub same_view : (v w : View R) → length v ≡ length w → ((k : ℕ) → machine_of v k ≡ machine_of w k) → v ≡ w
+  pub same_view : (view other_view : View R) → length view ≡ length other_view → ((k : ℕ) → machine_of view k ≡ machine_of other_view k) → view ≡ other_view
   same_view [] [] long each = refl
   same_view [] (y ∷ ys) long each = absurd (omega arith)
   same_view (x ∷ xs) [] long each = absurd (omega arith)
@@ -21,7 +21,7 @@ module _ {R : Type 0} where
   length-picked test [] = refl
   length-picked test (x ∷ xs) = ap suc (length-picked (λ k. test (suc k)) xs)
 
-  pub length-merged : (v w : View R) → length v ≡ length w → length (merged v w) ≡ length v
+  pub length-merged : (view other_view : View R) → length view ≡ length other_view → length (merged view other_view) ≡ length view
   length-merged [] [] long = refl
   length-merged [] (y ∷ ys) long = absurd (omega arith)
   length-merged (x ∷ xs) [] long = refl
@@ -40,9 +40,9 @@ module _ {R : Type 0} where
       let c = machine_of-picked r view k in
       rw (a, b, c, ← both k) (by_tests (p k) (q k) (machine_of view k)))
     where
-      by_tests : (a b : Bool) (x : Option R) → (if a then (if b then x else None) else None) ≡ (if (if a then b else false) then x else None)
-      by_tests true b x = refl
-      by_tests false b x = refl
+      by_tests : (a b : Bool) (found : Option R) → (if a then (if b then found else None) else None) ≡ (if (if a then b else false) then found else None)
+      by_tests true b found = refl
+      by_tests false b found = refl
 
   -- what passes one test or another, of two parts of one view
   pub merged_picked : (p q r : ℕ → Bool) (view : View R) → ((k : ℕ) → (if p k then true else q k) ≡ r k) → merged (machines_picked p view) (machines_picked q view) ≡ machines_picked r view
@@ -54,14 +54,14 @@ module _ {R : Type 0} where
       let d = machine_of-picked r view k in
       rw (a, b, c, d, ← one k) (by_tests (p k) (q k) (machine_of view k)))
     where
-      by_tests : (a b : Bool) (x : Option R) → whichever_is_there (if a then x else None) (if b then x else None) ≡ (if (if a then true else b) then x else None)
+      by_tests : (a b : Bool) (found : Option R) → whichever_is_there (if a then found else None) (if b then found else None) ≡ (if (if a then true else b) then found else None)
       by_tests true b None = by_b b
         where
           by_b : (b : Bool) → ◌≡◌ {A = Option R} (if b then None else None) None
           by_b true = refl
           by_b false = refl
       by_tests true b (Some r) = refl
-      by_tests false b x = refl
+      by_tests false b found = refl
 
   -- what passes every test
   pub picked_all : (p : ℕ → Bool) (view : View R) → ((k : ℕ) → p k ≡ true) → machines_picked p view ≡ view
@@ -71,7 +71,7 @@ module _ {R : Type 0} where
   pub merged_rest : (p : ℕ → Bool) (view : View R) → merged (machines_left p view) (machines_picked p view) ≡ view
   merged_rest p view = merged_picked (λ k. not (p k)) p (λ k. true) view (λ k. or_not (p k)) ∙ picked_all (λ k. true) view (λ k. refl)
     where
-      or_not : (b : Bool) → (if not b then true else b) ≡ true
+      or_not : (holds : Bool) → (if not holds then true else holds) ≡ true
       or_not true = refl
       or_not false = refl
 

@@ -23,10 +23,10 @@ module _ {R T : Type 0} (kept : R → T) where
   kept-whole [] = refl
   kept-whole (r ∷ rs) = ap (λ (xs : View T). Some (kept r) ∷ xs) (kept-whole rs)
 
-  pub kept-set : (view : View R) (number : ℕ) (x : Option R) → kept_in_view kept (slice_set view number x) ≡ slice_set (kept_in_view kept view) number (kept_one kept x)
-  kept-set [] number x = refl
-  kept-set (y ∷ ys) zero x = refl
-  kept-set (y ∷ ys) (suc number) x = ap (λ (xs : View T). kept_one kept y ∷ xs) (kept-set ys number x)
+  pub kept-set : (view : View R) (number : ℕ) (found : Option R) → kept_in_view kept (slice_set view number found) ≡ slice_set (kept_in_view kept view) number (kept_one kept found)
+  kept-set [] number found = refl
+  kept-set (y ∷ ys) zero found = refl
+  kept-set (y ∷ ys) (suc number) found = ap (λ (xs : View T). kept_one kept y ∷ xs) (kept-set ys number found)
 
   pub kept-picked : (test : ℕ → Bool) (view : View R) → kept_in_view kept (machines_picked test view) ≡ machines_picked test (kept_in_view kept view)
   kept-picked test [] = refl
@@ -35,27 +35,27 @@ module _ {R T : Type 0} (kept : R → T) where
       let tail : kept_in_view kept (machines_picked (λ k. test (suc k)) xs) ≡ machines_picked (λ k. test (suc k)) (kept_in_view kept xs) = kept-picked (λ k. test (suc k)) xs in
       λ i. head i ∷ tail i
     where
-      by_test : (b : Bool) (y : Option R) → kept_one kept (if b then y else None) ≡ (if b then kept_one kept y else None)
-      by_test true y = refl
-      by_test false y = refl
+      by_test : (holds : Bool) (found : Option R) → kept_one kept (if holds then found else None) ≡ (if holds then kept_one kept found else None)
+      by_test true found = refl
+      by_test false found = refl
 
-  pub kept-merged : (v w : View R) → kept_in_view kept (merged v w) ≡ merged (kept_in_view kept v) (kept_in_view kept w)
-  kept-merged [] w = refl
-  kept-merged (x ∷ xs) [] = refl
-  kept-merged (x ∷ xs) (y ∷ ys) =
-      let head : kept_one kept (whichever_is_there x y) ≡ whichever_is_there (kept_one kept x) (kept_one kept y) = by_cases x y in
+  pub kept-merged : (view other_view : View R) → kept_in_view kept (merged view other_view) ≡ merged (kept_in_view kept view) (kept_in_view kept other_view)
+  kept-merged [] other_view = refl
+  kept-merged (found ∷ xs) [] = refl
+  kept-merged (found ∷ xs) (other_found ∷ ys) =
+      let head : kept_one kept (whichever_is_there found other_found) ≡ whichever_is_there (kept_one kept found) (kept_one kept other_found) = by_cases found other_found in
       let tail : kept_in_view kept (merged xs ys) ≡ merged (kept_in_view kept xs) (kept_in_view kept ys) = kept-merged xs ys in
       λ i. head i ∷ tail i
     where
-      by_cases : (x y : Option R) → kept_one kept (whichever_is_there x y) ≡ whichever_is_there (kept_one kept x) (kept_one kept y)
-      by_cases None y = refl
-      by_cases (Some r) y = refl
+      by_cases : (found other_found : Option R) → kept_one kept (whichever_is_there found other_found) ≡ whichever_is_there (kept_one kept found) (kept_one kept other_found)
+      by_cases None other_found = refl
+      by_cases (Some r) other_found = refl
 
   -- a machine in memory is one of the view
   pub kept_here : (view : View R) (number : ℕ) (t : T) → machine_of (kept_in_view kept view) number ≡ Some t → (r : R) × (machine_of view number ≡ Some r) × (kept r ≡ t)
   kept_here view number t here = by_machine (machine_of view number) refl
     where
-      by_machine : (m : Option R) → machine_of view number ≡ m → (r : R) × (machine_of view number ≡ Some r) × (kept r ≡ t)
+      by_machine : (found : Option R) → machine_of view number ≡ found → (r : R) × (machine_of view number ≡ Some r) × (kept r ≡ t)
       by_machine None is = absurd (let a = machine_of-kept view number in let b : kept_one kept (machine_of view number) ≡ None = ap (kept_one kept) is in cc)
       by_machine (Some r) is = (r, is, (let a = machine_of-kept view number in let b : kept_one kept (machine_of view number) ≡ Some (kept r) = ap (kept_one kept) is in cc))
 
@@ -63,7 +63,7 @@ module _ {R T : Type 0} (kept : R → T) where
   pub kept_some : (view : View R) (number : ℕ) → is_some (machine_of (kept_in_view kept view) number) ≡ is_some (machine_of view number)
   kept_some view number = ap is_some (machine_of-kept view number) ∙ by_machine (machine_of view number)
     where
-      by_machine : (m : Option R) → is_some (kept_one kept m) ≡ is_some m
+      by_machine : (found : Option R) → is_some (kept_one kept found) ≡ is_some found
       by_machine None = refl
       by_machine (Some r) = refl
 

@@ -11,26 +11,26 @@ use Rattle.shared_table.proofs.Closing.{length-whole}
 use Rattle.shared_table.proofs.Dealing.{length-merged}
 
 module _ {R : Type 0} where
-  pub same_none : (v : View R) → SameNumbers v v
-  same_none v = record { long = refl; here = λ k. refl }
+  pub same_none : (view : View R) → SameNumbers view view
+  same_none view = record { long = refl; here = λ k. refl }
 
   pub same_more : (v w x : View R) → SameNumbers v w → SameNumbers w x → SameNumbers v x
   same_more v w x a b = record { long = b.long ∙ a.long; here = λ k. b.here k ∙ a.here k }
 
   -- a machine goes on
-  pub same_step : (v : View R) (number : ℕ) (r next : R) → machine_of v number ≡ Some r → SameNumbers v (slice_set v number (Some next))
-  same_step v number r next here = record {
+  pub same_step : (view : View R) (number : ℕ) (r next : R) → machine_of view number ≡ Some r → SameNumbers view (slice_set view number (Some next))
+  same_step view number r next here = record {
     long = length-set _ _ _;
-    here = λ k. ap is_some (machine_of-set v number r (Some next) here k) ∙ by_number k (k == number) refl;
+    here = λ k. ap is_some (machine_of-set view number r (Some next) here k) ∙ by_number k (k == number) refl;
   }
     where
-      by_number : (k : ℕ) (b : Bool) → (k == number) ≡ b → is_some (if k == number then Some next else machine_of v k) ≡ is_some (machine_of v k)
-      by_number k true is = let same : k ≡ number = grind (arith, nat_tests) in rw is (sym (ap is_some (ap (machine_of v) same ∙ here)))
+      by_number : (k : ℕ) (holds : Bool) → (k == number) ≡ holds → is_some (if k == number then Some next else machine_of view k) ≡ is_some (machine_of view k)
+      by_number k true is = let same : k ≡ number = grind (arith, nat_tests) in rw is (sym (ap is_some (ap (machine_of view) same ∙ here)))
       by_number k false is = rw is refl
 
-  some_of : (x y : Option R) → is_some (whichever_is_there x y) ≡ (is_some x || is_some y)
-  some_of None y = refl
-  some_of (Some r) y = refl
+  some_of : (found other_found : Option R) → is_some (whichever_is_there found other_found) ≡ (is_some found || is_some other_found)
+  some_of None other_found = refl
+  some_of (Some r) other_found = refl
 
   -- bundles are joined
   pub same_merged : (v w x y : View R) → length v ≡ length x → SameNumbers v w → SameNumbers x y → SameNumbers (merged v x) (merged w y)
@@ -43,20 +43,20 @@ module _ {R : Type 0} where
   }
 
   -- where each number has its machine, the view has all
-  pub all_here : (v : View R) → ((k : ℕ) → k < length v → is_some (machine_of v k) ≡ true) → v ≡ whole (machines_of v)
+  pub all_here : (view : View R) → ((index : ℕ) → index < length view → is_some (machine_of view index) ≡ true) → view ≡ whole (machines_of view)
   all_here [] each = refl
   all_here (None ∷ xs) each = absurd (let a = each 0 (omega arith) in cc)
-  all_here (Some r ∷ xs) each = ap (λ (ys : View R). Some r ∷ ys) (all_here xs (λ k within. each (suc k) (omega arith)))
+  all_here (Some r ∷ xs) each = ap (λ (ys : View R). Some r ∷ ys) (all_here xs (λ index within. each (suc index) (omega arith)))
 
-  pub whole_here : (machines : List R) (k : ℕ) → k < length machines → is_some (machine_of (whole machines) k) ≡ true
-  whole_here [] k within = absurd (omega arith)
+  pub whole_here : (machines : List R) (index : ℕ) → index < length machines → is_some (machine_of (whole machines) index) ≡ true
+  whole_here [] index within = absurd (omega arith)
   whole_here (r ∷ rs) zero within = refl
-  whole_here (r ∷ rs) (suc k) within = whole_here rs k (omega arith)
+  whole_here (r ∷ rs) (suc index) within = whole_here rs index (omega arith)
 
   -- the machines of the opening have gone on
-  pub same_whole : (machines : List R) (v : View R) → SameNumbers (whole machines) v → HasAllMachines (length machines) v
-  same_whole machines v same = record {
-    all = all_here v (λ k within. same.here k ∙ whole_here machines k (let a : length v ≡ length machines = same.long ∙ length-whole machines in omega arith));
+  pub same_whole : (machines : List R) (view : View R) → SameNumbers (whole machines) view → HasAllMachines (length machines) view
+  same_whole machines view same = record {
+    all = all_here view (λ k within. same.here k ∙ whole_here machines k (let a : length view ≡ length machines = same.long ∙ length-whole machines in omega arith));
     counts = same.long ∙ length-whole machines;
   }
 

@@ -18,16 +18,16 @@ module _ {R O : Type 0} (kind : MachineKind R O) (start : Stage R) where
   pub reached_picked : (test : ℕ → Bool) (view : View R) → AreReached kind start view → AreReached kind start (machines_picked test view)
   reached_picked test view each number r here = each number r (by_test (test number) (sym (machine_of-picked test view number) ∙ here))
     where
-      by_test : (b : Bool) → (if b then machine_of view number else None) ≡ Some r → machine_of view number ≡ Some r
+      by_test : (holds : Bool) → (if holds then machine_of view number else None) ≡ Some r → machine_of view number ≡ Some r
       by_test true is = is
       by_test false is = cc
 
-  pub reached_merged : (v w : View R) → AreReached kind start v → AreReached kind start w → AreReached kind start (merged v w)
-  reached_merged v w each other number r here = by_machine (machine_of v number) refl (sym (machine_of-merged v w number) ∙ here)
+  pub reached_merged : (view other_view : View R) → AreReached kind start view → AreReached kind start other_view → AreReached kind start (merged view other_view)
+  reached_merged view other_view each other number r here = by_machine (machine_of view number) refl (sym (machine_of-merged view other_view number) ∙ here)
     where
-      by_machine : (m : Option R) → machine_of v number ≡ m → whichever_is_there (machine_of v number) (machine_of w number) ≡ Some r → ∥ HasReached kind start number r ∥₁
-      by_machine None is one = other number r (sym (ap (λ x. whichever_is_there x (machine_of w number)) is) ∙ one)
-      by_machine (Some q) is one = each number r (is ∙ sym (ap (λ x. whichever_is_there x (machine_of w number)) is) ∙ one)
+      by_machine : (found : Option R) → machine_of view number ≡ found → whichever_is_there (machine_of view number) (machine_of other_view number) ≡ Some r → ∥ HasReached kind start number r ∥₁
+      by_machine None is one = other number r (sym (ap (λ x. whichever_is_there x (machine_of other_view number)) is) ∙ one)
+      by_machine (Some q) is one = each number r (is ∙ sym (ap (λ x. whichever_is_there x (machine_of other_view number)) is) ∙ one)
 
   pub reached_step : {S : Type 0} (number : ℕ) (order : O) (before after : Me S (View R)) (got : ℕ) → Took kind start number order before got after → AreReached kind start before.0 → AreReached kind start after.0
   reached_step number order before after got took each k r here = by_number (k == number) refl
@@ -38,7 +38,7 @@ module _ {R O : Type 0} (kind : MachineKind R O) (start : Stage R) where
       there : (if k == number then Some (kind.took took.machine order got) else machine_of before.0 k) ≡ Some r
       there = sym (machine_of-set before.0 number took.machine (Some (kind.took took.machine order got)) took.here k) ∙ sym (ap (λ v. machine_of v k) took.view) ∙ here
 
-      by_number : (b : Bool) → (k == number) ≡ b → ∥ HasReached kind start k r ∥₁
+      by_number : (holds : Bool) → (k == number) ≡ holds → ∥ HasReached kind start k r ∥₁
       by_number true is =
           let same : k ≡ number = grind (arith, nat_tests) in
           let new : kind.took took.machine order got ≡ r = let a = there in cc (rw is at there) in

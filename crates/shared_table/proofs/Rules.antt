@@ -25,7 +25,7 @@ module _ {R O : Type 0} (kind : MachineKind R O) (start : Stage R) {S : Type 0} 
   opens slots = record {
     events = [];
     words_are = ap (λ x. x.words) (sym (go-none kind start));
-    dealt = subst (λ (x : Stage R). IsDealt x.machines (whole start.machines ∷ [])) (sym (go-none kind start)) (dealt_first start.machines);
+    dealt = subst (λ (stage : Stage R). IsDealt stage.machines (whole start.machines ∷ [])) (sym (go-none kind start)) (dealt_first start.machines);
   }
 
   module _ (id number : ℕ) (me : Me S (View R)) (r : R) (order : O) (here : machine_of me.0 number ≡ Some r) (takes : kind.takes r order ≡ true) where
@@ -72,7 +72,7 @@ module _ {R O : Type 0} (kind : MachineKind R O) (start : Stage R) {S : Type 0} 
     pub moves : (slots : ℕ) (access : Access) → kind.plan r order ≡ access
         → Allows (Rule kind start) slots id me (table_index access) (made_of access) (λ found. Took kind start number order me found)
     moves slots access planned =
-        subst (λ (a : Access). Allows (Rule kind start) slots id me (table_index a) (made_of a) (λ found. Took kind start number order me found)) planned
+        subst (λ (access : Access). Allows (Rule kind start) slots id me (table_index access) (made_of access) (λ found. Took kind start number order me found)) planned
         (λ s kept homes at small. let m = planned_move s kept at in (_, keeps, tt, m.0, m.1))
 
   pub splits : (id : ℕ) (view : View R) (test : ℕ → Bool) → Splits (Rule kind start {S = S}) id view (machines_left test view) (machines_picked test view)
@@ -136,7 +136,7 @@ module _ {R O K : Type 0} (kinds : K → MachineKind R O) (starts : K → Stage 
       → table_index access < words → access ≡ form
       → (table_index form < words) × Allows (Rule (kinds key) (starts key)) slots id me (table_index form) (made_of form) (TookAs kinds starts at named given me)
   can_step id number me order slots words at named given access form turn m inside is = (
-    subst (λ (a : Access). table_index a < words) is inside,
+    subst (λ (access : Access). table_index access < words) is inside,
     (λ s kept homes there small.
         let step = moves (kinds key) (starts key) id number me m.0 order m.1 m.2 slots form (m.3 ∙ is) s kept homes there small in
         (step.0, step.1, step.2, step.3, names at named given number order me _ _ turn.0 turn.1 turn.2 step.4)),

@@ -32,7 +32,7 @@ counting kind = record {
 
 -- a stage whose machines have made no step
 abbrev pub counted_from : {R : Type 0} → Stage R → Stage (Counted R)
-counted_from s = record { words = s.words; machines = map at_start s.machines }
+counted_from stage = record { words = stage.words; machines = map at_start stage.machines }
 
 -- a stage without the numbers
 abbrev pub uncounted_stage : {R : Type 0} → Stage (Counted R) → Stage R

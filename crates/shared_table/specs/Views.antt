@@ -44,8 +44,8 @@ machines_left test view = machines_picked (λ number. not (test number)) view
 
 -- the one that is there
 abbrev pub whichever_is_there : {R : Type 0} → Option R → Option R → Option R
-whichever_is_there None y = y
-whichever_is_there (Some r) y = Some r
+whichever_is_there None found = found
+whichever_is_there (Some r) found = Some r
 
 -- the machines of two bundles
 abbrev pub merged : {R : Type 0} → View R → View R → View R
@@ -80,6 +80,6 @@ kept_in_view kept [] = []
 kept_in_view kept (x ∷ xs) = kept_one kept x ∷ kept_in_view kept xs
 
 -- two views have machines under the same numbers
-pub record SameNumbers {R : Type 0} (v w : View R) : Type 0 where
-  pub long : length w ≡ length v
-  pub here : (number : ℕ) → is_some (machine_of w number) ≡ is_some (machine_of v number)
+pub record SameNumbers {R : Type 0} (view other_view : View R) : Type 0 where
+  pub long : length other_view ≡ length view
+  pub here : (number : ℕ) → is_some (machine_of other_view number) ≡ is_some (machine_of view number)

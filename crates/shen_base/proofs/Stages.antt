@@ -71,8 +71,8 @@ pub rose_later : (before middle after : ℕ) → before ≤ middle → Rose midd
 rose_later before middle after first rose = grind arith
 
 -- bytes went into the block
-pub puts_kept : (w : Option (List ℕ)) (f c : ℕ) (held : Held) (more : List ℕ) → Puts (stage w f c held) (stage w f c (record held { unsent = held.unsent ++ more })) more
-puts_kept w f c held more = record {
+pub puts_kept : (found : Option (List ℕ)) (f c : ℕ) (held : Held) (more : List ℕ) → Puts (stage found f c held) (stage found f c (record held { unsent = held.unsent ++ more })) more
+puts_kept found f c held more = record {
   behind = λ first sofar h. record {
     never_fell = h.never_fell;
     going = λ g. record {
@@ -87,12 +87,12 @@ puts_kept w f c held more = record {
 }
 
 -- an empty block before a sink, of which nothing was asked
-taken_none : (w : Option (List ℕ)) (f c : ℕ) → HasTaken (stage w f c (record { unsent = []; failed = false })) (outlet w f c) []
-taken_none w f c =
-    let stopped : false ≡ true → WritesFront (outlet w f c) (outlet w f c) [] × Rose f f = λ g. cc in
+taken_none : (found : Option (List ℕ)) (f c : ℕ) → HasTaken (stage found f c (record { unsent = []; failed = false })) (outlet found f c) []
+taken_none found f c =
+    let stopped : false ≡ true → WritesFront (outlet found f c) (outlet found f c) [] × Rose f f = λ g. cc in
     record {
       never_fell = omega arith;
-      going = λ g. record { sent = []; appended = Appends-nil w; split = refl; few_calls = omega arith };
+      going = λ g. record { sent = []; appended = Appends-nil found; split = refl; few_calls = omega arith };
       stopped = stopped;
       few_calls = omega arith;
     }
@@ -138,10 +138,10 @@ pub taken_by_new : {w : Option (List ℕ)} {f c : ℕ} {held : Held} {s : SinkSt
 taken_by_new {w} {f} {c} {held} {s} {text} e p = p.behind (outlet w f c) [] (subst (λ h. HasTaken (stage w f c h) (outlet w f c) []) (sym e) (taken_none w f c))
 
 -- a turn of putting: some was put, then the block was emptied or not, and then it took a piece
-pub puts_turn : (a : SinkStage) (w new_sent : Option (List ℕ)) (f new_faults c new_calls : ℕ) (before held after : Held) (done piece : List ℕ)
-    → Puts a (stage w f c before) done → Puts (stage w f c before) (stage new_sent new_faults new_calls held) [] → after ≡ record held { unsent = held.unsent ++ piece }
+pub puts_turn : (a : SinkStage) (found new_sent : Option (List ℕ)) (f new_faults c new_calls : ℕ) (before held after : Held) (done piece : List ℕ)
+    → Puts a (stage found f c before) done → Puts (stage found f c before) (stage new_sent new_faults new_calls held) [] → after ≡ record held { unsent = held.unsent ++ piece }
     → Puts a (stage new_sent new_faults new_calls after) (done ++ piece)
-puts_turn a w new_sent f new_faults c new_calls before held after done piece p q e =
+puts_turn a found new_sent f new_faults c new_calls before held after done piece p q e =
     let cleared : Puts a (stage new_sent new_faults new_calls held) done = puts_same (append-nil done) (puts_both p q) in
     subst (λ h. Puts a (stage new_sent new_faults new_calls h) (done ++ piece)) (sym e)
     (puts_both cleared (puts_kept new_sent new_faults new_calls held piece))

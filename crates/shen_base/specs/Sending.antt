@@ -53,11 +53,11 @@ pub record WritesUpTo (before after : Outlet) (text unsent : List ℕ) : Type 0 
 -- This text was put since the sink stood as `first`. It is written or stands in the block; or its front is written, and
 -- there was a fault. The calls so far, and one more for each byte that stands in the block, are at most one for each byte
 -- of the text.
-pub record HasTaken (s : SinkStage) (first : Outlet) (text : List ℕ) : Type 0 where
-  pub never_fell : first.faults ≤ s.sink.faults
-  pub going : s.block.failed ≡ false → WritesUpTo first s.sink text s.block.unsent
-  pub stopped : s.block.failed ≡ true → WritesFront first s.sink text × Rose first.faults s.sink.faults
-  pub few_calls : CalledAtMost (length text) first.calls (s.sink.calls + length s.block.unsent)
+pub record HasTaken (stage : SinkStage) (first : Outlet) (text : List ℕ) : Type 0 where
+  pub never_fell : first.faults ≤ stage.sink.faults
+  pub going : stage.block.failed ≡ false → WritesUpTo first stage.sink text stage.block.unsent
+  pub stopped : stage.block.failed ≡ true → WritesFront first stage.sink text × Rose first.faults stage.sink.faults
+  pub few_calls : CalledAtMost (length text) first.calls (stage.sink.calls + length stage.block.unsent)
 
 -- From one stage to the next a text was put, behind all that was put before.
 pub record Puts (old new : SinkStage) (text : List ℕ) : Type 0 where

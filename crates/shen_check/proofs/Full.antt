@@ -17,8 +17,8 @@ use Rattle.shen_check.specs.Judging.{words_waiting, IsFullFor}
 use Rattle.shen_check.proofs.HeldOnce.{held_once, regions_once}
 
 -- a graph has so many live words, and no other number
-pub live_once : (g : Graph) (a b : ℕ) → Live g a → Live g b → a ≡ b
-live_once g a b x y = x.2 ∙ ap (sum_by (λ (n : Name). size (named g (Some n)))) (one_reach g x.0 y.0 x.1 y.1) ∙ sym y.2
+pub live_once : (graph : Graph) (a b : ℕ) → Live graph a → Live graph b → a ≡ b
+live_once graph a b x y = x.2 ∙ ap (sum_by (λ (name : Name). size (named graph (Some name)))) (one_reach graph x.0 y.0 x.1 y.1) ∙ sym y.2
 
 -- a bound that a u64 holds is reached by a sum exactly where it is reached by the sum that stands still
 reaches : (bound sum sat : ℕ) → bound < 2 ^ 32 → sat ≡ min sum (2 ^ 64 - 1) → bound ≤ sat → bound ≤ sum
@@ -38,27 +38,27 @@ clash a b x y lt same_a same_b le = omega (arith, lt, same_a, same_b, le)
 
 -- so many words are free in as many regions
 abbrev needed : Config → ℕ → Command → ℕ
-needed c pinned command = (c.regions - pinned) * (c.region_words - words_asked (Some command) + 1)
+needed config pinned command = (config.regions - pinned) * (config.region_words - words_asked (Some command) + 1)
 
 -- what a thread that asks is told, with one number for what lives, one for what is held, and one for the regions
-told_full : (c : Config) (g : Graph) (work : List (Option Progress)) (thread : ℕ) (command : Command) (live held pinned : ℕ) → Live g live → Held g held → PinnedRegions c.region_words g pinned
-    → IsFullFor c g work thread command → needed c pinned command ≤ live - held + words_waiting work c.mutators thread
-told_full c g work thread command live held pinned lives holds pins full =
-    let waits = words_waiting work c.mutators thread in
-    subst (λ (n : ℕ). needed c pinned command ≤ n - held + waits) (live_once g full.0 live full.3 lives)
-    (subst (λ (n : ℕ). needed c pinned command ≤ full.0 - n + waits) (held_once g full.1 held full.4 holds)
-    (subst (λ (n : ℕ). needed c n command ≤ full.0 - full.1 + waits) (regions_once c.region_words g full.2 pinned full.5 pins) full.6))
+told_full : (config : Config) (graph : Graph) (work : List (Option Progress)) (thread : ℕ) (command : Command) (live held pinned : ℕ) → Live graph live → Held graph held → PinnedRegions config.region_words graph pinned
+    → IsFullFor config graph work thread command → needed config pinned command ≤ live - held + words_waiting work config.mutators thread
+told_full config graph work thread command live held pinned lives holds pins full =
+    let waits = words_waiting work config.mutators thread in
+    subst (λ (n : ℕ). needed config pinned command ≤ n - held + waits) (live_once graph full.0 live full.3 lives)
+    (subst (λ (n : ℕ). needed config pinned command ≤ full.0 - n + waits) (held_once graph full.1 held full.4 holds)
+    (subst (λ (n : ℕ). needed config n command ≤ full.0 - full.1 + waits) (regions_once config.region_words graph full.2 pinned full.5 pins) full.6))
 
-pub full_for : (c : Config) (g : Graph) (work : List (Option Progress)) (thread : ℕ) (command : Command) (live held pinned waiting asked short free rest sat regions words : ℕ)
-    → Live g live → Held g held → PinnedRegions c.region_words g pinned → waiting ≡ words_waiting work c.mutators thread → asked ≡ words_asked (Some command) → words ≡ c.region_words → regions ≡ c.regions
+pub full_for : (config : Config) (graph : Graph) (work : List (Option Progress)) (thread : ℕ) (command : Command) (live held pinned waiting asked short free rest sat regions words : ℕ)
+    → Live graph live → Held graph held → PinnedRegions config.region_words graph pinned → waiting ≡ words_waiting work config.mutators thread → asked ≡ words_asked (Some command) → words ≡ config.region_words → regions ≡ config.regions
     → short ≡ words - asked → free ≡ regions - pinned → rest ≡ live - held → sat ≡ min (rest + waiting) (2 ^ 64 - 1)
-    → MatchBool (leb (free * (short + 1)) sat) (IsFullFor c g work thread command) (IsFullFor c g work thread command → ⊥)
-full_for c g work thread command live held pinned waiting asked short free rest sat regions words lives holds pins waits asks has count less opens rests sum =
-    let few : free * (short + 1) < 2 ^ 32 = small free short (omega (arith, opens, count, c.in_range.most_regions)) (omega (arith, less, has, c.in_range.most_words)) in
-    let bound : free * (short + 1) ≡ needed c pinned command =
+    → MatchBool (leb (free * (short + 1)) sat) (IsFullFor config graph work thread command) (IsFullFor config graph work thread command → ⊥)
+full_for config graph work thread command live held pinned waiting asked short free rest sat regions words lives holds pins waits asks has count less opens rests sum =
+    let few : free * (short + 1) < 2 ^ 32 = small free short (omega (arith, opens, count, config.in_range.most_regions)) (omega (arith, less, has, config.in_range.most_words)) in
+    let bound : free * (short + 1) ≡ needed config pinned command =
     ap (λ (n : ℕ). n * (short + 1)) (opens ∙ ap (λ (n : ℕ). n - pinned) count)
-    ∙ ap (λ (n : ℕ). (c.regions - pinned) * (n + 1)) (less ∙ ap (λ (n : ℕ). n - asked) has ∙ ap (λ (n : ℕ). c.region_words - n) asks) in
-    let total : rest + waiting ≡ live - held + words_waiting work c.mutators thread = ap (λ (n : ℕ). n + waiting) rests ∙ ap (λ (n : ℕ). live - held + n) waits in
+    ∙ ap (λ (n : ℕ). (config.regions - pinned) * (n + 1)) (less ∙ ap (λ (n : ℕ). n - asked) has ∙ ap (λ (n : ℕ). config.region_words - n) asks) in
+    let total : rest + waiting ≡ live - held + words_waiting work config.mutators thread = ap (λ (n : ℕ). n + waiting) rests ∙ ap (λ (n : ℕ). live - held + n) waits in
     elim (leb_tells (free * (short + 1)) sat) [
       | inl w ↦ rw w.0 (
         live,
@@ -67,10 +67,10 @@ full_for c g work thread command live held pinned waiting asked short free rest 
         lives,
         holds,
         pins,
-        subst (λ (n : ℕ). n ≤ live - held + words_waiting work c.mutators thread) bound
+        subst (λ (n : ℕ). n ≤ live - held + words_waiting work config.mutators thread) bound
             (subst (λ (n : ℕ). free * (short + 1) ≤ n) total (reaches (free * (short + 1)) (rest + waiting) sat few sum w.1)),
       )
       | inr w ↦ rw w.0 (λ full.
-          clash (rest + waiting) (free * (short + 1)) (needed c pinned command) (live - held + words_waiting work c.mutators thread) (falls_short (free * (short + 1)) (rest + waiting) sat few sum w.1) total bound
-          (told_full c g work thread command live held pinned lives holds pins full))
+          clash (rest + waiting) (free * (short + 1)) (needed config pinned command) (live - held + words_waiting work config.mutators thread) (falls_short (free * (short + 1)) (rest + waiting) sat few sum w.1) total bound
+          (told_full config graph work thread command live held pinned lives holds pins full))
     ]

@@ -23,34 +23,34 @@ use Rattle.shen_check.specs.Judging.{slot_held, pins_held, names_held, with_numb
 -- ---- the slots
 
 abbrev held_by : Graph → ℕ → List Pinned
-held_by g t = flat_map (λ slot. slot_held (g.pin t slot)) (range_with_len 0 4)
+held_by graph thread = flat_map (λ slot. slot_held (graph.pin thread slot)) (range_with_len 0 4)
 
-in_slot : (o : Option Pinned) (held : Pinned) → o ≡ Some held → Contains (slot_held o) held
-in_slot o held is = subst (λ (p : Option Pinned). Contains (slot_held p) held) (sym is) (0, omega arith, refl)
+in_slot : (found : Option Pinned) (held : Pinned) → found ≡ Some held → Contains (slot_held found) held
+in_slot found held is = subst (λ (found : Option Pinned). Contains (slot_held found) held) (sym is) (0, omega arith, refl)
 
-of_slot : (o : Option Pinned) (held : Pinned) → Contains (slot_held o) held → o ≡ Some held
+of_slot : (found : Option Pinned) (held : Pinned) → Contains (slot_held found) held → found ≡ Some held
 of_slot None held there = absurd (Contains-nil held there)
 of_slot (Some p) held there = elim (Contains-cons_cases p [] held there) [ inl same ↦ ap Some same | inr later ↦ absurd (Contains-nil held later) ]
 
-pub in_pins : (g : Graph) (threads t slot : ℕ) (held : Pinned) → 1 ≤ t → t ≤ threads → slot < 4 → g.pin t slot ≡ Some held → Contains (pins_held g threads) held
-in_pins g threads t slot held low high few is =
+pub in_pins : (graph : Graph) (threads t slot : ℕ) (held : Pinned) → 1 ≤ t → t ≤ threads → slot < 4 → graph.pin t slot ≡ Some held → Contains (pins_held graph threads) held
+in_pins graph threads t slot held low high few is =
     let back : 1 + (t - 1) ≡ t = omega (arith, low) in
     let thread : get_or (range_with_len 1 threads) (t - 1) 0 ≡ t = get_or-range_with_len 1 threads (t - 1) 0 (omega (arith, low, high)) ∙ back in
     let number : get_or (range_with_len 0 4) slot 0 ≡ slot = get_or-range_with_len 0 4 slot 0 few ∙ zero_more slot in
-    let there : Contains (slot_held (g.pin t (get_or (range_with_len 0 4) slot 0))) held = subst (λ (s : ℕ). Contains (slot_held (g.pin t s)) held) (sym number) (in_slot (g.pin t slot) held is) in
-    let own : Contains (held_by g t) held = Contains-flat_map (λ s. slot_held (g.pin t s)) (range_with_len 0 4) slot 0 held (omega (arith, few, length-range_with_len 0 4)) there in
-    Contains-flat_map (held_by g) (range_with_len 1 threads) (t - 1) 0 held (omega (arith, low, high, length-range_with_len 1 threads)) (subst (λ (u : ℕ). Contains (held_by g u) held) (sym thread) own)
+    let there : Contains (slot_held (graph.pin t (get_or (range_with_len 0 4) slot 0))) held = subst (λ (s : ℕ). Contains (slot_held (graph.pin t s)) held) (sym number) (in_slot (graph.pin t slot) held is) in
+    let own : Contains (held_by graph t) held = Contains-flat_map (λ s. slot_held (graph.pin t s)) (range_with_len 0 4) slot 0 held (omega (arith, few, length-range_with_len 0 4)) there in
+    Contains-flat_map (held_by graph) (range_with_len 1 threads) (t - 1) 0 held (omega (arith, low, high, length-range_with_len 1 threads)) (subst (λ (u : ℕ). Contains (held_by graph u) held) (sym thread) own)
   where
     zero_more : (n : ℕ) → 0 + n ≡ n
     zero_more n = omega arith
 
-pub of_pins : (g : Graph) (threads : ℕ) (held : Pinned) → Contains (pins_held g threads) held → (t : ℕ) × (slot : ℕ) × (g.pin t slot ≡ Some held)
-of_pins g threads held there =
-    let row = Contains-from_flat_map (held_by g) (range_with_len 1 threads) 0 held there in
+pub of_pins : (graph : Graph) (threads : ℕ) (held : Pinned) → Contains (pins_held graph threads) held → (t : ℕ) × (slot : ℕ) × (graph.pin t slot ≡ Some held)
+of_pins graph threads held there =
+    let row = Contains-from_flat_map (held_by graph) (range_with_len 1 threads) 0 held there in
     let t = get_or (range_with_len 1 threads) row.0 0 in
-    let place = Contains-from_flat_map (λ s. slot_held (g.pin t s)) (range_with_len 0 4) 0 held row.2 in
+    let place = Contains-from_flat_map (λ s. slot_held (graph.pin t s)) (range_with_len 0 4) 0 held row.2 in
     let slot = get_or (range_with_len 0 4) place.0 0 in
-    (t, slot, of_slot (g.pin t slot) held place.2)
+    (t, slot, of_slot (graph.pin t slot) held place.2)
 
 -- ---- what is told of each that is held
 
@@ -75,28 +75,28 @@ unfolding IsDistinct
 none_twice eq = tt
 
 abbrev named_by : Pinned → Reference
-named_by p = Some p.name
+named_by pinned = Some pinned.name
 
-same_name_held : (n m : Name) → ◌≡◌ {A = Reference} (Some n) (Some m) → n ≡ m
-same_name_held n m e = cc
+same_name_held : (name other_name : Name) → ◌≡◌ {A = Reference} (Some name) (Some other_name) → name ≡ other_name
+same_name_held name other_name e = cc
 
-pub are_pinned : (g : Graph) (threads : ℕ) → HasPinsOf threads g → ArePinned g (names_held (pins_held g threads))
-are_pinned g threads pins = record {
-  differ = with_names-distinct [] (map named_by (pins_held g threads)) (none_twice same_name);
+pub are_pinned : (graph : Graph) (threads : ℕ) → HasPinsOf threads graph → ArePinned graph (names_held (pins_held graph threads))
+are_pinned graph threads pins = record {
+  differ = with_names-distinct [] (map named_by (pins_held graph threads)) (none_twice same_name);
   all = λ t slot held is.
       let within = pins t slot held is in
-      with_names-has [] (map named_by (pins_held g threads)) held.name (has_told named_by (pins_held g threads) held (in_pins g threads t slot held within.0 within.1 within.2 is));
-  only = λ n there. elim (with_names-only [] (map named_by (pins_held g threads)) n there) [
+      with_names-has [] (map named_by (pins_held graph threads)) held.name (has_told named_by (pins_held graph threads) held (in_pins graph threads t slot held within.0 within.1 within.2 is));
+  only = λ n there. elim (with_names-only [] (map named_by (pins_held graph threads)) n there) [
     | inl never ↦ absurd (Contains-nil n never)
     | inr told ↦ (
-        let it = told_of named_by (pins_held g threads) (Some n) told in
-        let place = of_pins g threads it.0 it.1 in
+        let it = told_of named_by (pins_held graph threads) (Some n) told in
+        let place = of_pins graph threads it.0 it.1 in
         (place.0, place.1, it.0, place.2, same_name_held it.0.name n it.2))
   ];
 }
 
-pub words_are_held : (g : Graph) (threads : ℕ) → HasPinsOf threads g → Held g (words_held g (names_held (pins_held g threads)))
-words_are_held g threads pins = (names_held (pins_held g threads), are_pinned g threads pins, refl)
+pub words_are_held : (graph : Graph) (threads : ℕ) → HasPinsOf threads graph → Held graph (words_held graph (names_held (pins_held graph threads)))
+words_are_held graph threads pins = (names_held (pins_held graph threads), are_pinned graph threads pins, refl)
 
 -- ---- the regions
 
@@ -117,28 +117,28 @@ with_numbers found ns = fold with_number found ns
 number_keeps : (xs : List ℕ) (n m : ℕ) → Contains xs m → Contains (with_number xs n) m
 number_keeps xs n m there = by_test (list_any (λ k. k == n) xs)
   where
-    by_test : (b : Bool) → Contains (if b then xs else xs ++ n ∷ []) m
+    by_test : (holds : Bool) → Contains (if holds then xs else xs ++ n ∷ []) m
     by_test true = there
     by_test false = Contains-append_left xs (n ∷ []) m there
 
 number_has : (xs : List ℕ) (n : ℕ) → Contains (with_number xs n) n
 number_has xs n = by_test (list_any (λ k. k == n) xs) refl
   where
-    by_test : (b : Bool) → list_any (λ k. k == n) xs ≡ b → Contains (if b then xs else xs ++ n ∷ []) n
+    by_test : (holds : Bool) → list_any (λ k. k == n) xs ≡ holds → Contains (if holds then xs else xs ++ n ∷ []) n
     by_test true is = Contains-from_any (λ x y e. (Decides-eqb x y).0 e) n xs (sym (any_flip n xs) ∙ is)
     by_test false is = Contains-push xs n
 
 number_only : (xs : List ℕ) (n m : ℕ) → Contains (with_number xs n) m → Contains xs m ⊎ (n ≡ m)
 number_only xs n m there = by_test (list_any (λ k. k == n) xs) there
   where
-    by_test : (b : Bool) → Contains (if b then xs else xs ++ n ∷ []) m → Contains xs m ⊎ (n ≡ m)
+    by_test : (holds : Bool) → Contains (if holds then xs else xs ++ n ∷ []) m → Contains xs m ⊎ (n ≡ m)
     by_test true here = inl here
     by_test false here = Contains-push_cases xs n m here
 
 number_distinct : (xs : List ℕ) (n : ℕ) → IsDistinct (λ r s. r == s) xs → IsDistinct (λ r s. r == s) (with_number xs n)
 number_distinct xs n distinct = by_test (list_any (λ k. k == n) xs) refl
   where
-    by_test : (b : Bool) → list_any (λ k. k == n) xs ≡ b → IsDistinct (λ r s. r == s) (if b then xs else xs ++ n ∷ [])
+    by_test : (holds : Bool) → list_any (λ k. k == n) xs ≡ holds → IsDistinct (λ r s. r == s) (if holds then xs else xs ++ n ∷ [])
     by_test true is = distinct
     by_test false is = IsDistinct-push number_laws xs n distinct (sym (any_flip n xs) ∙ is)
 
@@ -165,64 +165,64 @@ numbers_distinct xs [] distinct = distinct
 numbers_distinct xs (n ∷ ns) distinct = numbers_distinct (with_number xs n) ns (number_distinct xs n distinct)
 
 abbrev region_of : ℕ → Pinned → ℕ
-region_of region_words p = p.place / region_words
+region_of region_words pinned = pinned.place / region_words
 
-pub are_regions : (region_words : ℕ) (g : Graph) (threads : ℕ) → HasPinsOf threads g → ArePinnedRegions region_words g (regions_held region_words (pins_held g threads))
-are_regions region_words g threads pins = record {
-  differ = numbers_distinct [] (map (region_of region_words) (pins_held g threads)) (none_twice (λ r s. r == s));
+pub are_regions : (region_words : ℕ) (graph : Graph) (threads : ℕ) → HasPinsOf threads graph → ArePinnedRegions region_words graph (regions_held region_words (pins_held graph threads))
+are_regions region_words graph threads pins = record {
+  differ = numbers_distinct [] (map (region_of region_words) (pins_held graph threads)) (none_twice (λ r s. r == s));
   all = λ t slot held is.
       let within = pins t slot held is in
-      numbers_have [] (map (region_of region_words) (pins_held g threads)) (region_of region_words held) (has_told (region_of region_words) (pins_held g threads) held (in_pins g threads t slot held within.0 within.1 within.2 is));
-  only = λ r there. elim (numbers_only [] (map (region_of region_words) (pins_held g threads)) r there) [
+      numbers_have [] (map (region_of region_words) (pins_held graph threads)) (region_of region_words held) (has_told (region_of region_words) (pins_held graph threads) held (in_pins graph threads t slot held within.0 within.1 within.2 is));
+  only = λ r there. elim (numbers_only [] (map (region_of region_words) (pins_held graph threads)) r there) [
     | inl never ↦ absurd (Contains-nil r never)
     | inr told ↦ (
-        let it = told_of (region_of region_words) (pins_held g threads) r told in
-        let place = of_pins g threads it.0 it.1 in
+        let it = told_of (region_of region_words) (pins_held graph threads) r told in
+        let place = of_pins graph threads it.0 it.1 in
         (place.0, place.1, it.0, place.2, it.2))
   ];
 }
 
-pub regions_are_held : (region_words : ℕ) (g : Graph) (threads : ℕ) → HasPinsOf threads g → PinnedRegions region_words g (length (regions_held region_words (pins_held g threads)))
-regions_are_held region_words g threads pins = (regions_held region_words (pins_held g threads), are_regions region_words g threads pins, refl)
+pub regions_are_held : (region_words : ℕ) (graph : Graph) (threads : ℕ) → HasPinsOf threads graph → PinnedRegions region_words graph (length (regions_held region_words (pins_held graph threads)))
+regions_are_held region_words graph threads pins = (regions_held region_words (pins_held graph threads), are_regions region_words graph threads pins, refl)
 
 -- ---- one more that is held
 
-pub one_name_more : (held : List Pinned) (i : ℕ) (d : Pinned) → i < length held → names_held (take (i + 1) held) ≡ with_name (names_held (take i held)) (Some (get_or held i d).name)
-one_name_more held i d low =
-    ap (λ (ps : List Pinned). names_held ps) (take_more held i d low)
-    ∙ ap (fold with_name []) (map-append named_by (take i held) (get_or held i d ∷ []))
-    ∙ fold-append with_name [] (map named_by (take i held)) (named_by (get_or held i d) ∷ [])
+pub one_name_more : (held : List Pinned) (index : ℕ) (pinned : Pinned) → index < length held → names_held (take (index + 1) held) ≡ with_name (names_held (take index held)) (Some (get_or held index pinned).name)
+one_name_more held index pinned low =
+    ap (λ (ps : List Pinned). names_held ps) (take_more held index pinned low)
+    ∙ ap (fold with_name []) (map-append named_by (take index held) (get_or held index pinned ∷ []))
+    ∙ fold-append with_name [] (map named_by (take index held)) (named_by (get_or held index pinned) ∷ [])
 
-pub one_region_more : (region_words : ℕ) (held : List Pinned) (i : ℕ) (d : Pinned) → i < length held
-    → regions_held region_words (take (i + 1) held) ≡ with_number (regions_held region_words (take i held)) ((get_or held i d).place / region_words)
-one_region_more region_words held i d low =
-    ap (λ (ps : List Pinned). regions_held region_words ps) (take_more held i d low)
-    ∙ ap (fold with_number []) (map-append (region_of region_words) (take i held) (get_or held i d ∷ []))
-    ∙ fold-append with_number [] (map (region_of region_words) (take i held)) (region_of region_words (get_or held i d) ∷ [])
+pub one_region_more : (region_words : ℕ) (held : List Pinned) (index : ℕ) (pinned : Pinned) → index < length held
+    → regions_held region_words (take (index + 1) held) ≡ with_number (regions_held region_words (take index held)) ((get_or held index pinned).place / region_words)
+one_region_more region_words held index pinned low =
+    ap (λ (ps : List Pinned). regions_held region_words ps) (take_more held index pinned low)
+    ∙ ap (fold with_number []) (map-append (region_of region_words) (take index held) (get_or held index pinned ∷ []))
+    ∙ fold-append with_number [] (map (region_of region_words) (take index held)) (region_of region_words (get_or held index pinned) ∷ [])
 
 -- what was found has it, or has it then
-name_there : (found : List Name) (n : Name) → list_any (λ m. same_name m n) found ≡ true → with_name found (Some n) ≡ found
-name_there found n is = rw is refl
+name_there : (found : List Name) (name : Name) → list_any (λ m. same_name m name) found ≡ true → with_name found (Some name) ≡ found
+name_there found name is = rw is refl
 
-name_new : (found : List Name) (n : Name) → list_any (λ m. same_name m n) found ≡ false → with_name found (Some n) ≡ found ++ n ∷ []
-name_new found n is = rw is refl
+name_new : (found : List Name) (name : Name) → list_any (λ m. same_name m name) found ≡ false → with_name found (Some name) ≡ found ++ name ∷ []
+name_new found name is = rw is refl
 
-pub name_again : (held : List Pinned) (i : ℕ) (d : Pinned) (found : List Name) → i < length held → found ≡ names_held (take i held) → list_any (λ m. same_name m (get_or held i d).name) found ≡ true
-    → found ≡ names_held (take (i + 1) held)
-name_again held i d found low so_far there =
-    sym (name_there found (get_or held i d).name there) ∙ ap (λ (ns : List Name). with_name ns (Some (get_or held i d).name)) so_far ∙ sym (one_name_more held i d low)
+pub name_again : (held : List Pinned) (index : ℕ) (pinned : Pinned) (found : List Name) → index < length held → found ≡ names_held (take index held) → list_any (λ m. same_name m (get_or held index pinned).name) found ≡ true
+    → found ≡ names_held (take (index + 1) held)
+name_again held index pinned found low so_far there =
+    sym (name_there found (get_or held index pinned).name there) ∙ ap (λ (ns : List Name). with_name ns (Some (get_or held index pinned).name)) so_far ∙ sym (one_name_more held index pinned low)
 
-pub name_added : (held : List Pinned) (i : ℕ) (d : Pinned) (found : List Name) → i < length held → found ≡ names_held (take i held) → list_any (λ m. same_name m (get_or held i d).name) found ≡ false
-    → found ++ (get_or held i d).name ∷ [] ≡ names_held (take (i + 1) held)
-name_added held i d found low so_far new =
-    sym (name_new found (get_or held i d).name new) ∙ ap (λ (ns : List Name). with_name ns (Some (get_or held i d).name)) so_far ∙ sym (one_name_more held i d low)
+pub name_added : (held : List Pinned) (index : ℕ) (pinned : Pinned) (found : List Name) → index < length held → found ≡ names_held (take index held) → list_any (λ m. same_name m (get_or held index pinned).name) found ≡ false
+    → found ++ (get_or held index pinned).name ∷ [] ≡ names_held (take (index + 1) held)
+name_added held index pinned found low so_far new =
+    sym (name_new found (get_or held index pinned).name new) ∙ ap (λ (ns : List Name). with_name ns (Some (get_or held index pinned).name)) so_far ∙ sym (one_name_more held index pinned low)
 
 -- the words of one more
-pub words_added : (g : Graph) (found : List Name) (n : Name) (words more : ℕ) (told : Option ℕ) → words ≡ words_held g found → more ≡ unwrap_or told 3 → told ≡ option_map size (g.object n)
-    → words + more ≡ words_held g (found ++ n ∷ [])
-words_added g found n words more told so_far is of =
-    let one = sum_by_push (λ (m : Name). size (named g (Some m))) found n in
-    let this : more ≡ size (named g (Some n)) = is ∙ ap (λ (o : Option ℕ). unwrap_or o 3) of ∙ by_object (g.object n) in
+pub words_added : (graph : Graph) (found : List Name) (name : Name) (words more : ℕ) (told : Option ℕ) → words ≡ words_held graph found → more ≡ unwrap_or told 3 → told ≡ option_map size (graph.object name)
+    → words + more ≡ words_held graph (found ++ name ∷ [])
+words_added graph found name words more told so_far is of =
+    let one = sum_by_push (λ (name : Name). size (named graph (Some name))) found name in
+    let this : more ≡ size (named graph (Some name)) = is ∙ ap (λ (found : Option ℕ). unwrap_or found 3) of ∙ by_object (graph.object name) in
     omega (arith, so_far, one, this)
   where
     by_object : (o : Option Object) → unwrap_or (option_map size o) 3 ≡ size (unwrap_or o (record { refs = []; nums = [] }))
@@ -235,12 +235,12 @@ number_there found n is = rw is refl
 number_new : (found : List ℕ) (n : ℕ) → list_any (λ m. m == n) found ≡ false → with_number found n ≡ found ++ n ∷ []
 number_new found n is = rw is refl
 
-pub region_again : (region_words : ℕ) (held : List Pinned) (i : ℕ) (d : Pinned) (found : List ℕ) → i < length held → found ≡ regions_held region_words (take i held)
-    → list_any (λ m. m == (get_or held i d).place / region_words) found ≡ true → found ≡ regions_held region_words (take (i + 1) held)
-region_again region_words held i d found low so_far there =
-    sym (number_there found ((get_or held i d).place / region_words) there) ∙ ap (λ (ns : List ℕ). with_number ns ((get_or held i d).place / region_words)) so_far ∙ sym (one_region_more region_words held i d low)
+pub region_again : (region_words : ℕ) (held : List Pinned) (index : ℕ) (pinned : Pinned) (found : List ℕ) → index < length held → found ≡ regions_held region_words (take index held)
+    → list_any (λ m. m == (get_or held index pinned).place / region_words) found ≡ true → found ≡ regions_held region_words (take (index + 1) held)
+region_again region_words held index pinned found low so_far there =
+    sym (number_there found ((get_or held index pinned).place / region_words) there) ∙ ap (λ (ns : List ℕ). with_number ns ((get_or held index pinned).place / region_words)) so_far ∙ sym (one_region_more region_words held index pinned low)
 
-pub region_added : (region_words : ℕ) (held : List Pinned) (i : ℕ) (d : Pinned) (found : List ℕ) → i < length held → found ≡ regions_held region_words (take i held)
-    → list_any (λ m. m == (get_or held i d).place / region_words) found ≡ false → found ++ (get_or held i d).place / region_words ∷ [] ≡ regions_held region_words (take (i + 1) held)
-region_added region_words held i d found low so_far new =
-    sym (number_new found ((get_or held i d).place / region_words) new) ∙ ap (λ (ns : List ℕ). with_number ns ((get_or held i d).place / region_words)) so_far ∙ sym (one_region_more region_words held i d low)
+pub region_added : (region_words : ℕ) (held : List Pinned) (index : ℕ) (pinned : Pinned) (found : List ℕ) → index < length held → found ≡ regions_held region_words (take index held)
+    → list_any (λ m. m == (get_or held index pinned).place / region_words) found ≡ false → found ++ (get_or held index pinned).place / region_words ∷ [] ≡ regions_held region_words (take (index + 1) held)
+region_added region_words held index pinned found low so_far new =
+    sym (number_new found ((get_or held index pinned).place / region_words) new) ∙ ap (λ (ns : List ℕ). with_number ns ((get_or held index pinned).place / region_words)) so_far ∙ sym (one_region_more region_words held index pinned low)

@@ -76,25 +76,25 @@ ones (x ∷ xs) = let others = ones xs in let first = sum_by-cons (λ _. 1) x xs
 
 -- ---- the words
 
-names_within : (g : Graph) (xs ys : List Name) → ArePinned g xs → ArePinned g ys → (n : Name) → Contains xs n → Contains ys n
-names_within g xs ys p q n there = let it = p.only n there in subst (Contains ys) it.4 (q.all it.0 it.1 it.2 it.3)
+names_within : (graph : Graph) (xs ys : List Name) → ArePinned graph xs → ArePinned graph ys → (name : Name) → Contains xs name → Contains ys name
+names_within graph xs ys p q name there = let it = p.only name there in subst (Contains ys) it.4 (q.all it.0 it.1 it.2 it.3)
 
-pub held_once : (g : Graph) (a b : ℕ) → Held g a → Held g b → a ≡ b
-held_once g a b x y =
+pub held_once : (graph : Graph) (a b : ℕ) → Held graph a → Held graph b → a ≡ b
+held_once graph a b x y =
     x.2
-    ∙ one_sum same_name same_name-itself (λ (n : Name). size (named g (Some n))) x.0 y.0 x.1.differ y.1.differ (names_within g x.0 y.0 x.1 y.1) (names_within g y.0 x.0 y.1 x.1)
+    ∙ one_sum same_name same_name-itself (λ (name : Name). size (named graph (Some name))) x.0 y.0 x.1.differ y.1.differ (names_within graph x.0 y.0 x.1 y.1) (names_within graph y.0 x.0 y.1 x.1)
     ∙ sym y.2
 
 -- ---- the regions
 
-regions_within : (region_words : ℕ) (g : Graph) (xs ys : List ℕ) → ArePinnedRegions region_words g xs → ArePinnedRegions region_words g ys → (r : ℕ) → Contains xs r → Contains ys r
-regions_within region_words g xs ys p q r there = let it = p.only r there in subst (Contains ys) it.4 (q.all it.0 it.1 it.2 it.3)
+regions_within : (region_words : ℕ) (graph : Graph) (xs ys : List ℕ) → ArePinnedRegions region_words graph xs → ArePinnedRegions region_words graph ys → (r : ℕ) → Contains xs r → Contains ys r
+regions_within region_words graph xs ys p q r there = let it = p.only r there in subst (Contains ys) it.4 (q.all it.0 it.1 it.2 it.3)
 
 number-itself : (n : ℕ) → (n == n) ≡ true
 number-itself n = (Decides-eqb n n).1 refl
 
-pub regions_once : (region_words : ℕ) (g : Graph) (a b : ℕ) → PinnedRegions region_words g a → PinnedRegions region_words g b → a ≡ b
-regions_once region_words g a b x y =
+pub regions_once : (region_words : ℕ) (graph : Graph) (a b : ℕ) → PinnedRegions region_words graph a → PinnedRegions region_words graph b → a ≡ b
+regions_once region_words graph a b x y =
     let same : sum_by (λ (_ : ℕ). 1) x.0 ≡ sum_by (λ (_ : ℕ). 1) y.0 =
-    one_sum (λ r s. r == s) number-itself (λ (_ : ℕ). 1) x.0 y.0 x.1.differ y.1.differ (regions_within region_words g x.0 y.0 x.1 y.1) (regions_within region_words g y.0 x.0 y.1 x.1) in
+    one_sum (λ r s. r == s) number-itself (λ (_ : ℕ). 1) x.0 y.0 x.1.differ y.1.differ (regions_within region_words graph x.0 y.0 x.1 y.1) (regions_within region_words graph y.0 x.0 y.1 x.1) in
     x.2 ∙ sym (ones x.0) ∙ same ∙ ones y.0 ∙ sym y.2

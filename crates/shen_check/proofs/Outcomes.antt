@@ -17,124 +17,124 @@ use Rattle.shen_check.specs.Judging.{HasPinsOf}
 
 -- ---- only an allocation counts
 
-named_count : (g : Graph) (r : Reference) (o : Object) (u : ℕ) → (with_named g r o).count u ≡ g.count u
-named_count g None o u = refl
-named_count g (Some n) o u = refl
+named_count : (graph : Graph) (reference : Reference) (object : Object) (thread : ℕ) → (with_named graph reference object).count thread ≡ graph.count thread
+named_count graph None object thread = refl
+named_count graph (Some n) object thread = refl
 
-on_count : {A : Type 0} (o : Option A) (g : Graph) (f : A → Outcome) (u : ℕ) → ((v : A) → (f v).graph.count u ≡ g.count u) → (on o g f).graph.count u ≡ g.count u
-on_count None g f u h = refl
-on_count (Some v) g f u h = h v
+on_count : {A : Type 0} (found : Option A) (graph : Graph) (f : A → Outcome) (thread : ℕ) → ((v : A) → (f v).graph.count thread ≡ graph.count thread) → (on found graph f).graph.count thread ≡ graph.count thread
+on_count None graph f thread h = refl
+on_count (Some v) graph f thread h = h v
 
-if_count : (b : Bool) (x y : Outcome) (u n : ℕ) → x.graph.count u ≡ n → y.graph.count u ≡ n → (if b then x else y).graph.count u ≡ n
-if_count true x y u n p q = p
-if_count false x y u n p q = q
+if_count : (holds : Bool) (x y : Outcome) (thread n : ℕ) → x.graph.count thread ≡ n → y.graph.count thread ≡ n → (if holds then x else y).graph.count thread ≡ n
+if_count true x y thread n p q = p
+if_count false x y thread n p q = q
 
-at_most : (b : Bool) (m n : ℕ) → m ≡ n → m ≤ (if b then n + 1 else n)
+at_most : (holds : Bool) (m n : ℕ) → m ≡ n → m ≤ (if holds then n + 1 else n)
 at_most true m n e = omega (arith, e)
 at_most false m n e = omega (arith, e)
 
 itself : (n : ℕ) → n ≤ n
 itself n = omega arith
 
-pub outcome_counts : (g : Graph) (t : ℕ) (c : Command) (u : ℕ) → (outcome g t c).graph.count u ≤ (if u == t then g.count u + 1 else g.count u)
-outcome_counts g t (New dst refs nums) u = itself (if u == t then g.count u + 1 else g.count u)
-outcome_counts g t (Get dst src field) u = at_most (u == t) _ (g.count u) (on_count (field_at g t src field) g _ u (λ v. refl))
-outcome_counts g t (Set obj field val) u = at_most (u == t) _ (g.count u) (on_count (field_at g t obj field) g _ u (λ v. named_count g (g.root t obj) _ u))
-outcome_counts g t (Cas obj field expect val) u = at_most (u == t) _ (g.count u) (on_count (field_at g t obj field) g _ u
-    (λ v. if_count (same_reference v (g.root t expect)) (answers reply.Yes (with_field g t obj field (g.root t val))) (answers reply.No g) u (g.count u) (named_count g (g.root t obj) _ u) refl))
-outcome_counts g t (Xchg dst obj field val) u = at_most (u == t) _ (g.count u) (on_count (field_at g t obj field) g _ u (λ v. named_count g (g.root t obj) _ u))
-outcome_counts g t (Rd obj index) u = at_most (u == t) _ (g.count u) (on_count (number_at g t obj index) g _ u (λ v. refl))
-outcome_counts g t (Wr obj index value) u = at_most (u == t) _ (g.count u) (on_count (number_at g t obj index) g _ u (λ v. named_count g (g.root t obj) _ u))
-outcome_counts g t (Copy dst src) u = at_most (u == t) _ (g.count u) refl
-outcome_counts g t (Drop dst) u = at_most (u == t) _ (g.count u) refl
-outcome_counts g t (Same a b) u = at_most (u == t) _ (g.count u) refl
-outcome_counts g t Gc u = at_most (u == t) _ (g.count u) refl
-outcome_counts g t (Pin slot obj) u = at_most (u == t) _ (g.count u) refl
-outcome_counts g t (Unpin slot) u = at_most (u == t) _ (g.count u) (on_count (g.pin t slot) g _ u (λ v. refl))
+pub outcome_counts : (graph : Graph) (thread : ℕ) (command : Command) (other_thread : ℕ) → (outcome graph thread command).graph.count other_thread ≤ (if other_thread == thread then graph.count other_thread + 1 else graph.count other_thread)
+outcome_counts graph thread (New dst refs nums) other_thread = itself (if other_thread == thread then graph.count other_thread + 1 else graph.count other_thread)
+outcome_counts graph thread (Get dst src field) other_thread = at_most (other_thread == thread) _ (graph.count other_thread) (on_count (field_at graph thread src field) graph _ other_thread (λ v. refl))
+outcome_counts graph thread (Set obj field val) other_thread = at_most (other_thread == thread) _ (graph.count other_thread) (on_count (field_at graph thread obj field) graph _ other_thread (λ v. named_count graph (graph.root thread obj) _ other_thread))
+outcome_counts graph thread (Cas obj field expect val) other_thread = at_most (other_thread == thread) _ (graph.count other_thread) (on_count (field_at graph thread obj field) graph _ other_thread
+    (λ v. if_count (same_reference v (graph.root thread expect)) (answers reply.Yes (with_field graph thread obj field (graph.root thread val))) (answers reply.No graph) other_thread (graph.count other_thread) (named_count graph (graph.root thread obj) _ other_thread) refl))
+outcome_counts graph thread (Xchg dst obj field val) other_thread = at_most (other_thread == thread) _ (graph.count other_thread) (on_count (field_at graph thread obj field) graph _ other_thread (λ v. named_count graph (graph.root thread obj) _ other_thread))
+outcome_counts graph thread (Rd obj index) other_thread = at_most (other_thread == thread) _ (graph.count other_thread) (on_count (number_at graph thread obj index) graph _ other_thread (λ v. refl))
+outcome_counts graph thread (Wr obj index value) other_thread = at_most (other_thread == thread) _ (graph.count other_thread) (on_count (number_at graph thread obj index) graph _ other_thread (λ v. named_count graph (graph.root thread obj) _ other_thread))
+outcome_counts graph thread (Copy dst src) other_thread = at_most (other_thread == thread) _ (graph.count other_thread) refl
+outcome_counts graph thread (Drop dst) other_thread = at_most (other_thread == thread) _ (graph.count other_thread) refl
+outcome_counts graph thread (Same a b) other_thread = at_most (other_thread == thread) _ (graph.count other_thread) refl
+outcome_counts graph thread Gc other_thread = at_most (other_thread == thread) _ (graph.count other_thread) refl
+outcome_counts graph thread (Pin slot obj) other_thread = at_most (other_thread == thread) _ (graph.count other_thread) refl
+outcome_counts graph thread (Unpin slot) other_thread = at_most (other_thread == thread) _ (graph.count other_thread) (on_count (graph.pin thread slot) graph _ other_thread (λ v. refl))
 
 -- ---- after a reply
 
 -- a fact of the outcome and of a pinned object is one of what a reply leaves
-pub left_by : (P : Graph → Type 0) (g : Graph) (t : ℕ) (c : Command) (r : Reply) → P g → P (outcome g t c).graph
-    → ((slot obj place : ℕ) (n : Name) → c ≡ Pin slot obj → P (with_pin g t slot (Some (record { name = n; place = place })))) → P (after_reply g t c r)
-left_by P g t (Pin slot obj) (reply.At place) same left pinned = by_name (pinned_by g t (Pin slot obj))
+pub left_by : (P : Graph → Type 0) (graph : Graph) (t : ℕ) (command : Command) (r : Reply) → P graph → P (outcome graph t command).graph
+    → ((slot obj place : ℕ) (name : Name) → command ≡ Pin slot obj → P (with_pin graph t slot (Some (record { name = name; place = place })))) → P (after_reply graph t command r)
+left_by P graph t (Pin slot obj) (reply.At place) same left pinned = by_name (pinned_by graph t (Pin slot obj))
   where
-    by_name : (m : Reference) → P (with_pinned g t slot m place)
+    by_name : (reference : Reference) → P (with_pinned graph t slot reference place)
     by_name None = same
-    by_name (Some n) = pinned slot obj place n refl
-left_by P g t c r same left pinned = left
+    by_name (Some name) = pinned slot obj place name refl
+left_by P graph t command r same left pinned = left
 
-pub reply_counts : (g : Graph) (t : ℕ) (c : Command) (r : Reply) (u : ℕ) → (after_reply g t c r).count u ≤ (if u == t then g.count u + 1 else g.count u)
-reply_counts g t c r u =
-    left_by (λ (h : Graph). h.count u ≤ (if u == t then g.count u + 1 else g.count u)) g t c r (at_most (u == t) (g.count u) (g.count u) refl) (outcome_counts g t c u) (λ slot obj place n is. at_most (u == t) (g.count u) (g.count u) refl)
+pub reply_counts : (graph : Graph) (t : ℕ) (command : Command) (r : Reply) (thread : ℕ) → (after_reply graph t command r).count thread ≤ (if thread == t then graph.count thread + 1 else graph.count thread)
+reply_counts graph t command r thread =
+    left_by (λ (h : Graph). h.count thread ≤ (if thread == t then graph.count thread + 1 else graph.count thread)) graph t command r (at_most (thread == t) (graph.count thread) (graph.count thread) refl) (outcome_counts graph t command thread) (λ slot obj place n is. at_most (thread == t) (graph.count thread) (graph.count thread) refl)
 
-entry_count : (full : Bool) (g h : Graph) (u n : ℕ) (b : Bool) → h.count u ≤ (if b then n + 1 else n) → g.count u ≡ n → (if full then g else h).count u ≤ (if b then n + 1 else n)
-entry_count true g h u n b p e = at_most b (g.count u) n e
-entry_count false g h u n b p e = p
+entry_count : (full : Bool) (graph other_graph : Graph) (thread n : ℕ) (holds : Bool) → other_graph.count thread ≤ (if holds then n + 1 else n) → graph.count thread ≡ n → (if full then graph else other_graph).count thread ≤ (if holds then n + 1 else n)
+entry_count true graph other_graph thread n holds p e = at_most holds (graph.count thread) n e
+entry_count false graph other_graph thread n holds p e = p
 
-pub entry_counts : (g : Graph) (e : Entry) (u : ℕ) → (after_entry g e).count u ≤ (if u == e.thread then g.count u + 1 else g.count u)
-entry_counts g e u = entry_count (is_full e.reply) g (after_reply g e.thread e.command e.reply) u (g.count u) (u == e.thread) (reply_counts g e.thread e.command e.reply u) refl
+pub entry_counts : (graph : Graph) (entry : Entry) (thread : ℕ) → (after_entry graph entry).count thread ≤ (if thread == entry.thread then graph.count thread + 1 else graph.count thread)
+entry_counts graph entry thread = entry_count (is_full entry.reply) graph (after_reply graph entry.thread entry.command entry.reply) thread (graph.count thread) (thread == entry.thread) (reply_counts graph entry.thread entry.command entry.reply thread) refl
 
 -- ---- what is pinned stands in the slots of the threads
 
-on_pins : {A : Type 0} (threads : ℕ) (o : Option A) (g : Graph) (f : A → Outcome) → HasPinsOf threads g → ((v : A) → HasPinsOf threads (f v).graph) → HasPinsOf threads (on o g f).graph
-on_pins threads None g f pins each = pins
-on_pins threads (Some v) g f pins each = each v
+on_pins : {A : Type 0} (threads : ℕ) (found : Option A) (graph : Graph) (f : A → Outcome) → HasPinsOf threads graph → ((v : A) → HasPinsOf threads (f v).graph) → HasPinsOf threads (on found graph f).graph
+on_pins threads None graph f pins each = pins
+on_pins threads (Some v) graph f pins each = each v
 
-if_pins : (threads : ℕ) (b : Bool) (x y : Outcome) → HasPinsOf threads x.graph → HasPinsOf threads y.graph → HasPinsOf threads (if b then x else y).graph
+if_pins : (threads : ℕ) (holds : Bool) (x y : Outcome) → HasPinsOf threads x.graph → HasPinsOf threads y.graph → HasPinsOf threads (if holds then x else y).graph
 if_pins threads true x y p q = p
 if_pins threads false x y p q = q
 
-named_pins : (threads : ℕ) (g : Graph) (r : Reference) (o : Object) → HasPinsOf threads g → HasPinsOf threads (with_named g r o)
-named_pins threads g None o pins = pins
-named_pins threads g (Some n) o pins = pins
+named_pins : (threads : ℕ) (graph : Graph) (reference : Reference) (object : Object) → HasPinsOf threads graph → HasPinsOf threads (with_named graph reference object)
+named_pins threads graph None object pins = pins
+named_pins threads graph (Some n) object pins = pins
 
 -- a slot that is emptied, or filled
-empty_pins : (threads : ℕ) (g : Graph) (t slot : ℕ) → HasPinsOf threads g → HasPinsOf threads (with_pin g t slot None)
-empty_pins threads g t slot pins u s held is = by_test ((u == t) && (s == slot)) is
+empty_pins : (threads : ℕ) (graph : Graph) (t slot : ℕ) → HasPinsOf threads graph → HasPinsOf threads (with_pin graph t slot None)
+empty_pins threads graph t slot pins u s held is = by_test ((u == t) && (s == slot)) is
   where
-    by_test : (b : Bool) → (if b then None else g.pin u s) ≡ Some held → (1 ≤ u) × (u ≤ threads) × (s < 4)
+    by_test : (holds : Bool) → (if holds then None else graph.pin u s) ≡ Some held → (1 ≤ u) × (u ≤ threads) × (s < 4)
     by_test true e = absurd (none-some held e)
     by_test false e = pins u s held e
 
-full_pins : (threads : ℕ) (g : Graph) (t slot : ℕ) (p : Option Pinned) → 1 ≤ t → t ≤ threads → slot < 4 → HasPinsOf threads g → HasPinsOf threads (with_pin g t slot p)
-full_pins threads g t slot p low high few pins u s held is = by_test ((u == t) && (s == slot)) refl is
+full_pins : (threads : ℕ) (graph : Graph) (t slot : ℕ) (found : Option Pinned) → 1 ≤ t → t ≤ threads → slot < 4 → HasPinsOf threads graph → HasPinsOf threads (with_pin graph t slot found)
+full_pins threads graph t slot found low high few pins u s held is = by_test ((u == t) && (s == slot)) refl is
   where
-    by_test : (b : Bool) → ((u == t) && (s == slot)) ≡ b → (if b then p else g.pin u s) ≡ Some held → (1 ≤ u) × (u ≤ threads) × (s < 4)
+    by_test : (holds : Bool) → ((u == t) && (s == slot)) ≡ holds → (if holds then found else graph.pin u s) ≡ Some held → (1 ≤ u) × (u ≤ threads) × (s < 4)
     by_test true same e =
         let both = (Decides-and (u == t) (s == slot) (Decides-eqb u t) (Decides-eqb s slot)).0 same in
         (omega (arith, low, both.0), omega (arith, high, both.0), omega (arith, few, both.1))
     by_test false same e = pins u s held e
 
-outcome_pins : (threads : ℕ) (g : Graph) (t : ℕ) (c : Command) → HasPinsOf threads g → HasPinsOf threads (outcome g t c).graph
-outcome_pins threads g t (New dst refs nums) pins = pins
-outcome_pins threads g t (Get dst src field) pins = on_pins threads (field_at g t src field) g _ pins (λ v. pins)
-outcome_pins threads g t (Set obj field val) pins = on_pins threads (field_at g t obj field) g _ pins (λ v. named_pins threads g (g.root t obj) _ pins)
-outcome_pins threads g t (Cas obj field expect val) pins = on_pins threads (field_at g t obj field) g _ pins
-    (λ v. if_pins threads (same_reference v (g.root t expect)) (answers reply.Yes (with_field g t obj field (g.root t val))) (answers reply.No g) (named_pins threads g (g.root t obj) _ pins) pins)
-outcome_pins threads g t (Xchg dst obj field val) pins = on_pins threads (field_at g t obj field) g _ pins (λ v. named_pins threads g (g.root t obj) _ pins)
-outcome_pins threads g t (Rd obj index) pins = on_pins threads (number_at g t obj index) g _ pins (λ v. pins)
-outcome_pins threads g t (Wr obj index value) pins = on_pins threads (number_at g t obj index) g _ pins (λ v. named_pins threads g (g.root t obj) _ pins)
-outcome_pins threads g t (Copy dst src) pins = pins
-outcome_pins threads g t (Drop dst) pins = pins
-outcome_pins threads g t (Same a b) pins = pins
-outcome_pins threads g t Gc pins = pins
-outcome_pins threads g t (Pin slot obj) pins = pins
-outcome_pins threads g t (Unpin slot) pins = on_pins threads (g.pin t slot) g _ pins (λ v. empty_pins threads g t slot pins)
+outcome_pins : (threads : ℕ) (graph : Graph) (thread : ℕ) (command : Command) → HasPinsOf threads graph → HasPinsOf threads (outcome graph thread command).graph
+outcome_pins threads graph thread (New dst refs nums) pins = pins
+outcome_pins threads graph thread (Get dst src field) pins = on_pins threads (field_at graph thread src field) graph _ pins (λ v. pins)
+outcome_pins threads graph thread (Set obj field val) pins = on_pins threads (field_at graph thread obj field) graph _ pins (λ v. named_pins threads graph (graph.root thread obj) _ pins)
+outcome_pins threads graph thread (Cas obj field expect val) pins = on_pins threads (field_at graph thread obj field) graph _ pins
+    (λ v. if_pins threads (same_reference v (graph.root thread expect)) (answers reply.Yes (with_field graph thread obj field (graph.root thread val))) (answers reply.No graph) (named_pins threads graph (graph.root thread obj) _ pins) pins)
+outcome_pins threads graph thread (Xchg dst obj field val) pins = on_pins threads (field_at graph thread obj field) graph _ pins (λ v. named_pins threads graph (graph.root thread obj) _ pins)
+outcome_pins threads graph thread (Rd obj index) pins = on_pins threads (number_at graph thread obj index) graph _ pins (λ v. pins)
+outcome_pins threads graph thread (Wr obj index value) pins = on_pins threads (number_at graph thread obj index) graph _ pins (λ v. named_pins threads graph (graph.root thread obj) _ pins)
+outcome_pins threads graph thread (Copy dst src) pins = pins
+outcome_pins threads graph thread (Drop dst) pins = pins
+outcome_pins threads graph thread (Same a b) pins = pins
+outcome_pins threads graph thread Gc pins = pins
+outcome_pins threads graph thread (Pin slot obj) pins = pins
+outcome_pins threads graph thread (Unpin slot) pins = on_pins threads (graph.pin thread slot) graph _ pins (λ v. empty_pins threads graph thread slot pins)
 
-pin_slot : (c : Command) (slot obj : ℕ) → IsValid c → c ≡ Pin slot obj → slot < 4
-pin_slot c slot obj valid is = (subst IsValid is valid).0
+pin_slot : (command : Command) (slot obj : ℕ) → IsValid command → command ≡ Pin slot obj → slot < 4
+pin_slot command slot obj valid is = (subst IsValid is valid).0
 
-reply_pins : (threads : ℕ) (g : Graph) (t : ℕ) (c : Command) (r : Reply) → 1 ≤ t → t ≤ threads → IsValid c → HasPinsOf threads g → HasPinsOf threads (after_reply g t c r)
-reply_pins threads g t c r low high valid pins =
-    left_by (HasPinsOf threads) g t c r pins (outcome_pins threads g t c pins) (λ slot obj place n is. full_pins threads g t slot (Some (record { name = n; place = place })) low high (pin_slot c slot obj valid is) pins)
+reply_pins : (threads : ℕ) (graph : Graph) (t : ℕ) (command : Command) (r : Reply) → 1 ≤ t → t ≤ threads → IsValid command → HasPinsOf threads graph → HasPinsOf threads (after_reply graph t command r)
+reply_pins threads graph t command r low high valid pins =
+    left_by (HasPinsOf threads) graph t command r pins (outcome_pins threads graph t command pins) (λ slot obj place n is. full_pins threads graph t slot (Some (record { name = n; place = place })) low high (pin_slot command slot obj valid is) pins)
 
-full_or_not : (threads : ℕ) (full : Bool) (g h : Graph) → HasPinsOf threads g → HasPinsOf threads h → HasPinsOf threads (if full then g else h)
-full_or_not threads true g h p q = p
-full_or_not threads false g h p q = q
+full_or_not : (threads : ℕ) (full : Bool) (graph other_graph : Graph) → HasPinsOf threads graph → HasPinsOf threads other_graph → HasPinsOf threads (if full then graph else other_graph)
+full_or_not threads true graph other_graph p q = p
+full_or_not threads false graph other_graph p q = q
 
-pub entry_pins : (threads : ℕ) (g : Graph) (e : Entry) → 1 ≤ e.thread → e.thread ≤ threads → IsValid e.command → HasPinsOf threads g → HasPinsOf threads (after_entry g e)
-entry_pins threads g e low high valid pins = full_or_not threads (is_full e.reply) g (after_reply g e.thread e.command e.reply) pins (reply_pins threads g e.thread e.command e.reply low high valid pins)
+pub entry_pins : (threads : ℕ) (graph : Graph) (entry : Entry) → 1 ≤ entry.thread → entry.thread ≤ threads → IsValid entry.command → HasPinsOf threads graph → HasPinsOf threads (after_entry graph entry)
+entry_pins threads graph entry low high valid pins = full_or_not threads (is_full entry.reply) graph (after_reply graph entry.thread entry.command entry.reply) pins (reply_pins threads graph entry.thread entry.command entry.reply low high valid pins)
 
 pub opening_pins : (threads n : ℕ) → HasPinsOf threads (opening n)
 opening_pins threads n t slot held is = absurd (none-some held is)
@@ -142,7 +142,7 @@ opening_pins threads n t slot held is = absurd (none-some held is)
 -- ---- legal answers
 
 -- an allocation may be answered Full
-pub full_is : (regions region_words : ℕ) (g : Graph) (e : Entry) → e.reply ≡ reply.Full → IsNew e.command → IsLegal regions region_words g e.thread e.command e.reply (after_entry g e) × (g ≡ after_entry g e)
-full_is regions region_words g e full new =
-    let same : after_entry g e ≡ g = ap (λ (r : Reply). if is_full r then g else after_reply g e.thread e.command r) full in
+pub full_is : (regions region_words : ℕ) (graph : Graph) (entry : Entry) → entry.reply ≡ reply.Full → IsNew entry.command → IsLegal regions region_words graph entry.thread entry.command entry.reply (after_entry graph entry) × (graph ≡ after_entry graph entry)
+full_is regions region_words graph entry full new =
+    let same : after_entry graph entry ≡ graph = ap (λ (r : Reply). if is_full r then graph else after_reply graph entry.thread entry.command r) full in
     (inr (inl (new, full, same)), sym same)

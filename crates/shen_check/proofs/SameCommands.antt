@@ -11,7 +11,7 @@ use Rattle.shen_graph.specs.contracts.command.CommandPartialEq.TheImpl.{eq-value
 last : (n m : ℕ) (R : Type 0) → (n ≡ m → R) → (R → n ≡ m) → MatchBool (eqb n m) R (R → ⊥)
 last n m R make out = by_test (eqb n m) refl
   where
-    by_test : (t : Bool) → eqb n m ≡ t → MatchBool t R (R → ⊥)
+    by_test : (holds : Bool) → eqb n m ≡ holds → MatchBool holds R (R → ⊥)
     by_test true e = make ((Decides-eqb n m).0 e)
     by_test false e = λ (r : R). let one = (Decides-eqb n m).1 (out r) in absurd cc
 
@@ -19,11 +19,11 @@ last n m R make out = by_test (eqb n m) refl
 more : (n m : ℕ) (others : Bool) (R : Type 0) → (n ≡ m → MatchBool others R (R → ⊥)) → (R → n ≡ m) → MatchBool (eqb n m && others) R (R → ⊥)
 more n m others R further out = by_test (eqb n m) refl
   where
-    by_test : (t : Bool) → eqb n m ≡ t → MatchBool (t && others) R (R → ⊥)
+    by_test : (holds : Bool) → eqb n m ≡ holds → MatchBool (holds && others) R (R → ⊥)
     by_test true e = further ((Decides-eqb n m).0 e)
     by_test false e = λ (r : R). let one = (Decides-eqb n m).1 (out r) in absurd cc
 
-pub same_command : (a b : Command) → MatchBool (eq-value.it a b) (a ≡ b) (a ≡ b → ⊥)
+pub same_command : (command other_command : Command) → MatchBool (eq-value.it command other_command) (command ≡ other_command) (command ≡ other_command → ⊥)
 same_command (New dst refs nums) (New other_dst other_refs other_nums) = more dst other_dst (eqb refs other_refs && eqb nums other_nums) _ (λ p. more refs other_refs (eqb nums other_nums) _ (λ q. last nums other_nums _ (λ e. cc) (λ same. cc)) (λ same. cc)) (λ same. cc)
 same_command (New dst refs nums) _ = λ e. absurd cc
 same_command (Get dst src field) (Get other_dst other_src other_field) = more dst other_dst (eqb src other_src && eqb field other_field) _ (λ p. more src other_src (eqb field other_field) _ (λ q. last field other_field _ (λ e. cc) (λ same. cc)) (λ same. cc)) (λ same. cc)
@@ -52,19 +52,19 @@ same_command (Unpin slot) (Unpin other_slot) = last slot other_slot _ (λ e. cc)
 same_command (Unpin slot) _ = λ e. absurd cc
 
 -- the next command is there and is this one
-pub same_next : (next : Option Command) (k : Command) → MatchBool (option_eq eq-value.it next (Some k)) (next ≡ Some k) (next ≡ Some k → ⊥)
-same_next None k = λ e. absurd cc
-same_next (Some a) k = by_test (eq-value.it a k) (same_command a k)
+pub same_next : (next : Option Command) (command : Command) → MatchBool (option_eq eq-value.it next (Some command)) (next ≡ Some command) (next ≡ Some command → ⊥)
+same_next None command = λ e. absurd cc
+same_next (Some a) command = by_test (eq-value.it a command) (same_command a command)
   where
-    by_test : (t : Bool) → MatchBool t (a ≡ k) (a ≡ k → ⊥) → MatchBool t (◌≡◌ {A = Option Command} (Some a) (Some k)) (◌≡◌ {A = Option Command} (Some a) (Some k) → ⊥)
+    by_test : (holds : Bool) → MatchBool holds (a ≡ command) (a ≡ command → ⊥) → MatchBool holds (◌≡◌ {A = Option Command} (Some a) (Some command)) (◌≡◌ {A = Option Command} (Some a) (Some command) → ⊥)
     by_test true same = ap Some same
-    by_test false other = λ (e : ◌≡◌ {A = Option Command} (Some a) (Some k)). other cc
+    by_test false other = λ (e : ◌≡◌ {A = Option Command} (Some a) (Some command)). other cc
 
 -- and the thread is there
-pub is_next_of : (result : Bool) (thread threads : ℕ) (next of : Option Command) (k : Command) → 1 ≤ thread → thread ≤ threads → next ≡ of → result ≡ option_eq eq-value.it next (Some k)
-    → MatchBool result ((1 ≤ thread) × (thread ≤ threads) × (of ≡ Some k)) ((1 ≤ thread) → (thread ≤ threads) → of ≡ Some k → ⊥)
-is_next_of result thread threads next of k first last is told = by_test result (subst (λ (t : Bool). MatchBool t (next ≡ Some k) (next ≡ Some k → ⊥)) (sym told) (same_next next k))
+pub is_next_of : (result : Bool) (thread threads : ℕ) (next of : Option Command) (command : Command) → 1 ≤ thread → thread ≤ threads → next ≡ of → result ≡ option_eq eq-value.it next (Some command)
+    → MatchBool result ((1 ≤ thread) × (thread ≤ threads) × (of ≡ Some command)) ((1 ≤ thread) → (thread ≤ threads) → of ≡ Some command → ⊥)
+is_next_of result thread threads next of command first last is told = by_test result (subst (λ (holds : Bool). MatchBool holds (next ≡ Some command) (next ≡ Some command → ⊥)) (sym told) (same_next next command))
   where
-    by_test : (t : Bool) → MatchBool t (next ≡ Some k) (next ≡ Some k → ⊥) → MatchBool t ((1 ≤ thread) × (thread ≤ threads) × (of ≡ Some k)) ((1 ≤ thread) → (thread ≤ threads) → of ≡ Some k → ⊥)
+    by_test : (holds : Bool) → MatchBool holds (next ≡ Some command) (next ≡ Some command → ⊥) → MatchBool holds ((1 ≤ thread) × (thread ≤ threads) × (of ≡ Some command)) ((1 ≤ thread) → (thread ≤ threads) → of ≡ Some command → ⊥)
     by_test true same = (first, last, sym is ∙ same)
     by_test false other = λ a b e. other (is ∙ e)

@@ -24,18 +24,18 @@ valid_lines version threads (l ∷ lines) t all = by_thread (eqb l.thread t) (va
     by_thread true others = (all.0.valid, others)
     by_thread false others = others
 
-pub count_scripts : (bytes : List ℕ) (version : ℕ) (c : Config) (scripts : List (List Command)) (items : List Item) → Reads bytes version c scripts items → length scripts ≡ c.mutators
-count_scripts bytes version c scripts items reads = ap length reads.by_thread ∙ length-map-range_with_len (grammar.commands_in reads.lines) 1 c.mutators
+pub count_scripts : (bytes : List ℕ) (version : ℕ) (config : Config) (scripts : List (List Command)) (items : List Item) → Reads bytes version config scripts items → length scripts ≡ config.mutators
+count_scripts bytes version config scripts items reads = ap length reads.by_thread ∙ length-map-range_with_len (grammar.commands_in reads.lines) 1 config.mutators
 
-script_at : (bytes : List ℕ) (version : ℕ) (c : Config) (scripts : List (List Command)) (items : List Item) (t : ℕ) → (reads : Reads bytes version c scripts items) → t < c.mutators → get_or scripts t [] ≡ grammar.commands_in reads.lines (t + 1)
-script_at bytes version c scripts items t reads below =
+script_at : (bytes : List ℕ) (version : ℕ) (config : Config) (scripts : List (List Command)) (items : List Item) (mutator : ℕ) → (reads : Reads bytes version config scripts items) → mutator < config.mutators → get_or scripts mutator [] ≡ grammar.commands_in reads.lines (mutator + 1)
+script_at bytes version config scripts items mutator reads below =
     let none : List Command = [] in
-    ap (λ (ss : List (List Command)). get_or ss t none) reads.by_thread ∙ get_or-map-range_with_len (grammar.commands_in reads.lines) 1 c.mutators t (t + 1) none below (omega arith)
+    ap (λ (ss : List (List Command)). get_or ss mutator none) reads.by_thread ∙ get_or-map-range_with_len (grammar.commands_in reads.lines) 1 config.mutators mutator (mutator + 1) none below (omega arith)
 
-pub valid_scripts : (bytes : List ℕ) (version : ℕ) (c : Config) (scripts : List (List Command)) (items : List Item) → Reads bytes version c scripts items → All (All IsValid) scripts
-valid_scripts bytes version c scripts items reads = All-from_get_or (All IsValid) scripts [] (λ t within.
-    let below : t < c.mutators = omega (arith, within, count_scripts bytes version c scripts items reads) in
-    subst (All IsValid) (sym (script_at bytes version c scripts items t reads below)) (All-from_recursion IsValid _ (valid_lines version c.mutators reads.lines (t + 1) reads.in_range)))
+pub valid_scripts : (bytes : List ℕ) (version : ℕ) (config : Config) (scripts : List (List Command)) (items : List Item) → Reads bytes version config scripts items → All (All IsValid) scripts
+valid_scripts bytes version config scripts items reads = All-from_get_or (All IsValid) scripts [] (λ t within.
+    let below : t < config.mutators = omega (arith, within, count_scripts bytes version config scripts items reads) in
+    subst (All IsValid) (sym (script_at bytes version config scripts items t reads below)) (All-from_recursion IsValid _ (valid_lines version config.mutators reads.lines (t + 1) reads.in_range)))
 
 -- a trace has fewer commands than there are numbers for names
 short_script : (lines : List TraceLine) (t : ℕ) → length (grammar.commands_in lines t) ≤ length lines
@@ -46,17 +46,17 @@ short_script (l ∷ lines) t = by_thread (eqb l.thread t) (short_script lines t)
     by_thread true others = omega arith
     by_thread false others = omega arith
 
-few_commands : (bytes : List ℕ) (version : ℕ) (c : Config) (scripts : List (List Command)) (items : List Item) (t : ℕ) → Reads bytes version c scripts items → t < c.mutators → length (get_or scripts t []) < most_objects
-few_commands bytes version c scripts items t reads below =
-    let script = ap length (script_at bytes version c scripts items t reads below) in
+few_commands : (bytes : List ℕ) (version : ℕ) (config : Config) (scripts : List (List Command)) (items : List Item) (mutator : ℕ) → Reads bytes version config scripts items → mutator < config.mutators → length (get_or scripts mutator []) < most_objects
+few_commands bytes version config scripts items mutator reads below =
+    let script = ap length (script_at bytes version config scripts items mutator reads below) in
     let lines = flat_map line reads.lines in
     let turns = flat_map schedule_line reads.turns in
-    omega (arith, script, short_script reads.lines (t + 1), few_lines reads.lines, reads.short, ap length reads.spelled, length-append (header version c) (lines ++ turns), length-append lines turns)
+    omega (arith, script, short_script reads.lines (mutator + 1), few_lines reads.lines, reads.short, ap length reads.spelled, length-append (header version config) (lines ++ turns), length-append lines turns)
 
-pub can_be_judged : (bytes : List ℕ) (version : ℕ) (c : Config) (scripts : List (List Command)) (items : List Item) → Reads bytes version c scripts items → CanBeJudged c scripts
-can_be_judged bytes version c scripts items reads = record {
-  count = count_scripts bytes version c scripts items reads;
-  valid = valid_scripts bytes version c scripts items reads;
+pub can_be_judged : (bytes : List ℕ) (version : ℕ) (config : Config) (scripts : List (List Command)) (items : List Item) → Reads bytes version config scripts items → CanBeJudged config scripts
+can_be_judged bytes version config scripts items reads = record {
+  count = count_scripts bytes version config scripts items reads;
+  valid = valid_scripts bytes version config scripts items reads;
   few = All-from_get_or (λ (script : List Command). length script < most_objects) scripts [] (λ t within.
-      few_commands bytes version c scripts items t reads (omega (arith, within, count_scripts bytes version c scripts items reads)));
+      few_commands bytes version config scripts items t reads (omega (arith, within, count_scripts bytes version config scripts items reads)));
 }

@@ -34,11 +34,11 @@ nothing = []
 
 -- ---- the text
 
-told : (scripts : Scripts) (before : List Entry) (graph : Plain) (work : Jobs) → HasJudged scripts before graph work → (t : ℕ) → 1 ≤ t → t ≤ length scripts
-    → replies_of work (t - 1) ≡ history.replies_of (of_thread before t)
-told scripts before graph work h t low high =
-    let same : t - 1 + 1 ≡ t = omega (arith, low) in
-    h.replies (t - 1) (omega (arith, low, high)) ∙ ap (λ (u : ℕ). history.replies_of (of_thread before u)) same
+told : (scripts : Scripts) (before : List Entry) (graph : Plain) (work : Jobs) → HasJudged scripts before graph work → (thread : ℕ) → 1 ≤ thread → thread ≤ length scripts
+    → replies_of work (thread - 1) ≡ history.replies_of (of_thread before thread)
+told scripts before graph work h thread low high =
+    let same : thread - 1 + 1 ≡ thread = omega (arith, low) in
+    h.replies (thread - 1) (omega (arith, low, high)) ∙ ap (λ (u : ℕ). history.replies_of (of_thread before u)) same
 
 -- the answer that a version gives to a history
 abbrev answer_of : ℕ → Scripts → List Entry → List Name → List ℕ
@@ -61,12 +61,12 @@ pub answered : (version : ℕ) (scripts : Scripts) (before : List Entry) (graph 
     → out ≡ answer_text version (length text.roots) (λ t. replies_of work (t - 1)) text.rows (root_of text) (pin_of text) → MatchBool same (body ≡ out) (body ≡ out → ⊥)
     → MatchBool same (IsAnswerText version (length scripts) before body) (IsAnswerText version (length scripts) before body → ⊥)
 answered version scripts before graph work text body out same n h count shows made compared =
-    let is : IsTextOf (graph_after scripts before) (length scripts) text = subst (λ (k : ℕ). IsTextOf (graph_after scripts before) k text) (sym count) (subst (λ (g : Graph). IsTextOf g n text) h.graph_is shows) in
+    let is : IsTextOf (graph_after scripts before) (length scripts) text = subst (λ (k : ℕ). IsTextOf (graph_after scripts before) k text) (sym count) (subst (λ (graph : Graph). IsTextOf graph n text) h.graph_is shows) in
     let whole = made ∙ text_is version scripts before graph work text h is in
     by_test same is whole compared
   where
-    by_test : (b : Bool) → IsTextOf (graph_after scripts before) (length scripts) text → out ≡ answer_of version scripts before (names_of text)
-        → MatchBool b (body ≡ out) (body ≡ out → ⊥) → MatchBool b (IsAnswerText version (length scripts) before body) (IsAnswerText version (length scripts) before body → ⊥)
+    by_test : (holds : Bool) → IsTextOf (graph_after scripts before) (length scripts) text → out ≡ answer_of version scripts before (names_of text)
+        → MatchBool holds (body ≡ out) (body ≡ out → ⊥) → MatchBool holds (IsAnswerText version (length scripts) before body) (IsAnswerText version (length scripts) before body → ⊥)
     by_test true is whole e = record { names = names_of text; reach = is.reach; text = e ∙ whole }
     by_test false is whole other = λ it.
         let names = one_reach (graph_after scripts before) it.names (names_of text) it.reach is.reach in
@@ -74,15 +74,15 @@ answered version scripts before graph work text body out same n h count shows ma
 
 -- ---- commands that are left
 
-some_left : (cs : List Command) (k : ℕ) → IsSome (slice_get cs k) → k < length cs
-some_left cs k some = elim (cases_lt k (length cs)) [ inl low ↦ low | inr past ↦ absurd (let none = subst (λ (o : Option Command). IsSome o) (slice_get_past cs k past) some in cc) ]
+some_left : (cs : List Command) (index : ℕ) → IsSome (slice_get cs index) → index < length cs
+some_left cs index some = elim (cases_lt index (length cs)) [ inl low ↦ low | inr past ↦ absurd (let none = subst (λ (found : Option Command). IsSome found) (slice_get_past cs index past) some in cc) ]
 
-none_left : (cs : List Command) (k : ℕ) → slice_get cs k ≡ None → k < length cs → ⊥
-none_left cs k none low = let some = slice_get-get_or cs k Gc low in let e = sym none ∙ some in cc
+none_left : (cs : List Command) (index : ℕ) → slice_get cs index ≡ None → index < length cs → ⊥
+none_left cs index none low = let some = slice_get-get_or cs index Gc low in let e = sym none ∙ some in cc
 
-pub is_left : (scripts : Scripts) (before : List Entry) (graph : Plain) (work : Jobs) → HasJudged scripts before graph work → (t : ℕ) → 1 ≤ t → t ≤ length scripts → IsSome (next_of work (t - 1)) → HasLeft scripts before t
-is_left scripts before graph work h t low high some =
-    some_left (script_of scripts t) (length (of_thread before t)) (subst (λ (o : Option Command). IsSome o) (next_of_thread scripts before graph work h t low high) some)
+pub is_left : (scripts : Scripts) (before : List Entry) (graph : Plain) (work : Jobs) → HasJudged scripts before graph work → (thread : ℕ) → 1 ≤ thread → thread ≤ length scripts → IsSome (next_of work (thread - 1)) → HasLeft scripts before thread
+is_left scripts before graph work h thread low high some =
+    some_left (script_of scripts thread) (length (of_thread before thread)) (subst (λ (found : Option Command). IsSome found) (next_of_thread scripts before graph work h thread low high) some)
 
 pub not_left : (scripts : Scripts) (before : List Entry) (graph : Plain) (work : Jobs) → HasJudged scripts before graph work → (n : ℕ) → ((m : ℕ) → m < n → next_of work m ≡ None) → (t : ℕ) → t ≤ n → HasLeft scripts before t → ⊥
 not_left scripts before graph work h n none zero low left = omega (arith, left)
@@ -92,7 +92,7 @@ not_left scripts before graph work h n none (suc m) low left = elim (cases_lt m 
   | inr past ↦ (let size = ap length (get_or_past scripts m nothing past) in omega (arith, left, size))
 ]
 
-pub none_is_left : (scripts : Scripts) (before : List Entry) (graph : Plain) (work : Jobs) → HasJudged scripts before graph work → ((m : ℕ) → m < length scripts → next_of work m ≡ None) → (t : ℕ) → HasLeft scripts before t → ⊥
+pub none_is_left : (scripts : Scripts) (before : List Entry) (graph : Plain) (work : Jobs) → HasJudged scripts before graph work → ((index : ℕ) → index < length scripts → next_of work index ≡ None) → (t : ℕ) → HasLeft scripts before t → ⊥
 none_is_left scripts before graph work h none t left = elim (cases_lt (length scripts) t) [
   | inl beyond ↦ beyond_none t beyond left
   | inr within ↦ not_left scripts before graph work h (length scripts) none t within left
@@ -100,20 +100,20 @@ none_is_left scripts before graph work h none t left = elim (cases_lt (length sc
   where
     beyond_none : (u : ℕ) → length scripts < u → HasLeft scripts before u → ⊥
     beyond_none zero past here = omega (arith, past)
-    beyond_none (suc m) past here = let size = ap length (get_or_past scripts m nothing (omega (arith, past))) in omega (arith, here, size)
+    beyond_none (suc index) past here = let size = ap length (get_or_past scripts index nothing (omega (arith, past))) in omega (arith, here, size)
 
 -- ---- the end of a history
 
-pub ended : (c : Config) (scripts : Scripts) (es : List Entry) (graph : Plain) (work : Jobs) (k : ℕ) → length es ≡ k → HasJudged scripts (take k es) graph work → FollowUpTo c scripts es k
-    → HasJudged scripts es graph work × AllFollow c scripts es
-ended c scripts es graph work k end judged follow = (
-  subst (λ (p : List Entry). HasJudged scripts p graph work) (take_all k es (omega (arith, end))) judged,
-  subst (λ (n : ℕ). FollowUpTo c scripts es n) (sym end) follow,
+pub ended : (config : Config) (scripts : Scripts) (es : List Entry) (graph : Plain) (work : Jobs) (k : ℕ) → length es ≡ k → HasJudged scripts (take k es) graph work → FollowUpTo config scripts es k
+    → HasJudged scripts es graph work × AllFollow config scripts es
+ended config scripts es graph work k end judged follow = (
+  subst (λ (entries : List Entry). HasJudged scripts entries graph work) (take_all k es (omega (arith, end))) judged,
+  subst (λ (n : ℕ). FollowUpTo config scripts es n) (sym end) follow,
 )
 
-pub first_left_is : (c : Config) (scripts : Scripts) (es : List Entry) (graph : Plain) (work : Jobs) (n t : ℕ) → HasJudged scripts es graph work → AllFollow c scripts es → length scripts ≡ n
-    → (1 ≤ t) × (t ≤ n) × IsSome (next_of work (t - 1)) × ((m : ℕ) → m < t - 1 → next_of work m ≡ None) → IsFirstLeft c scripts es t
-first_left_is c scripts es graph work n t judged follow count it = record {
+pub first_left_is : (config : Config) (scripts : Scripts) (es : List Entry) (graph : Plain) (work : Jobs) (n t : ℕ) → HasJudged scripts es graph work → AllFollow config scripts es → length scripts ≡ n
+    → (1 ≤ t) × (t ≤ n) × IsSome (next_of work (t - 1)) × ((m : ℕ) → m < t - 1 → next_of work m ≡ None) → IsFirstLeft config scripts es t
+first_left_is config scripts es graph work n t judged follow count it = record {
   follow = follow;
   left = is_left scripts es graph work judged t it.0 (omega (arith, it.1, count)) it.2;
   before = λ u low. not_left scripts es graph work judged (t - 1) it.3 u (omega (arith, low));
@@ -123,9 +123,9 @@ pub nothing_left : (scripts : Scripts) (es : List Entry) (graph : Plain) (work :
     → (t : ℕ) → HasLeft scripts es t → ⊥
 nothing_left scripts es graph work n judged count none = none_is_left scripts es graph work judged (λ m low. none m (omega (arith, low, count)))
 
-pub map_ok : {E : Type 0} (r : Result Bool E) (P Q : Bool → Type 0) → ((b : Bool) → P b → Q b) → IfOk r P → IfOk r Q
-map_ok (Ok b) P Q f p = f b p
+pub map_ok : {E : Type 0} (r : Result Bool E) (P Q : Bool → Type 0) → ((holds : Bool) → P holds → Q holds) → IfOk r P → IfOk r Q
+map_ok (Ok holds) P Q f p = f holds p
 map_ok (Err e) P Q f p = tt
 
-pub entry_there : (es : List Entry) (k : ℕ) → k < length es → (e : Entry) × (slice_get es k ≡ Some e)
-entry_there es k low = let none : Entry = record { thread = 0; command = Gc; reply = reply.Bad } in (get_or es k none, slice_get-get_or es k none low)
+pub entry_there : (es : List Entry) (index : ℕ) → index < length es → (entry : Entry) × (slice_get es index ≡ Some entry)
+entry_there es index low = let none : Entry = record { thread = 0; command = Gc; reply = reply.Bad } in (get_or es index none, slice_get-get_or es index none low)

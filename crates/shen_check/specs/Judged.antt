@@ -18,58 +18,58 @@ graph_after scripts before = after (opening (length scripts)) before
 
 -- An entry that may follow these: its command is the next of its thread's script, its reply is legal after them, and if it
 -- was refused, it was crowded out.
-pub record MayFollow (c : Config) (scripts : List (List Command)) (before : List Entry) (e : Entry) : Type 0 where
-  pub next : slice_get (script_of scripts e.thread) (length (of_thread before e.thread)) ≡ Some e.command
-  pub legal : IsLegal c.regions c.region_words (graph_after scripts before) e.thread e.command e.reply (after_entry (graph_after scripts before) e)
-  pub crowded : e.reply ≡ reply.Full → IsCrowded c.regions c.region_words (opening (length scripts)) scripts before e
+pub record MayFollow (config : Config) (scripts : List (List Command)) (before : List Entry) (entry : Entry) : Type 0 where
+  pub next : slice_get (script_of scripts entry.thread) (length (of_thread before entry.thread)) ≡ Some entry.command
+  pub legal : IsLegal config.regions config.region_words (graph_after scripts before) entry.thread entry.command entry.reply (after_entry (graph_after scripts before) entry)
+  pub crowded : entry.reply ≡ reply.Full → IsCrowded config.regions config.region_words (opening (length scripts)) scripts before entry
 
 -- each of so many entries, from the first on, may follow those before it
 abbrev pub FollowUpTo : Config → List (List Command) → List Entry → ℕ → Type 0
-FollowUpTo c scripts history count = (k : ℕ) (e : Entry) → k < count → slice_get history k ≡ Some e → MayFollow c scripts (take k history) e
+FollowUpTo config scripts history count = (index : ℕ) (entry : Entry) → index < count → slice_get history index ≡ Some entry → MayFollow config scripts (take index history) entry
 
 -- all may
 abbrev pub AllFollow : Config → List (List Command) → List Entry → Type 0
-AllFollow c scripts history = FollowUpTo c scripts history (length history)
+AllFollow config scripts history = FollowUpTo config scripts history (length history)
 
 -- the thread, counted from 1, has commands left
 abbrev pub HasLeft : List (List Command) → List Entry → ℕ → Type 0
 HasLeft scripts history thread = length (of_thread history thread) < length (script_of scripts thread)
 
 -- The entry at this place, counted from 0, is the first that may not follow those before it.
-pub record IsFirstWrong (c : Config) (scripts : List (List Command)) (history : List Entry) (place : ℕ) : Type 0 where
+pub record IsFirstWrong (config : Config) (scripts : List (List Command)) (history : List Entry) (place : ℕ) : Type 0 where
   pub entry : Entry
   pub there : slice_get history place ≡ Some entry
-  pub before : FollowUpTo c scripts history place
-  pub wrong : MayFollow c scripts (take place history) entry → ⊥
+  pub before : FollowUpTo config scripts history place
+  pub wrong : MayFollow config scripts (take place history) entry → ⊥
 
 -- All entries may follow, and this thread is the first that has a command left.
-pub record IsFirstLeft (c : Config) (scripts : List (List Command)) (history : List Entry) (thread : ℕ) : Type 0 where
-  pub follow : AllFollow c scripts history
+pub record IsFirstLeft (config : Config) (scripts : List (List Command)) (history : List Entry) (thread : ℕ) : Type 0 where
+  pub follow : AllFollow config scripts history
   pub left : HasLeft scripts history thread
   pub before : (t : ℕ) → t < thread → HasLeft scripts history t → ⊥
 
 -- All entries may follow, no command is left, and the body is not what answers for them.
-pub record IsOtherText (version : ℕ) (c : Config) (scripts : List (List Command)) (history : List Entry) (body : List ℕ) : Type 0 where
-  pub follow : AllFollow c scripts history
+pub record IsOtherText (version : ℕ) (config : Config) (scripts : List (List Command)) (history : List Entry) (body : List ℕ) : Type 0 where
+  pub follow : AllFollow config scripts history
   pub none_left : (t : ℕ) → HasLeft scripts history t → ⊥
   pub other : IsAnswerText version (length scripts) history body → ⊥
 
 -- The history is one that a heap may have for these scripts, whole, and the body answers for it.
-pub record IsRight (version : ℕ) (c : Config) (scripts : List (List Command)) (history : List Entry) (body : List ℕ) : Type 0 where
-  pub legal : IsLegalHistory c.regions c.region_words scripts history
+pub record IsRight (version : ℕ) (config : Config) (scripts : List (List Command)) (history : List Entry) (body : List ℕ) : Type 0 where
+  pub legal : IsLegalHistory config.regions config.region_words scripts history
   pub follows : Follows scripts history
   pub text : IsAnswerText version (length scripts) history body
 
 -- when a verdict is the one
 abbrev pub IsVerdict : (version : ℕ) → Config → List (List Command) → List Entry → List ℕ → Verdict → Type 0
-IsVerdict version c scripts history body Yes = IsRight version c scripts history body
-IsVerdict version c scripts history body (NoEntry place) = IsFirstWrong c scripts history place
-IsVerdict version c scripts history body (Script thread) = IsFirstLeft c scripts history thread
-IsVerdict version c scripts history body Text = IsOtherText version c scripts history body
+IsVerdict version config scripts history body Yes = IsRight version config scripts history body
+IsVerdict version config scripts history body (NoEntry place) = IsFirstWrong config scripts history place
+IsVerdict version config scripts history body (Script thread) = IsFirstLeft config scripts history thread
+IsVerdict version config scripts history body Text = IsOtherText version config scripts history body
 
 -- What a judge asks of a trace: a script for each of its threads, of commands in range, each with fewer commands than there are
 -- numbers for names.
-pub record CanBeJudged (c : Config) (scripts : List (List Command)) : Type 0 where
-  pub count : length scripts ≡ c.mutators
+pub record CanBeJudged (config : Config) (scripts : List (List Command)) : Type 0 where
+  pub count : length scripts ≡ config.mutators
   pub valid : All (λ script. All IsValid script) scripts
   pub few : All (λ script. length script < 2 ^ 32 - 1) scripts

@@ -32,7 +32,7 @@ slot_held (Some held) = held ∷ []
 
 -- what the pin slots of so many threads hold, in their order
 abbrev pub pins_held : Graph → ℕ → List Pinned
-pins_held g threads = flat_map (λ t. flat_map (λ slot. slot_held (g.pin t slot)) (range_with_len 0 4)) (range_with_len 1 threads)
+pins_held graph threads = flat_map (λ t. flat_map (λ slot. slot_held (graph.pin t slot)) (range_with_len 0 4)) (range_with_len 1 threads)
 
 -- each object and each region of these once, in the order in which they come first
 abbrev pub names_held : List Pinned → List Name
@@ -46,30 +46,30 @@ regions_held region_words held = fold with_number [] (map (λ p. p.place / regio
 
 -- what is pinned stands in the 4 slots of so many threads, counted from 1
 abbrev pub HasPinsOf : ℕ → Graph → Type 0
-HasPinsOf threads g = (t slot : ℕ) (held : Pinned) → g.pin t slot ≡ Some held → (1 ≤ t) × (t ≤ threads) × (slot < 4)
+HasPinsOf threads graph = (thread slot : ℕ) (held : Pinned) → graph.pin thread slot ≡ Some held → (1 ≤ thread) × (thread ≤ threads) × (slot < 4)
 
 -- the words of these objects
 abbrev pub words_held : Graph → List Name → ℕ
-words_held g names = sum_by (λ n. size (named g (Some n))) names
+words_held graph names = sum_by (λ n. size (named graph (Some n))) names
 
 -- What can be reached and is not pinned, and what others ask for, is so much that a command of the thread finds no region
 -- without a pinned object that has room.
 abbrev pub IsFullFor : Config → Graph → List (Option Progress) → ℕ → Command → Type 0
-IsFullFor c g work thread command =
-    (live : ℕ) × (held : ℕ) × (pinned : ℕ) × Live g live × Held g held × PinnedRegions c.region_words g pinned
-    × ((c.regions - pinned) * (c.region_words - words_asked (Some command) + 1) ≤ live - held + words_waiting work c.mutators thread)
+IsFullFor config graph work thread command =
+    (live : ℕ) × (held : ℕ) × (pinned : ℕ) × Live graph live × Held graph held × PinnedRegions config.region_words graph pinned
+    × ((config.regions - pinned) * (config.region_words - words_asked (Some command) + 1) ≤ live - held + words_waiting work config.mutators thread)
 
 -- A command may be answered as an entry says: the reply is legal, and where it is Full the command finds no room.
-pub record MayAnswer (c : Config) (g : Graph) (work : List (Option Progress)) (e : Entry) : Type 0 where
-  pub legal : IsLegal c.regions c.region_words g e.thread e.command e.reply (after_entry g e)
-  pub full : e.reply ≡ reply.Full → IsFullFor c g work e.thread e.command
+pub record MayAnswer (config : Config) (graph : Graph) (work : List (Option Progress)) (entry : Entry) : Type 0 where
+  pub legal : IsLegal config.regions config.region_words graph entry.thread entry.command entry.reply (after_entry graph entry)
+  pub full : entry.reply ≡ reply.Full → IsFullFor config graph work entry.thread entry.command
 
 -- Memory is as these entries have left it.
 pub record HasJudged (scripts : List (List Command)) (before : List Entry) (graph : Plain) (work : List (Option Progress)) : Type 0 where
   pub graph_is : graph_of graph ≡ graph_after scripts before
   pub threads : threads_of graph ≡ length scripts
-  pub has : (m : ℕ) → m < length scripts → HasScript work m
-  pub script : (m : ℕ) → m < length scripts → script_in work m ≡ slice_index_or scripts m []
-  pub replies : (m : ℕ) → m < length scripts → replies_of work m ≡ history.replies_of (of_thread before (m + 1))
-  pub counts : (t : ℕ) → (graph_of graph).count t ≤ length (of_thread before t)
+  pub has : (index : ℕ) → index < length scripts → HasScript work index
+  pub script : (index : ℕ) → index < length scripts → script_in work index ≡ slice_index_or scripts index []
+  pub replies : (index : ℕ) → index < length scripts → replies_of work index ≡ history.replies_of (of_thread before (index + 1))
+  pub counts : (thread : ℕ) → (graph_of graph).count thread ≤ length (of_thread before thread)
   pub pins : HasPinsOf (length scripts) (graph_of graph)

@@ -128,7 +128,7 @@ pub fn is_full_for(
     thread: u32,
     command: Command,
 ) -> Result<bool, NoMemory>
-    requires has { (m : ℕ) → m < config.now.mutators → HasScript work.now m }
+    requires has { (mutator : ℕ) → mutator < config.now.mutators → HasScript work.now mutator }
     requires threads { config.now.mutators ≡ threads_of graph.now }
     requires pins { HasPinsOf config.now.mutators (graph_of graph.now) }
     ensures { IfOk result (λ full. MatchBool full (IsFullFor config.now (graph_of graph.now) work.now thread command)

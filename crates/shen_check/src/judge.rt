@@ -65,7 +65,7 @@ impl Judge {
     fn may_refuse(&self, alloc: Global, config: &Config, entry: Entry) -> Result<bool, NoMemory>
         requires threads { config.now.mutators ≡ threads_of self.now.graph }
         requires pins { HasPinsOf config.now.mutators (graph_of self.now.graph) }
-        requires has { (m : ℕ) → m < config.now.mutators → HasScript self.now.work m }
+        requires has { (mutator : ℕ) → mutator < config.now.mutators → HasScript self.now.work mutator }
         ensures { IfOk result (λ may. MatchBool may (IsNew entry.command × IsFullFor config.now (graph_of self.now.graph) self.now.work entry.thread entry.command)
             (IsNew entry.command → IsFullFor config.now (graph_of self.now.graph) self.now.work entry.thread entry.command → ⊥)) }
     {
@@ -87,7 +87,7 @@ impl Judge {
         requires thread { (1 ≤ entry.thread) × (entry.thread ≤ threads_of self.old.graph) }
         requires valid { IsValid entry.command }
         requires count { (graph_of self.old.graph).count entry.thread < 2 ^ 32 - 1 }
-        requires has { (m : ℕ) → m < config.now.mutators → HasScript self.old.work m }
+        requires has { (mutator : ℕ) → mutator < config.now.mutators → HasScript self.old.work mutator }
         requires threads { config.now.mutators ≡ threads_of self.old.graph }
         requires pins { HasPinsOf config.now.mutators (graph_of self.old.graph) }
         ensures answer { IfOk result (λ may. MatchBool may

@@ -20,22 +20,22 @@ use Rattle.graph_placing.proofs.ShownRenewable.{renewable_anew}
 use Rattle.heap_machines.proofs.Placed.{text_unpinned}
 use Rattle.shen_core.specs.RenewedHeap.{BeginsAnew}
 
-module _ (c : Config) (t : Text) (whole : IsPlaceable c t) (threads : AreOfThreads c.mutators (names_of t)) (g : Graph) (shows : ShowsGraph t c.mutators g) (counts : List ℕ) (are : AreCountsOf (names_of t) c.mutators counts) where
-  pub begins_anew : (new : Plain) (image : Image) → config_of new ≡ c → images.config_of image ≡ c → Shows new (stage_from (images.config_of image) (images.words_of image) counts)
+module _ (config : Config) (text : Text) (whole : IsPlaceable config text) (threads : AreOfThreads config.mutators (names_of text)) (graph : Graph) (shows : ShowsGraph text config.mutators graph) (counts : List ℕ) (are : AreCountsOf (names_of text) config.mutators counts) where
+  pub begins_anew : (new : Plain) (image : Image) → config_of new ≡ config → images.config_of image ≡ config → Shows new (stage_from (images.config_of image) (images.words_of image) counts)
       → ((h : Graph) → CanBeginFrom (images.config_of image) (images.memory_of image) counts h → Begins (images.config_of image) (stage_from (images.config_of image) (images.words_of image) counts) h)
-      → CanBeginFrom c (images.memory_of image) counts (text_graph (text_anew t) counts) → HoldsNothing c.mutators g → BeginsAnew c g new
+      → CanBeginFrom config (images.memory_of image) counts (text_graph (text_anew text) counts) → HoldsNothing config.mutators graph → BeginsAnew config graph new
   begins_anew new image sizes same shown begins can_now none =
-      let h : Graph = text_graph (text_anew t) counts in
+      let h : Graph = text_graph (text_anew text) counts in
       record {
         sizes = sizes;
         unpinned = none;
         start = stage_from (images.config_of image) (images.words_of image) counts;
         shows = shown;
         graph = h;
-        begins = subst (λ (d : Config). Begins d (stage_from (images.config_of image) (images.words_of image) counts) h) same
-            (begins h (subst (λ (d : Config). CanBeginFrom d (images.memory_of image) counts h) (sym same) can_now));
-        names = name_anew (names_of t);
-        same = same_anew c t whole threads counts are g shows;
-        no_pins = text_unpinned (text_anew t) counts;
-        renewable = renewable_anew c t whole threads counts;
+        begins = subst (λ (config : Config). Begins config (stage_from (images.config_of image) (images.words_of image) counts) h) same
+            (begins h (subst (λ (config : Config). CanBeginFrom config (images.memory_of image) counts h) (sym same) can_now));
+        names = name_anew (names_of text);
+        same = same_anew config text whole threads counts are graph shows;
+        no_pins = text_unpinned (text_anew text) counts;
+        renewable = renewable_anew config text whole threads counts;
       }

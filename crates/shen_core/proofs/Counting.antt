@@ -41,24 +41,24 @@ use Rattle.shen_core.proofs.Settles.{history_both}
 
 -- with one entry more a thread has one more, or as many
 abbrev one : Entry → ℕ → ℕ
-one e t = if e.thread == t + 1 then 1 else 0
+one entry t = if entry.thread == t + 1 then 1 else 0
 
-more : (b : Bool) (e : Entry) (es : List Entry) → length (if b then e ∷ es else es) ≡ (if b then 1 else 0) + length es
-more true e es = omega arith
-more false e es = omega arith
+more : (holds : Bool) (entry : Entry) (es : List Entry) → length (if holds then entry ∷ es else es) ≡ (if holds then 1 else 0) + length es
+more true entry es = omega arith
+more false entry es = omega arith
 
-thread_more : (e : Entry) (es : List Entry) (t : ℕ) → length (of_thread (e ∷ es) (t + 1)) ≡ one e t + length (of_thread es (t + 1))
-thread_more e es t = more (e.thread == t + 1) e (of_thread es (t + 1))
+thread_more : (entry : Entry) (es : List Entry) (t : ℕ) → length (of_thread (entry ∷ es) (t + 1)) ≡ one entry t + length (of_thread es (t + 1))
+thread_more entry es t = more (entry.thread == t + 1) entry (of_thread es (t + 1))
 
-one_at : (e : Entry) (t : ℕ) → e.thread ≡ t + 1 → one e t ≡ 1
-one_at e t is = ap (λ b. if b then 1 else 0) (eq-eqb e.thread (t + 1) is)
+one_at : (entry : Entry) (t : ℕ) → entry.thread ≡ t + 1 → one entry t ≡ 1
+one_at entry t is = ap (λ b. if b then 1 else 0) (eq-eqb entry.thread (t + 1) is)
 
-one_off : (e : Entry) (t : ℕ) → e.thread ≢ t + 1 → one e t ≡ 0
-one_off e t differs = by_test (e.thread == t + 1) refl
+one_off : (entry : Entry) (t : ℕ) → entry.thread ≢ t + 1 → one entry t ≡ 0
+one_off entry t differs = by_test (entry.thread == t + 1) refl
   where
-    by_test : (b : Bool) → (e.thread == t + 1) ≡ b → one e t ≡ 0
-    by_test true same = absurd (differs (eqb-true e.thread (t + 1) same))
-    by_test false other = ap (λ b. if b then 1 else 0) other
+    by_test : (holds : Bool) → (entry.thread == t + 1) ≡ holds → one entry t ≡ 0
+    by_test true same = absurd (differs (eqb-true entry.thread (t + 1) same))
+    by_test false other = ap (λ holds. if holds then 1 else 0) other
 
 -- entries are those of their threads
 counted : (n : ℕ) (es : List Entry) → All (IsSettled n) es → length es ≤ sum_below (λ t. length (of_thread es (t + 1))) n
@@ -80,13 +80,13 @@ all_right : {X : Type 0} (P : X → Type 0) (xs ys : List X) → All P (xs ++ ys
 all_right P [] ys all = all
 all_right P (x ∷ xs) ys all = all_right P xs ys (All-tail P x (xs ++ ys) all)
 
-few : (seat : ℕ) (command : Command) (o : Option Reply) → length (entries_of seat command o) ≤ 1
+few : (seat : ℕ) (command : Command) (found : Option Reply) → length (entries_of seat command found) ≤ 1
 few seat command None = omega arith
 few seat command (Some r) = omega arith
 
 -- What events settle from a stage of a run on, where memory shows the stage after them.
-module _ (c : Config) (run : Run c) (es : List (Event Order)) (scripts : Scripts) (q : Plain) (jobs later : Jobs) (config : config_of q ≡ c) (shows : Shows q (go (kind pause_image c) (ending pause_image c run) es))
-    (before : Tells c scripts jobs (ending pause_image c run)) (after : Tells c scripts later (go (kind pause_image c) (ending pause_image c run) es)) (can : CanRun q later)
+module _ (c : Config) (run : Run c) (es : List (Event Order)) (scripts : Scripts) (plain : Plain) (jobs later : Jobs) (config : config_of plain ≡ c) (shows : Shows plain (go (kind pause_image c) (ending pause_image c run) es))
+    (before : Tells c scripts jobs (ending pause_image c run)) (after : Tells c scripts later (go (kind pause_image c) (ending pause_image c run) es)) (can : CanRun plain later)
     (within : (t : ℕ) → t < c.mutators → length (work.replies_of later t) ≤ length (work.script_in later t)) where
   abbrev h : List Entry
   h = history pause_image c (ending pause_image c run) es
@@ -109,36 +109,36 @@ module _ (c : Config) (run : Run c) (es : List (Event Order)) (scripts : Scripts
   entries = all_right (IsSettled c.mutators) (history_in pause_image c run) h (subst (λ xs. All (IsSettled c.mutators) xs) past sound.entries)
 
   -- a thread has no more of them than commands
-  each : (t : ℕ) → t < c.mutators → length (of_thread h (t + 1)) ≤ length (work.script_in jobs t)
-  each t below =
-      let found = sound.of_heap.mutators t below in
+  each : (mutator : ℕ) → mutator < c.mutators → length (of_thread h (mutator + 1)) ≤ length (work.script_in jobs mutator)
+  each mutator below =
+      let found = sound.of_heap.mutators mutator below in
       let a = found.actor in
       let m = found.mutator in
-      let calls = sound.threads t a m found.here in
-      let here : slice_get (go (kind pause_image c) (ending pause_image c run) es).machines t ≡ Some a = ap (λ (s : Stage Actor). slice_get s.machines t) (sym ends) ∙ found.here.here in
-      let replies = ap length (after.replies t a below here) ∙ length-map a.calls (λ e. e.reply) in
-      let script = ap length (after.scripts_are t below ∙ sym (before.scripts_are t below)) in
-      let split = ap length (sym calls.entries_are ∙ ap (λ xs. of_thread xs (t + 1)) past ∙ filter-append (λ e. e.thread == t + 1) (history_in pause_image c run) h) in
-      let both = length-append a.calls (entries_of t a.command calls.fixed) in
-      let parts = length-append (of_thread (history_in pause_image c run) (t + 1)) (of_thread h (t + 1)) in
-      let enough = within t below in
+      let calls = sound.threads mutator a m found.here in
+      let here : slice_get (go (kind pause_image c) (ending pause_image c run) es).machines mutator ≡ Some a = ap (λ (stage : Stage Actor). slice_get stage.machines mutator) (sym ends) ∙ found.here.here in
+      let replies = ap length (after.replies mutator a below here) ∙ length-map a.calls (λ e. e.reply) in
+      let script = ap length (after.scripts_are mutator below ∙ sym (before.scripts_are mutator below)) in
+      let split = ap length (sym calls.entries_are ∙ ap (λ xs. of_thread xs (mutator + 1)) past ∙ filter-append (λ e. e.thread == mutator + 1) (history_in pause_image c run) h) in
+      let both = length-append a.calls (entries_of mutator a.command calls.fixed) in
+      let parts = length-append (of_thread (history_in pause_image c run) (mutator + 1)) (of_thread h (mutator + 1)) in
+      let enough = within mutator below in
       by_rest a m here found.here.is calls.fixed calls.between_calls (is_between_calls m.spot) refl replies script split both parts enough
     where
-      by_rest : (a : Actor) (m : Mutating) → slice_get (go (kind pause_image c) (ending pause_image c run) es).machines t ≡ Some a → a.machine ≡ mutating m → (fixed : Option Reply) → (is_between_calls m.spot ≡ true → fixed ≡ None)
-          → (b : Bool) → is_between_calls m.spot ≡ b → length (work.replies_of later t) ≡ length a.calls → length (work.script_in later t) ≡ length (work.script_in jobs t)
-          → length (a.calls ++ entries_of t a.command fixed) ≡ length (of_thread (history_in pause_image c run) (t + 1) ++ of_thread h (t + 1))
-          → length (a.calls ++ entries_of t a.command fixed) ≡ length a.calls + length (entries_of t a.command fixed)
-          → length (of_thread (history_in pause_image c run) (t + 1) ++ of_thread h (t + 1)) ≡ length (of_thread (history_in pause_image c run) (t + 1)) + length (of_thread h (t + 1))
-          → length (work.replies_of later t) ≤ length (work.script_in later t) → length (of_thread h (t + 1)) ≤ length (work.script_in jobs t)
+      by_rest : (a : Actor) (m : Mutating) → slice_get (go (kind pause_image c) (ending pause_image c run) es).machines mutator ≡ Some a → a.machine ≡ mutating m → (fixed : Option Reply) → (is_between_calls m.spot ≡ true → fixed ≡ None)
+          → (holds : Bool) → is_between_calls m.spot ≡ holds → length (work.replies_of later mutator) ≡ length a.calls → length (work.script_in later mutator) ≡ length (work.script_in jobs mutator)
+          → length (a.calls ++ entries_of mutator a.command fixed) ≡ length (of_thread (history_in pause_image c run) (mutator + 1) ++ of_thread h (mutator + 1))
+          → length (a.calls ++ entries_of mutator a.command fixed) ≡ length a.calls + length (entries_of mutator a.command fixed)
+          → length (of_thread (history_in pause_image c run) (mutator + 1) ++ of_thread h (mutator + 1)) ≡ length (of_thread (history_in pause_image c run) (mutator + 1)) + length (of_thread h (mutator + 1))
+          → length (work.replies_of later mutator) ≤ length (work.script_in later mutator) → length (of_thread h (mutator + 1)) ≤ length (work.script_in jobs mutator)
       by_rest a m here is fixed between true rest replies script split both parts enough =
-          let none : length (entries_of t a.command fixed) ≡ 0 = ap (λ o. length (entries_of t a.command o)) (between rest) in
+          let none : length (entries_of mutator a.command fixed) ≡ 0 = ap (λ o. length (entries_of mutator a.command o)) (between rest) in
           omega (arith, replies, script, split, both, parts, enough, none)
       by_rest a m here is fixed between false busy replies script split both parts enough =
-          let at : slice_get (machines_of q) t ≡ Some (mutating m) = sym (ap (λ ms. slice_get ms t) shows.machines_are) ∙ slice_get-map (λ (x : Actor). x.machine) (go (kind pause_image c) (ending pause_image c run) es).machines t
-          ∙ ap (option_map (λ (x : Actor). x.machine)) here ∙ ap Some is in
-          let machine : machine_at q t ≡ mutating m = get_or_from_slice_get (machines_of q) t (mutating m) no_machine at in
-          let short = can.busy t (subst (λ k. t < k.mutators) (sym config) below) (ap is_resting machine ∙ busy) in
-          let one_more = few t a.command fixed in
+          let at : slice_get (machines_of plain) mutator ≡ Some (mutating m) = sym (ap (λ ms. slice_get ms mutator) shows.machines_are) ∙ slice_get-map (λ (actor : Actor). actor.machine) (go (kind pause_image c) (ending pause_image c run) es).machines mutator
+          ∙ ap (option_map (λ (actor : Actor). actor.machine)) here ∙ ap Some is in
+          let machine : machine_at plain mutator ≡ mutating m = get_or_from_slice_get (machines_of plain) mutator (mutating m) no_machine at in
+          let short = can.busy mutator (subst (λ k. mutator < k.mutators) (sym config) below) (ap is_resting machine ∙ busy) in
+          let one_more = few mutator a.command fixed in
           omega (arith, replies, script, split, both, parts, short, one_more)
 
   pub settled_few : length h ≤ commands_in c jobs
@@ -150,15 +150,15 @@ module _ (c : Config) (run : Run c) (es : List (Event Order)) (scripts : Scripts
       omega (arith, sums, same, less, all)
 
 -- with memory for all entries, all are noted
-pub noted_all : (n : Noting) (es : List Entry) → length es ≤ n.spare → IsNoted n (noted n es) es
+pub noted_all : (noting : Noting) (es : List Entry) → length es ≤ noting.spare → IsNoted noting (noted noting es) es
 unfolding noted
-noted_all n [] enough = record { list = sym (append-nil n.list); spare = omega arith }
-noted_all n (e ∷ es) enough =
-    let some : (n.spare == 0) ≡ false = grind (arith, nat_tests, enough) in
-    let next : with_entry n e ≡ record { list = n.list ++ e ∷ []; spare = n.spare - 1 } = rw some refl in
-    let rest = noted_all (record { list = n.list ++ e ∷ []; spare = n.spare - 1 }) es (omega (arith, enough)) in
-    subst (λ x. IsNoted n (noted x es) (e ∷ es)) (sym next)
+noted_all noting [] enough = record { list = sym (append-nil noting.list); spare = omega arith }
+noted_all noting (e ∷ es) enough =
+    let some : (noting.spare == 0) ≡ false = grind (arith, nat_tests, enough) in
+    let next : with_entry noting e ≡ record { list = noting.list ++ e ∷ []; spare = noting.spare - 1 } = rw some refl in
+    let rest = noted_all (record { list = noting.list ++ e ∷ []; spare = noting.spare - 1 }) es (omega (arith, enough)) in
+    subst (λ x. IsNoted noting (noted x es) (e ∷ es)) (sym next)
     (record {
-      list = rest.list ∙ append_assoc n.list (e ∷ []) es;
+      list = rest.list ∙ append_assoc noting.list (e ∷ []) es;
       spare = (let spare = rest.spare in omega (arith, spare, enough));
     })

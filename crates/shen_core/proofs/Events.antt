@@ -18,61 +18,61 @@ use Rattle.step_core.specs.Machines.{takes_of, plan_of, machine_after, kind}
 use Rattle.shen_core.specs.Runs.{WordsShow, event, IsOneEvent}
 
 -- where a map of an option is a value, there is one before it
-pub from_map : {A B : Type 0} (f : A → B) (o : Option A) (y : B) → option_map f o ≡ Some y → (x : A) × (o ≡ Some x) × (f x ≡ y)
+pub from_map : {A B : Type 0} (f : A → B) (found : Option A) (y : B) → option_map f found ≡ Some y → (x : A) × (found ≡ Some x) × (f x ≡ y)
 from_map f None y is = cc
 from_map f (Some x) y is = (x, refl, same_Some _ _ is)
 
 -- the machine of a number, in a stage that memory shows
-pub shown_actor : (words : List ℕ) (machines : List Machine) (s : Stage Actor) (number : ℕ) (machine : Machine) → WordsShow words machines s → slice_get machines number ≡ Some machine → (a : Actor) × (slice_get s.machines number ≡ Some a) × (a.machine ≡ machine)
-shown_actor words machines s number machine shows here =
-    from_map (λ a. a.machine) (slice_get s.machines number) machine
-    (sym (slice_get-map (λ a. a.machine) s.machines number) ∙ ap (λ ms. slice_get ms number) shows.machines_are ∙ here)
+pub shown_actor : (words : List ℕ) (machines : List Machine) (stage : Stage Actor) (number : ℕ) (machine : Machine) → WordsShow words machines stage → slice_get machines number ≡ Some machine → (actor : Actor) × (slice_get stage.machines number ≡ Some actor) × (actor.machine ≡ machine)
+shown_actor words machines stage number machine shows here =
+    from_map (λ actor. actor.machine) (slice_get stage.machines number) machine
+    (sym (slice_get-map (λ actor. actor.machine) stage.machines number) ∙ ap (λ ms. slice_get ms number) shows.machines_are ∙ here)
 
-module _ (c : Config) (words : List ℕ) (machines : List Machine) (number : ℕ) (machine : Machine) (order : Order) where
+module _ (config : Config) (words : List ℕ) (machines : List Machine) (number : ℕ) (machine : Machine) (order : Order) where
   -- the word that its access finds
   abbrev found : ℕ
-  found = slice_index words (table_index (plan_of c order machine))
+  found = slice_index words (table_index (plan_of config order machine))
 
   -- the words after its step
   abbrev pub stepped_words : List ℕ
-  stepped_words = accessed (plan_of c order machine) words
+  stepped_words = accessed (plan_of config order machine) words
 
   -- the machines after it
   abbrev pub stepped_machines : List Machine
-  stepped_machines = slice_set machines number (machine_after pause_image c order found machine)
+  stepped_machines = slice_set machines number (machine_after pause_image config order found machine)
 
   -- the event, in a stage that memory shows
-  pub shown_event : (s : Stage Actor) → WordsShow words machines s → slice_get machines number ≡ Some machine → takes_of machine order ≡ true → (a : Actor) × IsEvent (kind pause_image c) s (event number order) a × (a.machine ≡ machine)
+  pub shown_event : (stage : Stage Actor) → WordsShow words machines stage → slice_get machines number ≡ Some machine → takes_of machine order ≡ true → (actor : Actor) × IsEvent (kind pause_image config) stage (event number order) actor × (actor.machine ≡ machine)
   unfolding kind
-  shown_event s shows here takes =
-      let found = shown_actor words machines s number machine shows here in
+  shown_event stage shows here takes =
+      let found = shown_actor words machines stage number machine shows here in
       (found.0, record { here = found.1; takes = ap (λ x. takes_of x order) found.2 ∙ takes }, found.2)
 
   -- memory shows the stage after its step
-  moved_shows : (s : Stage Actor) (command : Command) (calls : List Entry) → WordsShow words machines s → WordsShow stepped_words stepped_machines (moved (kind pause_image c) s number (record { machine = machine; command = command; calls = calls }) order)
+  moved_shows : (stage : Stage Actor) (command : Command) (calls : List Entry) → WordsShow words machines stage → WordsShow stepped_words stepped_machines (moved (kind pause_image config) stage number (record { machine = machine; command = command; calls = calls }) order)
   unfolding kind
-  moved_shows s command calls shows = record {
-    words_are = ap (accessed (plan_of c order machine)) shows.words_are;
-    machines_are = map-set (λ a. a.machine) s.machines number _
-        ∙ ap (λ ms. slice_set ms number (machine_after pause_image c order (slice_index s.words (table_index (plan_of c order machine))) machine)) shows.machines_are
-        ∙ ap (λ ws. slice_set machines number (machine_after pause_image c order (slice_index ws (table_index (plan_of c order machine))) machine)) shows.words_are;
+  moved_shows stage command calls shows = record {
+    words_are = ap (accessed (plan_of config order machine)) shows.words_are;
+    machines_are = map-set (λ a. a.machine) stage.machines number _
+        ∙ ap (λ ms. slice_set ms number (machine_after pause_image config order (slice_index stage.words (table_index (plan_of config order machine))) machine)) shows.machines_are
+        ∙ ap (λ ws. slice_set machines number (machine_after pause_image config order (slice_index ws (table_index (plan_of config order machine))) machine)) shows.words_are;
   }
 
   -- so it does after its event
-  pub shows_step : (s : Stage Actor) → WordsShow words machines s → slice_get machines number ≡ Some machine → takes_of machine order ≡ true → WordsShow stepped_words stepped_machines (act (kind pause_image c) s (event number order))
+  pub shows_step : (stage : Stage Actor) → WordsShow words machines stage → slice_get machines number ≡ Some machine → takes_of machine order ≡ true → WordsShow stepped_words stepped_machines (act (kind pause_image config) stage (event number order))
   unfolding kind
-  shows_step s shows here takes =
-      let found = shown_event s shows here takes in
-      subst (λ x. WordsShow stepped_words stepped_machines x) (sym (act-event (kind pause_image c) s (event number order) found.0 found.1))
-      (subst (λ x. WordsShow stepped_words stepped_machines (moved (kind pause_image c) s number (record { machine = x; command = found.0.command; calls = found.0.calls }) order)) (sym found.2)
-      (moved_shows s found.0.command found.0.calls shows))
+  shows_step stage shows here takes =
+      let found = shown_event stage shows here takes in
+      subst (λ x. WordsShow stepped_words stepped_machines x) (sym (act-event (kind pause_image config) stage (event number order) found.0 found.1))
+      (subst (λ x. WordsShow stepped_words stepped_machines (moved (kind pause_image config) stage number (record { machine = x; command = found.0.command; calls = found.0.calls }) order)) (sym found.2)
+      (moved_shows stage found.0.command found.0.calls shows))
 
   -- the step is one event
-  pub one_event : slice_get machines number ≡ Some machine → takes_of machine order ≡ true → IsOneEvent c words machines stepped_words stepped_machines number order
+  pub one_event : slice_get machines number ≡ Some machine → takes_of machine order ≡ true → IsOneEvent config words machines stepped_words stepped_machines number order
   one_event here takes = record {
     is_event = λ s shows. let found = shown_event s shows here takes in (found.0, found.1);
     acts = λ s shows. shows_step s shows here takes;
     goes_on = λ start events shows.
-        subst (λ x. WordsShow stepped_words stepped_machines x) (sym (go-step (kind pause_image c) start events (event number order)))
-        (shows_step (go (kind pause_image c) start events) shows here takes);
+        subst (λ x. WordsShow stepped_words stepped_machines x) (sym (go-step (kind pause_image config) start events (event number order)))
+        (shows_step (go (kind pause_image config) start events) shows here takes);
   }

@@ -21,32 +21,32 @@ use Rattle.step_core.specs.Machines.{is_resting, made_of_machine}
 use Rattle.shen_core.specs.Progress.{CanRun, Tells, IsRunnable}
 
 -- nothing was done of a script
-progress_first : (scripts : Scripts) (t : ℕ) → t < length scripts → length scripts ≤ 8 → work.progress_of (work.opened scripts) t ≡ Some (work.begun (nth_script scripts t))
-progress_first scripts t below few =
-    get_or-map-range_with_len (λ m. option_map work.begun (slice_get scripts m)) 0 8 t t None (omega arith) (omega arith)
-    ∙ ap (option_map work.begun) (slice_get-get_or scripts t [] below)
+progress_first : (scripts : Scripts) (index : ℕ) → index < length scripts → length scripts ≤ 8 → work.progress_of (work.opened scripts) index ≡ Some (work.begun (nth_script scripts index))
+progress_first scripts index below few =
+    get_or-map-range_with_len (λ m. option_map work.begun (slice_get scripts m)) 0 8 index index None (omega arith) (omega arith)
+    ∙ ap (option_map work.begun) (slice_get-get_or scripts index [] below)
 
 -- a machine is that of the opening
-machine_first : (c : Config) (machines : List Machine) (k : ℕ) → map (λ a. a.machine) (opening c).machines ≡ machines → k < seat_count c.mutators c.helpers → get_or machines k no_machine ≡ opening_machine c k
-machine_first c machines k is below = ap (λ ms. get_or ms k no_machine) (sym is ∙ first_machines c) ∙ get_or-map-range_with_len (opening_machine c) 0 (seat_count c.mutators c.helpers) k k no_machine below (omega arith)
+machine_first : (config : Config) (machines : List Machine) (seat : ℕ) → map (λ a. a.machine) (opening config).machines ≡ machines → seat < seat_count config.mutators config.helpers → get_or machines seat no_machine ≡ opening_machine config seat
+machine_first config machines seat is below = ap (λ ms. get_or ms seat no_machine) (sym is ∙ first_machines config) ∙ get_or-map-range_with_len (opening_machine config) 0 (seat_count config.mutators config.helpers) seat seat no_machine below (omega arith)
 
 -- it has made no object
-pub made_first : (c : Config) (machines : List Machine) (k : ℕ) → map (λ a. a.machine) (opening c).machines ≡ machines → k < c.mutators → made_of_machine (get_or machines k no_machine) ≡ 0
-made_first c machines k is below = ap made_of_machine (machine_first c machines k is (omega arith)) ∙ first_made c k
+pub made_first : (config : Config) (machines : List Machine) (mutator : ℕ) → map (λ a. a.machine) (opening config).machines ≡ machines → mutator < config.mutators → made_of_machine (get_or machines mutator no_machine) ≡ 0
+made_first config machines mutator is below = ap made_of_machine (machine_first config machines mutator is (omega arith)) ∙ first_made config mutator
 
 -- a mutator rests
-rests_first : (c : Config) (machines : List Machine) (t : ℕ) → map (λ a. a.machine) (opening c).machines ≡ machines → t < c.mutators → is_resting (get_or machines t no_machine) ≡ true
-rests_first c machines t is below = ap is_resting (machine_first c machines t is (omega arith)) ∙ first_rests c t below
+rests_first : (config : Config) (machines : List Machine) (mutator : ℕ) → map (λ a. a.machine) (opening config).machines ≡ machines → mutator < config.mutators → is_resting (get_or machines mutator no_machine) ≡ true
+rests_first config machines mutator is below = ap is_resting (machine_first config machines mutator is (omega arith)) ∙ first_rests config mutator below
 
 -- a heap that was just opened can run scripts of commands that can be given
-pub can_run_first : (p : Plain) (scripts : Scripts) → Shows p (opening (config_of p)) → All (λ order. order ≡ Nothing) (orders_of p) → (config_of p).mutators ≡ length scripts → length scripts ≤ 8 → All IsRunnable scripts → CanRun p (work.opened scripts)
-can_run_first p scripts shows orders count few served = record {
+pub can_run_first : (plain : Plain) (scripts : Scripts) → Shows plain (opening (config_of plain)) → All (λ order. order ≡ Nothing) (orders_of plain) → (config_of plain).mutators ≡ length scripts → length scripts ≤ 8 → All IsRunnable scripts → CanRun plain (work.opened scripts)
+can_run_first plain scripts shows orders count few served = record {
   orders = orders;
   jobs_are = λ t below. subst (λ o. IsSome o) (sym (progress_first scripts t (omega arith) few)) refl;
   commands = λ t below. subst (λ o. All IsValid (unwrap_or o (work.begun [])).script) (sym (progress_first scripts t (omega arith) few)) (served t [] (omega arith)).0;
-  busy = λ t below busy. absurd (false≢true (sym busy ∙ rests_first (config_of p) (machines_of p) t shows.machines_are below));
+  busy = λ t below busy. absurd (false≢true (sym busy ∙ rests_first (config_of plain) (machines_of plain) t shows.machines_are below));
   made = λ t below.
-      let none = made_first (config_of p) (machines_of p) t shows.machines_are below in
+      let none = made_first (config_of plain) (machines_of plain) t shows.machines_are below in
       let few_commands : length (nth_script scripts t) < most_objects = (served t [] (omega arith)).1 in
       let is : work.script_in (work.opened scripts) t ≡ nth_script scripts t = ap (λ o. (unwrap_or o (work.begun [])).script) (progress_first scripts t (omega arith) few) in
       let long = ap length is in
@@ -54,11 +54,11 @@ can_run_first p scripts shows orders count few served = record {
 }
 
 -- and the work tells the replies of its calls: there is none
-pub tells_first : (c : Config) (scripts : Scripts) → c.mutators ≡ length scripts → length scripts ≤ 8 → Tells c scripts (work.opened scripts) (opening c)
-tells_first c scripts count few = record {
+pub tells_first : (config : Config) (scripts : Scripts) → config.mutators ≡ length scripts → length scripts ≤ 8 → Tells config scripts (work.opened scripts) (opening config)
+tells_first config scripts count few = record {
   scripts_are = λ t below. ap (λ o. (unwrap_or o (work.begun [])).script) (progress_first scripts t (omega arith) few);
   replies = λ t a below here.
-      ap (λ o. (unwrap_or o (work.begun [])).replies) (progress_first scripts t (omega arith) few) ∙ ap (λ b. map (λ e. e.reply) b.calls) (first_is c t a here).1;
+      ap (λ o. (unwrap_or o (work.begun [])).replies) (progress_first scripts t (omega arith) few) ∙ ap (λ b. map (λ e. e.reply) b.calls) (first_is config t a here).1;
 }
 
 -- scripts that are put together one after the other

@@ -26,31 +26,31 @@ use Rattle.heap_machines.specs.FromImage.{machine_from, stage_from, CanBeginFrom
 use Rattle.heap_machines.proofs.FromImages.{mutator_is, stage_machines, begins_from}
 
 -- memory shows the stage
-pub shows_from : (c : Config) (words counts held : List ℕ) (machines : List Machine) → held ≡ words → map shown machines ≡ map (machine_from c counts (view c words)) (range_with_len 0 (seat_count c.mutators c.helpers))
-    → WordsShow held (map shown machines) (stage_from c words counts)
+pub shows_from : (config : Config) (words counts held : List ℕ) (machines : List Machine) → held ≡ words → map shown machines ≡ map (machine_from config counts (view config words)) (range_with_len 0 (seat_count config.mutators config.helpers))
+    → WordsShow held (map shown machines) (stage_from config words counts)
 unfolding stage_from
-shows_from c words counts held machines words_are machines_are = record { words_are = sym words_are; machines_are = stage_machines c words counts ∙ sym machines_are }
+shows_from config words counts held machines words_are machines_are = record { words_are = sym words_are; machines_are = stage_machines config words counts ∙ sym machines_are }
 
 -- so some run has led there, of no event
-pub shown_from : (c : Config) (words counts held : List ℕ) (machines : List actors.Machine) → length words ≡ table_words c → WordsShow held machines (stage_from c words counts) → ∥ ((g : Graph) × CanBeginFrom c (view c words) counts g) ∥₁
-    → ∥ IsShownBySome c held machines ∥₁
-shown_from c words counts held machines long shows some = ∥∥₁_map some (λ can. record {
-  run = record { start = stage_from c words counts; graph = can.0; begins = begins_from c words counts long can.0 can.1; events = [] };
-  shows = subst (λ s. WordsShow held machines s) (sym (go-none (kind pause_image c) (stage_from c words counts))) shows;
+pub shown_from : (config : Config) (words counts held : List ℕ) (machines : List actors.Machine) → length words ≡ table_words config → WordsShow held machines (stage_from config words counts) → ∥ ((graph : Graph) × CanBeginFrom config (view config words) counts graph) ∥₁
+    → ∥ IsShownBySome config held machines ∥₁
+shown_from config words counts held machines long shows some = ∥∥₁_map some (λ can. record {
+  run = record { start = stage_from config words counts; graph = can.0; begins = begins_from config words counts long can.0 can.1; events = [] };
+  shows = subst (λ s. WordsShow held machines s) (sym (go-none (kind pause_image config) (stage_from config words counts))) shows;
 })
 
 -- what is known of a heap of words and machines
-pub opened_shows : (p : Plain) (words : List ℕ) (machines : List actors.Machine) (s : Stage Actor) → words_of p ≡ words → machines_of p ≡ machines → WordsShow words machines s → WordsShow (words_of p) (machines_of p) s
-opened_shows p words machines s words_are machines_are shows = record { words_are = shows.words_are ∙ sym words_are; machines_are = shows.machines_are ∙ sym machines_are }
+pub opened_shows : (plain : Plain) (words : List ℕ) (machines : List actors.Machine) (stage : Stage Actor) → words_of plain ≡ words → machines_of plain ≡ machines → WordsShow words machines stage → WordsShow (words_of plain) (machines_of plain) stage
+opened_shows plain words machines stage words_are machines_are shows = record { words_are = shows.words_are ∙ sym words_are; machines_are = shows.machines_are ∙ sym machines_are }
 
-pub opened_orders : (p : Plain) (orders : List Order) → orders_of p ≡ orders → All (λ order. order ≡ Nothing) orders → All (λ order. order ≡ Nothing) (orders_of p)
-opened_orders p orders is none = subst (λ os. All (λ order. order ≡ Nothing) os) (sym is) none
+pub opened_orders : (plain : Plain) (orders : List Order) → orders_of plain ≡ orders → All (λ order. order ≡ Nothing) orders → All (λ order. order ≡ Nothing) (orders_of plain)
+opened_orders plain orders is none = subst (λ os. All (λ order. order ≡ Nothing) os) (sym is) none
 
 -- the first machine, where there is a mutator: it is one of a thread that has made so many objects
-pub first_from : (c : Config) (words counts : List ℕ) (machines : List actors.Machine) → map (λ a. a.machine) (stage_from c words counts).machines ≡ machines → 0 < c.mutators
+pub first_from : (config : Config) (words counts : List ℕ) (machines : List actors.Machine) → map (λ a. a.machine) (stage_from config words counts).machines ≡ machines → 0 < config.mutators
     → slice_index_or machines 0 no_machine ≡ mutating (mutator_after 0 (slice_index counts 0))
-first_from c words counts machines is some =
-    let made = machine_from c counts (view c words) in
-    ap (λ ms. slice_index_or ms 0 no_machine) (sym is ∙ stage_machines c words counts)
-    ∙ get_or-map-range_with_len made 0 (seat_count c.mutators c.helpers) 0 0 no_machine (omega arith) refl
-    ∙ sym (mutator_is c counts (view c words) 0 some)
+first_from config words counts machines is some =
+    let made = machine_from config counts (view config words) in
+    ap (λ ms. slice_index_or ms 0 no_machine) (sym is ∙ stage_machines config words counts)
+    ∙ get_or-map-range_with_len made 0 (seat_count config.mutators config.helpers) 0 0 no_machine (omega arith) refl
+    ∙ sym (mutator_is config counts (view config words) 0 some)

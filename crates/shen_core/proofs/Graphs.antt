@@ -27,57 +27,57 @@ use Rattle.shen_core.specs.Runs.{WordsShow, IsShownBySome}
 use Rattle.shen_core.proofs.Events.{shown_actor}
 
 -- that the control can work on words is one fact
-loaded_is_prop : (c : Config) (table : List ℕ) (spot : ControlSpot) (image : List ℕ) → IsProp (IsLoadedFrom c table spot image)
-loaded_is_prop c table (LoadWord index extent) image = is_set ℕ_set image (take index (part_in c extent table))
-loaded_is_prop c table (StoreWord index extent) image = hlevel
-loaded_is_prop c table _ image = hlevel
+loaded_is_prop : (config : Config) (table : List ℕ) (spot : ControlSpot) (image : List ℕ) → IsProp (IsLoadedFrom config table spot image)
+loaded_is_prop config table (LoadWord index extent) image = is_set ℕ_set image (take index (part_in config extent table))
+loaded_is_prop config table (StoreWord index extent) image = hlevel
+loaded_is_prop config table _ image = hlevel
 
-can_show_is_prop : (c : Config) (table : List ℕ) (machine : Machine) → IsProp (CanShow c table machine)
-can_show_is_prop c table machine = by_control (control_in machine)
+can_show_is_prop : (config : Config) (table : List ℕ) (machine : Machine) → IsProp (CanShow config table machine)
+can_show_is_prop config table machine = by_control (control_in machine)
   where
-    by_control : (o : Option Controlling) → IsProp (CanShowBy c table o)
+    by_control : (found : Option Controlling) → IsProp (CanShowBy config table found)
     by_control None = hlevel
-    by_control (Some k) = loaded_is_prop c table k.spot k.image
+    by_control (Some k) = loaded_is_prop config table k.spot k.image
 
-module _ (c : Config) (words : List ℕ) (machines : List Machine) (rest : (number : ℕ) → number < c.mutators → is_resting (slice_index_or machines number no_machine) ≡ true)
-    (calm : image_read (slice_index_or machines (control_number c) no_machine) ≡ None) (run : Run c) (shows : WordsShow words machines (ending pause_image c run)) where
+module _ (config : Config) (words : List ℕ) (machines : List Machine) (rest : (number : ℕ) → number < config.mutators → is_resting (slice_index_or machines number no_machine) ≡ true)
+    (calm : image_read (slice_index_or machines (control_number config) no_machine) ≡ None) (run : Run config) (shows : WordsShow words machines (ending pause_image config run)) where
   -- the machine of an actor of the stage
-  pub machine_of : (number : ℕ) (a : Actor) → slice_get (ending pause_image c run).machines number ≡ Some a → a.machine ≡ slice_index_or machines number no_machine
-  machine_of number a here =
-      let there : slice_get machines number ≡ Some a.machine =
-      ap (λ ms. slice_get ms number) (sym shows.machines_are) ∙ slice_get-map (λ b. b.machine) (ending pause_image c run).machines number ∙ ap (option_map (λ b. b.machine)) here in
-      sym (get_or_from_slice_get machines number a.machine no_machine there)
+  pub machine_of : (number : ℕ) (actor : Actor) → slice_get (ending pause_image config run).machines number ≡ Some actor → actor.machine ≡ slice_index_or machines number no_machine
+  machine_of number actor here =
+      let there : slice_get machines number ≡ Some actor.machine =
+      ap (λ ms. slice_get ms number) (sym shows.machines_are) ∙ slice_get-map (λ b. b.machine) (ending pause_image config run).machines number ∙ ap (option_map (λ b. b.machine)) here in
+      sym (get_or_from_slice_get machines number actor.machine no_machine there)
 
   -- the mutators of the stage rest
-  pub at_rest : (t : ℕ) (a : Actor) → t < c.mutators → slice_get (ending pause_image c run).machines t ≡ Some a → is_resting a.machine ≡ true
-  at_rest t a below here = ap is_resting (machine_of t a here) ∙ rest t below
+  pub at_rest : (mutator : ℕ) (actor : Actor) → mutator < config.mutators → slice_get (ending pause_image config run).machines mutator ≡ Some actor → is_resting actor.machine ≡ true
+  at_rest mutator actor below here = ap is_resting (machine_of mutator actor here) ∙ rest mutator below
 
   -- and its control stores no image
-  pub is_calm : image_of (slice_get (ending pause_image c run).machines (control_number c)) ≡ None
-  is_calm = by_actor (slice_get (ending pause_image c run).machines (control_number c)) refl
+  pub is_calm : image_of (slice_get (ending pause_image config run).machines (control_number config)) ≡ None
+  is_calm = by_actor (slice_get (ending pause_image config run).machines (control_number config)) refl
     where
-      by_actor : (o : Option Actor) → slice_get (ending pause_image c run).machines (control_number c) ≡ o → image_of o ≡ None
+      by_actor : (found : Option Actor) → slice_get (ending pause_image config run).machines (control_number config) ≡ found → image_of found ≡ None
       by_actor None here = refl
-      by_actor (Some a) here = ap image_read (machine_of (control_number c) a here) ∙ calm
+      by_actor (Some a) here = ap image_read (machine_of (control_number config) a here) ∙ calm
 
   -- the control can work on the words of the image
-  pub can_show : (machine : Machine) → slice_get machines (control_number c) ≡ Some machine → CanShow c (image_from c words) machine
+  pub can_show : (machine : Machine) → slice_get machines (control_number config) ≡ Some machine → CanShow config (image_from config words) machine
   can_show machine here =
-      let found = shown_actor words machines (ending pause_image c run) (control_number c) machine shows here in
-      subst (λ ws. CanShow c (image_from c ws) machine) shows.words_are (subst (CanShow c (image_from c (ending pause_image c run).words)) found.2 (standing.can_show c run at_rest is_calm found.0 found.1))
+      let found = shown_actor words machines (ending pause_image config run) (control_number config) machine shows here in
+      subst (λ ws. CanShow config (image_from config ws) machine) shows.words_are (subst (CanShow config (image_from config (ending pause_image config run).words)) found.2 (standing.can_show config run at_rest is_calm found.0 found.1))
 
   -- they stand for the graph after the run
   abbrev pub names : ℕ → Option Name
-  names = standing.names c run at_rest is_calm
+  names = standing.names config run at_rest is_calm
 
-  pub stand : WordsStand c.region_words (heap_in c words) (roots_in c words) (pins_in c words) names (graph_after pause_image c run)
-  stand = subst (λ ws. WordsStand c.region_words (heap_in c ws) (roots_in c ws) (pins_in c ws) names (graph_after pause_image c run)) shows.words_are (standing.words_stand c run at_rest is_calm)
+  pub stand : WordsStand config.region_words (heap_in config words) (roots_in config words) (pins_in config words) names (graph_after pause_image config run)
+  stand = subst (λ ws. WordsStand config.region_words (heap_in config ws) (roots_in config ws) (pins_in config ws) names (graph_after pause_image config run)) shows.words_are (standing.words_stand config run at_rest is_calm)
 
 -- so it is of those that led to the words
-module _ (c : Config) (words : List ℕ) (machines : List Machine) (rest : (number : ℕ) → number < c.mutators → is_resting (slice_index_or machines number no_machine) ≡ true)
-    (calm : image_read (slice_index_or machines (control_number c) no_machine) ≡ None) (some : ∥ IsShownBySome c words machines ∥₁) where
-  pub some_can_show : (machine : Machine) → slice_get machines (control_number c) ≡ Some machine → CanShow c (image_from c words) machine
-  some_can_show machine here = ∥∥₁_elim some (can_show_is_prop c (image_from c words) machine) (λ s. can_show c words machines rest calm s.run s.shows machine here)
+module _ (config : Config) (words : List ℕ) (machines : List Machine) (rest : (number : ℕ) → number < config.mutators → is_resting (slice_index_or machines number no_machine) ≡ true)
+    (calm : image_read (slice_index_or machines (control_number config) no_machine) ≡ None) (some : ∥ IsShownBySome config words machines ∥₁) where
+  pub some_can_show : (machine : Machine) → slice_get machines (control_number config) ≡ Some machine → CanShow config (image_from config words) machine
+  some_can_show machine here = ∥∥₁_elim some (can_show_is_prop config (image_from config words) machine) (λ s. can_show config words machines rest calm s.run s.shows machine here)
 
-  pub some_stand : StandsForSome c words
-  some_stand = ∥∥₁_map some (λ s. (names c words machines rest calm s.run s.shows, (graph_after pause_image c s.run, stand c words machines rest calm s.run s.shows)))
+  pub some_stand : StandsForSome config words
+  some_stand = ∥∥₁_map some (λ s. (names config words machines rest calm s.run s.shows, (graph_after pause_image config s.run, stand config words machines rest calm s.run s.shows)))

@@ -23,45 +23,45 @@ use Rattle.shen_core.proofs.Noted.{IsStepped, turned_on, none_given}
 use Rattle.shen_core.proofs.Settles.{sees_nothing}
 use Rattle.shen_core.proofs.Turns.{machine_within, role_within, is_turn}
 
-module _ (p : Plain) (jobs : Jobs) (number : ℕ) (within : number < length (machines_of p)) (none : order_at p number ≡ Nothing) (held : IsHalted p number) where
+module _ (plain : Plain) (jobs : Jobs) (number : ℕ) (within : number < length (machines_of plain)) (none : order_at plain number ≡ Nothing) (held : IsHalted plain number) where
   abbrev machine : Machine
-  machine = machine_at p number
+  machine = machine_at plain number
 
   -- its access finds the pause word
-  finds : slice_index (words_of p) (table_index (plan_of (config_of p) (order_at p number) machine)) ≡ slice_index (words_of p) (word_at (config_of p) Pause)
-  finds = ap (λ o. slice_index (words_of p) (table_index (plan_of (config_of p) o machine))) none
-      ∙ ap (λ a. slice_index (words_of p) (table_index a)) held.awaits.looks
+  finds : slice_index (words_of plain) (table_index (plan_of (config_of plain) (order_at plain number) machine)) ≡ slice_index (words_of plain) (word_at (config_of plain) Pause)
+  finds = ap (λ o. slice_index (words_of plain) (table_index (plan_of (config_of plain) o machine))) none
+      ∙ ap (λ a. slice_index (words_of plain) (table_index a)) held.awaits.looks
 
   -- it takes no order
-  takes : takes_of machine (order_at p number) ≡ true
+  takes : takes_of machine (order_at plain number) ≡ true
   takes = ap (takes_of machine) none ∙ held.awaits.takes
 
   -- it stays
-  stays : next_machine p number ≡ machine
-  stays = ap (λ got. machine_after pause_image (config_of p) (order_at p number) got machine) finds
-      ∙ ap (λ o. machine_after pause_image (config_of p) o (slice_index (words_of p) (word_at (config_of p) Pause)) machine) none
-      ∙ held.awaits.stays (slice_index (words_of p) (word_at (config_of p) Pause)) held.wanted
+  stays : next_machine plain number ≡ machine
+  stays = ap (λ got. machine_after pause_image (config_of plain) (order_at plain number) got machine) finds
+      ∙ ap (λ o. machine_after pause_image (config_of plain) o (slice_index (words_of plain) (word_at (config_of plain) Pause)) machine) none
+      ∙ held.awaits.stays (slice_index (words_of plain) (word_at (config_of plain) Pause)) held.wanted
 
   -- so do the words
-  same_words : accessed (plan_of (config_of p) (order_at p number) machine) (words_of p) ≡ words_of p
-  same_words = ap (λ o. accessed (plan_of (config_of p) o machine) (words_of p)) none
-      ∙ ap (λ a. accessed a (words_of p)) held.awaits.looks
-      ∙ set-get_or (words_of p) (word_at (config_of p) Pause) 0
+  same_words : accessed (plan_of (config_of plain) (order_at plain number) machine) (words_of plain) ≡ words_of plain
+  same_words = ap (λ o. accessed (plan_of (config_of plain) o machine) (words_of plain)) none
+      ∙ ap (λ a. accessed a (words_of plain)) held.awaits.looks
+      ∙ set-get_or (words_of plain) (word_at (config_of plain) Pause) 0
 
   -- and the machines
-  same_machines : slice_set (machines_of p) number (next_machine p number) ≡ machines_of p
-  same_machines = ap (slice_set (machines_of p) number) stays ∙ set-get_or (machines_of p) number no_machine
+  same_machines : slice_set (machines_of plain) number (next_machine plain number) ≡ machines_of plain
+  same_machines = ap (slice_set (machines_of plain) number) stays ∙ set-get_or (machines_of plain) number no_machine
 
   -- its order stays none
-  same_orders : slice_set (orders_of p) number (order_at p number) ≡ orders_of p
-  same_orders = set-get_or (orders_of p) number Nothing
+  same_orders : slice_set (orders_of plain) number (order_at plain number) ≡ orders_of plain
+  same_orders = set-get_or (orders_of plain) number Nothing
 
   -- its turn is one event, which leads to the same
-  stepped_halted : IsStepped p p p jobs number stepped.Again
+  stepped_halted : IsStepped plain plain plain jobs number stepped.Again
   stepped_halted =
-      let role = role_within p number within in
-      let next : IsNextTurn p jobs number true (order_at p number) = held.awaits.goes_on (next_for (config_of p) jobs number) ∙ ap Some (sym none) in
-      let one = one_event (config_of p) (words_of p) (machines_of p) number machine (order_at p number) (machine_within (machines_of p) number within) takes in
+      let role = role_within plain number within in
+      let next : IsNextTurn plain jobs number true (order_at plain number) = held.awaits.goes_on (next_for (config_of plain) jobs number) ∙ ap Some (sym none) in
+      let one = one_event (config_of plain) (words_of plain) (machines_of plain) number machine (order_at plain number) (machine_within (machines_of plain) number within) takes in
       record {
         within = within;
         mid_words = refl;
@@ -69,26 +69,26 @@ module _ (p : Plain) (jobs : Jobs) (number : ℕ) (within : number < length (mac
         mid_config = refl;
         mid_orders = sym same_orders;
         role = role;
-        turn = is_turn p jobs number true (order_at p number) within role next;
+        turn = is_turn plain jobs number true (order_at plain number) within role next;
         next = next;
         has = takes;
-        event = subst (λ ws. IsOneEvent (config_of p) (words_of p) (machines_of p) ws (machines_of p) number (order_at p number)) same_words
-            (subst (λ ms. IsOneEvent (config_of p) (words_of p) (machines_of p) (accessed (plan_of (config_of p) (order_at p number) machine) (words_of p)) ms number (order_at p number)) same_machines one);
-        says = sym (ap (λ got. stepped_by (answer_of (config_of p) (order_at p number) machine got)) finds ∙ ap (λ order. stepped_by (answer_of (config_of p) order machine (slice_index (words_of p) (word_at (config_of p) Pause)))) none ∙ ap stepped_by (held.awaits.waits (slice_index (words_of p) (word_at (config_of p) Pause)) held.wanted));
+        event = subst (λ ws. IsOneEvent (config_of plain) (words_of plain) (machines_of plain) ws (machines_of plain) number (order_at plain number)) same_words
+            (subst (λ ms. IsOneEvent (config_of plain) (words_of plain) (machines_of plain) (accessed (plan_of (config_of plain) (order_at plain number) machine) (words_of plain)) ms number (order_at plain number)) same_machines one);
+        says = sym (ap (λ got. stepped_by (answer_of (config_of plain) (order_at plain number) machine got)) finds ∙ ap (λ order. stepped_by (answer_of (config_of plain) order machine (slice_index (words_of plain) (word_at (config_of plain) Pause)))) none ∙ ap stepped_by (held.awaits.waits (slice_index (words_of plain) (word_at (config_of plain) Pause)) held.wanted));
         machines = sym same_machines;
-        orders = sym (ap (slice_set (orders_of p) number) (sym none) ∙ same_orders);
+        orders = sym (ap (slice_set (orders_of plain) number) (sym none) ∙ same_orders);
         config = refl;
       }
 
   -- the heap has made its turn
-  pub halted_turned : HasTurned p jobs number p jobs stepped.Again
-  halted_turned = turned_on p p p jobs number stepped.Again stepped_halted (none_given p p p jobs number stepped.Again stepped_halted (λ done. absurd cc))
+  pub halted_turned : HasTurned plain jobs number plain jobs stepped.Again
+  halted_turned = turned_on plain plain plain jobs number stepped.Again stepped_halted (none_given plain plain plain jobs number stepped.Again stepped_halted (λ done. absurd cc))
 
   -- nothing was settled
-  pub halted_notes : NotesTurn p jobs number p
+  pub halted_notes : NotesTurn plain jobs number plain
   halted_notes scripts s shows tells ends =
-      sym (ap (λ t. noted p.notes (told_by (config_of p) s t)) (stepped_halted.turn scripts s shows tells)
-      ∙ ap (noted p.notes)
-      (sees_nothing (config_of p) (words_of p) (machines_of p) number (order_at p number) machine (machine_within (machines_of p) number within) takes
-      (held.awaits.settles (view (config_of p) (words_of p))) (held.awaits.refuses (words_of p)) s shows ends)
-      ∙ noted_none p.notes)
+      sym (ap (λ t. noted plain.notes (told_by (config_of plain) s t)) (stepped_halted.turn scripts s shows tells)
+      ∙ ap (noted plain.notes)
+      (sees_nothing (config_of plain) (words_of plain) (machines_of plain) number (order_at plain number) machine (machine_within (machines_of plain) number within) takes
+      (held.awaits.settles (view (config_of plain) (words_of plain))) (held.awaits.refuses (words_of plain)) s shows ends)
+      ∙ noted_none plain.notes)

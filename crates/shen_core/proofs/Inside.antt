@@ -27,100 +27,100 @@ use Rattle.shen_core.proofs.Noting.{turn_notes, turn_kept}
 use Rattle.shen_core.proofs.Turns.{role_within, is_turn}
 
 -- what its step settles was noted, and then the step made
-pub record StepsInside (p mid q : Plain) (number : ℕ) : Type 0 where
-  pub mid_words : words_of mid ≡ words_of p
-  pub mid_machines : machines_of mid ≡ machines_of p
-  pub mid_orders : orders_of mid ≡ orders_of p
-  pub mid_config : config_of mid ≡ config_of p
-  pub mid_notes : (s : Stage Actor) → Shows p s → IsEnding (config_of p) s → notes_of mid ≡ noted (notes_of p) (told (config_of p) s (event number (order_at p number)))
-  pub event : IsStep mid q number
-  pub words : words_of q ≡ accessed (plan_of (config_of mid) (order_at mid number) (machine_at mid number)) (words_of mid)
-  pub machines : machines_of q ≡ slice_set (machines_of mid) number (next_machine mid number)
-  pub orders : orders_of q ≡ slice_set (orders_of mid) number Nothing
-  pub config : config_of q ≡ config_of mid
-  pub notes : notes_of q ≡ notes_of mid
+pub record StepsInside (plain mid other_plain : Plain) (number : ℕ) : Type 0 where
+  pub mid_words : words_of mid ≡ words_of plain
+  pub mid_machines : machines_of mid ≡ machines_of plain
+  pub mid_orders : orders_of mid ≡ orders_of plain
+  pub mid_config : config_of mid ≡ config_of plain
+  pub mid_notes : (stage : Stage Actor) → Shows plain stage → IsEnding (config_of plain) stage → notes_of mid ≡ noted (notes_of plain) (told (config_of plain) stage (event number (order_at plain number)))
+  pub event : IsStep mid other_plain number
+  pub words : words_of other_plain ≡ accessed (plan_of (config_of mid) (order_at mid number) (machine_at mid number)) (words_of mid)
+  pub machines : machines_of other_plain ≡ slice_set (machines_of mid) number (next_machine mid number)
+  pub orders : orders_of other_plain ≡ slice_set (orders_of mid) number Nothing
+  pub config : config_of other_plain ≡ config_of mid
+  pub notes : notes_of other_plain ≡ notes_of mid
 
-module _ (p mid q : Plain) (number : ℕ) (within : number < length (machines_of p)) (none : order_at p number ≡ Nothing) (inside : is_inside_image (config_of p) (machine_at p number) ≡ true)
-    (facts : StepsInside p mid q number) where
-  goes : GoesInside (config_of p) (machine_at p number)
-  goes = goes_inside (config_of p) (machine_at p number) inside
+module _ (plain mid other_plain : Plain) (number : ℕ) (within : number < length (machines_of plain)) (none : order_at plain number ≡ Nothing) (inside : is_inside_image (config_of plain) (machine_at plain number) ≡ true)
+    (facts : StepsInside plain mid other_plain number) where
+  goes : GoesInside (config_of plain) (machine_at plain number)
+  goes = goes_inside (config_of plain) (machine_at plain number) inside
 
   -- in between it has no order, and is the same
   order_mid : order_at mid number ≡ Nothing
   order_mid = ap (λ os. get_or os number Nothing) facts.mid_orders ∙ none
 
-  machine_mid : machine_at mid number ≡ machine_at p number
+  machine_mid : machine_at mid number ≡ machine_at plain number
   machine_mid = ap (λ ms. get_or ms number no_machine) facts.mid_machines
 
   -- its turn is one event
-  stepped_inside : (jobs : Jobs) → IsStepped p mid q jobs number stepped.More
+  stepped_inside : (jobs : Jobs) → IsStepped plain mid other_plain jobs number stepped.More
   stepped_inside jobs =
-      let role = role_within p number within in
+      let role = role_within plain number within in
       let got = word_found_by mid number in
-      let next = goes.goes_on (next_for (config_of p) jobs number) ∙ ap Some (sym order_mid) in
+      let next = goes.goes_on (next_for (config_of plain) jobs number) ∙ ap Some (sym order_mid) in
       record {
         within = within;
         mid_words = facts.mid_words;
         mid_machines = facts.mid_machines;
         mid_config = facts.mid_config;
-        mid_orders = facts.mid_orders ∙ sym (ap (slice_set (orders_of p) number) (order_mid ∙ sym none) ∙ set-get_or (orders_of p) number Nothing);
+        mid_orders = facts.mid_orders ∙ sym (ap (slice_set (orders_of plain) number) (order_mid ∙ sym none) ∙ set-get_or (orders_of plain) number Nothing);
         role = role;
-        turn = is_turn p jobs number true (order_at mid number) within role next;
+        turn = is_turn plain jobs number true (order_at mid number) within role next;
         next = next;
-        has = ap (λ m. takes_of m (order_at mid number)) machine_mid ∙ ap (takes_of (machine_at p number)) order_mid ∙ goes.takes;
+        has = ap (λ m. takes_of m (order_at mid number)) machine_mid ∙ ap (takes_of (machine_at plain number)) order_mid ∙ goes.takes;
         event = facts.event;
-        says = sym (ap (λ c. stepped_by (answer_of c (order_at mid number) (machine_at mid number) got)) facts.mid_config ∙ ap (λ m. stepped_by (answer_of (config_of p) (order_at mid number) m got)) machine_mid
-            ∙ ap (λ order. stepped_by (answer_of (config_of p) order (machine_at p number) got)) order_mid ∙ ap stepped_by (goes.says got));
+        says = sym (ap (λ c. stepped_by (answer_of c (order_at mid number) (machine_at mid number) got)) facts.mid_config ∙ ap (λ m. stepped_by (answer_of (config_of plain) (order_at mid number) m got)) machine_mid
+            ∙ ap (λ order. stepped_by (answer_of (config_of plain) order (machine_at plain number) got)) order_mid ∙ ap stepped_by (goes.says got));
         machines = facts.machines;
         orders = facts.orders;
         config = facts.config;
       }
 
   -- the heap has made its turn
-  pub inside_turned : (jobs : Jobs) → HasTurned p jobs number q jobs stepped.More
-  inside_turned jobs = turned_on p mid q jobs number stepped.More (stepped_inside jobs) (none_given p mid q jobs number stepped.More (stepped_inside jobs) (λ done. absurd cc))
+  pub inside_turned : (jobs : Jobs) → HasTurned plain jobs number other_plain jobs stepped.More
+  inside_turned jobs = turned_on plain mid other_plain jobs number stepped.More (stepped_inside jobs) (none_given plain mid other_plain jobs number stepped.More (stepped_inside jobs) (λ done. absurd cc))
 
   -- and can go on
-  pub inside_runs : (jobs : Jobs) → CanRun p jobs → CanRun q jobs
-  inside_runs jobs before = can_run_on p mid q jobs number stepped.More (stepped_inside jobs) (none_given p mid q jobs number stepped.More (stepped_inside jobs) (λ done. absurd cc)) before
+  pub inside_runs : (jobs : Jobs) → CanRun plain jobs → CanRun other_plain jobs
+  inside_runs jobs before = can_run_on plain mid other_plain jobs number stepped.More (stepped_inside jobs) (none_given plain mid other_plain jobs number stepped.More (stepped_inside jobs) (λ done. absurd cc)) before
 
   -- what it settles was noted
-  pub inside_notes : (jobs : Jobs) → NotesTurn p jobs number q
+  pub inside_notes : (jobs : Jobs) → NotesTurn plain jobs number other_plain
   inside_notes jobs =
-      turn_kept p mid q jobs number
-      (turn_notes p mid jobs number (order_at p number) (is_turn p jobs number true (order_at p number) within (role_within p number within) (goes.goes_on (next_for (config_of p) jobs number) ∙ ap Some (sym none))) facts.mid_notes)
+      turn_kept plain mid other_plain jobs number
+      (turn_notes plain mid jobs number (order_at plain number) (is_turn plain jobs number true (order_at plain number) within (role_within plain number within) (goes.goes_on (next_for (config_of plain) jobs number) ∙ ap Some (sym none))) facts.mid_notes)
       facts.notes
 
   -- the pause word stays
-  pub inside_pause : slice_index (words_of q) (word_at (config_of q) Pause) ≡ slice_index (words_of p) (word_at (config_of p) Pause)
+  pub inside_pause : slice_index (words_of other_plain) (word_at (config_of other_plain) Pause) ≡ slice_index (words_of plain) (word_at (config_of plain) Pause)
   inside_pause =
       let at = table_index (plan_of (config_of mid) (order_at mid number) (machine_at mid number)) in
-      let is : at ≡ table_index (plan_of (config_of p) Nothing (machine_at p number)) =
+      let is : at ≡ table_index (plan_of (config_of plain) Nothing (machine_at plain number)) =
       ap (λ c. table_index (plan_of c (order_at mid number) (machine_at mid number))) facts.mid_config
-      ∙ ap (λ o. table_index (plan_of (config_of p) o (machine_at mid number))) order_mid
-      ∙ ap (λ m. table_index (plan_of (config_of p) Nothing m)) machine_mid in
+      ∙ ap (λ o. table_index (plan_of (config_of plain) o (machine_at mid number))) order_mid
+      ∙ ap (λ m. table_index (plan_of (config_of plain) Nothing m)) machine_mid in
       ap (λ ws. get_or ws 0 0) facts.words
       ∙ get_or-set_other (words_of mid) at 0 _ 0 (λ same. goes.beside (same ∙ is))
       ∙ ap (λ ws. get_or ws 0 0) facts.mid_words
 
   -- and so do all other machines
-  pub inside_others : (k : ℕ) → k < number → machine_at q k ≡ machine_at p k
-  inside_others k below =
-      ap (λ ms. get_or ms k no_machine) facts.machines
-      ∙ get_or-set_other (machines_of mid) number k (next_machine mid number) no_machine (λ same. absurd (omega arith))
-      ∙ ap (λ ms. get_or ms k no_machine) facts.mid_machines
+  pub inside_others : (index : ℕ) → index < number → machine_at other_plain index ≡ machine_at plain index
+  inside_others index below =
+      ap (λ ms. get_or ms index no_machine) facts.machines
+      ∙ get_or-set_other (machines_of mid) number index (next_machine mid number) no_machine (λ same. absurd (omega arith))
+      ∙ ap (λ ms. get_or ms index no_machine) facts.mid_machines
 
   -- one word fewer is left to it
-  pub inside_left : words_left q number + 1 ≡ words_left p number
+  pub inside_left : words_left other_plain number + 1 ≡ words_left plain number
   inside_left =
       let got = word_found_by mid number in
       let there : number < length (machines_of mid) = subst (λ (ms : List actors.Machine). number < length ms) (sym facts.mid_machines) within in
-      let at : machine_at q number ≡ machine_after pause_image (config_of p) Nothing got (machine_at p number) =
+      let at : machine_at other_plain number ≡ machine_after pause_image (config_of plain) Nothing got (machine_at plain number) =
       ap (λ ms. get_or ms number no_machine) facts.machines
       ∙ get_or-set_same (machines_of mid) number (next_machine mid number) no_machine there
       ∙ ap (λ c. machine_after pause_image c (order_at mid number) got (machine_at mid number)) facts.mid_config
-      ∙ ap (λ o. machine_after pause_image (config_of p) o got (machine_at mid number)) order_mid
-      ∙ ap (machine_after pause_image (config_of p) Nothing got) machine_mid in
-      ap (λ c. loads_left c (machine_at q number) + stores_left c (machine_at q number) + 1) (facts.config ∙ facts.mid_config)
-      ∙ ap (λ m. loads_left (config_of p) m + stores_left (config_of p) m + 1) at
-      ∙ left_after (config_of p) (machine_at p number) got inside
+      ∙ ap (λ o. machine_after pause_image (config_of plain) o got (machine_at mid number)) order_mid
+      ∙ ap (machine_after pause_image (config_of plain) Nothing got) machine_mid in
+      ap (λ c. loads_left c (machine_at other_plain number) + stores_left c (machine_at other_plain number) + 1) (facts.config ∙ facts.mid_config)
+      ∙ ap (λ m. loads_left (config_of plain) m + stores_left (config_of plain) m + 1) at
+      ∙ left_after (config_of plain) (machine_at plain number) got inside

@@ -16,22 +16,22 @@ use Rattle.shen_core.proofs.Going.{given_told, until_there, until_move, replies_
 use Rattle.shen_core.specs.Nexts.{IsOver, WalksOn}
 
 -- the machine of a seat
-pub seat_within : (p : Plain) (number : ℕ) → number < seats_of p → number < length (machines_of p)
-seat_within p number below = omega (arith, length-map p.machines.items shown, p.all_machines, below)
+pub seat_within : (plain : Plain) (number : ℕ) → number < seats_of plain → number < length (machines_of plain)
+seat_within plain number below = omega (arith, length-map plain.machines.items shown, plain.all_machines, below)
 
-module _ (p : Plain) (jobs : Jobs) (number : ℕ) where
+module _ (plain : Plain) (jobs : Jobs) (number : ℕ) where
   -- where the machine stands at the place, the item is done
-  pub until_over : (place : Place) → number < seats_of p → is_machine_at place (machine_at p number) (order_for (next_for (config_of p) jobs number) (machine_at p number)) ≡ true → IsOver p jobs (Until number place)
-  until_over place below there scripts s shows tells = until_there (config_of p) scripts s number place (stands_shown p jobs number place (seat_within p number below) scripts s shows tells ∙ there)
+  pub until_over : (place : Place) → number < seats_of plain → is_machine_at place (machine_at plain number) (order_for (next_for (config_of plain) jobs number) (machine_at plain number)) ≡ true → IsOver plain jobs (Until number place)
+  until_over place below there scripts s shows tells = until_there (config_of plain) scripts s number place (stands_shown plain jobs number place (seat_within plain number below) scripts s shows tells ∙ there)
 
   -- before that it is not
-  pub until_goes_on : (place : Place) → number < seats_of p → is_machine_at place (machine_at p number) (order_for (next_for (config_of p) jobs number) (machine_at p number)) ≡ false → WalksOn p jobs (Until number place)
-  until_goes_on place below away scripts s shows tells = until_move (config_of p) scripts s number place (stands_shown p jobs number place (seat_within p number below) scripts s shows tells ∙ away)
+  pub until_goes_on : (place : Place) → number < seats_of plain → is_machine_at place (machine_at plain number) (order_for (next_for (config_of plain) jobs number) (machine_at plain number)) ≡ false → WalksOn plain jobs (Until number place)
+  until_goes_on place below away scripts s shows tells = until_move (config_of plain) scripts s number place (stands_shown plain jobs number place (seat_within plain number below) scripts s shows tells ∙ away)
 
   -- where the replies are given, the item is done
-  pub replies_over : (count : ℕ) → number < (config_of p).mutators → nat_le count (length (work.replies_of jobs number)) ≡ true → IsOver p jobs (Replies number count)
-  replies_over count below enough scripts s shows tells = replies_given (config_of p) scripts s number count (ap (nat_le count) (given_told p jobs number scripts s (seat_within p number (omega (arith, below))) below shows tells) ∙ enough)
+  pub replies_over : (count : ℕ) → number < (config_of plain).mutators → nat_le count (length (work.replies_of jobs number)) ≡ true → IsOver plain jobs (Replies number count)
+  replies_over count below enough scripts s shows tells = replies_given (config_of plain) scripts s number count (ap (nat_le count) (given_told plain jobs number scripts s (seat_within plain number (omega (arith, below))) below shows tells) ∙ enough)
 
   -- before that it is not
-  pub replies_go_on : (count : ℕ) → number < (config_of p).mutators → nat_le count (length (work.replies_of jobs number)) ≡ false → WalksOn p jobs (Replies number count)
-  replies_go_on count below few scripts s shows tells = replies_move (config_of p) scripts s number count (ap (nat_le count) (given_told p jobs number scripts s (seat_within p number (omega (arith, below))) below shows tells) ∙ few)
+  pub replies_go_on : (count : ℕ) → number < (config_of plain).mutators → nat_le count (length (work.replies_of jobs number)) ≡ false → WalksOn plain jobs (Replies number count)
+  replies_go_on count below few scripts s shows tells = replies_move (config_of plain) scripts s number count (ap (nat_le count) (given_told plain jobs number scripts s (seat_within plain number (omega (arith, below))) below shows tells) ∙ few)

@@ -34,57 +34,57 @@ use Rattle.shen_core.specs.Runs.{WordsShow, event, IsShownBySome, IsOneEvent, ma
 use Rattle.shen_core.proofs.Events.{one_event}
 
 -- a machine of these has made its access, and has taken its word
-pub record IsMade (config : Config) (words new_words : List ℕ) (machines : List Machine) (number : ℕ) (m n : Machine) : Type 0 where
-  pub here : slice_get machines number ≡ Some m
-  pub heap : config_of m ≡ config
-  pub takes : has_turn m ≡ true
-  pub words_are : new_words ≡ accessed (plan_of (config_of m) (order_of m) (shown m)) words
-  pub shown_is : shown n ≡ machine_after pause_image (config_of m) (order_of m) (slice_index words (table_index (plan_of (config_of m) (order_of m) (shown m)))) (shown m)
+pub record IsMade (config : Config) (words new_words : List ℕ) (machines : List Machine) (number : ℕ) (machine other_machine : Machine) : Type 0 where
+  pub here : slice_get machines number ≡ Some machine
+  pub heap : config_of machine ≡ config
+  pub takes : has_turn machine ≡ true
+  pub words_are : new_words ≡ accessed (plan_of (config_of machine) (order_of machine) (shown machine)) words
+  pub shown_is : shown other_machine ≡ machine_after pause_image (config_of machine) (order_of machine) (slice_index words (table_index (plan_of (config_of machine) (order_of machine) (shown machine)))) (shown machine)
 
 -- a machine that was read is there
-pub from_read : (machines : List Machine) (number : ℕ) (m : Machine) → number < length machines → m ≡ get_or machines number m → slice_get machines number ≡ Some m
-from_read machines number m below value = slice_get_read machines (length machines) number m refl below value
+pub from_read : (machines : List Machine) (number : ℕ) (machine : Machine) → number < length machines → machine ≡ get_or machines number machine → slice_get machines number ≡ Some machine
+from_read machines number machine below value = slice_get_read machines (length machines) number machine refl below value
 
 -- where it is put back, nothing has changed
-pub put_back : (machines : List Machine) (number : ℕ) (m : Machine) → m ≡ get_or machines number m → slice_set machines number m ≡ machines
-put_back machines number m value = ap (λ x. slice_set machines number x) value ∙ set-get_or machines number m
+pub put_back : (machines : List Machine) (number : ℕ) (machine : Machine) → machine ≡ get_or machines number machine → slice_set machines number machine ≡ machines
+put_back machines number machine value = ap (λ x. slice_set machines number x) value ∙ set-get_or machines number machine
 
 -- its heap is that of all
-pub heap_here : (config : Config) (machines : List Machine) (number : ℕ) (m : Machine) → All (λ x. config_of x ≡ config) machines → slice_get machines number ≡ Some m → config_of m ≡ config
-heap_here config machines number m one_heap here =
-    sym (ap config_of (get_or_from_slice_get machines number m m here)) ∙ one_heap number m (slice_get_within machines number m here)
+pub heap_here : (config : Config) (machines : List Machine) (number : ℕ) (machine : Machine) → All (λ x. config_of x ≡ config) machines → slice_get machines number ≡ Some machine → config_of machine ≡ config
+heap_here config machines number machine one_heap here =
+    sym (ap config_of (get_or_from_slice_get machines number machine machine here)) ∙ one_heap number machine (slice_get_within machines number machine here)
 
 -- it is shown
-pub shown_here : (machines : List Machine) (number : ℕ) (m : Machine) → slice_get machines number ≡ Some m → slice_get (map shown machines) number ≡ Some (shown m)
-shown_here machines number m here = slice_get-map shown machines number ∙ ap (λ o. option_map shown o) here
+pub shown_here : (machines : List Machine) (number : ℕ) (machine : Machine) → slice_get machines number ≡ Some machine → slice_get (map shown machines) number ≡ Some (shown machine)
+shown_here machines number machine here = slice_get-map shown machines number ∙ ap (λ o. option_map shown o) here
 
 -- so is its order
-pub order_here : (machines : List Machine) (number : ℕ) (m : Machine) → slice_get machines number ≡ Some m → slice_index_or (map order_of machines) number Nothing ≡ order_of m
-order_here machines number m here =
-    get_or_from_slice_get (map order_of machines) number (order_of m) Nothing
+pub order_here : (machines : List Machine) (number : ℕ) (machine : Machine) → slice_get machines number ≡ Some machine → slice_index_or (map order_of machines) number Nothing ≡ order_of machine
+order_here machines number machine here =
+    get_or_from_slice_get (map order_of machines) number (order_of machine) Nothing
     (slice_get-map order_of machines number ∙ ap (λ o. option_map order_of o) here)
 
 -- where no order is pending, it has none
-pub none_here : (machines : List Machine) (number : ℕ) (m : Machine) → All (λ order. order ≡ Nothing) (map order_of machines) → slice_get machines number ≡ Some m → order_of m ≡ Nothing
-none_here machines number m none here =
-    let there : slice_get (map order_of machines) number ≡ Some (order_of m) = slice_get-map order_of machines number ∙ ap (λ o. option_map order_of o) here in
-    sym (order_here machines number m here) ∙ none number Nothing (slice_get_within (map order_of machines) number (order_of m) there)
+pub none_here : (machines : List Machine) (number : ℕ) (machine : Machine) → All (λ order. order ≡ Nothing) (map order_of machines) → slice_get machines number ≡ Some machine → order_of machine ≡ Nothing
+none_here machines number machine none here =
+    let there : slice_get (map order_of machines) number ≡ Some (order_of machine) = slice_get-map order_of machines number ∙ ap (λ o. option_map order_of o) here in
+    sym (order_here machines number machine here) ∙ none number Nothing (slice_get_within (map order_of machines) number (order_of machine) there)
 
 -- the machine of a number, in memory
-pub machine_here : (machines : List Machine) (number : ℕ) (m : Machine) → slice_get machines number ≡ Some m → slice_index_or (map shown machines) number no_machine ≡ shown m
-machine_here machines number m here = get_or_from_slice_get (map shown machines) number (shown m) no_machine (shown_here machines number m here)
+pub machine_here : (machines : List Machine) (number : ℕ) (machine : Machine) → slice_get machines number ≡ Some machine → slice_index_or (map shown machines) number no_machine ≡ shown machine
+machine_here machines number machine here = get_or_from_slice_get (map shown machines) number (shown machine) no_machine (shown_here machines number machine here)
 
 -- whether it makes a step
-pub turn_here : (machines : List Machine) (number : ℕ) (m : Machine) → slice_get machines number ≡ Some m → takes_of (slice_index_or (map shown machines) number no_machine) (slice_index_or (map order_of machines) number Nothing) ≡ has_turn m
-turn_here machines number m here =
-    ap (λ x. takes_of x (slice_index_or (map order_of machines) number Nothing)) (machine_here machines number m here)
-    ∙ ap (λ order. takes_of (shown m) order) (order_here machines number m here)
+pub turn_here : (machines : List Machine) (number : ℕ) (machine : Machine) → slice_get machines number ≡ Some machine → takes_of (slice_index_or (map shown machines) number no_machine) (slice_index_or (map order_of machines) number Nothing) ≡ has_turn machine
+turn_here machines number machine here =
+    ap (λ x. takes_of x (slice_index_or (map order_of machines) number Nothing)) (machine_here machines number machine here)
+    ∙ ap (λ order. takes_of (shown machine) order) (order_here machines number machine here)
 
 -- the place of its next access
-pub place_here : (machines : List Machine) (number : ℕ) (m : Machine) → slice_get machines number ≡ Some m → place_in (slice_index_or (map order_of machines) number Nothing) (slice_index_or (map shown machines) number no_machine) ≡ place_in (order_of m) (shown m)
-place_here machines number m here =
-    ap (λ x. place_in (slice_index_or (map order_of machines) number Nothing) x) (machine_here machines number m here)
-    ∙ ap (λ order. place_in order (shown m)) (order_here machines number m here)
+pub place_here : (machines : List Machine) (number : ℕ) (machine : Machine) → slice_get machines number ≡ Some machine → place_in (slice_index_or (map order_of machines) number Nothing) (slice_index_or (map shown machines) number no_machine) ≡ place_in (order_of machine) (shown machine)
+place_here machines number machine here =
+    ap (λ x. place_in (slice_index_or (map order_of machines) number Nothing) x) (machine_here machines number machine here)
+    ∙ ap (λ order. place_in order (shown machine)) (order_here machines number machine here)
 
 -- no step says that there was none
 pub never_idle : (said : Took) → stepped_of said ≡ stepped.Idle → ⊥
@@ -105,60 +105,60 @@ again_only took.Again is = refl
 again_only took.Done is = absurd cc
 
 -- by what the code has read and done
-pub made_from : (config : Config) (words new_words : List ℕ) (machines : List Machine) (number : ℕ) (m n : Machine) (access : Access) (found : ℕ)
-    → number < length machines → m ≡ get_or machines number m → All (λ x. config_of x ≡ config) machines → has_turn m ≡ true → access ≡ plan_of (config_of m) (order_of m) (shown m)
-    → new_words ≡ accessed access words → found ≡ slice_index words (table_index access) → shown n ≡ machine_after pause_image (config_of m) (order_of m) found (shown m) → IsMade config words new_words machines number m n
-made_from config words new_words machines number m n access found below value one_heap takes row words_are found_is shown_is =
-    let here = from_read machines number m below value in
+pub made_from : (config : Config) (words new_words : List ℕ) (machines : List Machine) (number : ℕ) (machine other_machine : Machine) (access : Access) (found : ℕ)
+    → number < length machines → machine ≡ get_or machines number machine → All (λ x. config_of x ≡ config) machines → has_turn machine ≡ true → access ≡ plan_of (config_of machine) (order_of machine) (shown machine)
+    → new_words ≡ accessed access words → found ≡ slice_index words (table_index access) → shown other_machine ≡ machine_after pause_image (config_of machine) (order_of machine) found (shown machine) → IsMade config words new_words machines number machine other_machine
+made_from config words new_words machines number machine other_machine access found below value one_heap takes row words_are found_is shown_is =
+    let here = from_read machines number machine below value in
     record {
       here = here;
-      heap = heap_here config machines number m one_heap here;
+      heap = heap_here config machines number machine one_heap here;
       takes = takes;
       words_are = words_are ∙ ap (λ x. accessed x words) row;
-      shown_is = shown_is ∙ ap (λ got. machine_after pause_image (config_of m) (order_of m) got (shown m)) (found_is ∙ ap (λ x. slice_index words (table_index x)) row);
+      shown_is = shown_is ∙ ap (λ got. machine_after pause_image (config_of machine) (order_of machine) got (shown machine)) (found_is ∙ ap (λ x. slice_index words (table_index x)) row);
     }
 
-module _ (config : Config) (words new_words : List ℕ) (machines : List Machine) (number : ℕ) (m n : Machine) (made : IsMade config words new_words machines number m n) where
+module _ (config : Config) (words new_words : List ℕ) (machines : List Machine) (number : ℕ) (machine other_machine : Machine) (made : IsMade config words new_words machines number machine other_machine) where
   -- the machines after its step
-  new_machines_are : map shown (slice_set machines number n) ≡ slice_set (map shown machines) number (machine_after pause_image (config_of m) (order_of m) (slice_index words (table_index (plan_of (config_of m) (order_of m) (shown m)))) (shown m))
-  new_machines_are = map-set shown machines number n ∙ ap (λ x. slice_set (map shown machines) number x) made.shown_is
+  new_machines_are : map shown (slice_set machines number other_machine) ≡ slice_set (map shown machines) number (machine_after pause_image (config_of machine) (order_of machine) (slice_index words (table_index (plan_of (config_of machine) (order_of machine) (shown machine)))) (shown machine))
+  new_machines_are = map-set shown machines number other_machine ∙ ap (λ x. slice_set (map shown machines) number x) made.shown_is
 
   -- the step is one event
-  pub made_event : IsOneEvent config words (map shown machines) new_words (map shown (slice_set machines number n)) number (order_of m)
+  pub made_event : IsOneEvent config words (map shown machines) new_words (map shown (slice_set machines number other_machine)) number (order_of machine)
   made_event =
-      subst (λ c. IsOneEvent c words (map shown machines) new_words (map shown (slice_set machines number n)) number (order_of m)) made.heap
+      subst (λ c. IsOneEvent c words (map shown machines) new_words (map shown (slice_set machines number other_machine)) number (order_of machine)) made.heap
       (rw (new_machines_are, made.words_are)
-      (one_event (config_of m) words (map shown machines) number (shown m) (order_of m) (shown_here machines number m made.here) made.takes))
+      (one_event (config_of machine) words (map shown machines) number (shown machine) (order_of machine) (shown_here machines number machine made.here) made.takes))
 
   -- so memory shows a stage again
-  pub made_shown : IsShownBySome config words (map shown machines) → IsShownBySome config new_words (map shown (slice_set machines number n))
+  pub made_shown : IsShownBySome config words (map shown machines) → IsShownBySome config new_words (map shown (slice_set machines number other_machine))
   made_shown some = record {
-    run = record { start = some.run.start; graph = some.run.graph; begins = some.run.begins; events = some.run.events ++ event number (order_of m) ∷ [] };
+    run = record { start = some.run.start; graph = some.run.graph; begins = some.run.begins; events = some.run.events ++ event number (order_of machine) ∷ [] };
     shows = made_event.goes_on some.run.start some.run.events some.shows;
   }
 
   -- its order is done
-  pub made_orders : order_of n ≡ Nothing → map order_of (slice_set machines number n) ≡ slice_set (map order_of machines) number Nothing
-  made_orders is = map-set order_of machines number n ∙ ap (λ x. slice_set (map order_of machines) number x) is
+  pub made_orders : order_of other_machine ≡ Nothing → map order_of (slice_set machines number other_machine) ≡ slice_set (map order_of machines) number Nothing
+  made_orders is = map-set order_of machines number other_machine ∙ ap (λ x. slice_set (map order_of machines) number x) is
 
   -- under the order that memory has
-  pub made_step : IsOneEvent config words (map shown machines) new_words (map shown (slice_set machines number n)) number (slice_index_or (map order_of machines) number Nothing)
-  made_step = subst (λ order. IsOneEvent config words (map shown machines) new_words (map shown (slice_set machines number n)) number order)
-      (sym (order_here machines number m made.here)) made_event
+  pub made_step : IsOneEvent config words (map shown machines) new_words (map shown (slice_set machines number other_machine)) number (slice_index_or (map order_of machines) number Nothing)
+  made_step = subst (λ order. IsOneEvent config words (map shown machines) new_words (map shown (slice_set machines number other_machine)) number order)
+      (sym (order_here machines number machine made.here)) made_event
 
   -- all machines are still of one heap
-  pub made_heap : config_of n ≡ config_of m → All (λ y. config_of y ≡ config) machines → All (λ y. config_of y ≡ config) (slice_set machines number n)
-  made_heap same one_heap = All-set (λ y. config_of y ≡ config) machines number n (same ∙ made.heap) one_heap
+  pub made_heap : config_of other_machine ≡ config_of machine → All (λ y. config_of y ≡ config) machines → All (λ y. config_of y ≡ config) (slice_set machines number other_machine)
+  made_heap same one_heap = All-set (λ y. config_of y ≡ config) machines number other_machine (same ∙ made.heap) one_heap
 
   -- all that holds of the machines after the step
-  pub made_machines : map shown (slice_set machines number n) ≡ slice_set (map shown machines) number (machine_next config words (slice_index_or (map order_of machines) number Nothing) (slice_index_or (map shown machines) number no_machine))
+  pub made_machines : map shown (slice_set machines number other_machine) ≡ slice_set (map shown machines) number (machine_next config words (slice_index_or (map order_of machines) number Nothing) (slice_index_or (map shown machines) number no_machine))
   made_machines =
-      map-set shown machines number n
+      map-set shown machines number other_machine
       ∙ ap (λ x. slice_set (map shown machines) number x)
       (made.shown_is
-      ∙ ap (λ c. machine_next c words (order_of m) (shown m)) made.heap
-      ∙ ap (λ order. machine_next config words order (shown m)) (sym (order_here machines number m made.here))
-      ∙ ap (λ x. machine_next config words (slice_index_or (map order_of machines) number Nothing) x) (sym (machine_here machines number m made.here)))
+      ∙ ap (λ c. machine_next c words (order_of machine) (shown machine)) made.heap
+      ∙ ap (λ order. machine_next config words order (shown machine)) (sym (order_here machines number machine made.here))
+      ∙ ap (λ x. machine_next config words (slice_index_or (map order_of machines) number Nothing) x) (sym (machine_here machines number machine made.here)))
 
 -- a list after a change of an element that does not show
 set_alike : {A B : Type 0} (f : A → B) (xs : List A) (number : ℕ) (x y : A) → slice_get xs number ≡ Some x → f y ≡ f x → map f (slice_set xs number y) ≡ map f xs
@@ -170,42 +170,42 @@ set_alike f xs number x y here same =
     ∙ set-get_or (map f xs) number (f x)
 
 -- an order for a machine changes none
-pub ordered_machines : (machines : List Machine) (number : ℕ) (m n : Machine) → slice_get machines number ≡ Some m → shown n ≡ shown m → map shown (slice_set machines number n) ≡ map shown machines
-ordered_machines machines number m n here same = set_alike shown machines number m n here same
+pub ordered_machines : (machines : List Machine) (number : ℕ) (machine other_machine : Machine) → slice_get machines number ≡ Some machine → shown other_machine ≡ shown machine → map shown (slice_set machines number other_machine) ≡ map shown machines
+ordered_machines machines number machine other_machine here same = set_alike shown machines number machine other_machine here same
 
 -- nor does no order
-pub ordered_none : (machines : List Machine) (number : ℕ) (m n : Machine) → slice_get machines number ≡ Some m → order_of n ≡ order_of m → map order_of (slice_set machines number n) ≡ map order_of machines
-ordered_none machines number m n here same = set_alike order_of machines number m n here same
+pub ordered_none : (machines : List Machine) (number : ℕ) (machine other_machine : Machine) → slice_get machines number ≡ Some machine → order_of other_machine ≡ order_of machine → map order_of (slice_set machines number other_machine) ≡ map order_of machines
+ordered_none machines number machine other_machine here same = set_alike order_of machines number machine other_machine here same
 
 -- a machine that was put there, and its order
-pub machine_now : (machines : List Machine) (number : ℕ) (m n : Machine) → slice_get machines number ≡ Some m → slice_index_or (map shown (slice_set machines number n)) number no_machine ≡ shown n
-machine_now machines number m n here = machine_here (slice_set machines number n) number n (slice_get-set_same machines number m n here)
+pub machine_now : (machines : List Machine) (number : ℕ) (machine other_machine : Machine) → slice_get machines number ≡ Some machine → slice_index_or (map shown (slice_set machines number other_machine)) number no_machine ≡ shown other_machine
+machine_now machines number machine other_machine here = machine_here (slice_set machines number other_machine) number other_machine (slice_get-set_same machines number machine other_machine here)
 
-pub order_now : (machines : List Machine) (number : ℕ) (m n : Machine) → slice_get machines number ≡ Some m → slice_index_or (map order_of (slice_set machines number n)) number Nothing ≡ order_of n
-order_now machines number m n here = order_here (slice_set machines number n) number n (slice_get-set_same machines number m n here)
+pub order_now : (machines : List Machine) (number : ℕ) (machine other_machine : Machine) → slice_get machines number ≡ Some machine → slice_index_or (map order_of (slice_set machines number other_machine)) number Nothing ≡ order_of other_machine
+order_now machines number machine other_machine here = order_here (slice_set machines number other_machine) number other_machine (slice_get-set_same machines number machine other_machine here)
 
 -- the orders after a new one
-pub ordered_orders : (machines : List Machine) (number : ℕ) (n : Machine) (order : Order) → order_of n ≡ order → map order_of (slice_set machines number n) ≡ slice_set (map order_of machines) number order
-ordered_orders machines number n order is = map-set order_of machines number n ∙ ap (λ x. slice_set (map order_of machines) number x) is
+pub ordered_orders : (machines : List Machine) (number : ℕ) (machine : Machine) (order : Order) → order_of machine ≡ order → map order_of (slice_set machines number machine) ≡ slice_set (map order_of machines) number order
+ordered_orders machines number machine order is = map-set order_of machines number machine ∙ ap (λ x. slice_set (map order_of machines) number x) is
 
 -- all machines are still of one heap
-pub ordered_heap : (config : Config) (machines : List Machine) (number : ℕ) (m n : Machine) → slice_get machines number ≡ Some m → config_of n ≡ config_of m → All (λ y. config_of y ≡ config) machines → All (λ y. config_of y ≡ config) (slice_set machines number n)
-ordered_heap config machines number m n here same one_heap =
-    All-set (λ y. config_of y ≡ config) machines number n (same ∙ heap_here config machines number m one_heap here) one_heap
+pub ordered_heap : (config : Config) (machines : List Machine) (number : ℕ) (machine other_machine : Machine) → slice_get machines number ≡ Some machine → config_of other_machine ≡ config_of machine → All (λ y. config_of y ≡ config) machines → All (λ y. config_of y ≡ config) (slice_set machines number other_machine)
+ordered_heap config machines number machine other_machine here same one_heap =
+    All-set (λ y. config_of y ≡ config) machines number other_machine (same ∙ heap_here config machines number machine one_heap here) one_heap
 
 -- memory shows the opening
-pub shows_opening : (c : Config) (words : List ℕ) (machines : List Machine) → words ≡ opening_words c → map shown machines ≡ map (opening_machine c) (range_with_len 0 (seat_count c.mutators c.helpers)) → WordsShow words (map shown machines) (opening c)
+pub shows_opening : (config : Config) (words : List ℕ) (machines : List Machine) → words ≡ opening_words config → map shown machines ≡ map (opening_machine config) (range_with_len 0 (seat_count config.mutators config.helpers)) → WordsShow words (map shown machines) (opening config)
 unfolding opening
-shows_opening c words machines words_are machines_are = record { words_are = sym words_are; machines_are = first_machines c ∙ sym machines_are }
+shows_opening config words machines words_are machines_are = record { words_are = sym words_are; machines_are = first_machines config ∙ sym machines_are }
 
 -- so no event led to it
-pub shown_by_none : (c : Config) (words : List ℕ) (machines : List actors.Machine) → WordsShow words machines (opening c) → IsShownBySome c words machines
-shown_by_none c words machines shows = record { run = opening_run c []; shows = subst (λ s. WordsShow words machines s) (sym (go-none (kind pause_image c) (opening c))) shows }
+pub shown_by_none : (config : Config) (words : List ℕ) (machines : List actors.Machine) → WordsShow words machines (opening config) → IsShownBySome config words machines
+shown_by_none config words machines shows = record { run = opening_run config []; shows = subst (λ s. WordsShow words machines s) (sym (go-none (kind pause_image config) (opening config))) shows }
 
 -- there is a machine for each seat
-pub machines_count : (c : Config) (machines : List Machine) → map shown machines ≡ map (opening_machine c) (range_with_len 0 (seat_count c.mutators c.helpers)) → length machines ≡ seat_count c.mutators c.helpers
-machines_count c machines machines_are =
-    sym (length-map machines shown) ∙ ap length machines_are ∙ sym (ap length (first_machines c)) ∙ length-map (opening c).machines (λ a. a.machine) ∙ first_count c
+pub machines_count : (config : Config) (machines : List Machine) → map shown machines ≡ map (opening_machine config) (range_with_len 0 (seat_count config.mutators config.helpers)) → length machines ≡ seat_count config.mutators config.helpers
+machines_count config machines machines_are =
+    sym (length-map machines shown) ∙ ap length machines_are ∙ sym (ap length (first_machines config)) ∙ length-map (opening config).machines (λ a. a.machine) ∙ first_count config
 
 -- what its step says, by what the code has read
 module _ (config : Config) (words : List ℕ) (machines : List Machine) (number : ℕ) (m : Machine) (access : Access) (found : ℕ) (said : Took) (result : Stepped)

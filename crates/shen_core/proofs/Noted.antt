@@ -45,97 +45,97 @@ orders_after old mid new number order mid_is new_is none =
     (All-set (λ o. o ≡ Nothing) old number Nothing refl none)
 
 -- the replies of the machine's actor after its event
-pub acted_replies : (c : Config) (s : Stage Actor) (number : ℕ) (order : Order) (a : Actor) (machine : Machine) → slice_get s.machines number ≡ Some a → a.machine ≡ machine → takes_of machine order ≡ true
-    → (b : Actor) → slice_get (act (kind pause_image c) s (event number order)).machines number ≡ Some b → map (λ e. e.reply) b.calls ≡ map (λ e. e.reply) a.calls ++ listed (reply_of_step machine)
+pub acted_replies : (config : Config) (stage : Stage Actor) (number : ℕ) (order : Order) (actor : Actor) (machine : Machine) → slice_get stage.machines number ≡ Some actor → actor.machine ≡ machine → takes_of machine order ≡ true
+    → (other_actor : Actor) → slice_get (act (kind pause_image config) stage (event number order)).machines number ≡ Some other_actor → map (λ e. e.reply) other_actor.calls ≡ map (λ e. e.reply) actor.calls ++ listed (reply_of_step machine)
 unfolding kind
-acted_replies c s number order a machine here is takes b there =
-    let taken : takes_of a.machine order ≡ true = ap (λ x. takes_of x order) is ∙ takes in
-    let one : IsEvent (kind pause_image c) s (event number order) a = record { here = here; takes = taken } in
-    let found = ap (λ x. slice_get x.machines number) (act-event (kind pause_image c) s (event number order) a one) ∙ slice_get-set_same s.machines number a _ here in
-    let same = same_Some _ b (sym found ∙ there) in
+acted_replies config stage number order actor machine here is takes other_actor there =
+    let taken : takes_of actor.machine order ≡ true = ap (λ x. takes_of x order) is ∙ takes in
+    let one : IsEvent (kind pause_image config) stage (event number order) actor = record { here = here; takes = taken } in
+    let found = ap (λ x. slice_get x.machines number) (act-event (kind pause_image config) stage (event number order) actor one) ∙ slice_get-set_same stage.machines number actor _ here in
+    let same = same_Some _ other_actor (sym found ∙ there) in
     ap (λ x. map (λ e. e.reply) x.calls) (sym same)
-    ∙ took_replies a
-    ∙ ap (λ x. map (λ e. e.reply) a.calls ++ listed (reply_of_step x)) is
+    ∙ took_replies actor
+    ∙ ap (λ x. map (λ e. e.reply) actor.calls ++ listed (reply_of_step x)) is
 
 -- the work tells the replies after an event that gives none
-pub tells_on : (c : Config) (words : List ℕ) (machines : List Machine) (jobs : Jobs) (number : ℕ) (machine : Machine) (order : Order) (scripts : Scripts) (s : Stage Actor)
-    → WordsShow words machines s → Tells c scripts jobs s → slice_get machines number ≡ Some machine → takes_of machine order ≡ true → reply_of_step machine ≡ None
-    → Tells c scripts jobs (act (kind pause_image c) s (event number order))
-tells_on c words machines jobs number machine order scripts s shows tells here takes none = record {
+pub tells_on : (config : Config) (words : List ℕ) (machines : List Machine) (jobs : Jobs) (number : ℕ) (machine : Machine) (order : Order) (scripts : Scripts) (stage : Stage Actor)
+    → WordsShow words machines stage → Tells config scripts jobs stage → slice_get machines number ≡ Some machine → takes_of machine order ≡ true → reply_of_step machine ≡ None
+    → Tells config scripts jobs (act (kind pause_image config) stage (event number order))
+tells_on config words machines jobs number machine order scripts stage shows tells here takes none = record {
   scripts_are = tells.scripts_are;
   replies = λ t b below there. ⊎_elim
       (λ (same : t ≡ number).
-      let found = shown_actor words machines s number machine shows here in
-      let there_now : slice_get (act (kind pause_image c) s (event number order)).machines number ≡ Some b = ap (λ n. slice_get (act (kind pause_image c) s (event number order)).machines n) (sym same) ∙ there in
-      let before : slice_get s.machines t ≡ Some found.0 = ap (slice_get s.machines) same ∙ found.1 in
+      let found = shown_actor words machines stage number machine shows here in
+      let there_now : slice_get (act (kind pause_image config) stage (event number order)).machines number ≡ Some b = ap (λ n. slice_get (act (kind pause_image config) stage (event number order)).machines n) (sym same) ∙ there in
+      let before : slice_get stage.machines t ≡ Some found.0 = ap (slice_get stage.machines) same ∙ found.1 in
       tells.replies t found.0 below before
-      ∙ sym (acted_replies c s number order found.0 machine found.1 found.2 takes b there_now ∙ ap (λ g. map (λ e. e.reply) found.0.calls ++ listed g) none ∙ append-nil _))
-      (λ (other : t ≡ number → ⊥). tells.replies t b below (sym (machines_other (kind pause_image c) s (event number order) t other) ∙ there))
+      ∙ sym (acted_replies config stage number order found.0 machine found.1 found.2 takes b there_now ∙ ap (λ g. map (λ e. e.reply) found.0.calls ++ listed g) none ∙ append-nil _))
+      (λ (other : t ≡ number → ⊥). tells.replies t b below (sym (machines_other (kind pause_image config) stage (event number order) t other) ∙ there))
       (cases_eq t number);
 }
 
 -- and with the reply noted after one that gives it
-pub tells_noted : (c : Config) (words : List ℕ) (machines : List Machine) (jobs : Jobs) (number : ℕ) (machine : Machine) (order : Order) (reply : Reply) (scripts : Scripts) (s : Stage Actor)
-    → WordsShow words machines s → Tells c scripts jobs s → slice_get machines number ≡ Some machine → takes_of machine order ≡ true → reply_of_step machine ≡ Some reply → work.HasScript jobs number
-    → Tells c scripts (work.with_reply jobs number reply) (act (kind pause_image c) s (event number order))
-tells_noted c words machines jobs number machine order reply scripts s shows tells here takes gives has = record {
+pub tells_noted : (config : Config) (words : List ℕ) (machines : List Machine) (jobs : Jobs) (number : ℕ) (machine : Machine) (order : Order) (reply : Reply) (scripts : Scripts) (stage : Stage Actor)
+    → WordsShow words machines stage → Tells config scripts jobs stage → slice_get machines number ≡ Some machine → takes_of machine order ≡ true → reply_of_step machine ≡ Some reply → work.HasScript jobs number
+    → Tells config scripts (work.with_reply jobs number reply) (act (kind pause_image config) stage (event number order))
+tells_noted config words machines jobs number machine order reply scripts stage shows tells here takes gives has = record {
   scripts_are = λ t below. script_kept jobs number reply t has ∙ tells.scripts_are t below;
   replies = λ t b below there. ⊎_elim
       (λ (same : t ≡ number).
-      let found = shown_actor words machines s number machine shows here in
-      let there_now : slice_get (act (kind pause_image c) s (event number order)).machines number ≡ Some b = ap (λ n. slice_get (act (kind pause_image c) s (event number order)).machines n) (sym same) ∙ there in
-      let before : slice_get s.machines t ≡ Some found.0 = ap (slice_get s.machines) same ∙ found.1 in
+      let found = shown_actor words machines stage number machine shows here in
+      let there_now : slice_get (act (kind pause_image config) stage (event number order)).machines number ≡ Some b = ap (λ n. slice_get (act (kind pause_image config) stage (event number order)).machines n) (sym same) ∙ there in
+      let before : slice_get stage.machines t ≡ Some found.0 = ap (slice_get stage.machines) same ∙ found.1 in
       ap (work.replies_of (work.with_reply jobs number reply)) same ∙ replies_same jobs number reply has
       ∙ ap (λ rs. rs ++ reply ∷ []) (ap (work.replies_of jobs) (sym same) ∙ tells.replies t found.0 below before)
-      ∙ sym (acted_replies c s number order found.0 machine found.1 found.2 takes b there_now ∙ ap (λ g. map (λ e. e.reply) found.0.calls ++ listed g) gives))
-      (λ (other : t ≡ number → ⊥). replies_other jobs number reply t other ∙ tells.replies t b below (sym (machines_other (kind pause_image c) s (event number order) t other) ∙ there))
+      ∙ sym (acted_replies config stage number order found.0 machine found.1 found.2 takes b there_now ∙ ap (λ g. map (λ e. e.reply) found.0.calls ++ listed g) gives))
+      (λ (other : t ≡ number → ⊥). replies_other jobs number reply t other ∙ tells.replies t b below (sym (machines_other (kind pause_image config) stage (event number order) t other) ∙ there))
       (cases_eq t number);
 }
 
 -- whether the next step of a machine that memory shows says that it waits
-pub shown_waits : (c : Config) (words : List ℕ) (machines : List Machine) (number : ℕ) (machine : Machine) (order : Order) (s : Stage Actor) → WordsShow words machines s → slice_get machines number ≡ Some machine
-    → waits c s (event number order) ≡ again_by (answer_of c order machine (slice_index words (table_index (plan_of c order machine))))
-shown_waits c words machines number machine order s shows here =
-    let found = shown_actor words machines s number machine shows here in
-    ap (waits_of c s order) found.1 ∙ ap (waits_in s c order) found.2
-    ∙ ap (λ ws. again_by (answer_of c order machine (slice_index ws (table_index (plan_of c order machine))))) shows.words_are
+pub shown_waits : (config : Config) (words : List ℕ) (machines : List Machine) (number : ℕ) (machine : Machine) (order : Order) (stage : Stage Actor) → WordsShow words machines stage → slice_get machines number ≡ Some machine
+    → waits config stage (event number order) ≡ again_by (answer_of config order machine (slice_index words (table_index (plan_of config order machine))))
+shown_waits config words machines number machine order stage shows here =
+    let found = shown_actor words machines stage number machine shows here in
+    ap (waits_of config stage order) found.1 ∙ ap (waits_in stage config order) found.2
+    ∙ ap (λ ws. again_by (answer_of config order machine (slice_index ws (table_index (plan_of config order machine))))) shows.words_are
 
 -- what a turn has done, by what its step said
-pub turned_from : (c : Config) (scripts : Scripts) (s : Stage Actor) (number : ℕ) (p : Plain) (jobs : Jobs) (said : Took) → IsMovedOn c scripts s number p jobs (is_again said) → Turned c scripts s number p jobs (stepped_of said)
-turned_from c scripts s number p jobs took.More moved = moved
-turned_from c scripts s number p jobs took.Again moved = moved
-turned_from c scripts s number p jobs took.Done moved = moved
+pub turned_from : (config : Config) (scripts : Scripts) (stage : Stage Actor) (number : ℕ) (plain : Plain) (jobs : Jobs) (said : Took) → IsMovedOn config scripts stage number plain jobs (is_again said) → Turned config scripts stage number plain jobs (stepped_of said)
+turned_from config scripts stage number plain jobs took.More moved = moved
+turned_from config scripts stage number plain jobs took.Again moved = moved
+turned_from config scripts stage number plain jobs took.Done moved = moved
 
 -- a step that ends a call says so
-done_of : (o : Option Took) → stepped_by o ≡ stepped.Done → o ≡ Some took.Done
+done_of : (found : Option Took) → stepped_by found ≡ stepped.Done → found ≡ Some took.Done
 done_of None is = absurd cc
 done_of (Some took.More) is = absurd cc
 done_of (Some took.Again) is = absurd cc
 done_of (Some took.Done) is = refl
 
 -- One `Plain` and its work after a turn of a machine in another.
-pub record IsAfter (p q : Plain) (jobs later : Jobs) (number : ℕ) (next : Machine) : Type 0 where
-  pub config : config_of q ≡ config_of p
-  pub orders : All (λ o. o ≡ Nothing) (orders_of q)
-  pub machines : machines_of q ≡ slice_set (machines_of p) number next
-  pub within : number < length (machines_of p)
-  pub made : number < (config_of p).mutators → made_of_machine next + length (work.script_in later number) < most_objects + (length (work.replies_of later number) + at_hand_of next)
+pub record IsAfter (plain other_plain : Plain) (jobs later : Jobs) (number : ℕ) (next : Machine) : Type 0 where
+  pub config : config_of other_plain ≡ config_of plain
+  pub orders : All (λ o. o ≡ Nothing) (orders_of other_plain)
+  pub machines : machines_of other_plain ≡ slice_set (machines_of plain) number next
+  pub within : number < length (machines_of plain)
+  pub made : number < (config_of plain).mutators → made_of_machine next + length (work.script_in later number) < most_objects + (length (work.replies_of later number) + at_hand_of next)
   pub has : (t : ℕ) → work.HasScript jobs t → work.HasScript later t
   pub script : (t : ℕ) → work.script_in later t ≡ work.script_in jobs t
   pub other : (t : ℕ) → t ≢ number → work.replies_of later t ≡ work.replies_of jobs t
-  pub busy : number < (config_of p).mutators → is_resting next ≡ false → length (work.replies_of later number) < length (work.script_in later number)
+  pub busy : number < (config_of plain).mutators → is_resting next ≡ false → length (work.replies_of later number) < length (work.script_in later number)
 
-module _ (p q : Plain) (jobs later : Jobs) (number : ℕ) (next : Machine) (after : IsAfter p q jobs later number next) where
+module _ (plain other_plain : Plain) (jobs later : Jobs) (number : ℕ) (next : Machine) (after : IsAfter plain other_plain jobs later number next) where
   -- the machine of the turn is the next one
-  at_number : machine_at q number ≡ next
-  at_number = ap (λ ms. get_or ms number no_machine) after.machines ∙ get_or-set_same (machines_of p) number next no_machine after.within
+  at_number : machine_at other_plain number ≡ next
+  at_number = ap (λ ms. get_or ms number no_machine) after.machines ∙ get_or-set_same (machines_of plain) number next no_machine after.within
 
   -- all others stay
-  at_other : (t : ℕ) → t ≢ number → machine_at q t ≡ machine_at p t
-  at_other t other = ap (λ ms. get_or ms t no_machine) after.machines ∙ get_or-set_other (machines_of p) number t next no_machine other
+  at_other : (index : ℕ) → index ≢ number → machine_at other_plain index ≡ machine_at plain index
+  at_other index other = ap (λ ms. get_or ms index no_machine) after.machines ∙ get_or-set_other (machines_of plain) number index next no_machine other
 
   -- the heap can go on with the work
-  pub can_run_after : CanRun p jobs → CanRun q later
+  pub can_run_after : CanRun plain jobs → CanRun other_plain later
   can_run_after before = record {
     orders = after.orders;
     jobs_are = λ t below. after.has t (before.jobs_are t (subst (λ c. t < c.mutators) after.config below));
@@ -143,7 +143,7 @@ module _ (p q : Plain) (jobs later : Jobs) (number : ℕ) (next : Machine) (afte
         (before.commands t (subst (λ c. t < c.mutators) after.config below));
     busy = λ t below busy. ⊎_elim
         (λ (same : t ≡ number). subst (λ k. length (work.replies_of later k) < length (work.script_in later k)) (sym same)
-        (after.busy (subst (λ k. k < (config_of p).mutators) same (subst (λ c. t < c.mutators) after.config below)) (ap is_resting (sym at_number) ∙ ap (λ k. is_resting (machine_at q k)) (sym same) ∙ busy)))
+        (after.busy (subst (λ k. k < (config_of plain).mutators) same (subst (λ c. t < c.mutators) after.config below)) (ap is_resting (sym at_number) ∙ ap (λ k. is_resting (machine_at other_plain k)) (sym same) ∙ busy)))
         (λ (other : t ≡ number → ⊥).
         let replies = ap length (after.other t other) in
         let script = ap length (after.script t) in
@@ -152,33 +152,33 @@ module _ (p q : Plain) (jobs later : Jobs) (number : ℕ) (next : Machine) (afte
         (cases_eq t number);
     made = λ t below. ⊎_elim
         (λ (same : t ≡ number).
-        let is : machine_at q t ≡ next = ap (machine_at q) same ∙ at_number in
-        rw (is, same) (after.made (subst (λ k. k < (config_of p).mutators) same (subst (λ c. t < c.mutators) after.config below))))
+        let is : machine_at other_plain t ≡ next = ap (machine_at other_plain) same ∙ at_number in
+        rw (is, same) (after.made (subst (λ k. k < (config_of plain).mutators) same (subst (λ c. t < c.mutators) after.config below))))
         (λ (other : t ≡ number → ⊥).
         rw (at_other t other, after.script t, after.other t other) (before.made t (subst (λ c. t < c.mutators) after.config below)))
         (cases_eq t number);
   }
 
 -- A `Plain`, with the order for a machine, and after that machine's step, which said so.
-pub record IsStepped (p mid q : Plain) (jobs : Jobs) (number : ℕ) (said : Stepped) : Type 0 where
-  pub within : number < length (machines_of p)
-  pub mid_words : words_of mid ≡ words_of p
-  pub mid_machines : machines_of mid ≡ machines_of p
-  pub mid_config : config_of mid ≡ config_of p
-  pub mid_orders : orders_of mid ≡ slice_set (orders_of p) number (order_at mid number)
-  pub role : is_mutating (machine_at p number) ≡ nat_lt number (config_of p).mutators
-  pub turn : IsTurn p jobs number true (order_at mid number)
-  pub next : IsNextTurn p jobs number true (order_at mid number)
+pub record IsStepped (plain mid other_plain : Plain) (jobs : Jobs) (number : ℕ) (said : Stepped) : Type 0 where
+  pub within : number < length (machines_of plain)
+  pub mid_words : words_of mid ≡ words_of plain
+  pub mid_machines : machines_of mid ≡ machines_of plain
+  pub mid_config : config_of mid ≡ config_of plain
+  pub mid_orders : orders_of mid ≡ slice_set (orders_of plain) number (order_at mid number)
+  pub role : is_mutating (machine_at plain number) ≡ nat_lt number (config_of plain).mutators
+  pub turn : IsTurn plain jobs number true (order_at mid number)
+  pub next : IsNextTurn plain jobs number true (order_at mid number)
   pub has : has_turn mid number ≡ true
-  pub event : IsStep mid q number
+  pub event : IsStep mid other_plain number
   pub says : said ≡ says (config_of mid) (order_at mid number) (machine_at mid number) (slice_index (words_of mid) (table_index (plan_of (config_of mid) (order_at mid number) (machine_at mid number))))
-  pub machines : machines_of q ≡ slice_set (machines_of mid) number (next_machine mid number)
-  pub orders : orders_of q ≡ slice_set (orders_of mid) number Nothing
-  pub config : config_of q ≡ config_of mid
+  pub machines : machines_of other_plain ≡ slice_set (machines_of mid) number (next_machine mid number)
+  pub orders : orders_of other_plain ≡ slice_set (orders_of mid) number Nothing
+  pub config : config_of other_plain ≡ config_of mid
 
-module _ (p mid q : Plain) (jobs : Jobs) (number : ℕ) (said : Stepped) (facts : IsStepped p mid q jobs number said) where
+module _ (plain mid other_plain : Plain) (jobs : Jobs) (number : ℕ) (said : Stepped) (facts : IsStepped plain mid other_plain jobs number said) where
   -- the order changes nothing of the machine
-  same_machine : machine_at mid number ≡ machine_at p number
+  same_machine : machine_at mid number ≡ machine_at plain number
   same_machine = ap (λ ms. get_or ms number no_machine) facts.mid_machines
 
   -- what its access finds
@@ -186,19 +186,19 @@ module _ (p mid q : Plain) (jobs : Jobs) (number : ℕ) (said : Stepped) (facts 
   got = slice_index (words_of mid) (table_index (plan_of (config_of mid) (order_at mid number) (machine_at mid number)))
 
   -- a machine that gives a reply is a mutator, by its number
-  pub below_now : (r : Reply) → reply_of_step (machine_at mid number) ≡ Some r → number < (config_of p).mutators
-  below_now r gives =
-      ltb-true number (config_of p).mutators
-      (sym facts.role ∙ ap is_mutating (sym same_machine) ∙ (given_after pause_image (config_of mid) (order_at mid number) got (machine_at mid number) r gives).role)
+  pub below_now : (reply : Reply) → reply_of_step (machine_at mid number) ≡ Some reply → number < (config_of plain).mutators
+  below_now reply gives =
+      ltb-true number (config_of plain).mutators
+      (sym facts.role ∙ ap is_mutating (sym same_machine) ∙ (given_after pause_image (config_of mid) (order_at mid number) got (machine_at mid number) reply gives).role)
 
   -- the heap can go on with work in which others stay
-  after_turn : (later : Jobs) → CanRun p jobs → ((t : ℕ) → work.HasScript jobs t → work.HasScript later t) → ((t : ℕ) → work.script_in later t ≡ work.script_in jobs t) → ((t : ℕ) → t ≢ number → work.replies_of later t ≡ work.replies_of jobs t)
-      → (number < (config_of p).mutators → is_resting (next_machine mid number) ≡ false → length (work.replies_of later number) < length (work.script_in later number))
-      → (number < (config_of p).mutators → made_of_machine (next_machine mid number) + length (work.script_in later number) < most_objects + (length (work.replies_of later number) + at_hand_of (next_machine mid number)))
-      → IsAfter p q jobs later number (next_machine mid number)
+  after_turn : (later : Jobs) → CanRun plain jobs → ((t : ℕ) → work.HasScript jobs t → work.HasScript later t) → ((t : ℕ) → work.script_in later t ≡ work.script_in jobs t) → ((t : ℕ) → t ≢ number → work.replies_of later t ≡ work.replies_of jobs t)
+      → (number < (config_of plain).mutators → is_resting (next_machine mid number) ≡ false → length (work.replies_of later number) < length (work.script_in later number))
+      → (number < (config_of plain).mutators → made_of_machine (next_machine mid number) + length (work.script_in later number) < most_objects + (length (work.replies_of later number) + at_hand_of (next_machine mid number)))
+      → IsAfter plain other_plain jobs later number (next_machine mid number)
   after_turn later before has script other busy made = record {
     config = facts.config ∙ facts.mid_config;
-    orders = orders_after (orders_of p) (orders_of mid) (orders_of q) number (order_at mid number) facts.mid_orders facts.orders before.orders;
+    orders = orders_after (orders_of plain) (orders_of mid) (orders_of other_plain) number (order_at mid number) facts.mid_orders facts.orders before.orders;
     machines = facts.machines ∙ ap (λ ms. slice_set ms number (next_machine mid number)) facts.mid_machines;
     within = facts.within;
     made = made;
@@ -209,91 +209,91 @@ module _ (p mid q : Plain) (jobs : Jobs) (number : ℕ) (said : Stepped) (facts 
   }
 
   -- in a call there are more commands than replies
-  more_now : CanRun p jobs → number < (config_of p).mutators → is_resting (next_machine mid number) ≡ false → length (work.replies_of jobs number) < length (work.script_in jobs number)
-  more_now before below busy = by_may (may_begin (machine_at p number)) refl
+  more_now : CanRun plain jobs → number < (config_of plain).mutators → is_resting (next_machine mid number) ≡ false → length (work.replies_of jobs number) < length (work.script_in jobs number)
+  more_now before below busy = by_may (may_begin (machine_at plain number)) refl
     where
-      by_may : (b : Bool) → may_begin (machine_at p number) ≡ b → length (work.replies_of jobs number) < length (work.script_in jobs number)
-      by_may false none = before.busy number below (goes_on_with (next_for (config_of p) jobs number) (machine_at p number) (order_at mid number) none facts.next).0
+      by_may : (holds : Bool) → may_begin (machine_at plain number) ≡ holds → length (work.replies_of jobs number) < length (work.script_in jobs number)
+      by_may false none = before.busy number below (goes_on_with (next_for (config_of plain) jobs number) (machine_at plain number) (order_at mid number) none facts.next).0
       by_may true may =
-          let begun = begins pause_image (config_of mid) (next_for (config_of p) jobs number) (machine_at p number) (order_at mid number) got may facts.next
+          let begun = begins pause_image (config_of mid) (next_for (config_of plain) jobs number) (machine_at plain number) (order_at mid number) got may facts.next
           (ap (λ x. is_resting (machine_after pause_image (config_of mid) (order_at mid number) got x)) (sym same_machine) ∙ busy) in
-          slice_get_within (work.script_in jobs number) (length (work.replies_of jobs number)) begun.0 (ap (λ b. if b then work.next_of jobs number else None) (sym (lt-ltb number (config_of p).mutators below)) ∙ begun.1)
+          slice_get_within (work.script_in jobs number) (length (work.replies_of jobs number)) begun.0 (ap (λ holds. if holds then work.next_of jobs number else None) (sym (lt-ltb number (config_of plain).mutators below)) ∙ begun.1)
 
   -- the work is as it was
-  pub can_run_on : reply_of_step (machine_at mid number) ≡ None → CanRun p jobs → CanRun q jobs
+  pub can_run_on : reply_of_step (machine_at mid number) ≡ None → CanRun plain jobs → CanRun other_plain jobs
   can_run_on none before =
-      can_run_after p q jobs jobs number (next_machine mid number)
+      can_run_after plain other_plain jobs jobs number (next_machine mid number)
       (after_turn jobs before (λ t h. h) (λ t. refl) (λ t other. refl) (more_now before)
       (λ below.
       names_on pause_image (config_of mid) (order_at mid number) got (machine_at mid number) (length (work.script_in jobs number)) (length (work.replies_of jobs number))
       (subst (λ machine. HasNames machine (length (work.script_in jobs number)) (length (work.replies_of jobs number))) (sym same_machine) (before.made number below)) none)) before
 
   -- the reply is noted
-  pub can_run_noted : (r : Reply) → reply_of_step (machine_at mid number) ≡ Some r → CanRun p jobs → CanRun q (work.with_reply jobs number r)
-  can_run_noted r gives before =
-      let below_it = below_now r gives in
+  pub can_run_noted : (reply : Reply) → reply_of_step (machine_at mid number) ≡ Some reply → CanRun plain jobs → CanRun other_plain (work.with_reply jobs number reply)
+  can_run_noted reply gives before =
+      let below_it = below_now reply gives in
       let has = before.jobs_are number below_it in
-      let step = given_after pause_image (config_of mid) (order_at mid number) got (machine_at mid number) r gives in
+      let step = given_after pause_image (config_of mid) (order_at mid number) got (machine_at mid number) reply gives in
       let now = subst (λ machine. HasNames machine (length (work.script_in jobs number)) (length (work.replies_of jobs number))) (sym same_machine) (before.made number below_it) in
-      let names = names_noted pause_image (config_of mid) (order_at mid number) got (machine_at mid number) (length (work.script_in jobs number)) (length (work.replies_of jobs number)) now r gives in
-      let script : length (work.script_in (work.with_reply jobs number r) number) ≡ length (work.script_in jobs number) = ap length (script_kept jobs number r number has) in
-      let replies : length (work.replies_of (work.with_reply jobs number r) number) ≡ length (work.replies_of jobs number) + 1 = ap length (replies_same jobs number r has) ∙ length-append (work.replies_of jobs number) (r ∷ []) in
-      can_run_after p q jobs (work.with_reply jobs number r) number (next_machine mid number)
-      (after_turn (work.with_reply jobs number r) before (λ t h. script_stays jobs number r t has h) (λ t. script_kept jobs number r t has) (λ t other. replies_other jobs number r t other)
+      let names = names_noted pause_image (config_of mid) (order_at mid number) got (machine_at mid number) (length (work.script_in jobs number)) (length (work.replies_of jobs number)) now reply gives in
+      let script : length (work.script_in (work.with_reply jobs number reply) number) ≡ length (work.script_in jobs number) = ap length (script_kept jobs number reply number has) in
+      let replies : length (work.replies_of (work.with_reply jobs number reply) number) ≡ length (work.replies_of jobs number) + 1 = ap length (replies_same jobs number reply has) ∙ length-append (work.replies_of jobs number) (reply ∷ []) in
+      can_run_after plain other_plain jobs (work.with_reply jobs number reply) number (next_machine mid number)
+      (after_turn (work.with_reply jobs number reply) before (λ t h. script_stays jobs number reply t has h) (λ t. script_kept jobs number reply t has) (λ t other. replies_other jobs number reply t other)
       (λ below busy. absurd (false≢true (sym busy ∙ step.rest)))
       (λ below. omega (arith, names, script, replies))) before
 
   -- the order changes nothing that is shown
-  shows_mid : (s : Stage Actor) → WordsShow (words_of p) (machines_of p) s → WordsShow (words_of mid) (machines_of mid) s
-  shows_mid s shows = record { words_are = shows.words_are ∙ sym facts.mid_words; machines_are = shows.machines_are ∙ sym facts.mid_machines }
+  shows_mid : (stage : Stage Actor) → WordsShow (words_of plain) (machines_of plain) stage → WordsShow (words_of mid) (machines_of mid) stage
+  shows_mid stage shows = record { words_are = shows.words_are ∙ sym facts.mid_words; machines_are = shows.machines_are ∙ sym facts.mid_machines }
 
   -- the machine is there
   pub here_mid : slice_get (machines_of mid) number ≡ Some (machine_at mid number)
   here_mid = machine_within (machines_of mid) number (subst (λ ms. number < length ms) (sym facts.mid_machines) facts.within)
 
   -- what the step has done, where the work now tells the stage after it
-  pub has_turned : (later : Jobs) → ((scripts : Scripts) (s : Stage Actor) → WordsShow (words_of mid) (machines_of mid) s → Tells (config_of p) scripts jobs s → Tells (config_of p) scripts later (act (kind pause_image (config_of p)) s (event number (order_at mid number)))) → HasTurned p jobs number q later said
-  has_turned later tells_later scripts s shows tells =
+  pub has_turned : (later : Jobs) → ((scripts : Scripts) (stage : Stage Actor) → WordsShow (words_of mid) (machines_of mid) stage → Tells (config_of plain) scripts jobs stage → Tells (config_of plain) scripts later (act (kind pause_image (config_of plain)) stage (event number (order_at mid number)))) → HasTurned plain jobs number other_plain later said
+  has_turned later tells_later scripts stage shows tells =
       let found = says_some (config_of mid) (machine_at mid number) (order_at mid number) got facts.has in
       let said_is : said ≡ stepped_of found.0 = facts.says ∙ ap stepped_by found.1 in
-      subst (λ x. Turned (config_of p) scripts s number q later x) (sym said_is)
-      (turned_from (config_of p) scripts s number q later found.0
+      subst (λ x. Turned (config_of plain) scripts stage number other_plain later x) (sym said_is)
+      (turned_from (config_of plain) scripts stage number other_plain later found.0
       (record {
         event = event number (order_at mid number);
-        is = facts.turn scripts s shows tells;
-        waits_is = shown_waits (config_of p) (words_of mid) (machines_of mid) number (machine_at mid number) (order_at mid number) s (shows_mid s shows) here_mid
+        is = facts.turn scripts stage shows tells;
+        waits_is = shown_waits (config_of plain) (words_of mid) (machines_of mid) number (machine_at mid number) (order_at mid number) stage (shows_mid stage shows) here_mid
             ∙ ap (λ c. again_by (answer_of c (order_at mid number) (machine_at mid number) (slice_index (words_of mid) (table_index (plan_of c (order_at mid number) (machine_at mid number)))))) (sym facts.mid_config)
             ∙ ap again_by found.1;
-        shows = subst (λ c. WordsShow (words_of q) (machines_of q) (act (kind pause_image c) s (event number (order_at mid number)))) facts.mid_config (facts.event.acts s (shows_mid s shows));
-        tells = tells_later scripts s (shows_mid s shows) tells;
+        shows = subst (λ c. WordsShow (words_of other_plain) (machines_of other_plain) (act (kind pause_image c) stage (event number (order_at mid number)))) facts.mid_config (facts.event.acts stage (shows_mid stage shows));
+        tells = tells_later scripts stage (shows_mid stage shows) tells;
       }))
 
   -- no reply is given
-  pub turned_on : reply_of_step (machine_at mid number) ≡ None → HasTurned p jobs number q jobs said
+  pub turned_on : reply_of_step (machine_at mid number) ≡ None → HasTurned plain jobs number other_plain jobs said
   turned_on none = has_turned jobs (λ scripts s shows tells.
-      tells_on (config_of p) (words_of mid) (machines_of mid) jobs number (machine_at mid number) (order_at mid number) scripts s shows tells here_mid facts.has none)
+      tells_on (config_of plain) (words_of mid) (machines_of mid) jobs number (machine_at mid number) (order_at mid number) scripts s shows tells here_mid facts.has none)
 
   -- a reply is given, and noted
-  pub turned_noted : (r : Reply) → reply_of_step (machine_at mid number) ≡ Some r → work.HasScript jobs number → HasTurned p jobs number q (work.with_reply jobs number r) said
-  turned_noted r gives has = has_turned (work.with_reply jobs number r) (λ scripts s shows tells.
-      tells_noted (config_of p) (words_of mid) (machines_of mid) jobs number (machine_at mid number) (order_at mid number) r scripts s shows tells here_mid facts.has gives has)
+  pub turned_noted : (reply : Reply) → reply_of_step (machine_at mid number) ≡ Some reply → work.HasScript jobs number → HasTurned plain jobs number other_plain (work.with_reply jobs number reply) said
+  turned_noted reply gives has = has_turned (work.with_reply jobs number reply) (λ scripts s shows tells.
+      tells_noted (config_of plain) (words_of mid) (machines_of mid) jobs number (machine_at mid number) (order_at mid number) reply scripts s shows tells here_mid facts.has gives has)
 
   -- a step that is not done gives no reply
   pub none_given : (said ≡ stepped.Done → ⊥) → reply_of_step (machine_at mid number) ≡ None
   none_given other = other_gives (config_of mid) (order_at mid number) (machine_at mid number) got (λ is. other (facts.says ∙ ap stepped_by is))
 
   -- a step that is done gives one
-  some_given : said ≡ stepped.Done → (r : Reply) × (reply_of_step (machine_at mid number) ≡ Some r)
+  some_given : said ≡ stepped.Done → (reply : Reply) × (reply_of_step (machine_at mid number) ≡ Some reply)
   some_given done = done_gives (config_of mid) (order_at mid number) (machine_at mid number) got (done_of (answer_of (config_of mid) (order_at mid number) (machine_at mid number) got) (sym facts.says ∙ done))
 
   -- the machine after its step
-  now_next : machine_at q number ≡ next_machine mid number
+  now_next : machine_at other_plain number ≡ next_machine mid number
   now_next =
       ap (λ ms. get_or ms number no_machine) facts.machines
       ∙ get_or-set_same (machines_of mid) number (next_machine mid number) no_machine (subst (λ ms. number < length ms) (sym facts.mid_machines) facts.within)
 
   -- after a step that ends a call memory has a reply
-  pub has_reply : said ≡ stepped.Done → reply_in (machine_at q number) ≢ None
+  pub has_reply : said ≡ stepped.Done → reply_in (machine_at other_plain number) ≢ None
   has_reply done none =
       let found = some_given done in
       let given = given_after pause_image (config_of mid) (order_at mid number) got (machine_at mid number) found.0 found.1 in
@@ -301,14 +301,14 @@ module _ (p mid q : Plain) (jobs : Jobs) (number : ℕ) (said : Stepped) (facts 
       cc
 
   -- the reply that memory has after a step that ends a call is the one that the step gives
-  pub reply_given : (r : Reply) → said ≡ stepped.Done → reply_in (machine_at q number) ≡ Some r → reply_of_step (machine_at mid number) ≡ Some r
-  reply_given r done has =
+  pub reply_given : (reply : Reply) → said ≡ stepped.Done → reply_in (machine_at other_plain number) ≡ Some reply → reply_of_step (machine_at mid number) ≡ Some reply
+  reply_given reply done has =
       let found = some_given done in
       let given = given_after pause_image (config_of mid) (order_at mid number) got (machine_at mid number) found.0 found.1 in
       found.1 ∙ sym given.replied ∙ ap reply_in (sym now_next) ∙ has
 
   -- the mutator of that reply is one of the work, and has a command that it answers
-  pub can_tell : CanRun p jobs → said ≡ stepped.Done → work.HasScript jobs number × (length (work.replies_of jobs number) < length (work.script_in jobs number))
+  pub can_tell : CanRun plain jobs → said ≡ stepped.Done → work.HasScript jobs number × (length (work.replies_of jobs number) < length (work.script_in jobs number))
   can_tell before done =
       let found = some_given done in
       let below = below_now found.0 found.1 in

@@ -34,18 +34,18 @@ use Rattle.shen_core.proofs.Settles.{history_both, history_one}
 -- Entries.
 
 -- some entries, and then others
-pub noted_both : (n : Noting) (es fs : List Entry) → noted n (es ++ fs) ≡ noted (noted n es) fs
+pub noted_both : (noting : Noting) (es fs : List Entry) → noted noting (es ++ fs) ≡ noted (noted noting es) fs
 unfolding noted
-noted_both n [] fs = refl
-noted_both n (e ∷ es) fs = noted_both (with_entry n e) es fs
+noted_both noting [] fs = refl
+noted_both noting (e ∷ es) fs = noted_both (with_entry noting e) es fs
 
-pub noted_none : (n : Noting) → noted n [] ≡ n
+pub noted_none : (noting : Noting) → noted noting [] ≡ noting
 unfolding noted
-noted_none n = refl
+noted_none noting = refl
 
-pub noted_one : (n : Noting) (e : Entry) → noted n (e ∷ []) ≡ with_entry n e
+pub noted_one : (noting : Noting) (entry : Entry) → noted noting (entry ∷ []) ≡ with_entry noting entry
 unfolding noted
-noted_one n e = refl
+noted_one noting entry = refl
 
 -- a history by its parts
 abbrev noting : List Entry → ℕ → Noting
@@ -55,57 +55,57 @@ made : (xs : List Entry) (i : ℕ) (ys : List Entry) (j : ℕ) → xs ≡ ys →
 made xs i ys j lists spares = ap (λ zs. noting zs i) lists ∙ ap (λ k. noting ys k) spares
 
 -- a history that has got an entry
-pub noted_entry : (n m : Noting) (e : Entry) → m.list ≡ n.list ++ e ∷ [] → m.spare + 1 ≡ n.spare → m ≡ noted n (e ∷ [])
-noted_entry n m e list spare =
-    let some : (n.spare == 0) ≡ false = grind (arith, nat_tests, spare) in
-    let next : with_entry n e ≡ record { list = n.list ++ e ∷ []; spare = n.spare - 1 } = rw some refl in
-    made m.list m.spare (n.list ++ e ∷ []) (n.spare - 1) list (omega (arith, spare)) ∙ sym next ∙ sym (noted_one n e)
+pub noted_entry : (noting other_noting : Noting) (entry : Entry) → other_noting.list ≡ noting.list ++ entry ∷ [] → other_noting.spare + 1 ≡ noting.spare → other_noting ≡ noted noting (entry ∷ [])
+noted_entry noting other_noting entry list spare =
+    let some : (noting.spare == 0) ≡ false = grind (arith, nat_tests, spare) in
+    let next : with_entry noting entry ≡ record { list = noting.list ++ entry ∷ []; spare = noting.spare - 1 } = rw some refl in
+    made other_noting.list other_noting.spare (noting.list ++ entry ∷ []) (noting.spare - 1) list (omega (arith, spare)) ∙ sym next ∙ sym (noted_one noting entry)
 
 -- without memory nothing is noted
-pub noted_out : (n : Noting) (es : List Entry) → n.spare ≡ 0 → noted n es ≡ n
+pub noted_out : (noting : Noting) (es : List Entry) → noting.spare ≡ 0 → noted noting es ≡ noting
 unfolding noted
-noted_out n [] out = refl
-noted_out n (e ∷ es) out =
-    let same : with_entry n e ≡ n = rw out refl in
-    ap (λ x. noted x es) same ∙ noted_out n es out
+noted_out noting [] out = refl
+noted_out noting (e ∷ es) out =
+    let same : with_entry noting e ≡ noting = rw out refl in
+    ap (λ x. noted x es) same ∙ noted_out noting es out
 
 -- with memory for all of them, all are
-pub record IsNoted (n later : Noting) (es : List Entry) : Type 0 where
-  pub list : later.list ≡ n.list ++ es
-  pub spare : later.spare + length es ≡ n.spare
+pub record IsNoted (noting later : Noting) (es : List Entry) : Type 0 where
+  pub list : later.list ≡ noting.list ++ es
+  pub spare : later.spare + length es ≡ noting.spare
 
 -- the stage after events of a run is one of a run
-pub ending_on : (c : Config) (s t : Stage Actor) (es : List (Event Order)) → go (kind pause_image c) s es ≡ t → IsEnding c s → IsEnding c t
-ending_on c s t es leads ends =
+pub ending_on : (config : Config) (stage other_stage : Stage Actor) (es : List (Event Order)) → go (kind pause_image config) stage es ≡ other_stage → IsEnding config stage → IsEnding config other_stage
+ending_on config stage other_stage es leads ends =
     let run = ends.0 in (
       record { start = run.start; graph = run.graph; begins = run.begins; events = run.events ++ es },
-      go-append (kind pause_image c) run.start run.events es ∙ ap (λ x. go (kind pause_image c) x es) ends.1 ∙ leads,
+      go-append (kind pause_image config) run.start run.events es ∙ ap (λ x. go (kind pause_image config) x es) ends.1 ∙ leads,
     )
 
 -- Parts of a run.
 
 -- what events settle that go on from others
-notes_then : (c : Config) (s t : Stage Actor) (one two : List (Event Order)) (n m k : Noting) → go (kind pause_image c) s one ≡ t
-    → m ≡ noted n (history pause_image c s one) → k ≡ noted m (history pause_image c t two) → k ≡ noted n (history pause_image c s (one ++ two))
-notes_then c s t one two n m k leads first second =
+notes_then : (config : Config) (stage other_stage : Stage Actor) (one two : List (Event Order)) (n m k : Noting) → go (kind pause_image config) stage one ≡ other_stage
+    → m ≡ noted n (history pause_image config stage one) → k ≡ noted m (history pause_image config other_stage two) → k ≡ noted n (history pause_image config stage (one ++ two))
+notes_then config stage other_stage one two n m k leads first second =
     second
-    ∙ ap (λ x. noted x (history pause_image c t two)) first
-    ∙ ap (λ x. noted (noted n (history pause_image c s one)) (history pause_image c x two)) (sym leads)
-    ∙ sym (noted_both n (history pause_image c s one) (history pause_image c (go (kind pause_image c) s one) two))
-    ∙ ap (noted n) (sym (history_both c s one two))
+    ∙ ap (λ x. noted x (history pause_image config other_stage two)) first
+    ∙ ap (λ x. noted (noted n (history pause_image config stage one)) (history pause_image config x two)) (sym leads)
+    ∙ sym (noted_both n (history pause_image config stage one) (history pause_image config (go (kind pause_image config) stage one) two))
+    ∙ ap (noted n) (sym (history_both config stage one two))
 
 -- no event settles nothing
-notes_none : (c : Config) (s : Stage Actor) (n : Noting) → n ≡ noted n (history pause_image c s [])
+notes_none : (config : Config) (stage : Stage Actor) (noting : Noting) → noting ≡ noted noting (history pause_image config stage [])
 unfolding history
-notes_none c s n = sym (noted_none n)
+notes_none config stage noting = sym (noted_none noting)
 
 -- no event was made
 nil_of : (xs : List (Event Order)) → length xs ≡ 0 → xs ≡ []
 nil_of [] none = refl
 nil_of (x ∷ xs) none = absurd (omega arith)
 
-none_done : (c : Config) (scripts : Scripts) (s t : Stage Actor) (todo rest : Agenda) (left : ℕ) (goes : Goes c scripts s todo left t rest left) → goes.done ≡ []
-none_done c scripts s t todo rest left goes = let count = goes.count in nil_of goes.done (omega arith)
+none_done : (config : Config) (scripts : Scripts) (stage other_stage : Stage Actor) (todo rest : Agenda) (left : ℕ) (goes : Goes config scripts stage todo left other_stage rest left) → goes.done ≡ []
+none_done config scripts stage other_stage todo rest left goes = let count = goes.count in nil_of goes.done (omega arith)
 
 -- one event was made, and it is the next one
 one_of : (xs ys zs : List (Event Order)) (y : Event Order) → length xs ≡ 1 → y ∷ ys ≡ xs ++ zs → xs ≡ y ∷ []
@@ -113,64 +113,64 @@ one_of [] ys zs y one is = absurd (omega arith)
 one_of (x ∷ []) ys zs y one is = let same : y ≡ x = cc in ap (λ z. z ∷ []) (sym same)
 one_of (x ∷ w ∷ xs) ys zs y one is = absurd (omega arith)
 
-one_done : (c : Config) (scripts : Scripts) (s t : Stage Actor) (todo rest : Agenda) (left : ℕ) (goes : Goes c scripts s todo left t rest (left - 1)) (x : Next) → 0 < left → next c scripts s todo ≡ Some x → goes.done ≡ x.event ∷ []
+one_done : (config : Config) (scripts : Scripts) (stage other_stage : Stage Actor) (todo rest : Agenda) (left : ℕ) (goes : Goes config scripts stage todo left other_stage rest (left - 1)) (x : Next) → 0 < left → next config scripts stage todo ≡ Some x → goes.done ≡ x.event ∷ []
 unfolding scheduled
-one_done c scripts s t todo rest zero goes x some is = absurd (omega arith)
-one_done c scripts s t todo rest (suc n) goes x some is =
+one_done config scripts stage other_stage todo rest zero goes x some is = absurd (omega arith)
+one_done config scripts stage other_stage todo rest (suc n) goes x some is =
     let count = goes.count in
-    one_of goes.done (scheduled pause_image c scripts n x.agenda (act (kind pause_image c) s x.event)) (scheduled pause_image c scripts (suc n - 1) rest t) x.event (omega arith)
-    (sym (ap (λ o. and_then o (λ y. scheduled pause_image c scripts n y.agenda (act (kind pause_image c) s y.event))) is) ∙ goes.events)
+    one_of goes.done (scheduled pause_image config scripts n x.agenda (act (kind pause_image config) stage x.event)) (scheduled pause_image config scripts (suc n - 1) rest other_stage) x.event (omega arith)
+    (sym (ap (λ o. and_then o (λ y. scheduled pause_image config scripts n y.agenda (act (kind pause_image config) stage y.event))) is) ∙ goes.events)
 
 -- where no event was made, what is noted stays
-quiet : (c : Config) (scripts : Scripts) (s t : Stage Actor) (todo rest : Agenda) (left : ℕ) (goes : Goes c scripts s todo left t rest left) (n m : Noting) → m ≡ n → m ≡ noted n (history pause_image c s goes.done)
-quiet c scripts s t todo rest left goes n m same = same ∙ notes_none c s n ∙ ap (λ es. noted n (history pause_image c s es)) (sym (none_done c scripts s t todo rest left goes))
+quiet : (config : Config) (scripts : Scripts) (stage other_stage : Stage Actor) (todo rest : Agenda) (left : ℕ) (goes : Goes config scripts stage todo left other_stage rest left) (noting other_noting : Noting) → other_noting ≡ noting → other_noting ≡ noted noting (history pause_image config stage goes.done)
+quiet config scripts stage other_stage todo rest left goes noting other_noting same = same ∙ notes_none config stage noting ∙ ap (λ es. noted noting (history pause_image config stage es)) (sym (none_done config scripts stage other_stage todo rest left goes))
 
 -- where one was, what it settles is noted
-told_so : (c : Config) (scripts : Scripts) (s t : Stage Actor) (todo rest : Agenda) (left number : ℕ) (goes : Goes c scripts s todo left t rest (left - 1)) (x : Next) (n m : Noting) → 0 < left → next c scripts s todo ≡ Some x
-    → turn scripts s number ≡ Some x.event → m ≡ noted n (told_by c s (turn scripts s number)) → m ≡ noted n (history pause_image c s goes.done)
-told_so c scripts s t todo rest left number goes x n m some is turns notes =
+told_so : (config : Config) (scripts : Scripts) (stage other_stage : Stage Actor) (todo rest : Agenda) (left number : ℕ) (goes : Goes config scripts stage todo left other_stage rest (left - 1)) (x : Next) (noting other_noting : Noting) → 0 < left → next config scripts stage todo ≡ Some x
+    → turn scripts stage number ≡ Some x.event → other_noting ≡ noted noting (told_by config stage (turn scripts stage number)) → other_noting ≡ noted noting (history pause_image config stage goes.done)
+told_so config scripts stage other_stage todo rest left number goes x noting other_noting some is turns notes =
     notes
-    ∙ ap (λ o. noted n (told_by c s o)) turns
-    ∙ ap (noted n) (sym (history_one c s x.event))
-    ∙ ap (λ es. noted n (history pause_image c s es)) (sym (one_done c scripts s t todo rest left goes x some is))
+    ∙ ap (λ o. noted noting (told_by config stage o)) turns
+    ∙ ap (noted noting) (sym (history_one config stage x.event))
+    ∙ ap (λ es. noted noting (history pause_image config stage es)) (sym (one_done config scripts stage other_stage todo rest left goes x some is))
 
 -- Turns.
 
 -- a turn that notes what its event settles
-pub turn_notes : (p q : Plain) (jobs : Jobs) (number : ℕ) (order : Order) → IsTurn p jobs number true order
-    → ((s : Stage Actor) → Shows p s → IsEnding (config_of p) s → notes_of q ≡ noted (notes_of p) (told (config_of p) s (event number order))) → NotesTurn p jobs number q
-turn_notes p q jobs number order turns notes scripts s shows tells ends =
-    notes s shows ends ∙ ap (λ o. noted (notes_of p) (told_by (config_of p) s o)) (sym (turns scripts s shows tells))
+pub turn_notes : (plain other_plain : Plain) (jobs : Jobs) (number : ℕ) (order : Order) → IsTurn plain jobs number true order
+    → ((stage : Stage Actor) → Shows plain stage → IsEnding (config_of plain) stage → notes_of other_plain ≡ noted (notes_of plain) (told (config_of plain) stage (event number order))) → NotesTurn plain jobs number other_plain
+turn_notes plain other_plain jobs number order turns notes scripts stage shows tells ends =
+    notes stage shows ends ∙ ap (λ o. noted (notes_of plain) (told_by (config_of plain) stage o)) (sym (turns scripts stage shows tells))
 
 -- by its order
-pub turn_noted : (p mid q : Plain) (jobs : Jobs) (number : ℕ) → config_of mid ≡ config_of p → words_of mid ≡ words_of p → machines_of mid ≡ machines_of p → notes_of mid ≡ notes_of p → IsTurn p jobs number true (order_at mid number)
-    → ((s : Stage Actor) → Shows mid s → IsEnding (config_of mid) s → notes_of q ≡ noted (notes_of mid) (told (config_of mid) s (event number (order_at mid number)))) → NotesTurn p jobs number q
-turn_noted p mid q jobs number config words machines same turns notes =
-    turn_notes p q jobs number (order_at mid number) turns (λ s shows ends.
-    notes s (record { words_are = shows.words_are ∙ sym words; machines_are = shows.machines_are ∙ sym machines }) (subst (λ c. IsEnding c s) (sym config) ends)
-    ∙ ap (λ n. noted n (told (config_of mid) s (event number (order_at mid number)))) same
-    ∙ ap (λ c. noted (notes_of p) (told c s (event number (order_at mid number)))) config)
+pub turn_noted : (plain mid other_plain : Plain) (jobs : Jobs) (number : ℕ) → config_of mid ≡ config_of plain → words_of mid ≡ words_of plain → machines_of mid ≡ machines_of plain → notes_of mid ≡ notes_of plain → IsTurn plain jobs number true (order_at mid number)
+    → ((stage : Stage Actor) → Shows mid stage → IsEnding (config_of mid) stage → notes_of other_plain ≡ noted (notes_of mid) (told (config_of mid) stage (event number (order_at mid number)))) → NotesTurn plain jobs number other_plain
+turn_noted plain mid other_plain jobs number config words machines same turns notes =
+    turn_notes plain other_plain jobs number (order_at mid number) turns (λ stage shows ends.
+    notes stage (record { words_are = shows.words_are ∙ sym words; machines_are = shows.machines_are ∙ sym machines }) (subst (λ c. IsEnding c stage) (sym config) ends)
+    ∙ ap (λ n. noted n (told (config_of mid) stage (event number (order_at mid number)))) same
+    ∙ ap (λ c. noted (notes_of plain) (told c stage (event number (order_at mid number)))) config)
 
 -- a machine without a turn
-pub turn_none : (p q : Plain) (jobs : Jobs) (number : ℕ) (order : Order) → IsTurn p jobs number false order → notes_of q ≡ notes_of p → NotesTurn p jobs number q
-turn_none p q jobs number order turns same scripts s shows tells ends =
-    same ∙ sym (noted_none (notes_of p)) ∙ ap (λ o. noted (notes_of p) (told_by (config_of p) s o)) (sym (turns scripts s shows tells))
+pub turn_none : (plain other_plain : Plain) (jobs : Jobs) (number : ℕ) (order : Order) → IsTurn plain jobs number false order → notes_of other_plain ≡ notes_of plain → NotesTurn plain jobs number other_plain
+turn_none plain other_plain jobs number order turns same scripts s shows tells ends =
+    same ∙ sym (noted_none (notes_of plain)) ∙ ap (λ o. noted (notes_of plain) (told_by (config_of plain) s o)) (sym (turns scripts s shows tells))
 
 -- what comes after a turn keeps what it has noted
 pub turn_kept : (p q r : Plain) (jobs : Jobs) (number : ℕ) → NotesTurn p jobs number q → notes_of r ≡ notes_of q → NotesTurn p jobs number r
 turn_kept p q r jobs number notes same scripts s shows tells ends = same ∙ notes scripts s shows tells ends
 
 -- with no event memory stays
-pub runs_none : (p : Plain) (jobs : Jobs) (todo : Agenda) (left : ℕ) → RunsNoted p jobs todo left p jobs todo left
-runs_none p jobs todo left scripts s shows tells =
-    let went = going.runs_none p jobs todo left scripts s shows tells in
-    record { went = went; notes = λ ends. quiet (config_of p) scripts s went.stage todo todo left went.goes (notes_of p) (notes_of p) refl }
+pub runs_none : (plain : Plain) (jobs : Jobs) (todo : Agenda) (left : ℕ) → RunsNoted plain jobs todo left plain jobs todo left
+runs_none plain jobs todo left scripts s shows tells =
+    let went = going.runs_none plain jobs todo left scripts s shows tells in
+    record { went = went; notes = λ ends. quiet (config_of plain) scripts s went.stage todo todo left went.goes (notes_of plain) (notes_of plain) refl }
 
 -- without events left
-pub runs_out : (p : Plain) (jobs : Jobs) (todo rest : Agenda) (left : ℕ) → left ≡ 0 → RunsNoted p jobs todo left p jobs rest left
-runs_out p jobs todo rest left none scripts s shows tells =
-    let went = going.runs_out p jobs todo rest left none scripts s shows tells in
-    record { went = went; notes = λ ends. quiet (config_of p) scripts s went.stage todo rest left went.goes (notes_of p) (notes_of p) refl }
+pub runs_out : (plain : Plain) (jobs : Jobs) (todo rest : Agenda) (left : ℕ) → left ≡ 0 → RunsNoted plain jobs todo left plain jobs rest left
+runs_out plain jobs todo rest left none scripts s shows tells =
+    let went = going.runs_out plain jobs todo rest left none scripts s shows tells in
+    record { went = went; notes = λ ends. quiet (config_of plain) scripts s went.stage todo rest left went.goes (notes_of plain) (notes_of plain) refl }
 
 -- two parts of a run follow each other
 pub runs_then : (p q r : Plain) (jobs later last : Jobs) (todo rest more : Agenda) (left middle remaining : ℕ) → config_of q ≡ config_of p → RunsNoted p jobs todo left q later rest middle → RunsNoted q later rest middle r last more remaining → RunsNoted p jobs todo left r last more remaining
@@ -187,93 +187,93 @@ runs_then p q r jobs later last todo rest more left middle remaining same one tw
     }
 
 -- a task that is done
-pub task_done : (p : Plain) (jobs : Jobs) (task : Task) (left : ℕ) → ((scripts : Scripts) (s : Stage Actor) → Shows p s → Tells (config_of p) scripts jobs s → move_of (config_of p) scripts s task ≡ None) → DoesNoted p jobs task left p jobs left
-task_done p jobs task left none tasks from scripts s shows tells =
-    let went = going.task_done p jobs task left none tasks from scripts s shows tells in
-    record { went = went; notes = λ ends. quiet (config_of p) scripts s went.stage (agenda (task ∷ tasks) from) (agenda tasks from) left went.goes (notes_of p) (notes_of p) refl }
+pub task_done : (plain : Plain) (jobs : Jobs) (task : Task) (left : ℕ) → ((scripts : Scripts) (stage : Stage Actor) → Shows plain stage → Tells (config_of plain) scripts jobs stage → move_of (config_of plain) scripts stage task ≡ None) → DoesNoted plain jobs task left plain jobs left
+task_done plain jobs task left none tasks from scripts stage shows tells =
+    let went = going.task_done plain jobs task left none tasks from scripts stage shows tells in
+    record { went = went; notes = λ ends. quiet (config_of plain) scripts stage went.stage (agenda (task ∷ tasks) from) (agenda tasks from) left went.goes (notes_of plain) (notes_of plain) refl }
 
 -- an idle machine's turn notes nothing
-idle_notes : (p q : Plain) (jobs : Jobs) (number : ℕ) (scripts : Scripts) (s : Stage Actor) → NotesTurn p jobs number q → Shows p s → Tells (config_of p) scripts jobs s → turn scripts s number ≡ None → IsEnding (config_of p) s → notes_of q ≡ notes_of p
-idle_notes p q jobs number scripts s notes shows tells none ends =
-    notes scripts s shows tells ends ∙ ap (λ o. noted (notes_of p) (told_by (config_of p) s o)) none ∙ noted_none (notes_of p)
+idle_notes : (plain other_plain : Plain) (jobs : Jobs) (number : ℕ) (scripts : Scripts) (stage : Stage Actor) → NotesTurn plain jobs number other_plain → Shows plain stage → Tells (config_of plain) scripts jobs stage → turn scripts stage number ≡ None → IsEnding (config_of plain) stage → notes_of other_plain ≡ notes_of plain
+idle_notes plain other_plain jobs number scripts stage notes shows tells none ends =
+    notes scripts stage shows tells ends ∙ ap (λ o. noted (notes_of plain) (told_by (config_of plain) stage o)) none ∙ noted_none (notes_of plain)
 
 -- a turn for a task whose machine is idle
-pub task_idles : (p q : Plain) (jobs later : Jobs) (number : ℕ) (result : Stepped) (task : Task) (left : ℕ) → NotesTurn p jobs number q → HasTurned p jobs number q later result → result ≡ Idle
-    → ((scripts : Scripts) (s : Stage Actor) → Shows p s → Tells (config_of p) scripts jobs s → turn scripts s number ≡ None → move_of (config_of p) scripts s task ≡ None) → DoesNoted p jobs task left q later left
-task_idles p q jobs later number result task left notes turned idle none tasks from scripts s shows tells =
-    let passed : IsPassed (config_of p) scripts s number q later = subst (λ r. Turned (config_of p) scripts s number q later r) idle (turned scripts s shows tells) in
-    let went = going.task_idles p q jobs later number result task left turned idle none tasks from scripts s shows tells in
+pub task_idles : (plain other_plain : Plain) (jobs later : Jobs) (number : ℕ) (result : Stepped) (task : Task) (left : ℕ) → NotesTurn plain jobs number other_plain → HasTurned plain jobs number other_plain later result → result ≡ Idle
+    → ((scripts : Scripts) (stage : Stage Actor) → Shows plain stage → Tells (config_of plain) scripts jobs stage → turn scripts stage number ≡ None → move_of (config_of plain) scripts stage task ≡ None) → DoesNoted plain jobs task left other_plain later left
+task_idles plain other_plain jobs later number result task left notes turned idle none tasks from scripts stage shows tells =
+    let passed : IsPassed (config_of plain) scripts stage number other_plain later = subst (λ r. Turned (config_of plain) scripts stage number other_plain later r) idle (turned scripts stage shows tells) in
+    let went = going.task_idles plain other_plain jobs later number result task left turned idle none tasks from scripts stage shows tells in
     record {
       went = went;
-      notes = λ ends. quiet (config_of p) scripts s went.stage (agenda (task ∷ tasks) from) (agenda tasks from) left went.goes (notes_of p) (notes_of q)
-          (idle_notes p q jobs number scripts s notes shows tells passed.idle ends);
+      notes = λ ends. quiet (config_of plain) scripts stage went.stage (agenda (task ∷ tasks) from) (agenda tasks from) left went.goes (notes_of plain) (notes_of other_plain)
+          (idle_notes plain other_plain jobs number scripts stage notes shows tells passed.idle ends);
     }
 
 -- a turn for a task that makes an event
-pub task_moves : (p q : Plain) (jobs later : Jobs) (number : ℕ) (result : Stepped) (task : Task) (more : List Task) (left : ℕ) → NotesTurn p jobs number q → HasTurned p jobs number q later result → (result ≡ Idle → ⊥) → 0 < left
-    → ((scripts : Scripts) (s : Stage Actor) → Shows p s → Tells (config_of p) scripts jobs s → waits_then (config_of p) s (turn scripts s number) ≡ waiting_of result → move_of (config_of p) scripts s task ≡ moves (turn scripts s number) more)
-    → (tasks : List Task) (from : ℕ) → RunsNoted p jobs (agenda (task ∷ tasks) from) left q later (agenda (more ++ tasks) from) (left - 1)
-task_moves p q jobs later number result task more left notes turned busy some move tasks from scripts s shows tells =
-    let moved = moved_of (config_of p) scripts s number q later result busy (turned scripts s shows tells) in
-    let went = going.task_moves p q jobs later number result task more left turned busy some move tasks from scripts s shows tells in
-    let is : next (config_of p) scripts s (agenda (task ∷ tasks) from) ≡ Some (record { event = moved.event; agenda = agenda (more ++ tasks) from }) =
-    ap (λ m. after_move m tasks from (next_by (config_of p) scripts s tasks from))
-    (move scripts s shows tells (ap (waits_then (config_of p) s) moved.is ∙ moved.waits_is) ∙ ap (λ e. moves e more) moved.is) in
+pub task_moves : (plain other_plain : Plain) (jobs later : Jobs) (number : ℕ) (result : Stepped) (task : Task) (more : List Task) (left : ℕ) → NotesTurn plain jobs number other_plain → HasTurned plain jobs number other_plain later result → (result ≡ Idle → ⊥) → 0 < left
+    → ((scripts : Scripts) (stage : Stage Actor) → Shows plain stage → Tells (config_of plain) scripts jobs stage → waits_then (config_of plain) stage (turn scripts stage number) ≡ waiting_of result → move_of (config_of plain) scripts stage task ≡ moves (turn scripts stage number) more)
+    → (tasks : List Task) (from : ℕ) → RunsNoted plain jobs (agenda (task ∷ tasks) from) left other_plain later (agenda (more ++ tasks) from) (left - 1)
+task_moves plain other_plain jobs later number result task more left notes turned busy some move tasks from scripts stage shows tells =
+    let moved = moved_of (config_of plain) scripts stage number other_plain later result busy (turned scripts stage shows tells) in
+    let went = going.task_moves plain other_plain jobs later number result task more left turned busy some move tasks from scripts stage shows tells in
+    let is : next (config_of plain) scripts stage (agenda (task ∷ tasks) from) ≡ Some (record { event = moved.event; agenda = agenda (more ++ tasks) from }) =
+    ap (λ m. after_move m tasks from (next_by (config_of plain) scripts stage tasks from))
+    (move scripts stage shows tells (ap (waits_then (config_of plain) stage) moved.is ∙ moved.waits_is) ∙ ap (λ e. moves e more) moved.is) in
     record {
       went = went;
-      notes = λ ends. told_so (config_of p) scripts s went.stage (agenda (task ∷ tasks) from) (agenda (more ++ tasks) from) left number went.goes _ (notes_of p) (notes_of q) some is moved.is (notes scripts s shows tells ends);
+      notes = λ ends. told_so (config_of plain) scripts stage went.stage (agenda (task ∷ tasks) from) (agenda (more ++ tasks) from) left number went.goes _ (notes_of plain) (notes_of other_plain) some is moved.is (notes scripts stage shows tells ends);
     }
 
 -- Rounds.
 
 -- a turn of the rounds, of a machine that is idle
-pub round_idles : (p q : Plain) (jobs later : Jobs) (k : ℕ) (result : Stepped) (left : ℕ) → k < seat_count (config_of p).mutators (config_of p).helpers → NotesTurn p jobs k q → HasTurned p jobs k q later result → result ≡ Idle → RunsNoted p jobs (agenda [] k) left q later (agenda [] (k + 1)) left
-round_idles p q jobs later k result left below notes turned idle scripts s shows tells =
-    let passed : IsPassed (config_of p) scripts s k q later = subst (λ r. Turned (config_of p) scripts s k q later r) idle (turned scripts s shows tells) in
-    let went = rounds.round_idles p q jobs later k result left below turned idle scripts s shows tells in
+pub round_idles : (plain other_plain : Plain) (jobs later : Jobs) (seat : ℕ) (result : Stepped) (left : ℕ) → seat < seat_count (config_of plain).mutators (config_of plain).helpers → NotesTurn plain jobs seat other_plain → HasTurned plain jobs seat other_plain later result → result ≡ Idle → RunsNoted plain jobs (agenda [] seat) left other_plain later (agenda [] (seat + 1)) left
+round_idles plain other_plain jobs later seat result left below notes turned idle scripts s shows tells =
+    let passed : IsPassed (config_of plain) scripts s seat other_plain later = subst (λ r. Turned (config_of plain) scripts s seat other_plain later r) idle (turned scripts s shows tells) in
+    let went = rounds.round_idles plain other_plain jobs later seat result left below turned idle scripts s shows tells in
     record {
       went = went;
-      notes = λ ends. quiet (config_of p) scripts s went.stage (agenda [] k) (agenda [] (k + 1)) left went.goes (notes_of p) (notes_of q)
-          (idle_notes p q jobs k scripts s notes shows tells passed.idle ends);
+      notes = λ ends. quiet (config_of plain) scripts s went.stage (agenda [] seat) (agenda [] (seat + 1)) left went.goes (notes_of plain) (notes_of other_plain)
+          (idle_notes plain other_plain jobs seat scripts s notes shows tells passed.idle ends);
     }
 
 -- and of one that makes an event
-pub round_moves : (p q : Plain) (jobs later : Jobs) (k : ℕ) (result : Stepped) (left : ℕ) → k < seat_count (config_of p).mutators (config_of p).helpers → NotesTurn p jobs k q → HasTurned p jobs k q later result → (result ≡ Idle → ⊥) → 0 < left → RunsNoted p jobs (agenda [] k) left q later (agenda [] (k + 1)) (left - 1)
-round_moves p q jobs later k result left below notes turned busy some scripts s shows tells =
-    let moved = moved_of (config_of p) scripts s k q later result busy (turned scripts s shows tells) in
-    let went = rounds.round_moves p q jobs later k result left below turned busy some scripts s shows tells in
+pub round_moves : (plain other_plain : Plain) (jobs later : Jobs) (seat : ℕ) (result : Stepped) (left : ℕ) → seat < seat_count (config_of plain).mutators (config_of plain).helpers → NotesTurn plain jobs seat other_plain → HasTurned plain jobs seat other_plain later result → (result ≡ Idle → ⊥) → 0 < left → RunsNoted plain jobs (agenda [] seat) left other_plain later (agenda [] (seat + 1)) (left - 1)
+round_moves plain other_plain jobs later seat result left below notes turned busy some scripts s shows tells =
+    let moved = moved_of (config_of plain) scripts s seat other_plain later result busy (turned scripts s shows tells) in
+    let went = rounds.round_moves plain other_plain jobs later seat result left below turned busy some scripts s shows tells in
     record {
       went = went;
-      notes = λ ends. told_so (config_of p) scripts s went.stage (agenda [] k) (agenda [] (k + 1)) left k went.goes _ (notes_of p) (notes_of q) some
-          (round_move (config_of p) scripts s k moved.event below moved.is) moved.is (notes scripts s shows tells ends);
+      notes = λ ends. told_so (config_of plain) scripts s went.stage (agenda [] seat) (agenda [] (seat + 1)) left seat went.goes _ (notes_of plain) (notes_of other_plain) some
+          (round_move (config_of plain) scripts s seat moved.event below moved.is) moved.is (notes scripts s shows tells ends);
     }
 
 -- after the last machine the next round begins
-pub round_ends : (p : Plain) (jobs : Jobs) (left : ℕ) → RunsNoted p jobs (agenda [] (seat_count (config_of p).mutators (config_of p).helpers)) left p jobs (agenda [] 0) left
-round_ends p jobs left scripts s shows tells =
-    let went = rounds.round_ends p jobs left scripts s shows tells in
-    record { went = went; notes = λ ends. quiet (config_of p) scripts s went.stage _ (agenda [] 0) left went.goes (notes_of p) (notes_of p) refl }
+pub round_ends : (plain : Plain) (jobs : Jobs) (left : ℕ) → RunsNoted plain jobs (agenda [] (seat_count (config_of plain).mutators (config_of plain).helpers)) left plain jobs (agenda [] 0) left
+round_ends plain jobs left scripts s shows tells =
+    let went = rounds.round_ends plain jobs left scripts s shows tells in
+    record { went = went; notes = λ ends. quiet (config_of plain) scripts s went.stage _ (agenda [] 0) left went.goes (notes_of plain) (notes_of plain) refl }
 
 -- Whole runs.
 
 -- the end of a run: all machines are idle
-pub ends_idle : (p : Plain) (jobs : Jobs) (left : ℕ) → AllIdle p jobs → EndsNoted p jobs (agenda [] 0) left p jobs Finished
-ends_idle p jobs left idle scripts s shows tells = record {
-  ran = rounds.ends_idle p jobs left idle scripts s shows tells;
-  notes = λ ends. notes_none (config_of p) s (notes_of p)
-      ∙ ap (λ es. noted (notes_of p) (history pause_image (config_of p) s es)) (sym (scheduled_none (config_of p) scripts s (agenda [] 0) left (idle_round (config_of p) scripts s (idle scripts s shows tells))));
+pub ends_idle : (plain : Plain) (jobs : Jobs) (left : ℕ) → AllIdle plain jobs → EndsNoted plain jobs (agenda [] 0) left plain jobs Finished
+ends_idle plain jobs left idle scripts s shows tells = record {
+  ran = rounds.ends_idle plain jobs left idle scripts s shows tells;
+  notes = λ ends. notes_none (config_of plain) s (notes_of plain)
+      ∙ ap (λ es. noted (notes_of plain) (history pause_image (config_of plain) s es)) (sym (scheduled_none (config_of plain) scripts s (agenda [] 0) left (idle_round (config_of plain) scripts s (idle scripts s shows tells))));
 }
 
 -- with no event left there is none
-scheduled_out : (c : Config) (scripts : Scripts) (s : Stage Actor) (left : ℕ) → left ≡ 0 → scheduled pause_image c scripts left (agenda [] 0) s ≡ []
+scheduled_out : (config : Config) (scripts : Scripts) (stage : Stage Actor) (left : ℕ) → left ≡ 0 → scheduled pause_image config scripts left (agenda [] 0) stage ≡ []
 unfolding scheduled
-scheduled_out c scripts s left out = ap (λ n. scheduled pause_image c scripts n (agenda [] 0) s) out
+scheduled_out config scripts stage left out = ap (λ n. scheduled pause_image config scripts n (agenda [] 0) stage) out
 
 -- or no more steps are allowed
-pub ends_out : (p : Plain) (jobs : Jobs) (left : ℕ) → left ≡ 0 → SomeBusy p jobs → EndsNoted p jobs (agenda [] 0) left p jobs Unfinished
-ends_out p jobs left out busy scripts s shows tells = record {
-  ran = rounds.ends_out p jobs left out busy scripts s shows tells;
-  notes = λ ends. notes_none (config_of p) s (notes_of p) ∙ ap (λ es. noted (notes_of p) (history pause_image (config_of p) s es)) (sym (scheduled_out (config_of p) scripts s left out));
+pub ends_out : (plain : Plain) (jobs : Jobs) (left : ℕ) → left ≡ 0 → SomeBusy plain jobs → EndsNoted plain jobs (agenda [] 0) left plain jobs Unfinished
+ends_out plain jobs left out busy scripts s shows tells = record {
+  ran = rounds.ends_out plain jobs left out busy scripts s shows tells;
+  notes = λ ends. notes_none (config_of plain) s (notes_of plain) ∙ ap (λ es. noted (notes_of plain) (history pause_image (config_of plain) s es)) (sym (scheduled_out (config_of plain) scripts s left out));
 }
 
 -- a run that goes on to its end
@@ -293,8 +293,8 @@ ends_then p q r jobs later last todo rest limit left result same runs ends scrip
     }
 
 -- an item more
-pub item_step : (p q : Plain) (jobs later : Jobs) (items : List Item) (index : ℕ) (d : Item) (left remaining : ℕ) → index < length items → DoesNoted p jobs (task_of (get_or items index d)) left q later remaining
-    → RunsNoted p jobs (agenda (map task_of (drop index items)) 0) left q later (agenda (map task_of (drop (index + 1) items)) 0) remaining
-item_step p q jobs later items index d left remaining below does =
-    subst (λ xs. RunsNoted p jobs (agenda (map task_of xs) 0) left q later (agenda (map task_of (drop (index + 1) items)) 0) remaining)
-    (sym (drop_more items index d below)) (does (map task_of (drop (index + 1) items)) 0)
+pub item_step : (plain other_plain : Plain) (jobs later : Jobs) (items : List Item) (index : ℕ) (item : Item) (left remaining : ℕ) → index < length items → DoesNoted plain jobs (task_of (get_or items index item)) left other_plain later remaining
+    → RunsNoted plain jobs (agenda (map task_of (drop index items)) 0) left other_plain later (agenda (map task_of (drop (index + 1) items)) 0) remaining
+item_step plain other_plain jobs later items index item left remaining below does =
+    subst (λ xs. RunsNoted plain jobs (agenda (map task_of xs) 0) left other_plain later (agenda (map task_of (drop (index + 1) items)) 0) remaining)
+    (sym (drop_more items index item below)) (does (map task_of (drop (index + 1) items)) 0)

@@ -30,16 +30,16 @@ use Rattle.shen_core.specs.Agendas.{agenda_in}
 use Rattle.shen_core.specs.Nexts.{HasSameNext, IsDueNext, SettlesNext}
 
 -- an order and then a step
-pub stepped : (p mid q : Plain) (jobs : Jobs) (number : ℕ) (has : Bool) (said : Stepped) → number < seats_of p
-    → words_of mid ≡ words_of p → machines_of mid ≡ machines_of p → config_of mid ≡ config_of p → orders_of mid ≡ slice_set (orders_of p) number (order_at mid number)
-    → IsTurn p jobs number has (order_at mid number) → IsNextTurn p jobs number has (order_at mid number) → has_turn mid number ≡ has → has ≡ true
-    → (has_turn mid number ≡ true → IsStep mid q number)
+pub stepped : (plain mid other_plain : Plain) (jobs : Jobs) (number : ℕ) (has : Bool) (said : Stepped) → number < seats_of plain
+    → words_of mid ≡ words_of plain → machines_of mid ≡ machines_of plain → config_of mid ≡ config_of plain → orders_of mid ≡ slice_set (orders_of plain) number (order_at mid number)
+    → IsTurn plain jobs number has (order_at mid number) → IsNextTurn plain jobs number has (order_at mid number) → has_turn mid number ≡ has → has ≡ true
+    → (has_turn mid number ≡ true → IsStep mid other_plain number)
     → (has_turn mid number ≡ true → said ≡ says (config_of mid) (order_at mid number) (machine_at mid number) (word_found_by mid number))
-    → (has_turn mid number ≡ true → machines_of q ≡ slice_set (machines_of mid) number (next_machine mid number))
-    → (has_turn mid number ≡ true → orders_of q ≡ slice_set (orders_of mid) number Nothing)
-    → config_of q ≡ config_of mid → IsStepped p mid q jobs number said
-stepped p mid q jobs number has said below words machines config orders turns next has_is is steps says machines_then orders_then config_then =
-    let within : number < length (machines_of p) = omega (arith, length-map p.machines.items shown, p.all_machines, below) in
+    → (has_turn mid number ≡ true → machines_of other_plain ≡ slice_set (machines_of mid) number (next_machine mid number))
+    → (has_turn mid number ≡ true → orders_of other_plain ≡ slice_set (orders_of mid) number Nothing)
+    → config_of other_plain ≡ config_of mid → IsStepped plain mid other_plain jobs number said
+stepped plain mid other_plain jobs number has said below words machines config orders turns next has_is is steps says machines_then orders_then config_then =
+    let within : number < length (machines_of plain) = omega (arith, length-map plain.machines.items shown, plain.all_machines, below) in
     let busy = has_is ∙ is in
     record {
       within = within;
@@ -47,9 +47,9 @@ stepped p mid q jobs number has said below words machines config orders turns ne
       mid_machines = machines;
       mid_config = config;
       mid_orders = orders;
-      role = role_shown p.config p.words.items _ number _ p.reached (machine_within (machines_of p) number within);
-      turn = subst (λ b. IsTurn p jobs number b (order_at mid number)) is turns;
-      next = subst (λ b. IsNextTurn p jobs number b (order_at mid number)) is next;
+      role = role_shown plain.config plain.words.items _ number _ plain.reached (machine_within (machines_of plain) number within);
+      turn = subst (λ b. IsTurn plain jobs number b (order_at mid number)) is turns;
+      next = subst (λ b. IsNextTurn plain jobs number b (order_at mid number)) is next;
       has = busy;
       event = steps busy;
       says = says busy;
@@ -59,36 +59,36 @@ stepped p mid q jobs number has said below words machines config orders turns ne
     }
 
 -- what was seen before the step is of its event
-pub sees_turn : (p mid q : Plain) (jobs : Jobs) (number : ℕ) (said : Stepped) (seen : Seen) → IsStepped p mid q jobs number said
+pub sees_turn : (plain mid other_plain : Plain) (jobs : Jobs) (number : ℕ) (said : Stepped) (seen : Seen) → IsStepped plain mid other_plain jobs number said
     → seen.number ≡ number → seen.place ≡ place_in (order_at mid number) (machine_at mid number) → seen.access ≡ plan_of (config_of mid) (order_at mid number) (machine_at mid number)
-    → seen.found ≡ slice_index (words_of mid) (table_index seen.access) → SeesTurn p jobs number seen
-sees_turn p mid q jobs number said seen facts number_is place_is access_is found_is scripts s shows tells e is =
-    subst (λ x. Sees (config_of p) s x seen) (same_Some _ _ (sym (facts.turn scripts s shows tells) ∙ is))
+    → seen.found ≡ slice_index (words_of mid) (table_index seen.access) → SeesTurn plain jobs number seen
+sees_turn plain mid other_plain jobs number said seen facts number_is place_is access_is found_is scripts s shows tells e is =
+    subst (λ x. Sees (config_of plain) s x seen) (same_Some _ _ (sym (facts.turn scripts s shows tells) ∙ is))
     (record {
       number_is = number_is;
-      place_is = λ a here. place_is ∙ ap (place_in (order_at mid number)) (machine a here);
-      access_is = λ a here. access_is ∙ ap (λ c. plan_of c (order_at mid number) (machine_at mid number)) facts.mid_config ∙ ap (plan_of (config_of p) (order_at mid number)) (machine a here);
+      place_is = λ actor here. place_is ∙ ap (place_in (order_at mid number)) (machine actor here);
+      access_is = λ actor here. access_is ∙ ap (λ c. plan_of c (order_at mid number) (machine_at mid number)) facts.mid_config ∙ ap (plan_of (config_of plain) (order_at mid number)) (machine actor here);
       found_is = found_is ∙ ap (λ ws. slice_index ws (table_index seen.access)) (facts.mid_words ∙ sym shows.words_are);
     })
   where
-    machine : (a : Actor) → slice_get s.machines number ≡ Some a → machine_at mid number ≡ a.machine
-    machine a here =
-        let found = shown_actor (words_of p) (machines_of p) s number (machine_at p number) shows (machine_within (machines_of p) number facts.within) in
+    machine : (actor : Actor) → slice_get s.machines number ≡ Some actor → machine_at mid number ≡ actor.machine
+    machine actor here =
+        let found = shown_actor (words_of plain) (machines_of plain) s number (machine_at plain number) shows (machine_within (machines_of plain) number facts.within) in
         ap (λ ms. get_or ms number no_machine) facts.mid_machines ∙ sym found.2 ∙ ap (λ x. x.machine) (same_Some _ _ (sym found.1 ∙ here))
 
 -- what its step settles is what its event does
-pub settles_turn : (p mid q : Plain) (jobs : Jobs) (number : ℕ) (said : Stepped) (entry : Option Entry) → IsStepped p mid q jobs number said → Settles mid number entry → SettlesTurn p jobs number entry
-settles_turn p mid q jobs number said entry facts settles scripts s shows tells ends e is =
-    subst (λ x. told (config_of p) s x ≡ entries_in entry) (same_Some _ _ (sym (facts.turn scripts s shows tells) ∙ is))
+pub settles_turn : (plain mid other_plain : Plain) (jobs : Jobs) (number : ℕ) (said : Stepped) (entry : Option Entry) → IsStepped plain mid other_plain jobs number said → Settles mid number entry → SettlesTurn plain jobs number entry
+settles_turn plain mid other_plain jobs number said entry facts settles scripts s shows tells ends e is =
+    subst (λ x. told (config_of plain) s x ≡ entries_in entry) (same_Some _ _ (sym (facts.turn scripts s shows tells) ∙ is))
     (sym (ap (λ c. told c s (event number (order_at mid number))) facts.mid_config)
     ∙ settles s (record { words_are = shows.words_are ∙ sym facts.mid_words; machines_are = shows.machines_are ∙ sym facts.mid_machines }) (subst (λ c. IsEnding c s) (sym facts.mid_config) ends))
 
 -- and so of the walk's next event
-pub settles_next : (p : Plain) (jobs : Jobs) (todo : Agenda) (w : Walk) (number : ℕ) (entry : Option Entry) → HasSameNext p jobs todo (agenda_in w) → IsDueNext p jobs w number → SettlesTurn p jobs number entry → SettlesNext p jobs todo entry
-settles_next p jobs todo w number entry same due settles scripts s shows tells ends x is = by_turn (turn scripts s number) refl
+pub settles_next : (plain : Plain) (jobs : Jobs) (todo : Agenda) (w : Walk) (number : ℕ) (entry : Option Entry) → HasSameNext plain jobs todo (agenda_in w) → IsDueNext plain jobs w number → SettlesTurn plain jobs number entry → SettlesNext plain jobs todo entry
+settles_next plain jobs todo w number entry same due settles scripts s shows tells ends x is = by_turn (turn scripts s number) refl
   where
-    by_turn : (o : Option (Event Order)) → turn scripts s number ≡ o → told (config_of p) s x.event ≡ entries_in entry
+    by_turn : (found : Option (Event Order)) → turn scripts s number ≡ found → told (config_of plain) s x.event ≡ entries_in entry
     by_turn None none = let has = due.has scripts s shows in let no : false ≡ true = ap is_some (sym none) ∙ has in absurd cc
     by_turn (Some e) some =
         let one = sym (due.next_is scripts s shows tells e some) ∙ sym (same scripts s shows tells) ∙ is in
-        subst (λ y. told (config_of p) s y ≡ entries_in entry) (ap (λ (z : Next). z.event) (same_Some _ _ one)) (settles scripts s shows tells ends e some)
+        subst (λ y. told (config_of plain) s y ≡ entries_in entry) (ap (λ (z : Next). z.event) (same_Some _ _ one)) (settles scripts s shows tells ends e some)

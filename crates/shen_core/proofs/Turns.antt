@@ -35,91 +35,91 @@ use Rattle.shen_core.specs.Progress.{Jobs, Tells, CanRun, IsTurn, IsNextTurn, ev
 use Rattle.shen_core.proofs.Events.{shown_actor}
 
 -- the machine of a number is a mutator where the number is one of a mutator
-pub role_shown : (c : Config) (words : List ℕ) (machines : List Machine) (number : ℕ) (machine : Machine) → ∥ IsShownBySome c words machines ∥₁ → slice_get machines number ≡ Some machine → is_mutating machine ≡ nat_lt number c.mutators
-role_shown c words machines number machine some here = ∥∥₁_elim some (hlevel (Bool-set)) (λ shown.
-    let found = shown_actor words machines (ending pause_image c shown.run) number machine shown.shows here in
-    ap is_mutating (sym found.2) ∙ role_of c number found.0.machine ((run_sound pause_image heap_pauses c shown.run).of_heap.roles number found.0 found.1))
+pub role_shown : (config : Config) (words : List ℕ) (machines : List Machine) (number : ℕ) (machine : Machine) → ∥ IsShownBySome config words machines ∥₁ → slice_get machines number ≡ Some machine → is_mutating machine ≡ nat_lt number config.mutators
+role_shown config words machines number machine some here = ∥∥₁_elim some (hlevel (Bool-set)) (λ shown.
+    let found = shown_actor words machines (ending pause_image config shown.run) number machine shown.shows here in
+    ap is_mutating (sym found.2) ∙ role_of config number found.0.machine ((run_sound pause_image heap_pauses config shown.run).of_heap.roles number found.0 found.1))
 
 -- the word that a machine finds is fit
-pub fit_shown : (c : Config) (words : List ℕ) (machines : List Machine) (number : ℕ) (machine : Machine) (order : Order) → ∥ IsShownBySome c words machines ∥₁ → slice_get machines number ≡ Some machine → takes_of machine order ≡ true
-    → IsFitFor c order (slice_index words (table_index (plan_of c order machine))) machine
+pub fit_shown : (config : Config) (words : List ℕ) (machines : List Machine) (number : ℕ) (machine : Machine) (order : Order) → ∥ IsShownBySome config words machines ∥₁ → slice_get machines number ≡ Some machine → takes_of machine order ≡ true
+    → IsFitFor config order (slice_index words (table_index (plan_of config order machine))) machine
 unfolding kind
-fit_shown c words machines number machine order some here takes = ∥∥₁_elim some (fit_is_prop c order (slice_index words (table_index (plan_of c order machine))) machine) (λ shown.
-    let found = shown_actor words machines (ending pause_image c shown.run) number machine shown.shows here in
-    let finds : Finds (kind pause_image c) shown.run.start number found.0 order (slice_index words (table_index (plan_of c order machine))) = record {
-      stage = ending pause_image c shown.run;
+fit_shown config words machines number machine order some here takes = ∥∥₁_elim some (fit_is_prop config order (slice_index words (table_index (plan_of config order machine))) machine) (λ shown.
+    let found = shown_actor words machines (ending pause_image config shown.run) number machine shown.shows here in
+    let finds : Finds (kind pause_image config) shown.run.start number found.0 order (slice_index words (table_index (plan_of config order machine))) = record {
+      stage = ending pause_image config shown.run;
       reached = record { events = shown.run.events; ends = refl };
       here = found.1;
       takes = ap (λ x. takes_of x order) found.2 ∙ takes;
-      found = ap (λ ws. slice_index ws (table_index (plan_of c order machine))) (sym shown.shows.words_are) ∙ ap (λ x. slice_index (ending pause_image c shown.run).words (table_index (plan_of c order x))) (sym found.2);
+      found = ap (λ ws. slice_index ws (table_index (plan_of config order machine))) (sym shown.shows.words_are) ∙ ap (λ x. slice_index (ending pause_image config shown.run).words (table_index (plan_of config order x))) (sym found.2);
     } in
-    subst (λ x. IsFitFor c order (slice_index words (table_index (plan_of c order machine))) x) found.2
-    (found_fit pause_image heap_pauses c shown.run.start shown.run.graph shown.run.begins number found.0 order (slice_index words (table_index (plan_of c order machine))) finds))
+    subst (λ x. IsFitFor config order (slice_index words (table_index (plan_of config order machine))) x) found.2
+    (found_fit pause_image heap_pauses config shown.run.start shown.run.graph shown.run.begins number found.0 order (slice_index words (table_index (plan_of config order machine))) finds))
 
 -- the turn of an actor, by its machine
-pub actor_turn : (scripts : Scripts) (s : Stage Actor) (number : ℕ) (a : Actor) → slice_get s.machines number ≡ Some a → turn scripts s number ≡ option_map (λ order. event number order) (order_for (slice_get (nth_script scripts number) (length a.calls)) a.machine)
-actor_turn scripts s number a here = ap (turn_of scripts number) here ∙ ap (option_map (λ order. event number order)) (order_of_script (nth_script scripts number) a.calls a.machine)
+pub actor_turn : (scripts : Scripts) (stage : Stage Actor) (number : ℕ) (actor : Actor) → slice_get stage.machines number ≡ Some actor → turn scripts stage number ≡ option_map (λ order. event number order) (order_for (slice_get (nth_script scripts number) (length actor.calls)) actor.machine)
+actor_turn scripts stage number actor here = ap (turn_of scripts number) here ∙ ap (option_map (λ order. event number order)) (order_of_script (nth_script scripts number) actor.calls actor.machine)
 
 -- the event of a turn is of the machine whose turn it is
-pub turn_number : (scripts : Scripts) (s : Stage Actor) (k : ℕ) (e : Event Order) → turn scripts s k ≡ Some e → e.number ≡ k
-turn_number scripts s k e is = by_actor (slice_get s.machines k) is
+pub turn_number : (scripts : Scripts) (stage : Stage Actor) (k : ℕ) (e : Event Order) → turn scripts stage k ≡ Some e → e.number ≡ k
+turn_number scripts stage k e is = by_actor (slice_get stage.machines k) is
   where
-    by_order : (o : Option Order) → option_map (λ order. event k order) o ≡ Some e → e.number ≡ k
+    by_order : (other_found : Option Order) → option_map (λ order. event k order) other_found ≡ Some e → e.number ≡ k
     by_order None is = cc
     by_order (Some order) is = sym (ap (λ x. x.number) (same_Some _ _ is))
 
-    by_actor : (a : Option Actor) → turn_of scripts k a ≡ Some e → e.number ≡ k
+    by_actor : (found : Option Actor) → turn_of scripts k found ≡ Some e → e.number ≡ k
     by_actor None is = cc
-    by_actor (Some a) is = by_order (order_by (nth_script scripts k) a.calls a.machine) is
+    by_actor (Some found) is = by_order (order_by (nth_script scripts k) found.calls found.machine) is
 
 -- there is a machine at each number
 pub machine_within : (machines : List Machine) (number : ℕ) → number < length machines → slice_get machines number ≡ Some (slice_index_or machines number no_machine)
 machine_within machines number below = slice_get-get_or machines number no_machine below
 
 -- so a machine of memory is a mutator by its number
-pub role_within : (p : Plain) (number : ℕ) → number < length (machines_of p) → is_mutating (machine_at p number) ≡ nat_lt number (config_of p).mutators
-role_within p number within = role_shown p.config p.words.items (machines_of p) number (machine_at p number) p.reached (machine_within (machines_of p) number within)
+pub role_within : (plain : Plain) (number : ℕ) → number < length (machines_of plain) → is_mutating (machine_at plain number) ≡ nat_lt number (config_of plain).mutators
+role_within plain number within = role_shown plain.config plain.words.items (machines_of plain) number (machine_at plain number) plain.reached (machine_within (machines_of plain) number within)
 
 -- what follows in its script, and so what it does
-order_now : (p : Plain) (jobs : Jobs) (number : ℕ) → is_mutating (machine_at p number) ≡ nat_lt number (config_of p).mutators → (scripts : Scripts) (s : Stage Actor) → Tells (config_of p) scripts jobs s
-    → (a : Actor) → slice_get s.machines number ≡ Some a
-    → order_for (slice_get (nth_script scripts number) (length a.calls)) (machine_at p number) ≡ order_for (next_for (config_of p) jobs number) (machine_at p number)
-order_now p jobs number role scripts s tells a here = by_role (nat_lt number (config_of p).mutators) refl
+order_now : (plain : Plain) (jobs : Jobs) (number : ℕ) → is_mutating (machine_at plain number) ≡ nat_lt number (config_of plain).mutators → (scripts : Scripts) (stage : Stage Actor) → Tells (config_of plain) scripts jobs stage
+    → (actor : Actor) → slice_get stage.machines number ≡ Some actor
+    → order_for (slice_get (nth_script scripts number) (length actor.calls)) (machine_at plain number) ≡ order_for (next_for (config_of plain) jobs number) (machine_at plain number)
+order_now plain jobs number role scripts stage tells actor here = by_role (nat_lt number (config_of plain).mutators) refl
   where
-    by_role : (b : Bool) → nat_lt number (config_of p).mutators ≡ b
-        → order_for (slice_get (nth_script scripts number) (length a.calls)) (machine_at p number) ≡ order_for (if nat_lt number (config_of p).mutators then work.next_of jobs number else None) (machine_at p number)
+    by_role : (holds : Bool) → nat_lt number (config_of plain).mutators ≡ holds
+        → order_for (slice_get (nth_script scripts number) (length actor.calls)) (machine_at plain number) ≡ order_for (if nat_lt number (config_of plain).mutators then work.next_of jobs number else None) (machine_at plain number)
     by_role true is =
-        let below : number < (config_of p).mutators = ltb-true number (config_of p).mutators is in
-        ap (λ script. order_for (slice_get script (length a.calls)) (machine_at p number)) (sym (tells.scripts_are number below))
-        ∙ ap (λ k. order_for (slice_get (work.script_in jobs number) k) (machine_at p number)) (sym (ap length (tells.replies number a below here) ∙ length-map a.calls (λ e. e.reply)))
-        ∙ ap (λ b. order_for (if b then work.next_of jobs number else None) (machine_at p number)) (sym is)
-    by_role false is = order_alike (machine_at p number) _ _ (role ∙ is)
+        let below : number < (config_of plain).mutators = ltb-true number (config_of plain).mutators is in
+        ap (λ script. order_for (slice_get script (length actor.calls)) (machine_at plain number)) (sym (tells.scripts_are number below))
+        ∙ ap (λ k. order_for (slice_get (work.script_in jobs number) k) (machine_at plain number)) (sym (ap length (tells.replies number actor below here) ∙ length-map actor.calls (λ e. e.reply)))
+        ∙ ap (λ holds. order_for (if holds then work.next_of jobs number else None) (machine_at plain number)) (sym is)
+    by_role false is = order_alike (machine_at plain number) _ _ (role ∙ is)
 
 -- what a machine does on its turn, in a stage that memory shows
-pub turn_shown : (p : Plain) (jobs : Jobs) (number : ℕ) → number < length (machines_of p) → is_mutating (machine_at p number) ≡ nat_lt number (config_of p).mutators
-    → (scripts : Scripts) (s : Stage Actor) → Shows p s → Tells (config_of p) scripts jobs s → turn scripts s number ≡ option_map (λ order. event number order) (order_for (next_for (config_of p) jobs number) (machine_at p number))
-turn_shown p jobs number within role scripts s shows tells =
-    let found = shown_actor (words_of p) (machines_of p) s number (machine_at p number) shows (machine_within (machines_of p) number within) in
+pub turn_shown : (plain : Plain) (jobs : Jobs) (number : ℕ) → number < length (machines_of plain) → is_mutating (machine_at plain number) ≡ nat_lt number (config_of plain).mutators
+    → (scripts : Scripts) (stage : Stage Actor) → Shows plain stage → Tells (config_of plain) scripts jobs stage → turn scripts stage number ≡ option_map (λ order. event number order) (order_for (next_for (config_of plain) jobs number) (machine_at plain number))
+turn_shown plain jobs number within role scripts stage shows tells =
+    let found = shown_actor (words_of plain) (machines_of plain) stage number (machine_at plain number) shows (machine_within (machines_of plain) number within) in
     let a = found.0 in
-    actor_turn scripts s number a found.1
+    actor_turn scripts stage number a found.1
     ∙ ap (λ machine. option_map (λ order. event number order) (order_for (slice_get (nth_script scripts number) (length a.calls)) machine)) found.2
-    ∙ ap (option_map (λ order. event number order)) (order_now p jobs number role scripts s tells a found.1)
+    ∙ ap (option_map (λ order. event number order)) (order_now plain jobs number role scripts stage tells a found.1)
 
 -- so the event is that of its order
-pub is_turn : (p : Plain) (jobs : Jobs) (number : ℕ) (has : Bool) (order : Order) → number < length (machines_of p) → is_mutating (machine_at p number) ≡ nat_lt number (config_of p).mutators → IsNextTurn p jobs number has order → IsTurn p jobs number has order
-is_turn p jobs number has order within role next scripts s shows tells = turn_shown p jobs number within role scripts s shows tells ∙ ap (option_map (λ x. event number x)) next ∙ by_has has
+pub is_turn : (plain : Plain) (jobs : Jobs) (number : ℕ) (has : Bool) (order : Order) → number < length (machines_of plain) → is_mutating (machine_at plain number) ≡ nat_lt number (config_of plain).mutators → IsNextTurn plain jobs number has order → IsTurn plain jobs number has order
+is_turn plain jobs number has order within role next scripts s shows tells = turn_shown plain jobs number within role scripts s shows tells ∙ ap (option_map (λ x. event number x)) next ∙ by_has has
   where
-    by_has : (b : Bool) → option_map (λ x. event number x) (if b then Some order else None) ≡ event_if b number order
+    by_has : (holds : Bool) → option_map (λ x. event number x) (if holds then Some order else None) ≡ event_if holds number order
     by_has true = refl
     by_has false = refl
 
 -- whether there is a turn, whatever commands would follow
-pub some_turn : (p : Plain) (number : ℕ) (has : Bool) → number < length (machines_of p) → ((next : Option Command) → is_some (order_for next (machine_at p number)) ≡ has)
-    → (scripts : Scripts) (s : Stage Actor) → Shows p s → is_some (turn scripts s number) ≡ has
-some_turn p number has within is scripts s shows =
-    let found = shown_actor (words_of p) (machines_of p) s number (machine_at p number) shows (machine_within (machines_of p) number within) in
+pub some_turn : (plain : Plain) (number : ℕ) (has : Bool) → number < length (machines_of plain) → ((next : Option Command) → is_some (order_for next (machine_at plain number)) ≡ has)
+    → (scripts : Scripts) (stage : Stage Actor) → Shows plain stage → is_some (turn scripts stage number) ≡ has
+some_turn plain number has within is scripts stage shows =
+    let found = shown_actor (words_of plain) (machines_of plain) stage number (machine_at plain number) shows (machine_within (machines_of plain) number within) in
     let a = found.0 in
-    ap is_some (actor_turn scripts s number a found.1)
+    ap is_some (actor_turn scripts stage number a found.1)
     ∙ by_some (order_for (slice_get (nth_script scripts number) (length a.calls)) a.machine)
     ∙ ap (λ machine. is_some (order_for (slice_get (nth_script scripts number) (length a.calls)) machine)) found.2
     ∙ is (slice_get (nth_script scripts number) (length a.calls))
@@ -129,22 +129,22 @@ some_turn p number has within is scripts s shows =
     by_some (Some x) = refl
 
 -- where the next access of a machine stands on its turn, in a stage that memory shows
-pub stands_shown : (p : Plain) (jobs : Jobs) (number : ℕ) (place : Place) → number < length (machines_of p)
-    → (scripts : Scripts) (s : Stage Actor) → Shows p s → Tells (config_of p) scripts jobs s → is_at_place scripts s number place ≡ is_machine_at place (machine_at p number) (order_for (next_for (config_of p) jobs number) (machine_at p number))
-stands_shown p jobs number place within scripts s shows tells =
-    let found = shown_actor (words_of p) (machines_of p) s number (machine_at p number) shows (machine_within (machines_of p) number within) in
+pub stands_shown : (plain : Plain) (jobs : Jobs) (number : ℕ) (place : Place) → number < length (machines_of plain)
+    → (scripts : Scripts) (stage : Stage Actor) → Shows plain stage → Tells (config_of plain) scripts jobs stage → is_at_place scripts stage number place ≡ is_machine_at place (machine_at plain number) (order_for (next_for (config_of plain) jobs number) (machine_at plain number))
+stands_shown plain jobs number place within scripts stage shows tells =
+    let found = shown_actor (words_of plain) (machines_of plain) stage number (machine_at plain number) shows (machine_within (machines_of plain) number within) in
     let a = found.0 in
     ap (is_actor_at scripts number place) found.1
     ∙ ap (is_machine_at place a.machine) (order_of_script (nth_script scripts number) a.calls a.machine)
     ∙ ap (λ machine. is_machine_at place machine (order_for (slice_get (nth_script scripts number) (length a.calls)) machine)) found.2
-    ∙ ap (is_machine_at place (machine_at p number)) (order_now p jobs number (role_within p number within) scripts s tells a found.1)
+    ∙ ap (is_machine_at place (machine_at plain number)) (order_now plain jobs number (role_within plain number within) scripts stage tells a found.1)
 
 -- the command that follows can be given
-pub next_fits : (p : Plain) (jobs : Jobs) (number : ℕ) → CanRun p jobs → number < length (machines_of p) → is_mutating (machine_at p number) ≡ nat_lt number (config_of p).mutators
-    → may_begin (machine_at p number) ≡ true → IfSome (next_for (config_of p) jobs number) (λ command. IsValid command × (made_of_machine (machine_at p number) < most_objects))
-next_fits p jobs number can within role may =
-    let rest : is_resting (machine_at p number) ≡ true = begins_at_rest (machine_at p number) may in
-    let is : nat_lt number (config_of p).mutators ≡ true = sym role ∙ rest_is_mutating (machine_at p number) rest in
-    let below : number < (config_of p).mutators = ltb-true number (config_of p).mutators is in
-    subst (λ b. IfSome (if b then work.next_of jobs number else None) (λ command. IsValid command × (made_of_machine (machine_at p number) < most_objects))) (sym is)
-    (command_fits (machine_at p number) (work.script_in jobs number) (length (work.replies_of jobs number)) (can.commands number below) (can.made number below) may)
+pub next_fits : (plain : Plain) (jobs : Jobs) (number : ℕ) → CanRun plain jobs → number < length (machines_of plain) → is_mutating (machine_at plain number) ≡ nat_lt number (config_of plain).mutators
+    → may_begin (machine_at plain number) ≡ true → IfSome (next_for (config_of plain) jobs number) (λ command. IsValid command × (made_of_machine (machine_at plain number) < most_objects))
+next_fits plain jobs number can within role may =
+    let rest : is_resting (machine_at plain number) ≡ true = begins_at_rest (machine_at plain number) may in
+    let is : nat_lt number (config_of plain).mutators ≡ true = sym role ∙ rest_is_mutating (machine_at plain number) rest in
+    let below : number < (config_of plain).mutators = ltb-true number (config_of plain).mutators is in
+    subst (λ b. IfSome (if b then work.next_of jobs number else None) (λ command. IsValid command × (made_of_machine (machine_at plain number) < most_objects))) (sym is)
+    (command_fits (machine_at plain number) (work.script_in jobs number) (length (work.replies_of jobs number)) (can.commands number below) (can.made number below) may)

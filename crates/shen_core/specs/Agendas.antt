@@ -62,10 +62,10 @@ abbrev pub weight_in : Walk → ℕ
 weight_in w = 2 * (length w.schedule - w.begun) + weight_of w.present
 
 -- the machines of a walk are those of the heap
-pub record IsWalkOf (c : Config) (w : Walk) : Type 0 where
-  pub items : All (IsInSeats c) w.schedule
-  pub present : IfSome w.present (IsInSeats c)
-  pub from : w.from ≤ seat_count c.mutators c.helpers
+pub record IsWalkOf (config : Config) (w : Walk) : Type 0 where
+  pub items : All (IsInSeats config) w.schedule
+  pub present : IfSome w.present (IsInSeats config)
+  pub from : w.from ≤ seat_count config.mutators config.helpers
 
 -- only rounds are left
 pub record HasNoItem (w : Walk) : Type 0 where

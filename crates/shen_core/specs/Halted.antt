@@ -8,13 +8,13 @@ use Rattle.shen_core.specs.State.{config_of, machine_at, IsHalted}
 
 -- the machine makes no step on its turn, whatever command would follow
 abbrev pub IsAtEnd : Plain → ℕ → Type 0
-IsAtEnd p number = (next : Option Command) → is_some (order_for next (machine_at p number)) ≡ false
+IsAtEnd plain number = (next : Option Command) → is_some (order_for next (machine_at plain number)) ≡ false
 
 -- of the machines below a number so many wait for the end of a pause that goes on, and all others make no step
 abbrev pub AreHalted : Plain → ℕ → ℕ → Type 0
-AreHalted p zero waiting = waiting ≡ 0
-AreHalted p (suc k) waiting = ((0 < waiting) × IsHalted p k × AreHalted p k (waiting - 1)) ⊎ (IsAtEnd p k × AreHalted p k waiting)
+AreHalted plain zero waiting = waiting ≡ 0
+AreHalted plain (suc k) waiting = ((0 < waiting) × IsHalted plain k × AreHalted plain k (waiting - 1)) ⊎ (IsAtEnd plain k × AreHalted plain k waiting)
 
 -- how many steps the machine makes from a word of the image to the next one, one after the other
 abbrev pub words_left : Plain → ℕ → ℕ
-words_left p number = loads_left (config_of p) (machine_at p number) + stores_left (config_of p) (machine_at p number)
+words_left plain number = loads_left (config_of plain) (machine_at plain number) + stores_left (config_of plain) (machine_at plain number)

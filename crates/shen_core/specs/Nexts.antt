@@ -21,69 +21,69 @@ use Rattle.shen_core.specs.Agendas.{agenda_number, tasks_after, agenda_in, agend
 
 -- an item has no event any more
 abbrev pub IsOver : Plain → Jobs → Item → Type 0
-IsOver p jobs item = (scripts : Scripts) (s : Stage Actor) → Shows p s → Tells (config_of p) scripts jobs s → move_of (config_of p) scripts s (task_of item) ≡ None
+IsOver plain jobs item = (scripts : Scripts) (stage : Stage Actor) → Shows plain stage → Tells (config_of plain) scripts jobs stage → move_of (config_of plain) scripts stage (task_of item) ≡ None
 
 -- the next event of an item is that of its machine's turn
 abbrev pub WalksOn : Plain → Jobs → Item → Type 0
-WalksOn p jobs item = (scripts : Scripts) (s : Stage Actor) → Shows p s → Tells (config_of p) scripts jobs s
-    → move_of (config_of p) scripts s (task_of item) ≡ moves (turn scripts s (agenda_number item)) (tasks_after (waits_then (config_of p) s (turn scripts s (agenda_number item))) item)
+WalksOn plain jobs item = (scripts : Scripts) (stage : Stage Actor) → Shows plain stage → Tells (config_of plain) scripts jobs stage
+    → move_of (config_of plain) scripts stage (task_of item) ≡ moves (turn scripts stage (agenda_number item)) (tasks_after (waits_then (config_of plain) stage (turn scripts stage (agenda_number item))) item)
 
 -- the machines from one number on have no turn, below another
 abbrev pub AreIdleFrom : Plain → ℕ → ℕ → Type 0
-AreIdleFrom p from end = (scripts : Scripts) (s : Stage Actor) → Shows p s → (k : ℕ) → from ≤ k → k < end → turn scripts s k ≡ None
+AreIdleFrom plain from end = (scripts : Scripts) (stage : Stage Actor) → Shows plain stage → (k : ℕ) → from ≤ k → k < end → turn scripts stage k ≡ None
 
 -- one of these machines has a turn, and those before it have none; or none has
 abbrev pub IsFirstBusy : Plain → ℕ → ℕ → Option ℕ → Type 0
-IsFirstBusy p from end None = AreIdleFrom p from end
-IsFirstBusy p from end (Some number) = (from ≤ number) × (number < end) × AreIdleFrom p from number × HasNext p number true
+IsFirstBusy plain from end None = AreIdleFrom plain from end
+IsFirstBusy plain from end (Some number) = (from ≤ number) × (number < end) × AreIdleFrom plain from number × HasNext plain number true
 
 -- whatever is done first, the next event is the same
 abbrev pub HasSameNext : Plain → Jobs → Agenda → Agenda → Type 0
-HasSameNext p jobs todo rest = (scripts : Scripts) (s : Stage Actor) → Shows p s → Tells (config_of p) scripts jobs s → next (config_of p) scripts s todo ≡ next (config_of p) scripts s rest
+HasSameNext plain jobs todo rest = (scripts : Scripts) (stage : Stage Actor) → Shows plain stage → Tells (config_of plain) scripts jobs stage → next (config_of plain) scripts stage todo ≡ next (config_of plain) scripts stage rest
 
 -- there is no next event
 abbrev pub HasNoNext : Plain → Jobs → Agenda → Type 0
-HasNoNext p jobs todo = (scripts : Scripts) (s : Stage Actor) → Shows p s → Tells (config_of p) scripts jobs s → next (config_of p) scripts s todo ≡ None
+HasNoNext plain jobs todo = (scripts : Scripts) (stage : Stage Actor) → Shows plain stage → Tells (config_of plain) scripts jobs stage → next (config_of plain) scripts stage todo ≡ None
 
 -- The machine has a turn, and its event is the next one of the walk; what is to be done then is what the walk notes.
-pub record IsDueNext (p : Plain) (jobs : Jobs) (w : Walk) (number : ℕ) : Type 0 where
-  pub within : number < seats_of p
-  pub has : HasNext p number true
+pub record IsDueNext (plain : Plain) (jobs : Jobs) (w : Walk) (number : ℕ) : Type 0 where
+  pub within : number < seats_of plain
+  pub has : HasNext plain number true
   pub rounds : w.control_due ≡ false → w.present ≡ None → drop w.begun w.schedule ≡ []
-  pub next_is : (scripts : Scripts) (s : Stage Actor) → Shows p s → Tells (config_of p) scripts jobs s → (e : Event Order) → turn scripts s number ≡ Some e
-      → next (config_of p) scripts s (agenda_in w) ≡ Some (record { event = e; agenda = agenda_after w number (waits (config_of p) s e) })
+  pub next_is : (scripts : Scripts) (stage : Stage Actor) → Shows plain stage → Tells (config_of plain) scripts jobs stage → (event : Event Order) → turn scripts stage number ≡ Some event
+      → next (config_of plain) scripts stage (agenda_in w) ≡ Some (record { event = event; agenda = agenda_after w number (waits (config_of plain) stage event) })
 
 -- the next event was made, memory shows the stage after it, and the rest is to be done
-pub record IsMade (c : Config) (scripts : Scripts) (s : Stage Actor) (todo : Agenda) (q : Plain) (later : Jobs) (rest : Agenda) (seen : Seen) : Type 0 where
+pub record IsMade (config : Config) (scripts : Scripts) (stage : Stage Actor) (todo : Agenda) (plain : Plain) (later : Jobs) (rest : Agenda) (seen : Seen) : Type 0 where
   pub event : Event Order
-  pub is : next c scripts s todo ≡ Some (record { event = event; agenda = rest })
-  pub shows : Shows q (act (kind pause_image c) s event)
-  pub tells : Tells c scripts later (act (kind pause_image c) s event)
-  pub sees : Sees c s event seen
+  pub is : next config scripts stage todo ≡ Some (record { event = event; agenda = rest })
+  pub shows : Shows plain (act (kind pause_image config) stage event)
+  pub tells : Tells config scripts later (act (kind pause_image config) stage event)
+  pub sees : Sees config stage event seen
 
 -- there was no next event, and nothing changed
-pub record HasNone (c : Config) (scripts : Scripts) (s : Stage Actor) (todo : Agenda) (q : Plain) (later : Jobs) (rest : Agenda) : Type 0 where
-  pub none : next c scripts s todo ≡ None
-  pub none_later : next c scripts s rest ≡ None
-  pub shows : Shows q s
-  pub tells : Tells c scripts later s
+pub record HasNone (config : Config) (scripts : Scripts) (stage : Stage Actor) (todo : Agenda) (plain : Plain) (later : Jobs) (rest : Agenda) : Type 0 where
+  pub none : next config scripts stage todo ≡ None
+  pub none_later : next config scripts stage rest ≡ None
+  pub shows : Shows plain stage
+  pub tells : Tells config scripts later stage
 
 -- the next event was made, or there was none
 abbrev pub IsNextSeen : Config → Scripts → Stage Actor → Agenda → Plain → Jobs → Agenda → Option Seen → Type 0
-IsNextSeen c scripts s todo q later rest None = HasNone c scripts s todo q later rest
-IsNextSeen c scripts s todo q later rest (Some seen) = IsMade c scripts s todo q later rest seen
+IsNextSeen config scripts stage todo plain later rest None = HasNone config scripts stage todo plain later rest
+IsNextSeen config scripts stage todo plain later rest (Some seen) = IsMade config scripts stage todo plain later rest seen
 
 -- whatever stage memory showed, the next event of the agenda was made there, and the rest is to be done; or there was none
 abbrev pub MakesNext : Plain → Jobs → Agenda → Plain → Jobs → Agenda → Option Seen → Type 0
-MakesNext p jobs todo q later rest result = (scripts : Scripts) (s : Stage Actor) → Shows p s → Tells (config_of p) scripts jobs s → IsNextSeen (config_of p) scripts s todo q later rest result
+MakesNext plain jobs todo after later rest result = (scripts : Scripts) (stage : Stage Actor) → Shows plain stage → Tells (config_of plain) scripts jobs stage → IsNextSeen (config_of plain) scripts stage todo after later rest result
 
 -- and the next event settles this entry, or none
 abbrev pub SettlesNext : Plain → Jobs → Agenda → Option Entry → Type 0
-SettlesNext p jobs todo entry =
-    (scripts : Scripts) (s : Stage Actor) → Shows p s → Tells (config_of p) scripts jobs s → IsEnding (config_of p) s → (x : Next) → next (config_of p) scripts s todo ≡ Some x
-    → told (config_of p) s x.event ≡ entries_in entry
+SettlesNext plain jobs todo entry =
+    (scripts : Scripts) (stage : Stage Actor) → Shows plain stage → Tells (config_of plain) scripts jobs stage → IsEnding (config_of plain) stage → (x : Next) → next (config_of plain) scripts stage todo ≡ Some x
+    → told (config_of plain) stage x.event ≡ entries_in entry
 
 -- The events of an agenda were made, as many as a limit allows or all that there are; where the limit is higher, the schedule
 -- goes on from there.
 abbrev pub RunsOn : Plain → Jobs → Agenda → ℕ → Plain → Jobs → Agenda → ℕ → Type 0
-RunsOn p jobs todo limit q later rest left = (more : ℕ) → Runs p jobs todo (limit + more) q later rest (left + more)
+RunsOn plain jobs todo limit after later rest left = (more : ℕ) → Runs plain jobs todo (limit + more) after later rest (left + more)

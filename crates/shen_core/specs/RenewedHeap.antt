@@ -22,21 +22,21 @@ IfHeapRenewed Pinned P = Unit {0}
 IfHeapRenewed TooSmall P = Unit {0}
 
 -- a heap stands where some run led, after which its graph can be named anew
-pub record StandsRenewable (p : Plain) : Type 0 where
-  pub run : Run (config_of p)
-  pub leads : Shows p (ending pause_image (config_of p) run)
-  pub renewable : IsRenewable (config_of p).mutators (graph_after pause_image (config_of p) run)
+pub record StandsRenewable (plain : Plain) : Type 0 where
+  pub run : Run (config_of plain)
+  pub leads : Shows plain (ending pause_image (config_of plain) run)
+  pub renewable : IsRenewable (config_of plain).mutators (graph_after pause_image (config_of plain) run)
 
 -- The new heap stands where runs may begin that go on from a graph; this is the same graph as the one before, up to names that are counted
 -- anew, and it can be named anew once more. Nothing was pinned, and nothing is.
-pub record BeginsAnew (c : Config) (before : Graph) (new : Plain) : Type 0 where
-  pub sizes : config_of new ≡ c
-  pub unpinned : HoldsNothing c.mutators before
+pub record BeginsAnew (config : Config) (before : Graph) (new : Plain) : Type 0 where
+  pub sizes : config_of new ≡ config
+  pub unpinned : HoldsNothing config.mutators before
   pub start : Stage Actor
   pub shows : Shows new start
   pub graph : Graph
-  pub begins : Begins c start graph
+  pub begins : Begins config start graph
   pub names : Name → Name
-  pub same : IsSameAnew names c.mutators before graph
+  pub same : IsSameAnew names config.mutators before graph
   pub no_pins : (thread slot : ℕ) → graph.pin thread slot ≡ None
-  pub renewable : IsRenewable c.mutators graph
+  pub renewable : IsRenewable config.mutators graph

@@ -23,18 +23,18 @@ said_of None = Idle
 said_of (Some seen) = seen.said
 
 -- the machine, the place and the access are those of the event, and the word is the one that it finds
-pub record Sees (c : Config) (s : Stage Actor) (e : Event Order) (seen : Seen) : Type 0 where
-  pub number_is : seen.number ≡ e.number
-  pub place_is : (a : Actor) → slice_get s.machines e.number ≡ Some a → seen.place ≡ place_in e.order a.machine
-  pub access_is : (a : Actor) → slice_get s.machines e.number ≡ Some a → seen.access ≡ plan_of c e.order a.machine
-  pub found_is : seen.found ≡ slice_index s.words (table_index seen.access)
+pub record Sees (config : Config) (stage : Stage Actor) (event : Event Order) (seen : Seen) : Type 0 where
+  pub number_is : seen.number ≡ event.number
+  pub place_is : (actor : Actor) → slice_get stage.machines event.number ≡ Some actor → seen.place ≡ place_in event.order actor.machine
+  pub access_is : (actor : Actor) → slice_get stage.machines event.number ≡ Some actor → seen.access ≡ plan_of config event.order actor.machine
+  pub found_is : seen.found ≡ slice_index stage.words (table_index seen.access)
 
 -- whatever stage memory shows, this was seen of the machine's event there
 abbrev pub SeesTurn : Plain → Jobs → ℕ → Seen → Type 0
-SeesTurn p jobs number seen = (scripts : Scripts) (s : Stage Actor) → Shows p s → Tells (config_of p) scripts jobs s → (e : Event Order) → turn scripts s number ≡ Some e → Sees (config_of p) s e seen
+SeesTurn plain jobs number seen = (scripts : Scripts) (stage : Stage Actor) → Shows plain stage → Tells (config_of plain) scripts jobs stage → (event : Event Order) → turn scripts stage number ≡ Some event → Sees (config_of plain) stage event seen
 
 -- whatever stage of a run memory shows, the machine's event settles this entry there, or none
 abbrev pub SettlesTurn : Plain → Jobs → ℕ → Option Entry → Type 0
-SettlesTurn p jobs number entry =
-    (scripts : Scripts) (s : Stage Actor) → Shows p s → Tells (config_of p) scripts jobs s → IsEnding (config_of p) s → (e : Event Order) → turn scripts s number ≡ Some e
-    → told (config_of p) s e ≡ entries_in entry
+SettlesTurn plain jobs number entry =
+    (scripts : Scripts) (stage : Stage Actor) → Shows plain stage → Tells (config_of plain) scripts jobs stage → IsEnding (config_of plain) stage → (event : Event Order) → turn scripts stage number ≡ Some event
+    → told (config_of plain) stage event ≡ entries_in entry

@@ -17,42 +17,42 @@ use Rattle.shen_core.specs.Runs as runs
 
 -- its heap
 abbrev pub config_of : Plain → Config
-config_of p = p.config
+config_of plain = plain.config
 
 -- its words, in the order of their places
 abbrev pub words_of : Plain → List ℕ
-words_of p = p.words.items
+words_of plain = plain.words.items
 
 -- its machines by their numbers, as events see them
 abbrev pub machines_of : Plain → List actors.Machine
-machines_of p = map shown p.machines.items
+machines_of plain = map shown plain.machines.items
 
 -- the orders that its machines were given
 abbrev pub orders_of : Plain → List Order
-orders_of p = map order_of p.machines.items
+orders_of plain = map order_of plain.machines.items
 
 -- the machines of its heap
 abbrev pub seats_of : Plain → ℕ
-seats_of p = seat_count p.config.mutators p.config.helpers
+seats_of plain = seat_count plain.config.mutators plain.config.helpers
 
 -- the stage has its words and machines
 abbrev pub Shows : Plain → Stage actors.Actor → Type 0
-Shows p s = runs.WordsShow (words_of p) (machines_of p) s
+Shows plain s = runs.WordsShow (words_of plain) (machines_of plain) s
 
 -- one machine, and the order that it was given
 abbrev pub machine_at : Plain → ℕ → actors.Machine
-machine_at p number = slice_index_or (machines_of p) number no_machine
+machine_at plain number = slice_index_or (machines_of plain) number no_machine
 
 abbrev pub order_at : Plain → ℕ → Order
-order_at p number = slice_index_or (orders_of p) number Nothing
+order_at plain number = slice_index_or (orders_of plain) number Nothing
 
 -- whether the machine makes a step: it takes the order that it was given
 abbrev pub has_turn : Plain → ℕ → Bool
-has_turn p number = takes_of (machine_at p number) (order_at p number)
+has_turn plain number = takes_of (machine_at plain number) (order_at plain number)
 
 -- the word that the machine's next access finds
 abbrev pub word_found_by : Plain → ℕ → ℕ
-word_found_by p number = slice_index (words_of p) (table_index (plan_of p.config (order_at p number) (machine_at p number)))
+word_found_by plain number = slice_index (words_of plain) (table_index (plan_of plain.config (order_at plain number) (machine_at plain number)))
 
 -- one event of the machine, under its order, leads from the one to the other
 abbrev pub IsStep : Plain → Plain → ℕ → Type 0
@@ -60,7 +60,7 @@ IsStep old new number = runs.IsOneEvent (config_of old) (words_of old) (machines
 
 -- the history that it notes
 abbrev pub notes_of : Plain → Noting
-notes_of p = p.notes
+notes_of plain = plain.notes
 
 -- all is as it was
 pub record IsUnchanged (old new : Plain) : Type 0 where
@@ -72,9 +72,9 @@ pub record IsUnchanged (old new : Plain) : Type 0 where
 
 -- the machine after its step
 abbrev pub next_machine : Plain → ℕ → actors.Machine
-next_machine p number = runs.machine_next (config_of p) (words_of p) (order_at p number) (machine_at p number)
+next_machine plain number = runs.machine_next (config_of plain) (words_of plain) (order_at plain number) (machine_at plain number)
 
 -- The machine waits outside the heap for the end of a pause, and one is wanted or goes on.
-pub record IsHalted (p : Plain) (number : ℕ) : Type 0 where
-  pub awaits : Awaits (config_of p) (machine_at p number)
-  pub wanted : slice_index (words_of p) (word_at (config_of p) Pause) ≢ 0
+pub record IsHalted (plain : Plain) (number : ℕ) : Type 0 where
+  pub awaits : Awaits (config_of plain) (machine_at plain number)
+  pub wanted : slice_index (words_of plain) (word_at (config_of plain) Pause) ≢ 0

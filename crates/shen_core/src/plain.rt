@@ -73,10 +73,10 @@ impl Plain {
     /// is inside, and no mutator has ended; runs from here are runs from that graph.
     pub fn open_from(alloc: Global, image: Image, counts: &[u32]) -> Result<Plain, NoMemory>
         requires counts { length counts.now ≡ (images.config_of image).mutators }
-        requires begins { ∥ ((g : Graph) × CanBeginFrom (images.config_of image) (images.memory_of image) counts.now g) ∥₁ }
+        requires begins { ∥ ((graph : Graph) × CanBeginFrom (images.config_of image) (images.memory_of image) counts.now graph) ∥₁ }
         ensures config { IfOk result (λ plain. config_of plain ≡ images.config_of image) }
         ensures stage { IfOk result (λ plain. Shows plain (stage_from (images.config_of image) (images.words_of image) counts.now)) }
-        ensures begins { (g : Graph) → CanBeginFrom (images.config_of image) (images.memory_of image) counts.now g → Begins (images.config_of image) (stage_from (images.config_of image) (images.words_of image) counts.now) g }
+        ensures begins { (graph : Graph) → CanBeginFrom (images.config_of image) (images.memory_of image) counts.now graph → Begins (images.config_of image) (stage_from (images.config_of image) (images.words_of image) counts.now) graph }
         ensures orders { IfOk result (λ plain. All (λ order. order ≡ Nothing) (orders_of plain)) }
     {
         let config = image.config();
@@ -247,7 +247,7 @@ impl Plain {
     pub(crate) fn note_next(&mut self, number: usize)
         requires number { number < seats_of self.old }
         requires turn { has_turn self.old number ≡ true }
-        ensures notes { (s : Stage Actor) → Shows self.old s → IsEnding (config_of self.old) s → notes_of self.new ≡ noted (notes_of self.old) (told (config_of self.old) s (event number (order_at self.old number))) }
+        ensures notes { (stage : Stage Actor) → Shows self.old stage → IsEnding (config_of self.old) stage → notes_of self.new ≡ noted (notes_of self.old) (told (config_of self.old) stage (event number (order_at self.old number))) }
         ensures config { config_of self.new ≡ config_of self.old }
         ensures words { words_of self.new ≡ words_of self.old }
         ensures machines { machines_of self.new ≡ machines_of self.old }
@@ -264,7 +264,7 @@ impl Plain {
         requires number { number < seats_of self.old }
         requires turn { has_turn self.old number ≡ true }
         requires spare { 0 < (notes_of self.old).spare }
-        ensures notes { (s : Stage Actor) → Shows self.old s → IsEnding (config_of self.old) s → notes_of self.new ≡ noted (notes_of self.old) (told (config_of self.old) s (event number (order_at self.old number))) }
+        ensures notes { (stage : Stage Actor) → Shows self.old stage → IsEnding (config_of self.old) stage → notes_of self.new ≡ noted (notes_of self.old) (told (config_of self.old) stage (event number (order_at self.old number))) }
         ensures config { config_of self.new ≡ config_of self.old }
         ensures words { words_of self.new ≡ words_of self.old }
         ensures machines { machines_of self.new ≡ machines_of self.old }

@@ -100,7 +100,7 @@ impl Walk {
     /// The walk before the first event of a schedule.
     pub fn open(schedule: Schedule) -> Walk
         ensures agenda { agenda_in result ≡ agenda_of schedule }
-        ensures fits { (c : Config) → All (IsInSeats c) schedule → IsWalkOf c result }
+        ensures fits { (config : Config) → All (IsInSeats config) schedule → IsWalkOf config result }
     {
         Walk {
             schedule,
@@ -140,7 +140,7 @@ impl Walk {
         ensures control { self.new.control_due ≡ self.old.control_due }
         ensures schedule { self.new.schedule ≡ self.old.schedule }
         ensures from { self.new.from ≡ self.old.from }
-        ensures fits { (c : Config) → IsWalkOf c self.old → IsWalkOf c self.new }
+        ensures fits { (config : Config) → IsWalkOf config self.old → IsWalkOf config self.new }
         ensures less { weight_in self.new ≤ weight_in self.old }
     {
         if self.present.is_none() && self.begun < self.schedule.list().len() {
@@ -240,7 +240,7 @@ impl Walk {
         requires number { number < 1000 }
         requires rounds { self.old.control_due ≡ false → self.old.present ≡ None → drop self.old.begun self.old.schedule ≡ [] }
         ensures agenda { agenda_in self.new ≡ agenda_after self.old number waiting }
-        ensures fits { (c : Config) → number < seat_count c.mutators c.helpers → IsWalkOf c self.old → IsWalkOf c self.new }
+        ensures fits { (config : Config) → number < seat_count config.mutators config.helpers → IsWalkOf config self.old → IsWalkOf config self.new }
         ensures schedule { self.new.schedule ≡ self.old.schedule }
     {
         if self.control_due {

@@ -9,13 +9,13 @@ use Rattle.shen_graph.specs.Graph.{same_name}
 use Rattle.shen_graph.specs.Reach.{IsBefore, InOrder}
 
 -- two of them
-pub before_apart : (a b : Name) → IsBefore a b → same_name a b ≡ false
-before_apart a b before = at (same_name a b) refl
+pub before_apart : (name other_name : Name) → IsBefore name other_name → same_name name other_name ≡ false
+before_apart name other_name before = at (same_name name other_name) refl
   where
-    at : (same : Bool) → same_name a b ≡ same → same ≡ false
+    at : (same : Bool) → same_name name other_name ≡ same → same ≡ false
     at false is = refl
     at true is =
-        let both = (Decides-and (a.thread == b.thread) (a.count == b.count) (Decides-eqb a.thread b.thread) (Decides-eqb a.count b.count)).0 is in
+        let both = (Decides-and (name.thread == other_name.thread) (name.count == other_name.count) (Decides-eqb name.thread other_name.thread) (Decides-eqb name.count other_name.count)).0 is in
         elim before [ inl less ↦ absurd (omega (arith, less, both.0)) | inr w ↦ absurd (omega (arith, w.1, both.1)) ]
 
 -- the order goes on
@@ -27,12 +27,12 @@ before_join a b c ab bc =
     ]
 
 -- what is before the first is none of them
-pub before_all : (a : Name) (ns : List Name) → ((b : Name) (ms : List Name) → ns ≡ b ∷ ms → IsBefore a b) → InOrder ns → AllByRecursion (λ y. same_name a y ≡ false) ns
-before_all a [] first order = tt
-before_all a (n ∷ []) first order = (before_apart a n (first n [] refl), tt)
-before_all a (n ∷ m ∷ ns) first order =
+pub before_all : (name : Name) (ns : List Name) → ((other_name : Name) (ms : List Name) → ns ≡ other_name ∷ ms → IsBefore name other_name) → InOrder ns → AllByRecursion (λ y. same_name name y ≡ false) ns
+before_all name [] first order = tt
+before_all name (n ∷ []) first order = (before_apart name n (first n [] refl), tt)
+before_all name (n ∷ m ∷ ns) first order =
     let here = first n (m ∷ ns) refl in
-    (before_apart a n here, before_all a (m ∷ ns) (λ b ms is. let same : m ≡ b = cc in subst (IsBefore a) same (before_join a n m here order.0)) order.1)
+    (before_apart name n here, before_all name (m ∷ ns) (λ other_name ms is. let same : m ≡ other_name = cc in subst (IsBefore name) same (before_join name n m here order.0)) order.1)
 
 none_distinct : IsDistinct same_name []
 unfolding IsDistinct
@@ -46,11 +46,11 @@ distinct (n ∷ m ∷ ns) order =
     IsDistinct-cons same_name n (m ∷ ns) (before_all n (m ∷ ns) (λ b ms is. let same : m ≡ b = cc in subst (IsBefore n) same order.0) order.1) (distinct (m ∷ ns) order.1)
 
 -- a list in order without its first
-pub order_rest : (n : Name) (ns : List Name) → InOrder (n ∷ ns) → InOrder ns
-order_rest n [] order = tt
-order_rest n (m ∷ ns) order = order.1
+pub order_rest : (name : Name) (ns : List Name) → InOrder (name ∷ ns) → InOrder ns
+order_rest name [] order = tt
+order_rest name (m ∷ ns) order = order.1
 
 -- the first is none of the others
-pub order_first : (n : Name) (ns : List Name) → InOrder (n ∷ ns) → AllByRecursion (λ y. same_name n y ≡ false) ns
-order_first n [] order = tt
-order_first n (m ∷ ns) order = before_all n (m ∷ ns) (λ b ms is. let same : m ≡ b = cc in subst (IsBefore n) same order.0) order.1
+pub order_first : (name : Name) (ns : List Name) → InOrder (name ∷ ns) → AllByRecursion (λ y. same_name name y ≡ false) ns
+order_first name [] order = tt
+order_first name (m ∷ ns) order = before_all name (m ∷ ns) (λ b ms is. let same : m ≡ b = cc in subst (IsBefore name) same order.0) order.1

@@ -15,26 +15,26 @@ use Rattle.shen_graph.specs.Reach.{IsBefore, InOrder}
 
 -- the order that a sort by names has
 abbrev pub name_cmp : Name → Name → Ordering
-name_cmp a b = ordering_then (nat_cmp a.thread b.thread) (nat_cmp a.count b.count)
+name_cmp name other_name = ordering_then (nat_cmp name.thread other_name.thread) (nat_cmp name.count other_name.count)
 
 -- what the test of two names tells
-pub same_name-Decides : (a b : Name) → Decides (same_name a b) ((a.thread ≡ b.thread) × (a.count ≡ b.count))
-same_name-Decides a b = Decides-and (a.thread == b.thread) (a.count == b.count) (Decides-eqb a.thread b.thread) (Decides-eqb a.count b.count)
+pub same_name-Decides : (name other_name : Name) → Decides (same_name name other_name) ((name.thread ≡ other_name.thread) × (name.count ≡ other_name.count))
+same_name-Decides name other_name = Decides-and (name.thread == other_name.thread) (name.count == other_name.count) (Decides-eqb name.thread other_name.thread) (Decides-eqb name.count other_name.count)
 
-pub same_name-flip : (a b : Name) → same_name a b ≡ same_name b a
-same_name-flip a b =
-    same_from_decides (same_name a b) (same_name b a) (same_name-Decides a b)
-    (Decides-like (same_name b a) (λ h. (sym h.0, sym h.1)) (λ h. (sym h.0, sym h.1)) (same_name-Decides b a))
+pub same_name-flip : (name other_name : Name) → same_name name other_name ≡ same_name other_name name
+same_name-flip name other_name =
+    same_from_decides (same_name name other_name) (same_name other_name name) (same_name-Decides name other_name)
+    (Decides-like (same_name other_name name) (λ h. (sym h.0, sym h.1)) (λ h. (sym h.0, sym h.1)) (same_name-Decides other_name name))
 
 -- of two names that differ, the one that is not after the other is before it
-pub IsBefore-from_sorted : (a b : Name) → is_lt (name_cmp b a) ≡ false → same_name a b ≡ false → IsBefore a b
-IsBefore-from_sorted a b sorted apart = grind (arith, nat_tests)
+pub IsBefore-from_sorted : (name other_name : Name) → is_lt (name_cmp other_name name) ≡ false → same_name name other_name ≡ false → IsBefore name other_name
+IsBefore-from_sorted name other_name sorted apart = grind (arith, nat_tests)
 
-pub InOrder-from_adjacent : (xs : List Name) → ((k : ℕ) (d : Name) → k + 1 < length xs → IsBefore (get_or xs k d) (get_or xs (k + 1) d)) → InOrder xs
+pub InOrder-from_adjacent : (xs : List Name) → ((index : ℕ) (name : Name) → index + 1 < length xs → IsBefore (get_or xs index name) (get_or xs (index + 1) name)) → InOrder xs
 InOrder-from_adjacent [] h = tt
 InOrder-from_adjacent (n ∷ []) h = tt
 InOrder-from_adjacent (n ∷ m ∷ ns) h =
-    (h 0 n (omega arith), InOrder-from_adjacent (m ∷ ns) (λ k d below. let next : suc k + 1 ≡ suc (k + 1) = omega arith in rw next at (h (suc k) d (omega arith))))
+    (h 0 n (omega arith), InOrder-from_adjacent (m ∷ ns) (λ index name below. let next : suc index + 1 ≡ suc (index + 1) = omega arith in rw next at (h (suc index) name (omega arith))))
 
 -- a list that is sorted by names which differ
 pub InOrder-from_sorted : {X : Type 0} (key : X → Name) (xs : List X) → IsSortedByKey key name_cmp xs → IsDistinct same_name (map key xs) → InOrder (map key xs)

@@ -12,70 +12,70 @@ use Rattle.shen_graph.specs.History.{is_full, after_reply}
 
 -- a command that is no Pin pins nothing, and leaves what it says
 
-pub pins_none : (g : Graph) (t : ℕ) (c : Command) → (IsPin c → ⊥) → pinned_by g t c ≡ None
-pins_none g t (New dst refs nums) never = refl
-pins_none g t (Get dst src field) never = refl
-pins_none g t (Set obj field val) never = refl
-pins_none g t (Cas obj field expect val) never = refl
-pins_none g t (Xchg dst obj field val) never = refl
-pins_none g t (Rd obj index) never = refl
-pins_none g t (Wr obj index value) never = refl
-pins_none g t (Copy dst src) never = refl
-pins_none g t (Drop dst) never = refl
-pins_none g t (Same a b) never = refl
-pins_none g t Gc never = refl
-pins_none g t (Unpin slot) never = refl
-pins_none g t (Pin slot obj) never = absurd (never tt)
+pub pins_none : (graph : Graph) (t : ℕ) (command : Command) → (IsPin command → ⊥) → pinned_by graph t command ≡ None
+pins_none graph t (New dst refs nums) never = refl
+pins_none graph t (Get dst src field) never = refl
+pins_none graph t (Set obj field val) never = refl
+pins_none graph t (Cas obj field expect val) never = refl
+pins_none graph t (Xchg dst obj field val) never = refl
+pins_none graph t (Rd obj index) never = refl
+pins_none graph t (Wr obj index value) never = refl
+pins_none graph t (Copy dst src) never = refl
+pins_none graph t (Drop dst) never = refl
+pins_none graph t (Same a b) never = refl
+pins_none graph t Gc never = refl
+pins_none graph t (Unpin slot) never = refl
+pins_none graph t (Pin slot obj) never = absurd (never tt)
 
-pub leaves_outcome : (g : Graph) (t : ℕ) (c : Command) (r : Reply) → (IsPin c → ⊥) → after_reply g t c r ≡ (outcome g t c).graph
-leaves_outcome g t (New dst refs nums) r never = refl
-leaves_outcome g t (Get dst src field) r never = refl
-leaves_outcome g t (Set obj field val) r never = refl
-leaves_outcome g t (Cas obj field expect val) r never = refl
-leaves_outcome g t (Xchg dst obj field val) r never = refl
-leaves_outcome g t (Rd obj index) r never = refl
-leaves_outcome g t (Wr obj index value) r never = refl
-leaves_outcome g t (Copy dst src) r never = refl
-leaves_outcome g t (Drop dst) r never = refl
-leaves_outcome g t (Same a b) r never = refl
-leaves_outcome g t Gc r never = refl
-leaves_outcome g t (Unpin slot) r never = refl
-leaves_outcome g t (Pin slot obj) r never = absurd (never tt)
+pub leaves_outcome : (graph : Graph) (t : ℕ) (command : Command) (r : Reply) → (IsPin command → ⊥) → after_reply graph t command r ≡ (outcome graph t command).graph
+leaves_outcome graph t (New dst refs nums) r never = refl
+leaves_outcome graph t (Get dst src field) r never = refl
+leaves_outcome graph t (Set obj field val) r never = refl
+leaves_outcome graph t (Cas obj field expect val) r never = refl
+leaves_outcome graph t (Xchg dst obj field val) r never = refl
+leaves_outcome graph t (Rd obj index) r never = refl
+leaves_outcome graph t (Wr obj index value) r never = refl
+leaves_outcome graph t (Copy dst src) r never = refl
+leaves_outcome graph t (Drop dst) r never = refl
+leaves_outcome graph t (Same a b) r never = refl
+leaves_outcome graph t Gc r never = refl
+leaves_outcome graph t (Unpin slot) r never = refl
+leaves_outcome graph t (Pin slot obj) r never = absurd (never tt)
 
 -- and it has its answer, or is refused
-pub legal_plain : (regions region_words : ℕ) (g : Graph) (t : ℕ) (c : Command) (r : Reply) (h : Graph) → (IsPin c → ⊥) → IsLegal regions region_words g t c r h
-    → (answers r h ≡ outcome g t c) ⊎ (IsNew c × (r ≡ reply.Full) × (h ≡ g))
-legal_plain regions region_words g t c r h never (inl step) = inl step.1
-legal_plain regions region_words g t c r h never (inr (inl full)) = inr full
-legal_plain regions region_words g t c r h never (inr (inr pinning)) = absurd (none-some pinning.name (sym (pins_none g t c never) ∙ pinning.pins))
+pub legal_plain : (regions region_words : ℕ) (graph : Graph) (t : ℕ) (command : Command) (r : Reply) (other_graph : Graph) → (IsPin command → ⊥) → IsLegal regions region_words graph t command r other_graph
+    → (answers r other_graph ≡ outcome graph t command) ⊎ (IsNew command × (r ≡ reply.Full) × (other_graph ≡ graph))
+legal_plain regions region_words graph t command r other_graph never (inl step) = inl step.1
+legal_plain regions region_words graph t command r other_graph never (inr (inl full)) = inr full
+legal_plain regions region_words graph t command r other_graph never (inr (inr pinning)) = absurd (none-some pinning.name (sym (pins_none graph t command never) ∙ pinning.pins))
 
 -- an outcome is never Full
 
-shown_given : (r : Reference) → is_full (shown r) ≡ false
+shown_given : (reference : Reference) → is_full (shown reference) ≡ false
 shown_given None = refl
 shown_given (Some n) = refl
 
-either_given : (b : Bool) → is_full (yes_or_no b) ≡ false
+either_given : (holds : Bool) → is_full (yes_or_no holds) ≡ false
 either_given true = refl
 either_given false = refl
 
-on_given : {A : Type 0} (x : Option A) (g : Graph) (f : A → Outcome) → ((v : A) → is_full (f v).reply ≡ false) → is_full (on x g f).reply ≡ false
-on_given None g f h = refl
-on_given (Some v) g f h = h v
+on_given : {A : Type 0} (found : Option A) (graph : Graph) (f : A → Outcome) → ((v : A) → is_full (f v).reply ≡ false) → is_full (on found graph f).reply ≡ false
+on_given None graph f h = refl
+on_given (Some v) graph f h = h v
 
-pub outcome_given : (g : Graph) (t : ℕ) (c : Command) → is_full (outcome g t c).reply ≡ false
-outcome_given g t (New dst refs nums) = refl
-outcome_given g t (Get dst src field) = on_given (field_at g t src field) g (λ v. answers (shown v) (with_root g t dst v)) shown_given
-outcome_given g t (Set obj field val) = on_given (field_at g t obj field) g (λ _. answers reply.Ok (with_field g t obj field (g.root t val))) (λ _. refl)
-outcome_given g t (Cas obj field expect val) =
-    on_given (field_at g t obj field) g (λ v. if same_reference v (g.root t expect) then answers reply.Yes (with_field g t obj field (g.root t val)) else answers reply.No g)
-    (λ v. elim (same_reference v (g.root t expect)) as (λ b. is_full (if b then answers reply.Yes (with_field g t obj field (g.root t val)) else answers reply.No g).reply ≡ false) [ true ↦ refl | false ↦ refl ])
-outcome_given g t (Xchg dst obj field val) = on_given (field_at g t obj field) g (λ v. answers (shown v) (with_root (with_field g t obj field (g.root t val)) t dst v)) shown_given
-outcome_given g t (Rd obj index) = on_given (number_at g t obj index) g (λ n. answers (reply.Number n) g) (λ _. refl)
-outcome_given g t (Wr obj index value) = on_given (number_at g t obj index) g (λ _. answers reply.Ok (with_number g t obj index value)) (λ _. refl)
-outcome_given g t (Copy dst src) = refl
-outcome_given g t (Drop dst) = refl
-outcome_given g t (Same a b) = either_given (same_reference (g.root t a) (g.root t b))
-outcome_given g t Gc = refl
-outcome_given g t (Pin slot obj) = refl
-outcome_given g t (Unpin slot) = on_given (g.pin t slot) g (λ _. answers reply.Ok (with_pin g t slot None)) (λ _. refl)
+pub outcome_given : (graph : Graph) (thread : ℕ) (command : Command) → is_full (outcome graph thread command).reply ≡ false
+outcome_given graph thread (New dst refs nums) = refl
+outcome_given graph thread (Get dst src field) = on_given (field_at graph thread src field) graph (λ v. answers (shown v) (with_root graph thread dst v)) shown_given
+outcome_given graph thread (Set obj field val) = on_given (field_at graph thread obj field) graph (λ _. answers reply.Ok (with_field graph thread obj field (graph.root thread val))) (λ _. refl)
+outcome_given graph thread (Cas obj field expect val) =
+    on_given (field_at graph thread obj field) graph (λ v. if same_reference v (graph.root thread expect) then answers reply.Yes (with_field graph thread obj field (graph.root thread val)) else answers reply.No graph)
+    (λ v. elim (same_reference v (graph.root thread expect)) as (λ b. is_full (if b then answers reply.Yes (with_field graph thread obj field (graph.root thread val)) else answers reply.No graph).reply ≡ false) [ true ↦ refl | false ↦ refl ])
+outcome_given graph thread (Xchg dst obj field val) = on_given (field_at graph thread obj field) graph (λ v. answers (shown v) (with_root (with_field graph thread obj field (graph.root thread val)) thread dst v)) shown_given
+outcome_given graph thread (Rd obj index) = on_given (number_at graph thread obj index) graph (λ n. answers (reply.Number n) graph) (λ _. refl)
+outcome_given graph thread (Wr obj index value) = on_given (number_at graph thread obj index) graph (λ _. answers reply.Ok (with_number graph thread obj index value)) (λ _. refl)
+outcome_given graph thread (Copy dst src) = refl
+outcome_given graph thread (Drop dst) = refl
+outcome_given graph thread (Same a b) = either_given (same_reference (graph.root thread a) (graph.root thread b))
+outcome_given graph thread Gc = refl
+outcome_given graph thread (Pin slot obj) = refl
+outcome_given graph thread (Unpin slot) = on_given (graph.pin thread slot) graph (λ _. answers reply.Ok (with_pin graph thread slot None)) (λ _. refl)

@@ -19,7 +19,7 @@ same_work a b long other_long same = ext_get_or None a b (long ∙ sym other_lon
 none_past : (a : Jobs) (t : ℕ) → length a ≡ 8 → 8 ≤ t → progress_of a t ≡ None
 none_past a t long past = get_or_past a t None (omega arith)
 
-either : (b : Bool) → ◌≡◌ {A = Option Progress} (if b then None else None) None
+either : (holds : Bool) → ◌≡◌ {A = Option Progress} (if holds then None else None) None
 either true = refl
 either false = refl
 
@@ -38,16 +38,16 @@ progress_of-parted workers part = progress_of-picked (is_in_part workers part)
 pub progress_of-left_over : (workers part : ℕ) (work : Jobs) (t : ℕ) → length work ≡ 8 → progress_of (left_over workers part work) t ≡ (if is_in_part workers part t then None else progress_of work t)
 progress_of-left_over workers part work t long = progress_of-picked (λ mutator. not (is_in_part workers part mutator)) work t long ∙ turned (is_in_part workers part t)
   where
-    turned : (b : Bool) → (if not b then progress_of work t else None) ≡ (if b then None else progress_of work t)
+    turned : (holds : Bool) → (if not holds then progress_of work t else None) ≡ (if holds then None else progress_of work t)
     turned true = refl
     turned false = refl
 
 -- in work of which nothing was done
-pub progress_of-opened : (scripts : List (List Command)) (t : ℕ) → length scripts ≤ 8 → progress_of (opened scripts) t ≡ option_map begun (slice_get scripts t)
-progress_of-opened scripts t few = ⊎_elim
-    (λ (below : t < 8). get_or-map-range_with_len (λ mutator. option_map begun (slice_get scripts mutator)) 0 8 t t None below (omega arith))
-    (λ (past : 8 ≤ t). none_past (opened scripts) t refl past ∙ sym (ap (option_map begun) (slice_get_past scripts t (omega arith))))
-    (cases_lt t 8)
+pub progress_of-opened : (scripts : List (List Command)) (index : ℕ) → length scripts ≤ 8 → progress_of (opened scripts) index ≡ option_map begun (slice_get scripts index)
+progress_of-opened scripts index few = ⊎_elim
+    (λ (below : index < 8). get_or-map-range_with_len (λ mutator. option_map begun (slice_get scripts mutator)) 0 8 index index None below (omega arith))
+    (λ (past : 8 ≤ index). none_past (opened scripts) index refl past ∙ sym (ap (option_map begun) (slice_get_past scripts index (omega arith))))
+    (cases_lt index 8)
 
 -- the parts below a number, and all of them
 below : (workers part : ℕ) (work : Jobs) (t : ℕ) → length work ≡ 8 → progress_of (parted_below workers part work) t ≡ (if nat_lt (t % workers) part then progress_of work t else None)

@@ -17,17 +17,17 @@ change_last-push f [] x = refl
 change_last-push f (y ∷ []) x = refl
 change_last-push f (y ∷ z ∷ xs) x = ap (λ ys. y ∷ ys) (change_last-push f (z ∷ xs) x)
 
-pub with_references-push : (t : Text) (rs : List Reference) (r : Reference) → with_references t (rs ++ r ∷ []) ≡ with_reference (with_references t rs) r
-with_references-push t [] r = refl
-with_references-push t (q ∷ rs) r = with_references-push (with_reference t q) rs r
+pub with_references-push : (text : Text) (rs : List Reference) (reference : Reference) → with_references text (rs ++ reference ∷ []) ≡ with_reference (with_references text rs) reference
+with_references-push text [] reference = refl
+with_references-push text (q ∷ rs) reference = with_references-push (with_reference text q) rs reference
 
-pub with_numbers-push : (t : Text) (xs : List ℕ) (x : ℕ) → with_numbers t (xs ++ x ∷ []) ≡ with_number (with_numbers t xs) x
-with_numbers-push t [] x = refl
-with_numbers-push t (y ∷ xs) x = with_numbers-push (with_number t y) xs x
+pub with_numbers-push : (text : Text) (xs : List ℕ) (x : ℕ) → with_numbers text (xs ++ x ∷ []) ≡ with_number (with_numbers text xs) x
+with_numbers-push text [] x = refl
+with_numbers-push text (y ∷ xs) x = with_numbers-push (with_number text y) xs x
 
 -- a text whose last row is known
 abbrev pub ending : List Row → List (List Reference) → List (List Reference) → ℕ → ℕ → Row → Text
-ending rows roots pins room spare r = record { rows = rows ++ r ∷ []; roots = roots; pins = pins; spare = spare; room = room }
+ending rows roots pins room spare row = record { rows = rows ++ row ∷ []; roots = roots; pins = pins; spare = spare; room = room }
 
 all : (a : ℕ) → a ≡ a - 0
 all a = omega arith
@@ -35,65 +35,65 @@ all a = omega arith
 less : (a n : ℕ) → a - 1 - n ≡ a - suc n
 less a n = omega arith
 
-with_references-ending : (rs : List Reference) (rows : List Row) (roots pins : List (List Reference)) (room spare : ℕ) (r : Row)
-    → with_references (ending rows roots pins room spare r) rs
-    ≡ ending rows roots pins room (spare - length rs) (record r { refs = r.refs ++ rs })
-with_references-ending [] rows roots pins room spare r =
-    ap (λ qs. ending rows roots pins room spare (record r { refs = qs })) (sym (append-nil r.refs))
-    ∙ ap (λ n. ending rows roots pins room n (record r { refs = r.refs ++ [] })) (all spare)
-with_references-ending (q ∷ rs) rows roots pins room spare r =
+with_references-ending : (rs : List Reference) (rows : List Row) (roots pins : List (List Reference)) (room spare : ℕ) (row : Row)
+    → with_references (ending rows roots pins room spare row) rs
+    ≡ ending rows roots pins room (spare - length rs) (record row { refs = row.refs ++ rs })
+with_references-ending [] rows roots pins room spare row =
+    ap (λ qs. ending rows roots pins room spare (record row { refs = qs })) (sym (append-nil row.refs))
+    ∙ ap (λ n. ending rows roots pins room n (record row { refs = row.refs ++ [] })) (all spare)
+with_references-ending (q ∷ rs) rows roots pins room spare row =
     ap (λ us. with_references (record { rows = us; roots = roots; pins = pins; spare = spare - 1; room = room }) rs)
-    (change_last-push (add_reference q) rows r)
-    ∙ with_references-ending rs rows roots pins room (spare - 1) (add_reference q r)
-    ∙ ap (λ n. ending rows roots pins room n (record r { refs = r.refs ++ q ∷ [] ++ rs })) (less spare (length rs))
-    ∙ ap (λ qs. ending rows roots pins room (spare - length (q ∷ rs)) (record r { refs = qs })) (append_assoc r.refs (q ∷ []) rs)
+    (change_last-push (add_reference q) rows row)
+    ∙ with_references-ending rs rows roots pins room (spare - 1) (add_reference q row)
+    ∙ ap (λ n. ending rows roots pins room n (record row { refs = row.refs ++ q ∷ [] ++ rs })) (less spare (length rs))
+    ∙ ap (λ qs. ending rows roots pins room (spare - length (q ∷ rs)) (record row { refs = qs })) (append_assoc row.refs (q ∷ []) rs)
 
-with_numbers-ending : (xs : List ℕ) (rows : List Row) (roots pins : List (List Reference)) (room spare : ℕ) (r : Row)
-    → with_numbers (ending rows roots pins room spare r) xs
-    ≡ ending rows roots pins room (spare - length xs) (record r { nums = r.nums ++ xs })
-with_numbers-ending [] rows roots pins room spare r =
-    ap (λ ys. ending rows roots pins room spare (record r { nums = ys })) (sym (append-nil r.nums))
-    ∙ ap (λ n. ending rows roots pins room n (record r { nums = r.nums ++ [] })) (all spare)
-with_numbers-ending (x ∷ xs) rows roots pins room spare r =
+with_numbers-ending : (xs : List ℕ) (rows : List Row) (roots pins : List (List Reference)) (room spare : ℕ) (row : Row)
+    → with_numbers (ending rows roots pins room spare row) xs
+    ≡ ending rows roots pins room (spare - length xs) (record row { nums = row.nums ++ xs })
+with_numbers-ending [] rows roots pins room spare row =
+    ap (λ ys. ending rows roots pins room spare (record row { nums = ys })) (sym (append-nil row.nums))
+    ∙ ap (λ n. ending rows roots pins room n (record row { nums = row.nums ++ [] })) (all spare)
+with_numbers-ending (x ∷ xs) rows roots pins room spare row =
     ap (λ us. with_numbers (record { rows = us; roots = roots; pins = pins; spare = spare - 1; room = room }) xs)
-    (change_last-push (add_number x) rows r)
-    ∙ with_numbers-ending xs rows roots pins room (spare - 1) (add_number x r)
-    ∙ ap (λ n. ending rows roots pins room n (record r { nums = r.nums ++ x ∷ [] ++ xs })) (less spare (length xs))
-    ∙ ap (λ ys. ending rows roots pins room (spare - length (x ∷ xs)) (record r { nums = ys })) (append_assoc r.nums (x ∷ []) xs)
+    (change_last-push (add_number x) rows row)
+    ∙ with_numbers-ending xs rows roots pins room (spare - 1) (add_number x row)
+    ∙ ap (λ n. ending rows roots pins room n (record row { nums = row.nums ++ x ∷ [] ++ xs })) (less spare (length xs))
+    ∙ ap (λ ys. ending rows roots pins room (spare - length (x ∷ xs)) (record row { nums = ys })) (append_assoc row.nums (x ∷ []) xs)
 
 -- a row, its references and its numbers are a whole row
-pub whole : (t : Text) (name : Name) (refs : List Reference) (nums : List ℕ)
-    → with_numbers (with_references (with_row t name) refs) nums
-    ≡ with_whole_row t (record { name = name; refs = refs; nums = nums })
-whole t name refs nums =
-    let e : t.spare - 3 - length refs - length nums ≡ t.spare - (3 + length refs + length nums) = omega arith in
+pub whole : (text : Text) (name : Name) (refs : List Reference) (nums : List ℕ)
+    → with_numbers (with_references (with_row text name) refs) nums
+    ≡ with_whole_row text (record { name = name; refs = refs; nums = nums })
+whole text name refs nums =
+    let e : text.spare - 3 - length refs - length nums ≡ text.spare - (3 + length refs + length nums) = omega arith in
     ap (λ u. with_numbers u nums)
-    (with_references-ending refs t.rows t.roots t.pins t.room (t.spare - 3) (record { name = name; refs = []; nums = [] }))
-    ∙ with_numbers-ending nums t.rows t.roots t.pins t.room (t.spare - 3 - length refs) (record { name = name; refs = refs; nums = [] })
-    ∙ ap (λ n. ending t.rows t.roots t.pins t.room n (record { name = name; refs = refs; nums = nums })) e
+    (with_references-ending refs text.rows text.roots text.pins text.room (text.spare - 3) (record { name = name; refs = []; nums = [] }))
+    ∙ with_numbers-ending nums text.rows text.roots text.pins text.room (text.spare - 3 - length refs) (record { name = name; refs = refs; nums = [] })
+    ∙ ap (λ n. ending text.rows text.roots text.pins text.room n (record { name = name; refs = refs; nums = nums })) e
 
-pub rows_left : (t : Text) (rs : List Reference) → length (with_references t rs).rows ≡ length t.rows
-rows_left t [] = refl
-rows_left t (r ∷ rs) = rows_left (with_reference t r) rs ∙ length-change_last (add_reference r) t.rows
+pub rows_left : (text : Text) (rs : List Reference) → length (with_references text rs).rows ≡ length text.rows
+rows_left text [] = refl
+rows_left text (r ∷ rs) = rows_left (with_reference text r) rs ∙ length-change_last (add_reference r) text.rows
 
-pub spare_left : (t : Text) (rs : List Reference) → (with_references t rs).spare ≡ t.spare - length rs
-spare_left t [] = all t.spare
-spare_left t (r ∷ rs) = spare_left (with_reference t r) rs ∙ less t.spare (length rs)
+pub spare_left : (text : Text) (rs : List Reference) → (with_references text rs).spare ≡ text.spare - length rs
+spare_left text [] = all text.spare
+spare_left text (r ∷ rs) = spare_left (with_reference text r) rs ∙ less text.spare (length rs)
 
 -- ---- the text of a graph
 
-names-rows : (g : Graph) (names : List Name) → map (λ (r : Row). r.name) (map (row_in g) names) ≡ names
-names-rows g [] = refl
-names-rows g (n ∷ ns) = ap (λ (l : List Name). n ∷ l) (names-rows g ns)
+names-rows : (graph : Graph) (names : List Name) → map (λ (row : Row). row.name) (map (row_in graph) names) ≡ names
+names-rows graph [] = refl
+names-rows graph (n ∷ ns) = ap (λ (names : List Name). n ∷ names) (names-rows graph ns)
 
-pub text_of_graph : (g : Graph) (threads : ℕ) (t : Text) (names : List Name) → IsReach g names → t.rows ≡ map (row_in g) names → length t.roots ≡ threads
-    → ((thread index : ℕ) → 1 ≤ thread → thread ≤ threads → root_of t thread index ≡ g.root thread index) → length t.pins ≡ threads
-    → ((thread slot : ℕ) → 1 ≤ thread → thread ≤ threads → pin_of t thread slot ≡ name_in (g.pin thread slot)) → IsTextOf g threads t
-text_of_graph g threads t names reach rows each roots pinned pins =
-    let same : names_of t ≡ names = ap (map (λ (r : Row). r.name)) rows ∙ names-rows g names in
+pub text_of_graph : (graph : Graph) (threads : ℕ) (text : Text) (names : List Name) → IsReach graph names → text.rows ≡ map (row_in graph) names → length text.roots ≡ threads
+    → ((thread index : ℕ) → 1 ≤ thread → thread ≤ threads → root_of text thread index ≡ graph.root thread index) → length text.pins ≡ threads
+    → ((thread slot : ℕ) → 1 ≤ thread → thread ≤ threads → pin_of text thread slot ≡ name_in (graph.pin thread slot)) → IsTextOf graph threads text
+text_of_graph graph threads text names reach rows each roots pinned pins =
+    let same : names_of text ≡ names = ap (map (λ (row : Row). row.name)) rows ∙ names-rows graph names in
     record {
-      reach = subst (IsReach g) (sym same) reach;
-      rows = rows ∙ ap (map (row_in g)) (sym same);
+      reach = subst (IsReach graph) (sym same) reach;
+      rows = rows ∙ ap (map (row_in graph)) (sym same);
       each = each;
       roots = roots;
       pinned = pinned;

@@ -40,10 +40,10 @@ part_appended xs ys s begins ends =
     part_to_end (xs ++ ys) s (omega (arith, length-append xs ys)) ∙ drop_at xs ys s.from (sym begins)
 
 -- rows are as before where both lists grow at their ends
-pub row_at-append : (refs more_refs : List Reference) (nums more_nums : List ℕ) (p : Place) → Within (length refs) (length nums) p → row_at (refs ++ more_refs) (nums ++ more_nums) p ≡ row_at refs nums p
-row_at-append refs more_refs nums more_nums p h =
-    let r = part-append refs more_refs p.refs h.0 h.1 in
-    let n = part-append nums more_nums p.nums h.2 h.3 in
+pub row_at-append : (refs more_refs : List Reference) (nums more_nums : List ℕ) (place : Place) → Within (length refs) (length nums) place → row_at (refs ++ more_refs) (nums ++ more_nums) place ≡ row_at refs nums place
+row_at-append refs more_refs nums more_nums place h =
+    let r = part-append refs more_refs place.refs h.0 h.1 in
+    let n = part-append nums more_nums place.nums h.2 h.3 in
     rw (r, n) refl
 
 pub rows-append : (refs more_refs : List Reference) (nums more_nums : List ℕ) (ps : List Place) → All (Within (length refs) (length nums)) ps → map (row_at (refs ++ more_refs) (nums ++ more_nums)) ps ≡ map (row_at refs nums) ps
@@ -63,22 +63,22 @@ set_last f (x ∷ y ∷ xs) d h =
 
 -- the place of a row that grows by a reference, and by a number
 abbrev pub grow_refs : Place → Place
-grow_refs p = record { name = p.name; refs = longer p.refs; nums = p.nums }
+grow_refs place = record { name = place.name; refs = longer place.refs; nums = place.nums }
 
 abbrev pub grow_nums : Place → Place
-grow_nums p = record { name = p.name; refs = p.refs; nums = longer p.nums }
+grow_nums place = record { name = place.name; refs = place.refs; nums = longer place.nums }
 
 -- the rows where the last one grows
 pub rows-grow : (f : Place → Place) (g : Row → Row) (was now : Place → Row) (r n : ℕ)
-    → ((p : Place) → Within r n p → now p ≡ was p)
-    → ((p : Place) → Within r n p → p.refs.to ≡ r → p.nums.to ≡ n → now (f p) ≡ g (was p))
+    → ((place : Place) → Within r n place → now place ≡ was place)
+    → ((place : Place) → Within r n place → place.refs.to ≡ r → place.nums.to ≡ n → now (f place) ≡ g (was place))
     → (ps : List Place) → All (Within r n) ps → EndsAt r n ps → map now (change_last f ps) ≡ change_last g (map was ps)
 rows-grow f g was now r n same last [] h e = refl
-rows-grow f g was now r n same last (p ∷ []) h e =
-    ap (λ x. x ∷ []) (last p (All-head (Within r n) p [] h) e.0 e.1)
-rows-grow f g was now r n same last (p ∷ q ∷ ps) h e =
-    let first = same p (All-head (Within r n) p (q ∷ ps) h) in
-    let rest = rows-grow f g was now r n same last (q ∷ ps) (All-tail (Within r n) p (q ∷ ps) h) e in
+rows-grow f g was now r n same last (place ∷ []) h e =
+    ap (λ x. x ∷ []) (last place (All-head (Within r n) place [] h) e.0 e.1)
+rows-grow f g was now r n same last (place ∷ q ∷ ps) h e =
+    let first = same place (All-head (Within r n) place (q ∷ ps) h) in
+    let rest = rows-grow f g was now r n same last (q ∷ ps) (All-tail (Within r n) place (q ∷ ps) h) e in
     cc
 
 pub rows-grow_refs : (refs : List Reference) (nums : List ℕ) (to : Reference) (ps : List Place) → IsLaid ps (length refs) (length nums)
@@ -98,55 +98,55 @@ rows-grow_nums refs nums value ps h =
     ps h.within h.ends
 
 -- a row more, which begins where the others end
-pub EndsAt-push : (ps : List Place) (p : Place) → EndsAt p.refs.to p.nums.to (ps ++ p ∷ [])
-EndsAt-push [] p = (refl, refl)
-EndsAt-push (q ∷ []) p = (refl, refl)
-EndsAt-push (q ∷ r ∷ ps) p = EndsAt-push (r ∷ ps) p
+pub EndsAt-push : (ps : List Place) (place : Place) → EndsAt place.refs.to place.nums.to (ps ++ place ∷ [])
+EndsAt-push [] place = (refl, refl)
+EndsAt-push (q ∷ []) place = (refl, refl)
+EndsAt-push (q ∷ r ∷ ps) place = EndsAt-push (r ∷ ps) place
 
-pub Within-longer : (r more_r n more_n : ℕ) → r ≤ more_r → n ≤ more_n → (p : Place) → Within r n p → Within more_r more_n p
-Within-longer r more_r n more_n more_refs more_nums p h = (h.0, omega arith, h.2, omega arith)
+pub Within-longer : (r more_r n more_n : ℕ) → r ≤ more_r → n ≤ more_n → (place : Place) → Within r n place → Within more_r more_n place
+Within-longer r more_r n more_n more_refs more_nums place h = (h.0, omega arith, h.2, omega arith)
 
-pub IsLaid-push : (ps : List Place) (r n : ℕ) (p : Place) → IsLaid ps r n → p.refs.from ≡ r → p.nums.from ≡ n → r ≤ p.refs.to → n ≤ p.nums.to → IsLaid (ps ++ p ∷ []) p.refs.to p.nums.to
-IsLaid-push ps r n p h refs nums more_refs more_nums = record {
-  within = All-push (Within p.refs.to p.nums.to) ps p
-      (All-weaker (Within r n) (Within p.refs.to p.nums.to) (Within-longer r p.refs.to n p.nums.to more_refs more_nums) ps h.within)
+pub IsLaid-push : (ps : List Place) (r n : ℕ) (place : Place) → IsLaid ps r n → place.refs.from ≡ r → place.nums.from ≡ n → r ≤ place.refs.to → n ≤ place.nums.to → IsLaid (ps ++ place ∷ []) place.refs.to place.nums.to
+IsLaid-push ps r n place h refs nums more_refs more_nums = record {
+  within = All-push (Within place.refs.to place.nums.to) ps place
+      (All-weaker (Within r n) (Within place.refs.to place.nums.to) (Within-longer r place.refs.to n place.nums.to more_refs more_nums) ps h.within)
       (omega arith, omega arith, omega arith, omega arith);
-  ends = EndsAt-push ps p;
-  fills_refs = sum_by_push (λ p. span_length p.refs) ps p ∙ omega (arith, h.fills_refs);
-  fills_nums = sum_by_push (λ p. span_length p.nums) ps p ∙ omega (arith, h.fills_nums);
+  ends = EndsAt-push ps place;
+  fills_refs = sum_by_push (λ place. span_length place.refs) ps place ∙ omega (arith, h.fills_refs);
+  fills_nums = sum_by_push (λ place. span_length place.nums) ps place ∙ omega (arith, h.fills_nums);
 }
 
 -- the last row grows by so many references and numbers
 pub IsLaid-grow : (f : Place → Place) (a b : ℕ)
-    → ((p : Place) → ((f p).refs.from ≡ p.refs.from) × ((f p).refs.to ≡ p.refs.to + a) × ((f p).nums.from ≡ p.nums.from) × ((f p).nums.to ≡ p.nums.to + b))
+    → ((place : Place) → ((f place).refs.from ≡ place.refs.from) × ((f place).refs.to ≡ place.refs.to + a) × ((f place).nums.from ≡ place.nums.from) × ((f place).nums.to ≡ place.nums.to + b))
     → (ps : List Place) (r n : ℕ) → 0 < length ps → IsLaid ps r n → IsLaid (change_last f ps) (r + a) (n + b)
 IsLaid-grow f a b grows ps r n some h = record {
   within = within ps h.within;
   ends = ends ps h.ends;
-  fills_refs = sums (λ p. span_length p.refs) a (λ p w. let g = grows p in omega arith) ps some h.within ∙ ap (λ k. k + a) h.fills_refs;
-  fills_nums = sums (λ p. span_length p.nums) b (λ p w. let g = grows p in omega arith) ps some h.within ∙ ap (λ k. k + b) h.fills_nums;
+  fills_refs = sums (λ place. span_length place.refs) a (λ place w. let g = grows place in omega arith) ps some h.within ∙ ap (λ k. k + a) h.fills_refs;
+  fills_nums = sums (λ place. span_length place.nums) b (λ place w. let g = grows place in omega arith) ps some h.within ∙ ap (λ k. k + b) h.fills_nums;
 } where
   within : (ps : List Place) → All (Within r n) ps → All (Within (r + a) (n + b)) (change_last f ps)
   within [] h = All-nil (Within (r + a) (n + b))
-  within (p ∷ []) h =
-      let w = All-head (Within r n) p [] h in
-      let g = grows p in
-      All-cons (Within (r + a) (n + b)) (f p) [] (omega arith, omega arith, omega arith, omega arith) (All-nil (Within (r + a) (n + b)))
-  within (p ∷ q ∷ ps) h =
-      let w = All-head (Within r n) p (q ∷ ps) h in
-      All-cons (Within (r + a) (n + b)) p (change_last f (q ∷ ps)) (w.0, omega arith, w.2, omega arith) (within (q ∷ ps) (All-tail (Within r n) p (q ∷ ps) h))
+  within (place ∷ []) h =
+      let w = All-head (Within r n) place [] h in
+      let g = grows place in
+      All-cons (Within (r + a) (n + b)) (f place) [] (omega arith, omega arith, omega arith, omega arith) (All-nil (Within (r + a) (n + b)))
+  within (place ∷ q ∷ ps) h =
+      let w = All-head (Within r n) place (q ∷ ps) h in
+      All-cons (Within (r + a) (n + b)) place (change_last f (q ∷ ps)) (w.0, omega arith, w.2, omega arith) (within (q ∷ ps) (All-tail (Within r n) place (q ∷ ps) h))
 
   ends : (ps : List Place) → EndsAt r n ps → EndsAt (r + a) (n + b) (change_last f ps)
   ends [] e = tt
-  ends (p ∷ []) e = let g = grows p in (omega (arith, e.0), omega (arith, e.1))
-  ends (p ∷ q ∷ []) e = let g = grows q in (omega (arith, e.0), omega (arith, e.1))
-  ends (p ∷ q ∷ s ∷ ps) e = ends (q ∷ s ∷ ps) e
+  ends (place ∷ []) e = let g = grows place in (omega (arith, e.0), omega (arith, e.1))
+  ends (place ∷ q ∷ []) e = let g = grows q in (omega (arith, e.0), omega (arith, e.1))
+  ends (place ∷ q ∷ s ∷ ps) e = ends (q ∷ s ∷ ps) e
 
-  sums : (size : Place → ℕ) (k : ℕ) → ((p : Place) → Within r n p → size (f p) ≡ size p + k) → (ps : List Place) → 0 < length ps → All (Within r n) ps → sum_by size (change_last f ps) ≡ sum_by size ps + k
+  sums : (size : Place → ℕ) (k : ℕ) → ((place : Place) → Within r n place → size (f place) ≡ size place + k) → (ps : List Place) → 0 < length ps → All (Within r n) ps → sum_by size (change_last f ps) ≡ sum_by size ps + k
   sums size k more [] some h = absurd (omega arith)
-  sums size k more (p ∷ []) some h = omega (arith, more p (All-head (Within r n) p [] h))
-  sums size k more (p ∷ q ∷ ps) some h =
-      omega (arith, sums size k more (q ∷ ps) (omega arith) (All-tail (Within r n) p (q ∷ ps) h), sum_by-cons size p (change_last f (q ∷ ps)), sum_by-cons size p (q ∷ ps))
+  sums size k more (place ∷ []) some h = omega (arith, more place (All-head (Within r n) place [] h))
+  sums size k more (place ∷ q ∷ ps) some h =
+      omega (arith, sums size k more (q ∷ ps) (omega arith) (All-tail (Within r n) place (q ∷ ps) h), sum_by-cons size place (change_last f (q ∷ ps)), sum_by-cons size place (q ∷ ps))
 
 pub IsLaid-grow_refs : (ps : List Place) (r n : ℕ) → 0 < length ps → IsLaid ps r n → IsLaid (change_last grow_refs ps) (r + 1) n
 IsLaid-grow_refs ps r n some h =
@@ -167,25 +167,25 @@ set_last_read f xs n x some last read =
     ap (λ k. set xs (k - 1) (f x)) last ∙ ap (λ y. set xs (length xs - 1) y) w ∙ e
 
 -- a row's fields go to the ends of two other lists
-pub row_carried : (refs : List Reference) (nums : List ℕ) (moved_refs : List Reference) (moved_nums : List ℕ) (p q : Place)
-    → q.name ≡ p.name → q.refs ≡ record { from = length moved_refs; to = length moved_refs + span_length p.refs } → q.nums ≡ record { from = length moved_nums; to = length moved_nums + span_length p.nums }
-    → Within (length refs) (length nums) p → row_at (moved_refs ++ part refs p.refs) (moved_nums ++ part nums p.nums) q ≡ row_at refs nums p
-row_carried refs nums moved_refs moved_nums p q name to_refs to_nums w =
-    let r = part_appended moved_refs (part refs p.refs) q.refs (ap (λ s. s.from) to_refs) (ap (λ s. s.to) to_refs ∙ ap (λ k. length moved_refs + k) (sym (length-part refs p.refs w.0 w.1))) in
-    let n = part_appended moved_nums (part nums p.nums) q.nums (ap (λ s. s.from) to_nums) (ap (λ s. s.to) to_nums ∙ ap (λ k. length moved_nums + k) (sym (length-part nums p.nums w.2 w.3))) in
+pub row_carried : (refs : List Reference) (nums : List ℕ) (moved_refs : List Reference) (moved_nums : List ℕ) (place other_place : Place)
+    → other_place.name ≡ place.name → other_place.refs ≡ record { from = length moved_refs; to = length moved_refs + span_length place.refs } → other_place.nums ≡ record { from = length moved_nums; to = length moved_nums + span_length place.nums }
+    → Within (length refs) (length nums) place → row_at (moved_refs ++ part refs place.refs) (moved_nums ++ part nums place.nums) other_place ≡ row_at refs nums place
+row_carried refs nums moved_refs moved_nums place other_place name to_refs to_nums w =
+    let r = part_appended moved_refs (part refs place.refs) other_place.refs (ap (λ s. s.from) to_refs) (ap (λ s. s.to) to_refs ∙ ap (λ k. length moved_refs + k) (sym (length-part refs place.refs w.0 w.1))) in
+    let n = part_appended moved_nums (part nums place.nums) other_place.nums (ap (λ s. s.from) to_nums) (ap (λ s. s.to) to_nums ∙ ap (λ k. length moved_nums + k) (sym (length-part nums place.nums w.2 w.3))) in
     rw (name, r, n) refl
 
 -- one row more was moved
-pub rows-carried : (refs : List Reference) (nums : List ℕ) (moved_refs : List Reference) (moved_nums : List ℕ) (done : List Place) (rows : List Row) (p q : Place)
-    → q.name ≡ p.name → q.refs ≡ record { from = length moved_refs; to = length moved_refs + span_length p.refs } → q.nums ≡ record { from = length moved_nums; to = length moved_nums + span_length p.nums }
-    → Within (length refs) (length nums) p → IsLaid done (length moved_refs) (length moved_nums) → map (row_at moved_refs moved_nums) done ≡ rows
-    → map (row_at (moved_refs ++ part refs p.refs) (moved_nums ++ part nums p.nums)) (done ++ q ∷ []) ≡ rows ++ row_at refs nums p ∷ []
-rows-carried refs nums moved_refs moved_nums done rows p q name to_refs to_nums w laid same =
-    let last = row_carried refs nums moved_refs moved_nums p q name to_refs to_nums w in
-    let others = rows-append moved_refs (part refs p.refs) moved_nums (part nums p.nums) done laid.within in
-    map_push (row_at (moved_refs ++ part refs p.refs) (moved_nums ++ part nums p.nums)) done q ∙ rw (others, last, same) refl
+pub rows-carried : (refs : List Reference) (nums : List ℕ) (moved_refs : List Reference) (moved_nums : List ℕ) (done : List Place) (rows : List Row) (place other_place : Place)
+    → other_place.name ≡ place.name → other_place.refs ≡ record { from = length moved_refs; to = length moved_refs + span_length place.refs } → other_place.nums ≡ record { from = length moved_nums; to = length moved_nums + span_length place.nums }
+    → Within (length refs) (length nums) place → IsLaid done (length moved_refs) (length moved_nums) → map (row_at moved_refs moved_nums) done ≡ rows
+    → map (row_at (moved_refs ++ part refs place.refs) (moved_nums ++ part nums place.nums)) (done ++ other_place ∷ []) ≡ rows ++ row_at refs nums place ∷ []
+rows-carried refs nums moved_refs moved_nums done rows place other_place name to_refs to_nums w laid same =
+    let last = row_carried refs nums moved_refs moved_nums place other_place name to_refs to_nums w in
+    let others = rows-append moved_refs (part refs place.refs) moved_nums (part nums place.nums) done laid.within in
+    map_push (row_at (moved_refs ++ part refs place.refs) (moved_nums ++ part nums place.nums)) done other_place ∙ rw (others, last, same) refl
 
 -- a row has the name of its place
-pub names-rows : (refs : List Reference) (nums : List ℕ) (ps : List Place) → map (λ (r : Row). r.name) (map (row_at refs nums) ps) ≡ map (λ (p : Place). p.name) ps
+pub names-rows : (refs : List Reference) (nums : List ℕ) (ps : List Place) → map (λ (row : Row). row.name) (map (row_at refs nums) ps) ≡ map (λ (place : Place). place.name) ps
 names-rows refs nums [] = refl
 names-rows refs nums (p ∷ ps) = ap (λ l. p.name ∷ l) (names-rows refs nums ps)

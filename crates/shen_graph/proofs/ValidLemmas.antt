@@ -23,8 +23,8 @@ size n = at_most n 16
 index : (n : ℕ) → Decides (is_index n) (IsIndex n)
 index n = at_most n 31
 
-both : {P Q : Type 0} (a b : Bool) → Decides a P → Decides b Q → Decides (a && b) (P × Q)
-both a b p q = Decides-and a b p q
+both : {P Q : Type 0} (holds other_holds : Bool) → Decides holds P → Decides other_holds Q → Decides (holds && other_holds) (P × Q)
+both holds other_holds p q = Decides-and holds other_holds p q
 
 all_three : {P Q R : Type 0} (a b c : Bool) → Decides a P → Decides b Q → Decides c R → Decides (a && (b && c)) (P × Q × R)
 all_three a b c p q r = Decides-like (a && (b && c)) (λ h. (h.0, h.1.0, h.1.1)) (λ h. (h.0, (h.1, h.2))) (both a (b && c) p (both b c q r))

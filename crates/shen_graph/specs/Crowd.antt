@@ -26,43 +26,43 @@ words_open scripts history thread =
 
 -- some pin slot holds the object
 abbrev pub IsPinnedIn : Graph → Name → Type 0
-IsPinnedIn g n = (thread : ℕ) × (slot : ℕ) × (held : Pinned) × (g.pin thread slot ≡ Some held) × (held.name ≡ n)
+IsPinnedIn graph name = (thread : ℕ) × (slot : ℕ) × (held : Pinned) × (graph.pin thread slot ≡ Some held) × (held.name ≡ name)
 
 -- some object is pinned in that region
 abbrev pub HasPinned : (region_words : ℕ) → Graph → ℕ → Type 0
-HasPinned region_words g region = (thread : ℕ) × (slot : ℕ) × (held : Pinned) × (g.pin thread slot ≡ Some held) × (held.place / region_words ≡ region)
+HasPinned region_words graph region = (thread : ℕ) × (slot : ℕ) × (held : Pinned) × (graph.pin thread slot ≡ Some held) × (held.place / region_words ≡ region)
 
 -- the objects that pin slots hold, each once
-pub record ArePinned (g : Graph) (names : List Name) : Type 0 where
+pub record ArePinned (graph : Graph) (names : List Name) : Type 0 where
   pub differ : IsDistinct same_name names
-  pub all : (thread slot : ℕ) (held : Pinned) → g.pin thread slot ≡ Some held → Contains names held.name
-  pub only : (n : Name) → Contains names n → IsPinnedIn g n
+  pub all : (thread slot : ℕ) (held : Pinned) → graph.pin thread slot ≡ Some held → Contains names held.name
+  pub only : (name : Name) → Contains names name → IsPinnedIn graph name
 
 -- the sum of the sizes of the objects that pin slots hold
 abbrev pub Held : Graph → ℕ → Type 0
-Held g words = (names : List Name) × ArePinned g names × (words ≡ sum_by (λ n. size (named g (Some n))) names)
+Held graph words = (names : List Name) × ArePinned graph names × (words ≡ sum_by (λ n. size (named graph (Some n))) names)
 
 -- the regions of so many words where these objects stay, by the base of each divided by the words, each once
-pub record ArePinnedRegions (region_words : ℕ) (g : Graph) (regions : List ℕ) : Type 0 where
+pub record ArePinnedRegions (region_words : ℕ) (graph : Graph) (regions : List ℕ) : Type 0 where
   pub differ : IsDistinct (λ r s. r == s) regions
-  pub all : (thread slot : ℕ) (held : Pinned) → g.pin thread slot ≡ Some held → Contains regions (held.place / region_words)
-  pub only : (r : ℕ) → Contains regions r → HasPinned region_words g r
+  pub all : (thread slot : ℕ) (held : Pinned) → graph.pin thread slot ≡ Some held → Contains regions (held.place / region_words)
+  pub only : (r : ℕ) → Contains regions r → HasPinned region_words graph r
 
 -- how many these are
 abbrev pub PinnedRegions : (region_words : ℕ) → Graph → ℕ → Type 0
-PinnedRegions region_words g count = (regions : List ℕ) × ArePinnedRegions region_words g regions × (count ≡ length regions)
+PinnedRegions region_words graph count = (regions : List ℕ) × ArePinnedRegions region_words graph regions × (count ≡ length regions)
 
 -- Live objects that are not pinned and other unanswered allocations crowd the regions without a pinned object: were each of
 -- these short of the words that are asked for, so many words would be in use there.
 abbrev pub IsCrowded : (regions region_words : ℕ) → Graph → List (List Command) → List Entry → Entry → Type 0
-IsCrowded regions region_words g scripts before e =
-    (live : ℕ) × (held : ℕ) × (pinned : ℕ) × Live (after g before) live × Held (after g before) held × PinnedRegions region_words (after g before) pinned
-    × ((regions - pinned) * (region_words - words_asked (Some e.command) + 1) ≤ live - held + words_open scripts before e.thread)
+IsCrowded regions region_words graph scripts before entry =
+    (live : ℕ) × (held : ℕ) × (pinned : ℕ) × Live (after graph before) live × Held (after graph before) held × PinnedRegions region_words (after graph before) pinned
+    × ((regions - pinned) * (region_words - words_asked (Some entry.command) + 1) ≤ live - held + words_open scripts before entry.thread)
 
 -- each allocation that was refused in a history that began with a graph was crowded out
 abbrev pub AreCrowded : (regions region_words : ℕ) → Graph → List (List Command) → List Entry → Type 0
-AreCrowded regions region_words g scripts history =
-    (k : ℕ) (e : Entry) → slice_get history k ≡ Some e → e.reply ≡ reply.Full → IsCrowded regions region_words g scripts (take k history) e
+AreCrowded regions region_words graph scripts history =
+    (index : ℕ) (entry : Entry) → slice_get history index ≡ Some entry → entry.reply ≡ reply.Full → IsCrowded regions region_words graph scripts (take index history) entry
 
 -- A history that a heap of so many regions of so many words may have, whose threads have these scripts.
 pub record IsLegalHistory (regions region_words : ℕ) (scripts : List (List Command)) (history : List Entry) : Type 0 where

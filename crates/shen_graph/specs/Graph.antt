@@ -21,7 +21,7 @@ pub record Graph : Type 0 where
   pub pin : ℕ → ℕ → Option Pinned
 
 abbrev pub same_name : Name → Name → Bool
-same_name a b = (a.thread == b.thread) && (a.count == b.count)
+same_name name other_name = (name.thread == other_name.thread) && (name.count == other_name.count)
 
 -- equal references: both null, or of one name
 abbrev pub same_reference : Reference → Reference → Bool
@@ -36,54 +36,54 @@ blank refs nums = record { refs = replicate refs None; nums = replicate nums 0 }
 
 -- what a reference names: null names nothing, which has no field and no number
 abbrev pub named : Graph → Reference → Object
-named g None = record { refs = []; nums = [] }
-named g (Some n) = unwrap_or (g.object n) (record { refs = []; nums = [] })
+named graph None = record { refs = []; nums = [] }
+named graph (Some n) = unwrap_or (graph.object n) (record { refs = []; nums = [] })
 
 -- the field of the object that a root of the thread names. There is none where the root is null, or the object has no such field
 abbrev pub field_at : Graph → ℕ → ℕ → ℕ → Option Reference
-field_at g thread root field = slice_get (named g (g.root thread root)).refs field
+field_at graph thread root field = slice_get (named graph (graph.root thread root)).refs field
 
 -- the same for a number
 abbrev pub number_at : Graph → ℕ → ℕ → ℕ → Option ℕ
-number_at g thread root index = slice_get (named g (g.root thread root)).nums index
+number_at graph thread root index = slice_get (named graph (graph.root thread root)).nums index
 
 -- The graph where one thing is another, and all else is as before.
 
 abbrev pub with_root : Graph → ℕ → ℕ → Reference → Graph
-with_root g thread root value =
-    record g { root = λ t r. if (t == thread) && (r == root) then value else g.root t r }
+with_root graph thread root value =
+    record graph { root = λ t r. if (t == thread) && (r == root) then value else graph.root t r }
 
 abbrev pub with_pin : Graph → ℕ → ℕ → Option Pinned → Graph
-with_pin g thread slot held =
-    record g { pin = λ t s. if (t == thread) && (s == slot) then held else g.pin t s }
+with_pin graph thread slot held =
+    record graph { pin = λ t s. if (t == thread) && (s == slot) then held else graph.pin t s }
 
 abbrev pub with_object : Graph → Name → Object → Graph
-with_object g name object =
-    record g { object = λ n. if same_name n name then Some object else g.object n }
+with_object graph name object =
+    record graph { object = λ n. if same_name n name then Some object else graph.object n }
 
 -- the object that a reference names is another; null names nothing
 abbrev pub with_named : Graph → Reference → Object → Graph
-with_named g None object = g
-with_named g (Some n) object = with_object g n object
+with_named graph None object = graph
+with_named graph (Some n) object = with_object graph n object
 
 abbrev pub with_field : Graph → ℕ → ℕ → ℕ → Reference → Graph
-with_field g thread root field value =
-    let r = g.root thread root in
-    with_named g r (record { refs = slice_set (named g r).refs field value; nums = (named g r).nums })
+with_field graph thread root field value =
+    let r = graph.root thread root in
+    with_named graph r (record { refs = slice_set (named graph r).refs field value; nums = (named graph r).nums })
 
 abbrev pub with_number : Graph → ℕ → ℕ → ℕ → ℕ → Graph
-with_number g thread root index value =
-    let r = g.root thread root in
-    with_named g r (record { refs = (named g r).refs; nums = slice_set (named g r).nums index value })
+with_number graph thread root index value =
+    let r = graph.root thread root in
+    with_named graph r (record { refs = (named graph r).refs; nums = slice_set (named graph r).nums index value })
 
 -- the name of the thread's next object
 abbrev pub fresh : Graph → ℕ → Name
-fresh g thread = record { thread = thread; count = g.count thread + 1 }
+fresh graph thread = record { thread = thread; count = graph.count thread + 1 }
 
 -- the thread made one object more, of its fresh name
 abbrev pub with_fresh : Graph → ℕ → Object → Graph
-with_fresh g thread object =
-    record (with_object g (fresh g thread) object) { count = λ t. if t == thread then g.count t + 1 else g.count t }
+with_fresh graph thread object =
+    record (with_object graph (fresh graph thread) object) { count = λ t. if t == thread then graph.count t + 1 else graph.count t }
 
 -- the object that is there from the start, in root 0 of each thread: 16 references and no number
 abbrev pub hub : Name

@@ -14,7 +14,7 @@ pub record Row : Type 0 where
 
 -- the object of a name in a graph, as a row
 abbrev pub row_in : Graph → Name → Row
-row_in g n = record { name = n; refs = (named g (Some n)).refs; nums = (named g (Some n)).nums }
+row_in graph name = record { name = name; refs = (named graph (Some name)).refs; nums = (named graph (Some name)).nums }
 
 -- the rows of objects, a row of 16 roots and one of 4 pin slots for each thread, the words of room that are left, and the words of room in all
 pub record Text : Type 0 where
@@ -30,7 +30,7 @@ empty words threads = record { rows = []; roots = replicate threads (replicate 1
 
 -- the same room, and nothing in it
 abbrev pub cleared : Text → Text
-cleared t = empty t.room (length t.roots)
+cleared text = empty text.room (length text.roots)
 
 -- an object without a field
 abbrev pub bare : Name → Row
@@ -38,7 +38,7 @@ bare name = record { name = name; refs = []; nums = [] }
 
 -- an object more, which takes 3 words
 abbrev pub with_row : Text → Name → Text
-with_row t name = record t { rows = t.rows ++ bare name ∷ []; spare = t.spare - 3 }
+with_row text name = record text { rows = text.rows ++ bare name ∷ []; spare = text.spare - 3 }
 
 -- the last of a list is changed
 abbrev pub change_last : {A : Type 0} → (A → A) → List A → List A
@@ -47,73 +47,73 @@ change_last f (x ∷ []) = f x ∷ []
 change_last f (x ∷ y ∷ xs) = x ∷ change_last f (y ∷ xs)
 
 abbrev pub add_reference : Reference → Row → Row
-add_reference to r = record r { refs = r.refs ++ to ∷ [] }
+add_reference to row = record row { refs = row.refs ++ to ∷ [] }
 
 abbrev pub add_number : ℕ → Row → Row
-add_number value r = record r { nums = r.nums ++ value ∷ [] }
+add_number value row = record row { nums = row.nums ++ value ∷ [] }
 
 -- the last object has a reference more, which takes 1 word
 abbrev pub with_reference : Text → Reference → Text
-with_reference t to = record t { rows = change_last (add_reference to) t.rows; spare = t.spare - 1 }
+with_reference text to = record text { rows = change_last (add_reference to) text.rows; spare = text.spare - 1 }
 
 -- the last object has a number more, which takes 1 word
 abbrev pub with_number : Text → ℕ → Text
-with_number t value = record t { rows = change_last (add_number value) t.rows; spare = t.spare - 1 }
+with_number text value = record text { rows = change_last (add_number value) text.rows; spare = text.spare - 1 }
 
 -- the text with these references in its last row too
 abbrev pub with_references : Text → List Reference → Text
-with_references t [] = t
-with_references t (r ∷ rs) = with_references (with_reference t r) rs
+with_references text [] = text
+with_references text (r ∷ rs) = with_references (with_reference text r) rs
 
 -- the text with these numbers in its last row too
 abbrev pub with_numbers : Text → List ℕ → Text
-with_numbers t [] = t
-with_numbers t (x ∷ xs) = with_numbers (with_number t x) xs
+with_numbers text [] = text
+with_numbers text (x ∷ xs) = with_numbers (with_number text x) xs
 
 -- the text with a row more, which takes as many words as the object
 abbrev pub with_whole_row : Text → Row → Text
-with_whole_row t r = record t { rows = t.rows ++ r ∷ []; spare = t.spare - (3 + length r.refs + length r.nums) }
+with_whole_row text row = record text { rows = text.rows ++ row ∷ []; spare = text.spare - (3 + length row.refs + length row.nums) }
 
 -- the roots of a thread, counted from 1
 abbrev pub roots_of : Text → ℕ → List Reference
-roots_of t thread = slice_index_or t.roots (thread - 1) []
+roots_of text thread = slice_index_or text.roots (thread - 1) []
 
 abbrev pub root_of : Text → ℕ → ℕ → Reference
-root_of t thread index = slice_index_or (roots_of t thread) index None
+root_of text thread index = slice_index_or (roots_of text thread) index None
 
 -- a root of a thread is another
 abbrev pub with_root_of : Text → ℕ → ℕ → Reference → Text
-with_root_of t thread index to = record t { roots = slice_set t.roots (thread - 1) (slice_set (roots_of t thread) index to) }
+with_root_of text thread index to = record text { roots = slice_set text.roots (thread - 1) (slice_set (roots_of text thread) index to) }
 
 -- the pin slots of a thread, counted from 1: the name that each holds
 abbrev pub pins_of : Text → ℕ → List Reference
-pins_of t thread = slice_index_or t.pins (thread - 1) []
+pins_of text thread = slice_index_or text.pins (thread - 1) []
 
 abbrev pub pin_of : Text → ℕ → ℕ → Reference
-pin_of t thread slot = slice_index_or (pins_of t thread) slot None
+pin_of text thread slot = slice_index_or (pins_of text thread) slot None
 
 -- a pin slot of a thread holds another
 abbrev pub with_pin_of : Text → ℕ → ℕ → Reference → Text
-with_pin_of t thread slot to = record t { pins = slice_set t.pins (thread - 1) (slice_set (pins_of t thread) slot to) }
+with_pin_of text thread slot to = record text { pins = slice_set text.pins (thread - 1) (slice_set (pins_of text thread) slot to) }
 
 -- the row with that number, counted from 0
 abbrev pub row_of : Text → ℕ → Row
-row_of t row = slice_index_or t.rows row (bare hub)
+row_of text row = slice_index_or text.rows row (bare hub)
 
 -- the names of the objects, in the order of their rows
 abbrev pub names_of : Text → List Name
-names_of t = map (λ r. r.name) t.rows
+names_of text = map (λ r. r.name) text.rows
 
 -- no name stands twice
 abbrev pub NamesDiffer : Text → Type 0
-NamesDiffer t = IsDistinct same_name (names_of t)
+NamesDiffer text = IsDistinct same_name (names_of text)
 
 -- The text is that of a graph of so many threads: a row for each object that can be reached, in the order of names, and
 -- the roots and the pin slots of each thread.
-pub record IsTextOf (g : Graph) (threads : ℕ) (t : Text) : Type 0 where
-  pub reach : IsReach g (names_of t)
-  pub rows : t.rows ≡ map (row_in g) (names_of t)
-  pub each : length t.roots ≡ threads
-  pub roots : (thread index : ℕ) → 1 ≤ thread → thread ≤ threads → root_of t thread index ≡ g.root thread index
-  pub pinned : length t.pins ≡ threads
-  pub pins : (thread slot : ℕ) → 1 ≤ thread → thread ≤ threads → pin_of t thread slot ≡ name_in (g.pin thread slot)
+pub record IsTextOf (graph : Graph) (threads : ℕ) (text : Text) : Type 0 where
+  pub reach : IsReach graph (names_of text)
+  pub rows : text.rows ≡ map (row_in graph) (names_of text)
+  pub each : length text.roots ≡ threads
+  pub roots : (thread index : ℕ) → 1 ≤ thread → thread ≤ threads → root_of text thread index ≡ graph.root thread index
+  pub pinned : length text.pins ≡ threads
+  pub pins : (thread slot : ℕ) → 1 ≤ thread → thread ≤ threads → pin_of text thread slot ≡ name_in (graph.pin thread slot)

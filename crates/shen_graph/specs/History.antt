@@ -19,23 +19,23 @@ is_full _ = false
 
 -- the graph after a command of a thread that was not refused
 abbrev pub after_reply : Graph → ℕ → Command → Reply → Graph
-after_reply g t (Pin slot obj) (reply.At place) = with_pinned g t slot (pinned_by g t (Pin slot obj)) place
-after_reply g t c r = (outcome g t c).graph
+after_reply graph t (Pin slot obj) (reply.At place) = with_pinned graph t slot (pinned_by graph t (Pin slot obj)) place
+after_reply graph t command r = (outcome graph t command).graph
 
 -- the graph after an entry
 abbrev pub after_entry : Graph → Entry → Graph
-after_entry g e = if is_full e.reply then g else after_reply g e.thread e.command e.reply
+after_entry graph entry = if is_full entry.reply then graph else after_reply graph entry.thread entry.command entry.reply
 
 -- the graph after these entries, in order
 abbrev pub after : Graph → List Entry → Graph
-after g [] = g
-after g (e ∷ es) = after (after_entry g e) es
+after graph [] = graph
+after graph (e ∷ es) = after (after_entry graph e) es
 
 -- each entry is legal, in a heap of so many regions of so many words, in the graph after the entries before it
 abbrev pub EachIsLegal : (regions region_words : ℕ) → Graph → List Entry → Type 0
-EachIsLegal regions region_words g [] = Unit {0}
-EachIsLegal regions region_words g (e ∷ es) =
-    IsLegal regions region_words g e.thread e.command e.reply (after_entry g e) × EachIsLegal regions region_words (after_entry g e) es
+EachIsLegal regions region_words graph [] = Unit {0}
+EachIsLegal regions region_words graph (e ∷ es) =
+    IsLegal regions region_words graph e.thread e.command e.reply (after_entry graph e) × EachIsLegal regions region_words (after_entry graph e) es
 
 -- the entries of one thread, in their order
 abbrev pub of_thread : List Entry → ℕ → List Entry

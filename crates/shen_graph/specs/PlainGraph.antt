@@ -13,7 +13,7 @@ pub record Plain : Type 0 where
   pub pins : List (List (Option Pinned))
 
 abbrev pub threads_of : Plain → ℕ
-threads_of p = length p.roots - 1
+threads_of plain = length plain.roots - 1
 
 -- the object of a name: that of the first row with the name
 abbrev pub object_in : List Row → Name → Option Object
@@ -27,12 +27,12 @@ abbrev pub pin_in : List (List (Option Pinned)) → ℕ → ℕ → Option Pinne
 pin_in pins thread slot = slice_index_or (slice_index_or pins thread []) slot None
 
 unfoldable pub graph_of : Plain → Graph
-graph_of p = record { object = object_in p.rows; root = root_in p.roots; count = slice_index p.counts; pin = pin_in p.pins }
+graph_of plain = record { object = object_in plain.rows; root = root_in plain.roots; count = slice_index plain.counts; pin = pin_in plain.pins }
 
 -- whether both are true, or both false
 abbrev pub same_bool : Bool → Bool → Bool
-same_bool true b = b
-same_bool false b = not b
+same_bool true holds = holds
+same_bool false holds = not holds
 
 -- whether a pin slot holds the object at another place, or another object at the place
 abbrev pub differs : Name → ℕ → Option Pinned → Bool
@@ -41,4 +41,4 @@ differs name place (Some held) = not (same_bool (same_name held.name name) (held
 
 -- where the row of the object stands that a root names
 abbrev pub place_of : Plain → ℕ → ℕ → Option ℕ
-place_of p thread root = option_and_then (λ n. position (λ r. same_name n r.name) p.rows) (root_in p.roots thread root)
+place_of plain thread root = option_and_then (λ n. position (λ r. same_name n r.name) plain.rows) (root_in plain.roots thread root)

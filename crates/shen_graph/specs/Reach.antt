@@ -5,14 +5,14 @@ use Rattle.shen_graph.specs.declared.pin.Pinned.{Pinned}
 use Rattle.shen_graph.specs.Graph.{Graph, Object, named}
 
 -- a name that a root or a pin slot of any thread holds, or a field of the object of such a name, and so on
-pub data IsReachable (g : Graph) : Name → Type 0 where
-  from_root : (thread root : ℕ) (n : Name) → g.root thread root ≡ Some n → IsReachable g n
-  from_pin : (thread slot : ℕ) (held : Pinned) → g.pin thread slot ≡ Some held → IsReachable g held.name
-  from_field : (m n : Name) (field : ℕ) → IsReachable g m → slice_get (named g (Some m)).refs field ≡ Some (Some n) → IsReachable g n
+pub data IsReachable (graph : Graph) : Name → Type 0 where
+  from_root : (thread root : ℕ) (name : Name) → graph.root thread root ≡ Some name → IsReachable graph name
+  from_pin : (thread slot : ℕ) (held : Pinned) → graph.pin thread slot ≡ Some held → IsReachable graph held.name
+  from_field : (name other_name : Name) (field : ℕ) → IsReachable graph name → slice_get (named graph (Some name)).refs field ≡ Some (Some other_name) → IsReachable graph other_name
 
 -- the order of names: by thread, and then by count
 abbrev pub IsBefore : Name → Name → Type 0
-IsBefore a b = (a.thread < b.thread) ⊎ ((a.thread ≡ b.thread) × (a.count < b.count))
+IsBefore name other_name = (name.thread < other_name.thread) ⊎ ((name.thread ≡ other_name.thread) × (name.count < other_name.count))
 
 -- each name is before all that follow it
 abbrev pub InOrder : List Name → Type 0
@@ -21,15 +21,15 @@ InOrder (n ∷ []) = Unit {0}
 InOrder (n ∷ m ∷ ns) = IsBefore n m × InOrder (m ∷ ns)
 
 -- the names that can be reached, each once, in their order
-pub record IsReach (g : Graph) (names : List Name) : Type 0 where
+pub record IsReach (graph : Graph) (names : List Name) : Type 0 where
   pub in_order : InOrder names
-  pub all : (n : Name) → IsReachable g n → Contains names n
-  pub only : (n : Name) → Contains names n → IsReachable g n
+  pub all : (name : Name) → IsReachable graph name → Contains names name
+  pub only : (name : Name) → Contains names name → IsReachable graph name
 
 -- how many words an object has: header, shape, name, and one for each field and each number
 abbrev pub size : Object → ℕ
-size o = 3 + length o.refs + length o.nums
+size object = 3 + length object.refs + length object.nums
 
 -- the sum of the sizes of what can be reached
 abbrev pub Live : Graph → ℕ → Type 0
-Live g words = (names : List Name) × IsReach g names × (words ≡ sum_by (λ n. size (named g (Some n))) names)
+Live graph words = (names : List Name) × IsReach graph names × (words ≡ sum_by (λ n. size (named graph (Some n))) names)

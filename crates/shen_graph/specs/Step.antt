@@ -11,11 +11,11 @@ use Rattle.shen_graph.specs.Graph.{Graph, Reference, same_reference, blank, fiel
 -- the reply that shows a reference
 abbrev pub shown : Reference → Reply
 shown None = reply.Null
-shown (Some n) = reply.Ref n
+shown (Some name) = reply.Ref name
 
 -- yes or no
 abbrev pub yes_or_no : Bool → Reply
-yes_or_no b = if b then reply.Yes else reply.No
+yes_or_no holds = if holds then reply.Yes else reply.No
 
 -- the reference that was found, or Bad
 abbrev pub shown_at : Option Reference → Reply
@@ -24,7 +24,7 @@ shown_at (Some v) = shown v
 
 -- done, or Bad
 abbrev pub ok_or_bad : Bool → Reply
-ok_or_bad b = if b then reply.Ok else reply.Bad
+ok_or_bad holds = if holds then reply.Ok else reply.Bad
 
 -- an answer, and the graph that is left
 pub record Outcome : Type 0 where
@@ -32,30 +32,30 @@ pub record Outcome : Type 0 where
   pub graph : Graph
 
 abbrev pub answers : Reply → Graph → Outcome
-answers r g = record { reply = r; graph = g }
+answers r graph = record { reply = r; graph = graph }
 
 -- Bad where there is none, and then nothing changes
 abbrev pub on : {A : Type 0} → Option A → Graph → (A → Outcome) → Outcome
-on None g f = answers reply.Bad g
-on (Some v) g f = f v
+on None graph f = answers reply.Bad graph
+on (Some v) graph f = f v
 
 -- The answer of a command of a thread, where there is room for an object that it makes, and where it pins none: the place
 -- of an object that is pinned is no function of the graph. What is not named stays
 abbrev pub outcome : Graph → ℕ → Command → Outcome
-outcome g t (New dst refs nums) = answers (reply.Ref (fresh g t)) (with_root (with_fresh g t (blank refs nums)) t dst (Some (fresh g t)))
-outcome g t (Get dst src field) = on (field_at g t src field) g (λ v. answers (shown v) (with_root g t dst v))
-outcome g t (Set obj field val) = on (field_at g t obj field) g (λ _. answers reply.Ok (with_field g t obj field (g.root t val)))
-outcome g t (Cas obj field expect val) = on (field_at g t obj field) g (λ v.
-    if same_reference v (g.root t expect) then answers reply.Yes (with_field g t obj field (g.root t val)) else answers reply.No g)
-outcome g t (Xchg dst obj field val) = on (field_at g t obj field) g (λ v. answers (shown v) (with_root (with_field g t obj field (g.root t val)) t dst v))
-outcome g t (Rd obj index) = on (number_at g t obj index) g (λ n. answers (reply.Number n) g)
-outcome g t (Wr obj index value) = on (number_at g t obj index) g (λ _. answers reply.Ok (with_number g t obj index value))
-outcome g t (Copy dst src) = answers reply.Ok (with_root g t dst (g.root t src))
-outcome g t (Drop dst) = answers reply.Ok (with_root g t dst None)
-outcome g t (Same a b) = answers (yes_or_no (same_reference (g.root t a) (g.root t b))) g
-outcome g t Gc = answers reply.Ok g
-outcome g t (Pin slot obj) = answers reply.Bad g
-outcome g t (Unpin slot) = on (g.pin t slot) g (λ _. answers reply.Ok (with_pin g t slot None))
+outcome graph thread (New dst refs nums) = answers (reply.Ref (fresh graph thread)) (with_root (with_fresh graph thread (blank refs nums)) thread dst (Some (fresh graph thread)))
+outcome graph thread (Get dst src field) = on (field_at graph thread src field) graph (λ v. answers (shown v) (with_root graph thread dst v))
+outcome graph thread (Set obj field val) = on (field_at graph thread obj field) graph (λ _. answers reply.Ok (with_field graph thread obj field (graph.root thread val)))
+outcome graph thread (Cas obj field expect val) = on (field_at graph thread obj field) graph (λ v.
+    if same_reference v (graph.root thread expect) then answers reply.Yes (with_field graph thread obj field (graph.root thread val)) else answers reply.No graph)
+outcome graph thread (Xchg dst obj field val) = on (field_at graph thread obj field) graph (λ v. answers (shown v) (with_root (with_field graph thread obj field (graph.root thread val)) thread dst v))
+outcome graph thread (Rd obj index) = on (number_at graph thread obj index) graph (λ n. answers (reply.Number n) graph)
+outcome graph thread (Wr obj index value) = on (number_at graph thread obj index) graph (λ _. answers reply.Ok (with_number graph thread obj index value))
+outcome graph thread (Copy dst src) = answers reply.Ok (with_root graph thread dst (graph.root thread src))
+outcome graph thread (Drop dst) = answers reply.Ok (with_root graph thread dst None)
+outcome graph thread (Same a b) = answers (yes_or_no (same_reference (graph.root thread a) (graph.root thread b))) graph
+outcome graph thread Gc = answers reply.Ok graph
+outcome graph thread (Pin slot obj) = answers reply.Bad graph
+outcome graph thread (Unpin slot) = on (graph.pin thread slot) graph (λ _. answers reply.Ok (with_pin graph thread slot None))
 
 -- a command that makes an object
 abbrev pub IsNew : Command → Type 0
@@ -69,8 +69,8 @@ IsPin _ = ⊥
 
 -- the object that a command pins: that of the root, where the slot is empty
 abbrev pub pinned_by : Graph → ℕ → Command → Reference
-pinned_by g t (Pin slot obj) = if is_some (g.pin t slot) then None else g.root t obj
-pinned_by g t _ = None
+pinned_by graph thread (Pin slot obj) = if is_some (graph.pin thread slot) then None else graph.root thread obj
+pinned_by graph thread _ = None
 
 -- the name of what a pin slot holds
 abbrev pub name_in : Option Pinned → Reference
@@ -79,10 +79,10 @@ name_in (Some held) = Some held.name
 
 -- The object may be pinned at the place: a place of the heap, where each slot that holds the object has it already, and no
 -- slot has another object.
-pub record MayBePinned (regions region_words : ℕ) (g : Graph) (name : Name) (place : ℕ) : Type 0 where
+pub record MayBePinned (regions region_words : ℕ) (graph : Graph) (name : Name) (place : ℕ) : Type 0 where
   pub within : (region_words ≤ place) × (place < (regions + 1) * region_words)
-  pub same : (thread slot : ℕ) (held : Pinned) → g.pin thread slot ≡ Some held → held.name ≡ name → held.place ≡ place
-  pub alone : (thread slot : ℕ) (held : Pinned) → g.pin thread slot ≡ Some held → held.place ≡ place → held.name ≡ name
+  pub same : (thread slot : ℕ) (held : Pinned) → graph.pin thread slot ≡ Some held → held.name ≡ name → held.place ≡ place
+  pub alone : (thread slot : ℕ) (held : Pinned) → graph.pin thread slot ≡ Some held → held.place ≡ place → held.name ≡ name
 
 -- the place that a reply tells
 abbrev pub place_in : Reply → Option ℕ
@@ -97,20 +97,20 @@ slot_of _ = 0
 
 -- the thread pinned that object at that place
 abbrev pub with_pinned : Graph → ℕ → ℕ → Reference → ℕ → Graph
-with_pinned g t slot None place = g
-with_pinned g t slot (Some n) place = with_pin g t slot (Some (record { name = n; place = place }))
+with_pinned graph thread slot None place = graph
+with_pinned graph thread slot (Some name) place = with_pin graph thread slot (Some (record { name = name; place = place }))
 
--- Command c of thread t pins an object, and is answered its place
-pub record IsPinning (regions region_words : ℕ) (g : Graph) (t : ℕ) (c : Command) (r : Reply) (h : Graph) : Type 0 where
+-- a thread's command pins an object, and is answered its place
+pub record IsPinning (regions region_words : ℕ) (before : Graph) (thread : ℕ) (command : Command) (answered : Reply) (after : Graph) : Type 0 where
   pub name : Name
   pub place : ℕ
-  pub pins : pinned_by g t c ≡ Some name
-  pub may : MayBePinned regions region_words g name place
-  pub reply : r ≡ reply.At place
-  pub graph : h ≡ with_pinned g t (slot_of c) (Some name) place
+  pub pins : pinned_by before thread command ≡ Some name
+  pub may : MayBePinned regions region_words before name place
+  pub reply : answered ≡ reply.At place
+  pub graph : after ≡ with_pinned before thread (slot_of command) (Some name) place
 
--- From g, in a heap of so many regions of so many words, command c of thread t may be answered r and leave h: the outcome,
--- where it pins no object; or for a New also Full, which changes nothing; or the place of the object that it pins.
+-- From a graph, in a heap of so many regions of so many words, a thread's command may be answered so and leave the graph after it: the
+-- outcome, where it pins no object; or for a New also Full, which changes nothing; or the place of the object that it pins.
 abbrev pub IsLegal : (regions region_words : ℕ) → Graph → ℕ → Command → Reply → Graph → Type 0
-IsLegal regions region_words g t c r h =
-    ((pinned_by g t c ≡ None) × (answers r h ≡ outcome g t c)) ⊎ ((IsNew c × (r ≡ reply.Full) × (h ≡ g)) ⊎ IsPinning regions region_words g t c r h)
+IsLegal regions region_words graph thread command answered after =
+    ((pinned_by graph thread command ≡ None) × (answers answered after ≡ outcome graph thread command)) ⊎ ((IsNew command × (answered ≡ reply.Full) × (after ≡ graph)) ⊎ IsPinning regions region_words graph thread command answered after)

@@ -11,14 +11,14 @@ part xs s = slice_range xs s.from s.to
 
 -- the row that lies at a place
 abbrev pub row_at : List Reference → List ℕ → Place → Row
-row_at refs nums p = record { name = p.name; refs = part refs p.refs; nums = part nums p.nums }
+row_at refs nums place = record { name = place.name; refs = part refs place.refs; nums = part nums place.nums }
 
 abbrev pub span_length : Span → ℕ
 span_length s = s.to - s.from
 
 -- both spans are in order, and end at or before these ends
 abbrev pub Within : ℕ → ℕ → Place → Type 0
-Within refs nums p = (p.refs.from ≤ p.refs.to) × (p.refs.to ≤ refs) × (p.nums.from ≤ p.nums.to) × (p.nums.to ≤ nums)
+Within refs nums place = (place.refs.from ≤ place.refs.to) × (place.refs.to ≤ refs) × (place.nums.from ≤ place.nums.to) × (place.nums.to ≤ nums)
 
 -- the spans of the last place end exactly there
 abbrev pub EndsAt : ℕ → ℕ → List Place → Type 0

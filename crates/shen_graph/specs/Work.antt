@@ -20,7 +20,7 @@ begun script = record { script = script; replies = [] }
 
 -- the next command was answered
 abbrev pub answered : Progress → Reply → Progress
-answered p reply = record p { replies = p.replies ++ reply ∷ [] }
+answered progress reply = record progress { replies = progress.replies ++ reply ∷ [] }
 
 -- eight places, each with the script of its number where there is one
 abbrev pub opened : List (List Command) → List (Option Progress)

@@ -753,7 +753,7 @@ impl PlainGraph {
         requires pins { pinned_by (graph_of self.old) thread command.now ≡ Some name }
         ensures done { MatchBool result
             (IsLegal regions region_words (graph_of self.old) thread command.now reply.now (graph_of self.new) × (reply.now ≢ Full))
-            (((h : Graph) → IsLegal regions region_words (graph_of self.old) thread command.now reply.now h → reply.now ≡ Full) × (self.new ≡ self.old)) }
+            (((graph : Graph) → IsLegal regions region_words (graph_of self.old) thread command.now reply.now graph → reply.now ≡ Full) × (self.new ≡ self.old)) }
         ensures threads { threads_of self.new ≡ threads_of self.old }
     {
         match place_in(reply) {
@@ -804,7 +804,7 @@ impl PlainGraph {
         requires count { (graph_of self.old).count thread < 2 ^ 32 - 1 }
         ensures ok { IfOk result (λ may. MatchBool may
             (IsLegal regions region_words (graph_of self.old) thread command.now reply.now (graph_of self.new) × (reply.now ≢ Full))
-            (((h : Graph) → IsLegal regions region_words (graph_of self.old) thread command.now reply.now h → reply.now ≡ Full) × (self.new ≡ self.old))) }
+            (((graph : Graph) → IsLegal regions region_words (graph_of self.old) thread command.now reply.now graph → reply.now ≡ Full) × (self.new ≡ self.old))) }
         ensures threads { threads_of self.new ≡ threads_of self.old }
         ensures err { OnErr result (self.new ≡ self.old) }
     {

@@ -13,8 +13,8 @@ use Rattle.step_core.specs.Settled.{stored_image, control_number}
 use Rattle.step_core.specs.Sound.{IsMutator}
 use Rattle.mutator.specs.Rows.{Mutating}
 
-pub record IsAtRest (c : Config) (s : Stage Actor) : Type 0 where
-  pub calls : (number : ℕ) (a : Actor) (m : Mutating) → IsMutator s number a m → is_between_calls m.spot ≡ true
-  pub outside : (number : ℕ) (a : Actor) → slice_get s.machines number ≡ Some a → number ≢ control_number c → is_within (standing_of a.machine) ≡ false
-  pub no_unit : (number : ℕ) (a : Actor) (k : Controlling) → slice_get s.machines number ≡ Some a → a.machine ≡ controlling k → is_working k.spot ≡ false
-  pub no_image : (number : ℕ) (a : Actor) (k : Controlling) → slice_get s.machines number ≡ Some a → a.machine ≡ controlling k → stored_image k.spot k.image ≡ None
+pub record IsAtRest (config : Config) (stage : Stage Actor) : Type 0 where
+  pub calls : (number : ℕ) (actor : Actor) (mutator : Mutating) → IsMutator stage number actor mutator → is_between_calls mutator.spot ≡ true
+  pub outside : (number : ℕ) (actor : Actor) → slice_get stage.machines number ≡ Some actor → number ≢ control_number config → is_within (standing_of actor.machine) ≡ false
+  pub no_unit : (number : ℕ) (actor : Actor) (control : Controlling) → slice_get stage.machines number ≡ Some actor → actor.machine ≡ controlling control → is_working control.spot ≡ false
+  pub no_image : (number : ℕ) (actor : Actor) (control : Controlling) → slice_get stage.machines number ≡ Some actor → actor.machine ≡ controlling control → stored_image control.spot control.image ≡ None

@@ -18,53 +18,53 @@ use Rattle.step_core.specs.Opening.{opening}
 use Rattle.step_core.specs.History.{history}
 
 -- the machine of a number is idle and has ended no call yet
-pub record HasCalledNothing (c : Config) (phase cset : ℕ) (g : Graph) (number : ℕ) (a : Actor) : Type 0 where
-  pub number_is : HasNumber c number a.machine
-  pub idle : IsIdle phase cset g number a.machine
-  pub calls : a.calls ≡ []
-  pub valid : is_valid a.command ≡ true
+pub record HasCalledNothing (config : Config) (phase cset : ℕ) (graph : Graph) (number : ℕ) (actor : Actor) : Type 0 where
+  pub number_is : HasNumber config number actor.machine
+  pub idle : IsIdle phase cset graph number actor.machine
+  pub calls : actor.calls ≡ []
+  pub valid : is_valid actor.command ≡ true
 
 -- No pause is wanted or runs, no machine is inside, and no mutator has ended.
-pub record IsCalmOutside (c : Config) (memory : Word → ℕ) : Type 0 where
+pub record IsCalmOutside (config : Config) (memory : Word → ℕ) : Type 0 where
   pub pause : memory Pause ≡ 0
-  pub states : (seat : ℕ) → seat < c.mutators + c.helpers → memory (State seat) ≡ 0
-  pub left : memory Left ≡ c.mutators
+  pub states : (seat : ℕ) → seat < config.mutators + config.helpers → memory (State seat) ≡ 0
+  pub left : memory Left ≡ config.mutators
 
 -- A stage in which runs may begin: its words stand for a graph, nobody waits, and each machine is idle.
-pub record Begins (c : Config) (s : Stage Actor) (g : Graph) : Type 0 where
-  pub words : length s.words ≡ table_words c
-  pub seats : length s.machines ≡ seat_count c.mutators c.helpers
-  pub stands : Represents c (view c s.words) g (λ t. nothing)
-  pub outside : IsCalmOutside c (view c s.words)
-  pub machines : (number : ℕ) (a : Actor) → slice_get s.machines number ≡ Some a → HasCalledNothing c (view c s.words Phase) (view c s.words Cset) g number a
+pub record Begins (config : Config) (stage : Stage Actor) (graph : Graph) : Type 0 where
+  pub words : length stage.words ≡ table_words config
+  pub seats : length stage.machines ≡ seat_count config.mutators config.helpers
+  pub stands : Represents config (view config stage.words) graph (λ t. nothing)
+  pub outside : IsCalmOutside config (view config stage.words)
+  pub machines : (number : ℕ) (actor : Actor) → slice_get stage.machines number ≡ Some actor → HasCalledNothing config (view config stage.words Phase) (view config stage.words Cset) graph number actor
 
 -- a run: a stage that begins a graph, and what happens from there
-pub record Run (c : Config) : Type 0 where
+pub record Run (config : Config) : Type 0 where
   pub start : Stage Actor
   pub graph : Graph
-  pub begins : Begins c start graph
+  pub begins : Begins config start graph
   pub events : List (Event Order)
 
 -- where a run leads
-abbrev pub ending : Change → (c : Config) → Run c → Stage Actor
-ending change c run = go (kind change c) run.start run.events
+abbrev pub ending : Change → (config : Config) → Run config → Stage Actor
+ending change config run = go (kind change config) run.start run.events
 
 -- its history
-abbrev pub history_in : Change → (c : Config) → Run c → List Entry
-history_in change c run = history change c run.start run.events
+abbrev pub history_in : Change → (config : Config) → Run config → List Entry
+history_in change config run = history change config run.start run.events
 
 -- the graph after its history
-abbrev pub graph_after : Change → (c : Config) → Run c → Graph
-graph_after change c run = after run.graph (history_in change c run)
+abbrev pub graph_after : Change → (config : Config) → Run config → Graph
+graph_after change config run = after run.graph (history_in change config run)
 
 -- the graph before the first event
 abbrev pub first_graph : Config → Graph
-first_graph c = graphs.opening c.mutators
+first_graph config = graphs.opening config.mutators
 
 -- the stage that events lead to from the opening
 abbrev pub reached : Change → Config → List (Event Order) → Stage Actor
-reached change c events = go (kind change c) (opening c) events
+reached change config events = go (kind change config) (opening config) events
 
 -- the history of events from the opening
 abbrev pub past : Change → Config → List (Event Order) → List Entry
-past change c events = history change c (opening c) events
+past change config events = history change config (opening config) events

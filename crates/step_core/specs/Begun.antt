@@ -9,8 +9,8 @@ use Rattle.step_core.specs.Machines.{is_resting}
 
 -- those of the calls that it has ended, and of its call in progress, if there is one
 abbrev pub begun_by : Actor → List Command
-begun_by a = commands_of a.calls ++ (if is_resting a.machine then [] else a.command ∷ [])
+begun_by actor = commands_of actor.calls ++ (if is_resting actor.machine then [] else actor.command ∷ [])
 
 -- those of each mutator, in the order of their numbers
 abbrev pub scripts_begun : Config → Stage Actor → List (List Command)
-scripts_begun c s = map begun_by (take c.mutators s.machines)
+scripts_begun config stage = map begun_by (take config.mutators stage.machines)

@@ -4,4 +4,4 @@ use Rattle.step_core.specs.Actor.{Actor}
 use Rattle.step_core.specs.Machines.{has_ended_of}
 
 abbrev pub has_ended : Actor → Bool
-has_ended a = has_ended_of a.machine
+has_ended actor = has_ended_of actor.machine

@@ -14,11 +14,11 @@ use Rattle.collector_rows.specs.ControlRows.{loads_more, loaded_all}
 
 -- a part of an image was loaded, of the extent of its own words, and the image stands for some graph, with the requests of some threads
 abbrev pub IsPartOfSome : Config → Extent → List ℕ → Type 0
-IsPartOfSome c extent part =
-    ∥ ((whole : List ℕ) × (g : Graph) × (asking : ℕ → Asking) × (length whole ≡ image_words c) × IsImagePart c extent whole part × (extent ≡ extent_by c (slice_index part 0) part)
-    × Represents c (image_view c whole) g asking) ∥₁
+IsPartOfSome config extent part =
+    ∥ ((whole : List ℕ) × (graph : Graph) × (asking : ℕ → Asking) × (length whole ≡ image_words config) × IsImagePart config extent whole part × (extent ≡ extent_by config (slice_index part 0) part)
+    × Represents config (image_view config whole) graph asking) ∥₁
 
 -- the last word of an image was loaded: what was loaded is a part of one that stands for some graph
 abbrev pub IsWholeImage : Config → ℕ → ControlSpot → List ℕ → ℕ → Type 0
-IsWholeImage c phase (LoadWord index extent) image got = loads_more c phase index extent got ≡ false → IsPartOfSome c (extent_after phase index extent got) (loaded_all c image got)
-IsWholeImage c phase _ image got = Unit {0}
+IsWholeImage config phase (LoadWord index extent) image got = loads_more config phase index extent got ≡ false → IsPartOfSome config (extent_after phase index extent got) (loaded_all config image got)
+IsWholeImage config phase _ image got = Unit {0}

@@ -21,18 +21,18 @@ takes_as_hint order (Some a) = takes_of a.machine order && is_some (hint_in orde
 
 -- how many hints a machine takes with an event: one, or none
 abbrev pub hint_taken : Stage Actor → ℕ → Event Order → ℕ
-hint_taken s number e = if (e.number == number) && takes_as_hint e.order (slice_get s.machines number) then 1 else 0
+hint_taken stage number event = if (event.number == number) && takes_as_hint event.order (slice_get stage.machines number) then 1 else 0
 
 -- how many it takes with a list of events
 unfoldable pub hints_taken : Change → Config → Stage Actor → ℕ → List (Event Order) → ℕ
-hints_taken change c s number [] = 0
-hints_taken change c s number (e ∷ es) = hint_taken s number e + hints_taken change c (act (kind change c) s e) number es
+hints_taken change config stage number [] = 0
+hints_taken change config stage number (e ∷ es) = hint_taken stage number e + hints_taken change config (act (kind change config) stage e) number es
 
 -- The number that a machine keeps is that of the hints that it has taken, and those before the events, up to 2^64 - 1.
 abbrev pub HintsAreCounted : Type 0
-HintsAreCounted = (change : Change) (c : Config) (s : Stage Actor) (events : List (Event Order)) (number : ℕ) (before after : Actor)
-    → slice_get s.machines number ≡ Some before → slice_get (go (kind change c) s events).machines number ≡ Some after → hints_of before.machine < 2 ^ 64
-    → hints_of after.machine ≡ min (hints_of before.machine + hints_taken change c s number events) (2 ^ 64 - 1)
+HintsAreCounted = (change : Change) (config : Config) (stage : Stage Actor) (events : List (Event Order)) (number : ℕ) (before after : Actor)
+    → slice_get stage.machines number ≡ Some before → slice_get (go (kind change config) stage events).machines number ≡ Some after → hints_of before.machine < 2 ^ 64
+    → hints_of after.machine ≡ min (hints_of before.machine + hints_taken change config stage number events) (2 ^ 64 - 1)
 
 -- the scan in which a machine is has not ended, as it has nowhere between two steps
 abbrev pub scans_on : UnitSpot → Bool

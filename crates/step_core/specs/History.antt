@@ -11,18 +11,18 @@ use Rattle.step_core.specs.Settled.{settled}
 
 -- the entries that a step of a machine settles
 abbrev pub told_by : Config → Stage Actor → Actor → Order → Machine → List Entry
-told_by c s a order machine = told_with c (settled c s) s a order machine
+told_by config stage actor order machine = told_with config (settled config stage) stage actor order machine
 
 -- the entries that an event of this machine settles
 abbrev pub told_of_machine : Config → Stage Actor → Event Order → Option Actor → List Entry
-told_of_machine c s e None = []
-told_of_machine c s e (Some a) = if takes_of a.machine e.order then told_by c s a e.order a.machine else []
+told_of_machine config stage event None = []
+told_of_machine config stage event (Some a) = if takes_of a.machine event.order then told_by config stage a event.order a.machine else []
 
 -- the entries that an event settles
 unfoldable pub told : Config → Stage Actor → Event Order → List Entry
-told c s e = told_of_machine c s e (slice_get s.machines e.number)
+told config stage event = told_of_machine config stage event (slice_get stage.machines event.number)
 
 -- the entries that these events settle, from a stage on
 unfoldable pub history : Change → Config → Stage Actor → List (Event Order) → List Entry
-history change c s [] = []
-history change c s (e ∷ es) = told c s e ++ history change c (act (kind change c) s e) es
+history change config stage [] = []
+history change config stage (e ∷ es) = told config stage e ++ history change config (act (kind change config) stage e) es

@@ -71,22 +71,22 @@ takes_of (controlling k) order = is_for_working (controls.takes_hint k.spot) ord
 
 -- A helper, and the control, as it goes on under an order: with a hint at the word that has the mark of the hint's address.
 abbrev pub helping_by : Config → Order → Helping → Helping
-helping_by c order h = help_hinted c (hint_in order) h
+helping_by config order helper = help_hinted config (hint_in order) helper
 
 abbrev pub controlling_by : Config → Order → Controlling → Controlling
-controlling_by c order k = control_hinted c (hint_in order) k
+controlling_by config order k = control_hinted config (hint_in order) k
 
 -- and any machine: what a mutator does under an order stands in its own rows
 abbrev pub ordered : Config → Order → Machine → Machine
-ordered c order (mutating m) = mutating m
-ordered c order (helping h) = helping (helping_by c order h)
-ordered c order (controlling k) = controlling (controlling_by c order k)
+ordered config order (mutating m) = mutating m
+ordered config order (helping h) = helping (helping_by config order h)
+ordered config order (controlling k) = controlling (controlling_by config order k)
 
 -- its next access, under an order
 abbrev pub plan_of : Config → Order → Machine → Access
-plan_of c order (mutating m) = placed c (touch_of c m order)
-plan_of c order (helping h) = placed c (help_touch c (helping_by c order h))
-plan_of c order (controlling k) = control_access c (controlling_by c order k)
+plan_of config order (mutating m) = placed config (touch_of config m order)
+plan_of config order (helping h) = placed config (help_touch config (helping_by config order h))
+plan_of config order (controlling k) = control_access config (controlling_by config order k)
 
 -- the address that its next access makes grey, if it does so, as it does at GO alone
 abbrev pub greys_of : Machine → Option ℕ
@@ -108,15 +108,15 @@ place_in order (controlling k) = control_place k.spot
 
 -- what it is after the access, by the word that it found
 abbrev pub machine_after : Change → Config → Order → ℕ → Machine → Machine
-machine_after change c order got (mutating m) = mutating (next_of c m order got)
-machine_after change c order got (helping h) = helping (help_next c (helping_by c order h) got)
-machine_after change c order got (controlling k) = controlling (control_next change c (controlling_by c order k) got)
+machine_after change config order got (mutating m) = mutating (next_of config m order got)
+machine_after change config order got (helping h) = helping (help_next config (helping_by config order h) got)
+machine_after change config order got (controlling k) = controlling (control_next change config (controlling_by config order k) got)
 
 -- what it says of the step under an order that finds this word: nothing where it never makes one
 abbrev pub answer_of : Config → Order → Machine → ℕ → Option Took
-answer_of c order (mutating m) got = Some (answer_at c m.kept m.spot got)
-answer_of c order (helping h) got = Some (help_says c (helping_by c order h) got)
-answer_of c order (controlling k) got = Some (control_says c (controlling_by c order k) got)
+answer_of config order (mutating m) got = Some (answer_at config m.kept m.spot got)
+answer_of config order (helping h) got = Some (help_says config (helping_by config order h) got)
+answer_of config order (controlling k) got = Some (control_says config (controlling_by config order k) got)
 
 -- the calls that its step ends, in a call of this command
 abbrev pub ended_by : Command → Machine → List Entry
@@ -134,14 +134,14 @@ told_word machines (Answer t) before after = entries_of t (command_at (slice_get
 told_word machines _ before after = []
 
 abbrev pub told_storing : Config → Stage Actor → ControlSpot → List ℕ → List Entry
-told_storing c s (StoreWord index extent) image = told_word s.machines (name_of c (image_start c + index)) (slice_index s.words (image_start c + index)) (slice_index image index)
-told_storing c s _ image = []
+told_storing config stage (StoreWord index extent) image = told_word stage.machines (name_of config (image_start config + index)) (slice_index stage.words (image_start config + index)) (slice_index image index)
+told_storing config stage _ image = []
 
 -- what its step settles, by the words that count: entries of any threads
 abbrev pub told_with : Config → (Word → ℕ) → Stage Actor → Actor → Order → Machine → List Entry
-told_with c memory s a order (mutating m) = entries_of m.seat (command_by order a.command) (told_of memory m)
-told_with c memory s a order (helping h) = []
-told_with c memory s a order (controlling k) = told_storing c s k.spot k.image
+told_with config memory stage actor order (mutating m) = entries_of m.seat (command_by order actor.command) (told_of memory m)
+told_with config memory stage actor order (helping h) = []
+told_with config memory stage actor order (controlling k) = told_storing config stage k.spot k.image
 
 -- the image that counts, if one does: while the control writes it back
 abbrev pub stored_image : ControlSpot → List ℕ → Option Counting
@@ -217,15 +217,15 @@ standing_of (controlling k) = control_standing k.spot
 
 -- whether it can go on from a word
 abbrev pub IsFitFor : Config → Order → ℕ → Machine → Type 0
-IsFitFor c order got (mutating m) = IsFit c m order got
-IsFitFor c order got (helping h) = ready.IsFit c (helping_by c order h) got
-IsFitFor c order got (controlling k) = IsWholeImage c k.phase k.spot k.image got × UnitGoesOn c (controlling_by c order k).spot got
+IsFitFor config order got (mutating m) = IsFit config m order got
+IsFitFor config order got (helping h) = ready.IsFit config (helping_by config order h) got
+IsFitFor config order got (controlling k) = IsWholeImage config k.phase k.spot k.image got × UnitGoesOn config (controlling_by config order k).spot got
 
 -- where its step under an order that finds this word says that it waits
 abbrev pub WaitsIn : Config → Order → Machine → ℕ → Type 0
-WaitsIn c order (mutating m) got = WaitsAt m.spot got
-WaitsIn c order (helping h) got = helpers.WaitsAt c (helping_by c order h) got
-WaitsIn c order (controlling k) got = control.WaitsAt c (controlling_by c order k) got
+WaitsIn config order (mutating m) got = WaitsAt m.spot got
+WaitsIn config order (helping h) got = helpers.WaitsAt config (helping_by config order h) got
+WaitsIn config order (controlling k) got = control.WaitsAt config (controlling_by config order k) got
 
 -- how many objects it has made
 abbrev pub made_of_machine : Machine → ℕ
@@ -250,16 +250,16 @@ at_hand_of _ = 0
 
 -- which numbers have machines of the role: the mutators come first, then the helpers, then the control
 abbrev pub HasNumber : Config → ℕ → Machine → Type 0
-HasNumber c number (mutating m) = (m.seat ≡ number) × (number < c.mutators)
-HasNumber c number (helping h) = (h.seat ≡ number) × (c.mutators ≤ number) × (number < c.mutators + c.helpers)
-HasNumber c number (controlling k) = number ≡ c.mutators + c.helpers
+HasNumber config number (mutating m) = (m.seat ≡ number) × (number < config.mutators)
+HasNumber config number (helping h) = (h.seat ≡ number) × (config.mutators ≤ number) × (number < config.mutators + config.helpers)
+HasNumber config number (controlling k) = number ≡ config.mutators + config.helpers
 
 -- It is idle, and may go on: a mutator takes commands, and the graph has as many objects of its thread as it has made; a helper is
 -- between two rounds; the control is in no pause and no unit, and knows the phase.
 abbrev pub IsIdle : (phase cset : ℕ) → Graph → ℕ → Machine → Type 0
-IsIdle phase cset g number (mutating m) = (g.count (number + 1) ≡ m.made) × (takes_commands m.spot ≡ true)
-IsIdle phase cset g number (helping h) = h.spot ≡ LoadEnd
-IsIdle phase cset g number (controlling k) = (k.spot ≡ LookLeft) × (k.image ≡ []) × (k.phase ≡ phase) × (k.cset ≡ cset)
+IsIdle phase cset graph number (mutating m) = (graph.count (number + 1) ≡ m.made) × (takes_commands m.spot ≡ true)
+IsIdle phase cset graph number (helping h) = h.spot ≡ LoadEnd
+IsIdle phase cset graph number (controlling k) = (k.spot ≡ LookLeft) × (k.image ≡ []) × (k.phase ≡ phase) × (k.cset ≡ cset)
 
 -- whether a step says that it waits
 abbrev pub is_again : Took → Bool
@@ -272,17 +272,17 @@ again_by (Some said) = is_again said
 
 -- an actor after its step
 abbrev pub took_of : Change → Config → Actor → Order → ℕ → Machine → Actor
-took_of change c a order got machine = record {
-  machine = machine_after change c order got machine;
-  command = command_by order a.command;
-  calls = a.calls ++ ended_by a.command machine;
+took_of change config actor order got machine = record {
+  machine = machine_after change config order got machine;
+  command = command_by order actor.command;
+  calls = actor.calls ++ ended_by actor.command machine;
 }
 
 -- The machines of a heap as a kind: an order is taken, an access made, and its word taken, by the rows of the machine. What a
 -- pause makes of the image is a function that is handed in.
 unfoldable pub kind : Change → Config → MachineKind Actor Order
-kind change c = record {
+kind change config = record {
   takes = λ a order. takes_of a.machine order;
-  plan = λ a order. plan_of c order a.machine;
-  took = λ a order got. took_of change c a order got a.machine;
+  plan = λ a order. plan_of config order a.machine;
+  took = λ a order got. took_of change config a order got a.machine;
 }

@@ -20,40 +20,40 @@ use Rattle.alloc_buffers.specs.Facts.{IsSpare}
 
 -- the word that counts as a root where a call has the value of its own root in hand
 abbrev pub root_with : World → ℕ → (dst value : ℕ) → ℕ → ℕ
-root_with w seat dst value index = if index == dst then value else w.memory (Root seat index)
+root_with world seat dst value index = if index == dst then value else world.memory (Root seat index)
 
 -- and where it records what it has overwritten: an Xchg has that in hand for its root
 abbrev pub root_recording : World → ℕ → (dst value : ℕ) → Overwritten → ℕ → ℕ
-root_recording w seat dst value overwrites.Xchg index = root_with w seat dst value index
-root_recording w seat dst value _ index = w.memory (Root seat index)
+root_recording world seat dst value overwrites.Xchg index = root_with world seat dst value index
+root_recording world seat dst value _ index = world.memory (Root seat index)
 
 -- and where it resolves what it has found in a field
 abbrev pub root_resolving : World → ℕ → (dst value : ℕ) → Loaded → ℕ → ℕ
-root_resolving w seat dst value ForRoot index = root_with w seat dst value index
-root_resolving w seat dst value (ToCompare object expect more) index = w.memory (Root seat index)
+root_resolving world seat dst value ForRoot index = root_with world seat dst value index
+root_resolving world seat dst value (ToCompare object expect more) index = world.memory (Root seat index)
 
 -- the word that counts as a root of the mutator: while a call has the root's new value in hand, that value
 abbrev pub root_now : World → ℕ → Kept → Spot → ℕ → ℕ
-root_now w seat kept (Showing value at) index = root_with w seat (dst_of kept.command) value index
-root_now w seat kept (Resolving address at next) index = root_resolving w seat (dst_of kept.command) address next index
-root_now w seat kept (Recording at address next) index = root_recording w seat (dst_of kept.command) address next index
-root_now w seat kept _ index = w.memory (Root seat index)
+root_now world seat kept (Showing value at) index = root_with world seat (dst_of kept.command) value index
+root_now world seat kept (Resolving address at next) index = root_resolving world seat (dst_of kept.command) address next index
+root_now world seat kept (Recording at address next) index = root_recording world seat (dst_of kept.command) address next index
+root_now world seat kept _ index = world.memory (Root seat index)
 
 -- What room a mutator has by where it stands: free words of its buffer; besides, what a taking of room says, and then, in hand, the words of
 -- the object that it makes; or those of the object that it copies.
 abbrev pub IsInMaking : (seat : ℕ) → Command → MakeSpot → ℕ → Block → Type 0
-IsInMaking seat k (make.Taking take) a x = takes.IsRoomAt seat (words_made k) take a x
-IsInMaking seat k (make.StoreWord address done) a x = IsSpare seat x ⊎ ((a ≡ address) × (x ≡ hand seat (words_made k)))
-IsInMaking seat k (make.StoreRoot address) a x = IsSpare seat x ⊎ ((a ≡ address) × (x ≡ hand seat (words_made k)))
+IsInMaking seat command (make.Taking take) a piece = takes.IsRoomAt seat (words_made command) take a piece
+IsInMaking seat command (make.StoreWord address done) a piece = IsSpare seat piece ⊎ ((a ≡ address) × (piece ≡ hand seat (words_made command)))
+IsInMaking seat command (make.StoreRoot address) a piece = IsSpare seat piece ⊎ ((a ≡ address) × (piece ≡ hand seat (words_made command)))
 
 abbrev pub IsRoomOf : (seat : ℕ) → Kept → Spot → ℕ → Block → Type 0
-IsRoomOf seat kept (Making at) a x = IsInMaking seat kept.command at a x
-IsRoomOf seat kept (Resolving address at next) a x = IsResolvingRoom seat at a x
-IsRoomOf seat kept _ a x = IsSpare seat x
+IsRoomOf seat kept (Making at) a piece = IsInMaking seat kept.command at a piece
+IsRoomOf seat kept (Resolving address at next) a piece = IsResolvingRoom seat at a piece
+IsRoomOf seat kept _ a piece = IsSpare seat piece
 
 -- The words of a mutator stand for what its thread has in the graph: it has made as many objects, its roots stand for its
 -- roots, and besides free words of its buffer it has room only for an object that it makes or copies.
-pub record HasItsOwn (w : World) (m : Mutating) : Type 0 where
-  pub made : w.graph.count (m.seat + 1) ≡ m.made
-  pub roots : (i : ℕ) → i < 16 → Points w.block (root_now w m.seat m.kept m.spot i) (w.graph.root (m.seat + 1) i)
-  pub rooms : (a : ℕ) (x : Block) → w.block a ≡ Some x → room_of x ≡ Some m.seat → IsRoomOf m.seat m.kept m.spot a x
+pub record HasItsOwn (world : World) (mutator : Mutating) : Type 0 where
+  pub made : world.graph.count (mutator.seat + 1) ≡ mutator.made
+  pub roots : (index : ℕ) → index < 16 → Points world.block (root_now world mutator.seat mutator.kept mutator.spot index) (world.graph.root (mutator.seat + 1) index)
+  pub rooms : (address : ℕ) (piece : Block) → world.block address ≡ Some piece → room_of piece ≡ Some mutator.seat → IsRoomOf mutator.seat mutator.kept mutator.spot address piece

@@ -22,16 +22,16 @@ HoldsPin memory word None = word ≡ 0
 HoldsPin memory word (Some p) = (word ≡ p.place) × (memory (Heap (word + 2)) ≡ name_code p.name.thread p.name.count) × (is_forwarded (memory (Heap word)) ≡ false)
 
 -- a mutator is about to store into one of its pin slots
-pub record IsStoringPin (s : Stage Actor) (number slot : ℕ) : Type 0 where
+pub record IsStoringPin (stage : Stage Actor) (number slot : ℕ) : Type 0 where
   pub actor : Actor
   pub mutator : Mutating
-  pub here : slice_get s.machines number ≡ Some actor
+  pub here : slice_get stage.machines number ≡ Some actor
   pub is : actor.machine ≡ mutating mutator
   pub value : ℕ
   pub stands : mutator.spot ≡ Pinning value Store
   pub slot_is : slot_of mutator.kept.command ≡ slot
 
 -- A step changes a pin word only where its own mutator stores into it: no other step does, that of a pause neither.
-abbrev pub OnlyPinningPins : Change → (c : Config) → Stage Actor → Event Order → Type 0
-OnlyPinningPins change c s e = (t i : ℕ) → t < c.mutators → i < 4 → settled c (act (kind change c) s e) (Pin t i) ≢ settled c s (Pin t i)
-    → (e.number ≡ t) × IsStoringPin s t i
+abbrev pub OnlyPinningPins : Change → (config : Config) → Stage Actor → Event Order → Type 0
+OnlyPinningPins change config stage event = (mutator index : ℕ) → mutator < config.mutators → index < 4 → settled config (act (kind change config) stage event) (Pin mutator index) ≢ settled config stage (Pin mutator index)
+    → (event.number ≡ mutator) × IsStoringPin stage mutator index

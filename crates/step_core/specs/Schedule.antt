@@ -26,7 +26,7 @@ nth_script scripts number = slice_index_or scripts number []
 
 -- what a machine does on its turn: nothing where it is idle
 abbrev pub order_on_turn : Scripts → ℕ → Actor → Machine → Option Order
-order_on_turn scripts number a machine = order_by (nth_script scripts number) a.calls machine
+order_on_turn scripts number actor machine = order_by (nth_script scripts number) actor.calls machine
 
 abbrev pub turn_of : Scripts → ℕ → Option Actor → Option (Event Order)
 turn_of scripts number None = None
@@ -34,18 +34,18 @@ turn_of scripts number (Some a) = option_map (λ order. record { number = number
 
 -- the next event of a machine: none where it is idle
 abbrev pub turn : Scripts → Stage Actor → ℕ → Option (Event Order)
-turn scripts s number = turn_of scripts number (slice_get s.machines number)
+turn scripts stage number = turn_of scripts number (slice_get stage.machines number)
 
 abbrev pub waits_in : Stage Actor → Config → Order → Machine → Bool
-waits_in s c order machine = again_by (answer_of c order machine (slice_index s.words (table_index (plan_of c order machine))))
+waits_in stage config order machine = again_by (answer_of config order machine (slice_index stage.words (table_index (plan_of config order machine))))
 
 abbrev pub waits_of : Config → Stage Actor → Order → Option Actor → Bool
-waits_of c s order None = false
-waits_of c s order (Some a) = waits_in s c order a.machine
+waits_of config stage order None = false
+waits_of config stage order (Some a) = waits_in stage config order a.machine
 
 -- whether the event of a machine says that it waits
 abbrev pub waits : Config → Stage Actor → Event Order → Bool
-waits c s e = waits_of c s e.order (slice_get s.machines e.number)
+waits config stage event = waits_of config stage event.order (slice_get stage.machines event.number)
 
 abbrev pub is_actor_at : Scripts → ℕ → Place → Option Actor → Bool
 is_actor_at scripts number place None = false
@@ -54,7 +54,7 @@ is_actor_at scripts number place (Some a) = is_machine_at place a.machine (order
 -- Whether the next access of a machine stands at a place. Between two calls that of a mutator is the first one of the command
 -- that follows in its script, or that of its end.
 abbrev pub is_at_place : Scripts → Stage Actor → ℕ → Place → Bool
-is_at_place scripts s number place = is_actor_at scripts number place (slice_get s.machines number)
+is_at_place scripts stage number place = is_actor_at scripts number place (slice_get stage.machines number)
 
 abbrev pub given_of : Option Actor → ℕ
 given_of None = 0
@@ -62,7 +62,7 @@ given_of (Some a) = length a.calls
 
 -- how many replies a mutator has given
 abbrev pub given : Stage Actor → ℕ → ℕ
-given s number = given_of (slice_get s.machines number)
+given stage number = given_of (slice_get stage.machines number)
 
 -- what is to be done: an item of the schedule, as far as it is left, or one step of the control
 pub data Task : Type 0 where
@@ -92,18 +92,18 @@ control_after true = control ∷ []
 control_after false = []
 
 abbrev pub waits_then : Config → Stage Actor → Option (Event Order) → Bool
-waits_then c s None = false
-waits_then c s (Some e) = waits c s e
+waits_then config stage None = false
+waits_then config stage (Some e) = waits config stage e
 
 -- the next event of a task: none where the task is done, or its machine idle
 abbrev pub move_of : Config → Scripts → Stage Actor → Task → Option ScheduledEvent
-move_of c scripts s (steps number zero) = None
-move_of c scripts s (steps number (suc count)) = moves (turn scripts s number) (steps number count ∷ [])
-move_of c scripts s (until number place) = if is_at_place scripts s number place then None else moves (turn scripts s number) (until number place ∷ [])
-move_of c scripts s (replies number count) =
-    if nat_le count (given s number) then None
-    else moves (turn scripts s number) (control_after (waits_then c s (turn scripts s number)) ++ replies number count ∷ [])
-move_of c scripts s control = moves (turn scripts s (control_number c)) []
+move_of config scripts stage (steps number zero) = None
+move_of config scripts stage (steps number (suc count)) = moves (turn scripts stage number) (steps number count ∷ [])
+move_of config scripts stage (until number place) = if is_at_place scripts stage number place then None else moves (turn scripts stage number) (until number place ∷ [])
+move_of config scripts stage (replies number count) =
+    if nat_le count (given stage number) then None
+    else moves (turn scripts stage number) (control_after (waits_then config stage (turn scripts stage number)) ++ replies number count ∷ [])
+move_of config scripts stage control = moves (turn scripts stage (control_number config)) []
 
 abbrev pub or_else : Option (Event Order) → Option (Event Order) → Option (Event Order)
 or_else None later = later
@@ -111,12 +111,12 @@ or_else (Some e) later = Some e
 
 -- the machines take turns from this number on
 abbrev pub numbers_from : Config → ℕ → List ℕ
-numbers_from c from = range_with_len from (seat_count c.mutators c.helpers - from) ++ range_with_len 0 from
+numbers_from config from = range_with_len from (seat_count config.mutators config.helpers - from) ++ range_with_len 0 from
 
 -- the first of these machines that is not idle makes the next event
 abbrev pub first_turn : Scripts → Stage Actor → List ℕ → Option (Event Order)
-first_turn scripts s [] = None
-first_turn scripts s (k ∷ ks) = or_else (turn scripts s k) (first_turn scripts s ks)
+first_turn scripts stage [] = None
+first_turn scripts stage (k ∷ ks) = or_else (turn scripts stage k) (first_turn scripts stage ks)
 
 -- what is to be done: the tasks, and then rounds from a machine on
 pub record Agenda : Type 0 where
@@ -138,11 +138,11 @@ after_move (Some m) tasks from later = Some (record { event = m.event; agenda = 
 
 -- the first task that has an event makes it; after the tasks the rounds do
 abbrev pub next_by : Config → Scripts → Stage Actor → List Task → ℕ → Option Next
-next_by c scripts s [] from = round_of (first_turn scripts s (numbers_from c from))
-next_by c scripts s (t ∷ ts) from = after_move (move_of c scripts s t) ts from (next_by c scripts s ts from)
+next_by config scripts stage [] from = round_of (first_turn scripts stage (numbers_from config from))
+next_by config scripts stage (t ∷ ts) from = after_move (move_of config scripts stage t) ts from (next_by config scripts stage ts from)
 
 abbrev pub next : Config → Scripts → Stage Actor → Agenda → Option Next
-next c scripts s agenda = next_by c scripts s agenda.tasks agenda.from
+next config scripts stage agenda = next_by config scripts stage agenda.tasks agenda.from
 
 abbrev pub and_then : Option Next → (Next → List (Event Order)) → List (Event Order)
 and_then None more = []
@@ -150,8 +150,8 @@ and_then (Some n) more = n.event ∷ more n
 
 -- at most so many events of an agenda
 unfoldable pub scheduled : Change → Config → Scripts → ℕ → Agenda → Stage Actor → List (Event Order)
-scheduled change c scripts zero agenda s = []
-scheduled change c scripts (suc n) agenda s = and_then (next c scripts s agenda) (λ x. scheduled change c scripts n x.agenda (act (kind change c) s x.event))
+scheduled change config scripts zero agenda stage = []
+scheduled change config scripts (suc n) agenda stage = and_then (next config scripts stage agenda) (λ x. scheduled change config scripts n x.agenda (act (kind change config) stage x.event))
 
 -- the items of a schedule, and then rounds
 abbrev pub agenda_of : List Item → Agenda
@@ -159,4 +159,4 @@ agenda_of items = record { tasks = map task_of items; from = 0 }
 
 -- The events of a schedule from a stage on, cut after so many.
 abbrev pub schedule_events : Change → Config → Scripts → List Item → ℕ → Stage Actor → List (Event Order)
-schedule_events change c scripts items limit s = scheduled change c scripts limit (agenda_of items) s
+schedule_events change config scripts items limit stage = scheduled change config scripts limit (agenda_of items) stage

@@ -68,8 +68,8 @@ copies_in _ = false
 
 -- what room it has: free words of its buffer; besides, what it has taken for a copy, or is about to take
 abbrev pub IsRoomIn : (seat : ℕ) → EvacSpot → ℕ → Block → Type 0
-IsRoomIn seat (evac.Resolving address end next at) a x = IsResolvingRoom seat at a x
-IsRoomIn seat _ a x = IsSpare seat x
+IsRoomIn seat (evac.Resolving address end next at) a piece = IsResolvingRoom seat at a piece
+IsRoomIn seat _ a piece = IsSpare seat piece
 
 -- The unit on which a machine works: that of a helper, of the control, of any machine. Where it works on none, it is one that has ended.
 abbrev pub help_unit : HelpSpot → UnitSpot
@@ -92,9 +92,9 @@ unit_in (controlling k) = control_unit k.spot
 
 -- the scan or the pass of updating in which who works on a unit is
 abbrev pub unit_scan : Config → UnitSpot → Option Scan
-unit_scan c (Scanning at) = scanning_of at
-unit_scan c (Updating cset at) = pass_of c at
-unit_scan c _ = None
+unit_scan config (Scanning at) = scanning_of at
+unit_scan config (Updating cset at) = pass_of config at
+unit_scan config _ = None
 
 -- whether it copies
 abbrev pub unit_copies : UnitSpot → Bool
@@ -103,21 +103,21 @@ unit_copies _ = false
 
 -- the region of the collection set on which it works
 abbrev pub unit_region : Config → UnitSpot → Option ℕ
-unit_region c (Evacuating cset at) = working_of c at
-unit_region c _ = None
+unit_region config (Evacuating cset at) = working_of config at
+unit_region config _ = None
 
 -- what room it has
 abbrev pub UnitRoom : (seat : ℕ) → UnitSpot → ℕ → Block → Type 0
-UnitRoom seat (Evacuating cset at) a x = IsRoomIn seat at a x
-UnitRoom seat _ a x = IsSpare seat x
+UnitRoom seat (Evacuating cset at) a piece = IsRoomIn seat at a piece
+UnitRoom seat _ a piece = IsSpare seat piece
 
 -- What who works on a unit counts on, by the kind of unit: it is the phase of such units, and its walk has come where its spot says. In
 -- evacuating no object behind the walk has its current copy there, unless there was no room.
 abbrev pub CanWorkOn : Config → World → (seat : ℕ) → UnitSpot → Type 0
-CanWorkOn c w seat (Scanning at) = CanScan c w seat at
-CanWorkOn c w seat (Evacuating cset at) = CanEvacuate c w seat cset at
-CanWorkOn c w seat (Updating cset at) = CanUpdate c w seat cset at
-CanWorkOn c w seat (Ended unit) = ⊤
+CanWorkOn config world seat (Scanning at) = CanScan config world seat at
+CanWorkOn config world seat (Evacuating cset at) = CanEvacuate config world seat cset at
+CanWorkOn config world seat (Updating cset at) = CanUpdate config world seat cset at
+CanWorkOn config world seat (Ended unit) = ⊤
 
 -- What the machine of a seat is about to record, whether it copies, and what room it has.
 abbrev pub records_of : Machine → Option ℕ
@@ -129,8 +129,8 @@ copies_of (mutating m) = copies_at m.spot
 copies_of machine = unit_copies (unit_in machine)
 
 abbrev pub HasRoom : (seat : ℕ) → Machine → ℕ → Block → Type 0
-HasRoom seat (mutating m) a x = IsRoomOf seat m.kept m.spot a x
-HasRoom seat machine a x = UnitRoom seat (unit_in machine) a x
+HasRoom seat (mutating m) a piece = IsRoomOf seat m.kept m.spot a piece
+HasRoom seat machine a piece = UnitRoom seat (unit_in machine) a piece
 
 -- where the room begins that a machine has in hand, by each part that has such room: a new object until its root is stored, a copy until it is
 -- the current one or is given back
@@ -236,27 +236,27 @@ carries_of (mutating m) = call_carries m.spot
 carries_of machine = unit_carries (unit_in machine)
 
 -- the word that is carried stands in the object still, behind the header of a copy in the collection set, current or old
-pub record StandsThere (c : Config) (w : World) (x : Carried) : Type 0 where
+pub record StandsThere (config : Config) (world : World) (x : Carried) : Type 0 where
   pub body : Body
-  pub there : body_at (w.block x.object) ≡ Some body
-  pub inside : IsCollected c (w.memory Cset) x.object
+  pub there : body_at (world.block x.object) ≡ Some body
+  pub inside : IsCollected config (world.memory Cset) x.object
   pub behind : 1 ≤ x.index
   pub within : x.index < body_words body
-  pub same : x.word ≡ w.memory (Heap (x.object + x.index))
+  pub same : x.word ≡ world.memory (Heap (x.object + x.index))
 
 -- The ghost state has of the seat what its machine does, and who works on a unit can go on in it. The seat's room is free words of its buffer, what the machine has in hand, and what it
 -- has carved until that is the seat's buffer; what the machine has in hand is the seat's. Who takes room has what its taking counts on; and a
 -- word that is on its way from an object into a copy is the object's word.
-pub record IsInSeat (c : Config) (w : World) (seat : ℕ) (machine : Machine) : Type 0 where
-  pub records : w.ghost.recording seat ≡ records_of machine
-  pub scans : w.ghost.scanning seat ≡ unit_scan c (unit_in machine)
-  pub copies : w.ghost.copying seat ≡ copies_of machine
-  pub works : w.ghost.working seat ≡ unit_region c (unit_in machine)
-  pub goes_on : CanWorkOn c w seat (unit_in machine)
-  pub rooms : (a : ℕ) (x : Block) → w.block a ≡ Some x → room_of x ≡ Some seat → HasRoom seat machine a x
-  pub holds : (a : ℕ) → hand_of machine ≡ Some a → (words : ℕ) × (w.block a ≡ Some (hand seat words))
-  pub takes : (t : Taking) → taking_of machine ≡ Some t → TakeFacts c w seat t.words t.take
-  pub carries : (x : Carried) → carries_of machine ≡ Some x → StandsThere c w x
+pub record IsInSeat (config : Config) (world : World) (seat : ℕ) (machine : Machine) : Type 0 where
+  pub records : world.ghost.recording seat ≡ records_of machine
+  pub scans : world.ghost.scanning seat ≡ unit_scan config (unit_in machine)
+  pub copies : world.ghost.copying seat ≡ copies_of machine
+  pub works : world.ghost.working seat ≡ unit_region config (unit_in machine)
+  pub goes_on : CanWorkOn config world seat (unit_in machine)
+  pub rooms : (address : ℕ) (x : Block) → world.block address ≡ Some x → room_of x ≡ Some seat → HasRoom seat machine address x
+  pub holds : (address : ℕ) → hand_of machine ≡ Some address → (words : ℕ) × (world.block address ≡ Some (hand seat words))
+  pub takes : (t : Taking) → taking_of machine ≡ Some t → TakeFacts config world seat t.words t.take
+  pub carries : (x : Carried) → carries_of machine ≡ Some x → StandsThere config world x
 
 -- the object that a call works on, or is about to show, by an address that was resolved if that was needed
 abbrev pub before_record : Overwritten → Option ℕ
@@ -278,10 +278,10 @@ works_on _ = None
 -- the roots that a call has loaded, and still needs: while it loads them, while it works on a field, and once it has resolved or recorded
 -- what it found there
 abbrev pub IsOfRoots : Command → LoadSpot → ℕ → Type 0
-IsOfRoots k load.First a = ⊥
-IsOfRoots k (load.Second first) a = a ≡ first
-IsOfRoots k (load.Third first second) a = (a ≡ first) ⊎ (a ≡ second)
-IsOfRoots k (load.Shape object second third) a = (a ≡ object) ⊎ (((1 < length (command_roots k)) × (a ≡ second)) ⊎ ((2 < length (command_roots k)) × (a ≡ third)))
+IsOfRoots command load.First a = ⊥
+IsOfRoots command (load.Second first) a = a ≡ first
+IsOfRoots command (load.Third first second) a = (a ≡ first) ⊎ (a ≡ second)
+IsOfRoots command (load.Shape object second third) a = (a ≡ object) ⊎ (((1 < length (command_roots command)) × (a ≡ second)) ⊎ ((2 < length (command_roots command)) × (a ≡ third)))
 
 abbrev pub IsOfField : FieldSpot → ℕ → Type 0
 IsOfField fields.Load a = ⊥
@@ -300,20 +300,20 @@ IsOfOverwritten (overwrites.Set object value) a = a ≡ value
 IsOfOverwritten _ a = ⊥
 
 abbrev pub IsOfCall : Command → Spot → ℕ → Type 0
-IsOfCall k (Loading at) a = IsOfRoots k at a
-IsOfCall k (OnField object at) a = IsOfField at a
-IsOfCall k (Resolving address at next) a = IsOfLoaded next a
-IsOfCall k (Recording at address next) a = IsOfOverwritten next a
-IsOfCall k (StoreRoot value) a = a ≡ value
-IsOfCall k (Pinning value at) a = a ≡ value
-IsOfCall k _ a = ⊥
+IsOfCall command (Loading at) a = IsOfRoots command at a
+IsOfCall command (OnField object at) a = IsOfField at a
+IsOfCall command (Resolving address at next) a = IsOfLoaded next a
+IsOfCall command (Recording at address next) a = IsOfOverwritten next a
+IsOfCall command (StoreRoot value) a = a ≡ value
+IsOfCall command (Pinning value at) a = a ≡ value
+IsOfCall command _ a = ⊥
 
 -- a mutator has taken what it was answered, and this is its reply: its answer is the address of the object of that name, which may be used;
 -- or it says that the heap is full
 abbrev pub HasTaken : Config → World → ℕ → Reply → Type 0
-HasTaken c w seat (Ref name) = (refs : ℕ) × (nums : ℕ) × TargetIn c w (w.memory (Answer seat)) refs nums name
-HasTaken c w seat Full = w.memory (Answer seat) ≡ 1
-HasTaken c w seat _ = ⊥
+HasTaken config world seat (Ref name) = (refs : ℕ) × (nums : ℕ) × TargetIn config world (world.memory (Answer seat)) refs nums name
+HasTaken config world seat Full = world.memory (Answer seat) ≡ 1
+HasTaken config world seat _ = ⊥
 
 -- whether a mutator has found that it is answered, and not taken that yet
 abbrev pub is_answered : Spot → Bool
@@ -323,9 +323,9 @@ is_answered (Waiting (wait.StoreRoot address)) = true
 is_answered _ = false
 
 -- the words of a mutator say that it asks for nothing, and nothing is promised to it
-pub record AsksNothing (w : World) (seat : ℕ) : Type 0 where
-  pub no_request : w.memory (Wait seat) ≡ 0
-  pub no_promise : HasNoPromise w.block seat
+pub record AsksNothing (world : World) (seat : ℕ) : Type 0 where
+  pub no_request : world.memory (Wait seat) ≡ 0
+  pub no_promise : HasNoPromise world.block seat
 
 -- a command makes an object
 pub record MakesObject (command : Command) : Type 0 where
@@ -342,7 +342,7 @@ is_clearing _ = false
 -- The machine of a seat resolves an address: objects are evacuated, and it can go on in that, with the words that it has copied so far; or
 -- references to them are updated.
 abbrev pub IsResolving : Config → World → (seat address : ℕ) → ResolveSpot → Type 0
-IsResolving c w seat address at = CanResolve c w seat address at ⊎ CanFollow c w seat address at
+IsResolving config world seat address at = CanResolve config world seat address at ⊎ CanFollow config world seat address at
 
 -- whether the phase that a call has loaded is the phase: from there on until it waits or leaves
 abbrev pub has_phase : Spot → Bool
@@ -368,16 +368,16 @@ has_set spot = has_phase spot
 -- clears its answer, and a request and an answer are of who waits; behind the store into the root the answer names what was taken.
 -- The phase and the collection set that a call has loaded are those that stand; and where it is about to overwrite a field by a store, what the
 -- snapshot has there needs no marking, or is noted. Who resolves an address can go on in that.
-pub record IsServed (c : Config) (w : World) (command : Command) (m : Mutating) : Type 0 where
-  pub roots : (i : ℕ) → i < 16 → UsableIn c w (w.memory (Root m.seat i))
-  pub resolved : (object : ℕ) → works_on m.spot ≡ Some object → UsableIn c w object
-  pub loaded : (a : ℕ) → IsOfCall m.kept.command m.spot a → UsableIn c w a
-  pub unasked : is_waiting m.spot ≡ false → AsksNothing w m.seat × (w.memory (Answer m.seat) ≡ 0)
-  pub waits : is_waiting m.spot ≡ true → MakesObject command
-  pub answered : is_answered m.spot ≡ true → 0 < w.memory (Answer m.seat)
-  pub stored : (address : ℕ) → m.spot ≡ Waiting (wait.StoreRoot address) → w.memory (Answer m.seat) ≡ address
-  pub knows_phase : has_phase m.spot ≡ true → m.kept.phase ≡ w.memory Phase
-  pub knows_set : has_set m.spot ≡ true → m.kept.cset ≡ w.memory Cset
-  pub resolves : (address : ℕ) (at : ResolveSpot) (next : Loaded) → m.spot ≡ Resolving address at next → IsResolving c w m.seat address at
-  pub covers : (object value : ℕ) → m.spot ≡ OnField object (fields.Store value) → IsCovered c w object (index_of m.kept.command)
-  pub taken : (reply : Reply) → m.spot ≡ Waiting (wait.ClearAnswer reply) → AsksNothing w m.seat × HasTaken c w m.seat reply
+pub record IsServed (config : Config) (world : World) (command : Command) (mutator : Mutating) : Type 0 where
+  pub roots : (index : ℕ) → index < 16 → UsableIn config world (world.memory (Root mutator.seat index))
+  pub resolved : (object : ℕ) → works_on mutator.spot ≡ Some object → UsableIn config world object
+  pub loaded : (a : ℕ) → IsOfCall mutator.kept.command mutator.spot a → UsableIn config world a
+  pub unasked : is_waiting mutator.spot ≡ false → AsksNothing world mutator.seat × (world.memory (Answer mutator.seat) ≡ 0)
+  pub waits : is_waiting mutator.spot ≡ true → MakesObject command
+  pub answered : is_answered mutator.spot ≡ true → 0 < world.memory (Answer mutator.seat)
+  pub stored : (address : ℕ) → mutator.spot ≡ Waiting (wait.StoreRoot address) → world.memory (Answer mutator.seat) ≡ address
+  pub knows_phase : has_phase mutator.spot ≡ true → mutator.kept.phase ≡ world.memory Phase
+  pub knows_set : has_set mutator.spot ≡ true → mutator.kept.cset ≡ world.memory Cset
+  pub resolves : (address : ℕ) (at : ResolveSpot) (next : Loaded) → mutator.spot ≡ Resolving address at next → IsResolving config world mutator.seat address at
+  pub covers : (object value : ℕ) → mutator.spot ≡ OnField object (fields.Store value) → IsCovered config world object (index_of mutator.kept.command)
+  pub taken : (reply : Reply) → mutator.spot ≡ Waiting (wait.ClearAnswer reply) → AsksNothing world mutator.seat × HasTaken config world mutator.seat reply

@@ -10,11 +10,11 @@ pub use Rattle.step_core.specs.Machines.{stored_image, image_read}
 
 -- a word of an image counts there
 abbrev pub is_counting : Config → Counting → Word → Bool
-is_counting c n word = is_image word && counts c n.extent n.image (word_at c word - image_start c)
+is_counting config n word = is_image word && counts config n.extent n.image (word_at config word - image_start config)
 
 -- a table in which the words of an image that count do so as the image has them
 abbrev pub mixed : Config → List ℕ → Counting → Word → ℕ
-mixed c words n word = if is_counting c n word then image_view c n.image word else view c words word
+mixed config words n word = if is_counting config n word then image_view config n.image word else view config words word
 
 -- the image that counts, if one does
 abbrev pub image_of : Option Actor → Option Counting
@@ -22,15 +22,15 @@ image_of None = None
 image_of (Some a) = image_read a.machine
 
 abbrev pub settled_by : Config → List ℕ → Option Counting → Word → ℕ
-settled_by c words None = view c words
-settled_by c words (Some n) = mixed c words n
+settled_by config words None = view config words
+settled_by config words (Some n) = mixed config words n
 
 -- The number of the control.
 abbrev pub control_number : Config → ℕ
-control_number c = c.mutators + c.helpers
+control_number config = config.mutators + config.helpers
 
 -- The words that count, by their names. A pause changes them all at once, when it has computed the new ones: from then on, until
 -- it has written all of them, the words of its image count and not those of the table. Where it has loaded a part of the image, these are
 -- the words of that part, and headers of free words that only fill then.
 abbrev pub settled : Config → Stage Actor → Word → ℕ
-settled c s = settled_by c s.words (image_of (slice_get s.machines (control_number c)))
+settled config stage = settled_by config stage.words (image_of (slice_get stage.machines (control_number config)))

@@ -39,27 +39,27 @@ use Rattle.step_core.specs.Threads.{IsSettled}
 
 -- the world of a stage: the words that count, a way to divide the regions, ghost state, and a graph
 abbrev pub world_of : Config → Stage Actor → Plot → Ghost → Graph → World
-world_of c s block ghost g = record { memory = settled c s; block = block; ghost = ghost; graph = g }
+world_of config stage block ghost graph = record { memory = settled config stage; block = block; ghost = ghost; graph = graph }
 
 -- the machine of a number is a mutator that stands so
-pub record IsMutator (s : Stage Actor) (number : ℕ) (a : Actor) (m : Mutating) : Type 0 where
-  pub here : slice_get s.machines number ≡ Some a
-  pub is : a.machine ≡ mutating m
+pub record IsMutator (stage : Stage Actor) (number : ℕ) (actor : Actor) (mutator : Mutating) : Type 0 where
+  pub here : slice_get stage.machines number ≡ Some actor
+  pub is : actor.machine ≡ mutating mutator
 
 -- there is a mutator of this number
-pub record SomeMutator (s : Stage Actor) (number : ℕ) : Type 0 where
+pub record SomeMutator (stage : Stage Actor) (number : ℕ) : Type 0 where
   pub actor : Actor
   pub mutator : Mutating
-  pub here : IsMutator s number actor mutator
+  pub here : IsMutator stage number actor mutator
 
 -- The stage is one of this heap: the table has its words, there are its machines, and the first of them are the mutators, each
 -- with its number as its seat.
-pub record IsOfHeap (c : Config) (s : Stage Actor) : Type 0 where
-  pub words : length s.words ≡ table_words c
-  pub machines : length s.machines ≡ seat_count c.mutators c.helpers
-  pub roles : (number : ℕ) (a : Actor) → slice_get s.machines number ≡ Some a → HasNumber c number a.machine
-  pub mutators : (number : ℕ) → number < c.mutators → SomeMutator s number
-  pub numbers : (number : ℕ) (a : Actor) (m : Mutating) → IsMutator s number a m → (m.seat ≡ number) × (number < c.mutators)
+pub record IsOfHeap (config : Config) (stage : Stage Actor) : Type 0 where
+  pub words : length stage.words ≡ table_words config
+  pub machines : length stage.machines ≡ seat_count config.mutators config.helpers
+  pub roles : (number : ℕ) (actor : Actor) → slice_get stage.machines number ≡ Some actor → HasNumber config number actor.machine
+  pub mutators : (number : ℕ) → number < config.mutators → SomeMutator stage number
+  pub numbers : (number : ℕ) (actor : Actor) (mutator : Mutating) → IsMutator stage number actor mutator → (mutator.seat ≡ number) × (number < config.mutators)
 
 -- what is asked for, or was given, is the object of the command
 abbrev pub IsOfCommand : Command → Asking → Type 0
@@ -93,26 +93,26 @@ FitsSpot _ what = what ≡ nothing
 
 -- What a mutator has asked for stands in the words of its requests and answers; and behind the access that asks for a pause, the word of
 -- what is asked has the bit that a mutator waits, until it is answered.
-pub record HasAsked (w : World) (command : Command) (m : Mutating) : Type 0 where
+pub record HasAsked (world : World) (command : Command) (mutator : Mutating) : Type 0 where
   pub asking : Asking
-  pub is : IsAsked w.memory w.block w.graph.count m.seat asking
+  pub is : IsAsked world.memory world.block world.graph.count mutator.seat asking
   pub of_command : IsOfCommand command asking
-  pub at_spot : FitsSpot m.spot asking
-  pub heard : is_request asking ≡ true → m.spot ≢ Waiting wait.AskRoom → bit_at (w.memory Ask) 1 ≡ 1
+  pub at_spot : FitsSpot mutator.spot asking
+  pub heard : is_request asking ≡ true → mutator.spot ≢ Waiting wait.AskRoom → bit_at (world.memory Ask) 1 ≡ 1
 
 -- Words and machines stand for a graph: there is a way to divide the regions into objects of that graph, room of seats, words that only fill
 -- and objects that were made for who waits, and ghost state that has of each seat what its machine does, such that each mutator has in
 -- its words what its thread has in the graph and what it has asked for, and may use its roots and the object on which it works.
-pub record StandsFor (c : Config) (s : Stage Actor) (g : Graph) : Type 0 where
+pub record StandsFor (config : Config) (stage : Stage Actor) (graph : Graph) : Type 0 where
   pub block : Plot
   pub ghost : Ghost
-  pub shared : Shared c (world_of c s block ghost g)
-  pub rooms : (a seat : ℕ) (x : Block) → block a ≡ Some x → room_of x ≡ Some seat → seat < seat_count c.mutators c.helpers
-  pub promised_to : PromisedToMutators c block
-  pub mutators : (number : ℕ) (a : Actor) (m : Mutating) → IsMutator s number a m → HasItsOwn (world_of c s block ghost g) m
-  pub asked : (number : ℕ) (a : Actor) (m : Mutating) → IsMutator s number a m → is_clearing m.spot ≡ false → HasAsked (world_of c s block ghost g) a.command m
-  pub seats : (number : ℕ) (a : Actor) → slice_get s.machines number ≡ Some a → IsInSeat c (world_of c s block ghost g) number a.machine
-  pub served : (number : ℕ) (a : Actor) (m : Mutating) → IsMutator s number a m → IsServed c (world_of c s block ghost g) a.command m
+  pub shared : Shared config (world_of config stage block ghost graph)
+  pub rooms : (a seat : ℕ) (piece : Block) → block a ≡ Some piece → room_of piece ≡ Some seat → seat < seat_count config.mutators config.helpers
+  pub promised_to : PromisedToMutators config block
+  pub mutators : (number : ℕ) (a : Actor) (mutator : Mutating) → IsMutator stage number a mutator → HasItsOwn (world_of config stage block ghost graph) mutator
+  pub asked : (number : ℕ) (a : Actor) (mutator : Mutating) → IsMutator stage number a mutator → is_clearing mutator.spot ≡ false → HasAsked (world_of config stage block ghost graph) a.command mutator
+  pub seats : (number : ℕ) (a : Actor) → slice_get stage.machines number ≡ Some a → IsInSeat config (world_of config stage block ghost graph) number a.machine
+  pub served : (number : ℕ) (a : Actor) (mutator : Mutating) → IsMutator stage number a mutator → IsServed config (world_of config stage block ghost graph) a.command mutator
 
 -- Whether the reply of the call in progress is settled: what the call has found is on its way into a root, or it leaves. Of who
 -- waits it is where the answer in the table says that the heap is full.
@@ -146,37 +146,37 @@ has_settled memory answer _ = false
 -- settled, one more, of that call. Between two calls there is no more; the reply that ends a call is the settled one, and so is that with
 -- which a mutator clears its answer.
 -- `memory` has the words that count, and `answer` is the mutator's answer word in the table.
-pub record AreCalls (memory : Word → ℕ) (answer : ℕ) (entries : List Entry) (number : ℕ) (a : Actor) (m : Mutating) : Type 0 where
+pub record AreCalls (memory : Word → ℕ) (answer : ℕ) (entries : List Entry) (number : ℕ) (actor : Actor) (mutator : Mutating) : Type 0 where
   pub fixed : Option Reply
-  pub entries_are : entries ≡ a.calls ++ entries_of number a.command fixed
-  pub between_calls : is_between_calls m.spot ≡ true → fixed ≡ None
-  pub before_it : has_settled memory answer m.spot ≡ false → fixed ≡ None
-  pub after_it : has_settled memory answer m.spot ≡ true → fixed ≢ None
-  pub gives : (reply : Reply) → given_at m.spot ≡ Some reply → fixed ≡ Some reply
-  pub took : (reply : Reply) → m.spot ≡ Waiting (wait.ClearAnswer reply) → fixed ≡ Some reply
+  pub entries_are : entries ≡ actor.calls ++ entries_of number actor.command fixed
+  pub between_calls : is_between_calls mutator.spot ≡ true → fixed ≡ None
+  pub before_it : has_settled memory answer mutator.spot ≡ false → fixed ≡ None
+  pub after_it : has_settled memory answer mutator.spot ≡ true → fixed ≢ None
+  pub gives : (reply : Reply) → given_at mutator.spot ≡ Some reply → fixed ≡ Some reply
+  pub took : (reply : Reply) → mutator.spot ≡ Waiting (wait.ClearAnswer reply) → fixed ≡ Some reply
 
 -- a machine's next access is of a word of the table, and the word that it finds there is fit
-pub record FindsFit (c : Config) (s : Stage Actor) (a : Actor) : Type 0 where
-  pub inside : (order : Order) → takes_of a.machine order ≡ true → table_index (plan_of c order a.machine) < table_words c
-  pub fit : (order : Order) → takes_of a.machine order ≡ true → IsFitFor c order (slice_index s.words (table_index (plan_of c order a.machine))) a.machine
+pub record FindsFit (config : Config) (stage : Stage Actor) (actor : Actor) : Type 0 where
+  pub inside : (order : Order) → takes_of actor.machine order ≡ true → table_index (plan_of config order actor.machine) < table_words config
+  pub fit : (order : Order) → takes_of actor.machine order ≡ true → IsFitFor config order (slice_index stage.words (table_index (plan_of config order actor.machine))) actor.machine
 
 -- The theorem, of a stage to which events lead from one that begins a graph, and of the history of the events.
-pub record IsSound (c : Config) (g : Graph) (s : Stage Actor) (past : List Entry) : Type 0 where
+pub record IsSound (config : Config) (graph : Graph) (stage : Stage Actor) (past : List Entry) : Type 0 where
   -- the words and machines of the heap are there
-  pub of_heap : IsOfHeap c s
+  pub of_heap : IsOfHeap config stage
   -- words and machines stand for the graph after the history
-  pub stands : StandsFor c s (after g past)
+  pub stands : StandsFor config stage (after graph past)
   -- the history is legal, and who was refused was crowded out, of the regions without a pinned object, by live objects that are not pinned
   -- and the other threads' allocations
-  pub legal : EachIsLegal c.regions c.region_words g past
-  pub crowded : AreCrowded c.regions c.region_words g (scripts_begun c s) past
+  pub legal : EachIsLegal config.regions config.region_words graph past
+  pub crowded : AreCrowded config.regions config.region_words graph (scripts_begun config stage) past
   -- each entry is of a thread of the heap, and no thread has more roots than its 16, and more pin slots than its 4
-  pub entries : All (IsSettled c.mutators) past
-  pub no_more : HasNoMore c.mutators (after g past)
-  pub no_more_pins : HasNoMorePins c.mutators (after g past)
+  pub entries : All (IsSettled config.mutators) past
+  pub no_more : HasNoMore config.mutators (after graph past)
+  pub no_more_pins : HasNoMorePins config.mutators (after graph past)
   -- each pin word is 0 where the slot is empty, and else the place of its object, which is its current copy and has not moved
-  pub pinned : (t i : ℕ) → t < c.mutators → i < 4 → HoldsPin (settled c s) (settled c s (Pin t i)) ((after g past).pin (t + 1) i)
+  pub pinned : (other_mutator index : ℕ) → other_mutator < config.mutators → index < 4 → HoldsPin (settled config stage) (settled config stage (Pin other_mutator index)) ((after graph past).pin (other_mutator + 1) index)
   -- the entries of each mutator are its calls, and one more where the call in progress is settled
-  pub threads : (number : ℕ) (a : Actor) (m : Mutating) → IsMutator s number a m → AreCalls (settled c s) (view c s.words (Answer number)) (of_thread past (number + 1)) number a m
+  pub threads : (number : ℕ) (actor : Actor) (mutator : Mutating) → IsMutator stage number actor mutator → AreCalls (settled config stage) (view config stage.words (Answer number)) (of_thread past (number + 1)) number actor mutator
   -- each machine finds a fit word
-  pub fit : (number : ℕ) (a : Actor) → slice_get s.machines number ≡ Some a → FindsFit c s a
+  pub fit : (number : ℕ) (actor : Actor) → slice_get stage.machines number ≡ Some actor → FindsFit config stage actor

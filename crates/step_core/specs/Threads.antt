@@ -4,7 +4,7 @@ use Rattle.shen_graph.specs.History.{Entry}
 use Rattle.mutator.specs.Orders.{is_valid}
 
 -- the entry is of one of the threads from 1 on, and its command is in range
-pub record IsSettled (threads : ℕ) (e : Entry) : Type 0 where
-  pub least : 1 ≤ e.thread
-  pub most : e.thread ≤ threads
-  pub valid : is_valid e.command ≡ true
+pub record IsSettled (threads : ℕ) (entry : Entry) : Type 0 where
+  pub least : 1 ≤ entry.thread
+  pub most : entry.thread ≤ threads
+  pub valid : is_valid entry.command ≡ true

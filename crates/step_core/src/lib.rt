@@ -43,52 +43,52 @@ pub use opening::{first_free, open_words};
 /// graph, and answers who waits; and that makes of the part of an image that a brief pause loads what it makes of all of it, where that
 /// counts.
 pub fn every_schedule()
-    ensures { (change : Change) → PausesByParts change → (c : Config) (s : Stage Actor) (g : Graph) → Begins c s g → (events : List (Event Order)) → IsSound c g (go (kind change c) s events) (history change c s events) }
+    ensures { (change : Change) → PausesByParts change → (config : Config) (stage : Stage Actor) (graph : Graph) → Begins config stage graph → (events : List (Event Order)) → IsSound config graph (go (kind change config) stage events) (history change config stage events) }
 {}
 
 /// A law: the opening begins the graph of one object, the hub.
 pub fn opening_begins()
-    ensures { (c : Config) → Begins c (opening c) (first_graph c) }
+    ensures { (config : Config) → Begins config (opening config) (first_graph config) }
 {}
 
 /// A law: a machine that is reached by some steps makes its next access inside the table, whatever order it takes.
 pub fn accesses_are_inside()
-    ensures { (change : Change) → PausesByParts change → (c : Config) (s : Stage Actor) (g : Graph) → Begins c s g → (number : ℕ) (a : Actor) (order : Order) → HasReached (kind change c) s number a → takes_of a.machine order ≡ true → table_index (plan_of c order a.machine) < table_words c }
+    ensures { (change : Change) → PausesByParts change → (config : Config) (stage : Stage Actor) (graph : Graph) → Begins config stage graph → (number : ℕ) (actor : Actor) (order : Order) → HasReached (kind change config) stage number actor → takes_of actor.machine order ≡ true → table_index (plan_of config order actor.machine) < table_words config }
 {}
 
 /// A law: a word that a machine finds after some steps is fit.
 pub fn found_words_are_fit()
-    ensures { (change : Change) → PausesByParts change → (c : Config) (s : Stage Actor) (g : Graph) → Begins c s g → (number : ℕ) (a : Actor) (order : Order) (got : ℕ) → Finds (kind change c) s number a order got → IsFitFor c order got a.machine }
+    ensures { (change : Change) → PausesByParts change → (config : Config) (stage : Stage Actor) (graph : Graph) → Begins config stage graph → (number : ℕ) (actor : Actor) (order : Order) (got : ℕ) → Finds (kind change config) stage number actor order got → IsFitFor config order got actor.machine }
 {}
 
 /// A law: in a pause, from the control's last check to its end, no mutator and no helper is in the heap, and none makes an access
 /// to a word that the pause may change, but a mutator to look for its answer.
 pub fn pauses_are_empty()
-    ensures { (change : Change) → PausesByParts change → (c : Config) (s : Stage Actor) (g : Graph) → Begins c s g → (events : List (Event Order)) → IsInPause c (go (kind change c) s events) → IsEmpty c (go (kind change c) s events) }
+    ensures { (change : Change) → PausesByParts change → (config : Config) (stage : Stage Actor) (graph : Graph) → Begins config stage graph → (events : List (Event Order)) → IsInPause config (go (kind change config) stage events) → IsEmpty config (go (kind change config) stage events) }
 {}
 
 /// A law: where the word of the end is 0 before the first step, it is 1 after a list of steps where the control has ended, and
 /// 0 where it has not.
 pub fn end_is_known()
-    ensures { (change : Change) → PausesByParts change → (c : Config) (s : Stage Actor) (g : Graph) → Begins c s g → view c s.words End ≡ 0 → (events : List (Event Order)) → IsEndWord c has_ended (go (kind change c) s events) }
+    ensures { (change : Change) → PausesByParts change → (config : Config) (stage : Stage Actor) (graph : Graph) → Begins config stage graph → view config stage.words End ≡ 0 → (events : List (Event Order)) → IsEndWord config has_ended (go (kind change config) stage events) }
 {}
 
 /// A law: a machine that is about to look for a free region, for a new object or for a copy, has a buffer with fewer free words than it
 /// wants, or none.
 pub fn looks_for_room_in_need()
-    ensures { (change : Change) → PausesByParts change → (c : Config) (s : Stage Actor) (g : Graph) → Begins c s g → (events : List (Event Order)) (number : ℕ) (a : Actor) (words : ℕ) → slice_get (go (kind change c) s events).machines number ≡ Some a → looks_for a.machine ≡ Some words → HasLess (settled c (go (kind change c) s events)) number words }
+    ensures { (change : Change) → PausesByParts change → (config : Config) (stage : Stage Actor) (graph : Graph) → Begins config stage graph → (events : List (Event Order)) (number : ℕ) (actor : Actor) (words : ℕ) → slice_get (go (kind change config) stage events).machines number ≡ Some actor → looks_for actor.machine ≡ Some words → HasLess (settled config (go (kind change config) stage events)) number words }
 {}
 
 /// A law: of the image the control has, while it loads its words, exactly those that it has loaded as the table has them, and while it
 /// stores the new ones the first of those that count are the table's.
 pub fn read_words_are_the_tables()
-    ensures { (change : Change) → PausesByParts change → (c : Config) (s : Stage Actor) (g : Graph) → Begins c s g → (events : List (Event Order)) (number : ℕ) (a : Actor) (k : Controlling) → slice_get (go (kind change c) s events).machines number ≡ Some a → a.machine ≡ controlling k → IsAim c (go (kind change c) s events).words k.spot k.image }
+    ensures { (change : Change) → PausesByParts change → (config : Config) (stage : Stage Actor) (graph : Graph) → Begins config stage graph → (events : List (Event Order)) (number : ℕ) (actor : Actor) (control : Controlling) → slice_get (go (kind change config) stage events).machines number ≡ Some actor → actor.machine ≡ controlling control → IsAim config (go (kind change config) stage events).words control.spot control.image }
 {}
 
 /// A law: a pin word is changed by a step of its own mutator alone, which stores into it, whatever happened before. So a pinned object stays at
 /// its place until its own slot is emptied.
 pub fn only_pinning_pins()
-    ensures { (change : Change) → PausesByParts change → (c : Config) (s : Stage Actor) (g : Graph) → Begins c s g → (events : List (Event Order)) (e : Event Order) → OnlyPinningPins change c (go (kind change c) s events) e }
+    ensures { (change : Change) → PausesByParts change → (config : Config) (stage : Stage Actor) (graph : Graph) → Begins config stage graph → (events : List (Event Order)) (event : Event Order) → OnlyPinningPins change config (go (kind change config) stage events) event }
 {}
 
 /// A law: a machine keeps how many hints it has taken, whatever the events are.
@@ -105,5 +105,5 @@ pub fn hints_have_places()
 /// A law: where a heap is at rest, whatever happened before and in whichever phase it is, its words represent the graph after the history,
 /// and nobody asks for an object.
 pub fn rest_represents()
-    ensures { (change : Change) → PausesByParts change → (c : Config) (s : Stage Actor) (g : Graph) → Begins c s g → (events : List (Event Order)) → IsAtRest c (go (kind change c) s events) → Represents c (settled c (go (kind change c) s events)) (after g (history change c s events)) (λ t. nothing) }
+    ensures { (change : Change) → PausesByParts change → (config : Config) (stage : Stage Actor) (graph : Graph) → Begins config stage graph → (events : List (Event Order)) → IsAtRest config (go (kind change config) stage events) → Represents config (settled config (go (kind change config) stage events)) (after graph (history change config stage events)) (λ t. nothing) }
 {}

@@ -34,13 +34,13 @@ abbrev with_one : List Command → Option Command → List Command
 with_one xs None = xs
 with_one xs (Some x) = xs ++ x ∷ []
 
-one_behind : (xs : List Command) (o : Option Command) → slice_get (with_one xs o) (length xs) ≡ o
+one_behind : (xs : List Command) (found : Option Command) → slice_get (with_one xs found) (length xs) ≡ found
 one_behind [] None = refl
 one_behind [] (Some x) = refl
 one_behind (y ∷ ys) None = one_behind ys None
 one_behind (y ∷ ys) (Some x) = one_behind ys (Some x)
 
-front_of : (xs : List Command) (o : Option Command) → xs ≡ take (length xs) (with_one xs o)
+front_of : (xs : List Command) (found : Option Command) → xs ≡ take (length xs) (with_one xs found)
 front_of [] None = refl
 front_of [] (Some x) = refl
 front_of (y ∷ ys) None = ap (λ zs. y ∷ zs) (front_of ys None)
@@ -52,8 +52,8 @@ makes_is_new _ is = absurd cc
 
 module _ {D : Type 0} (next_of : D → Option Command) (replied : D → Reply → D) (to_come : D → ℕ) where
   -- a mutator that has not begun, and its driver
-  pub drives_first : (first : D) (a : Actor) → to_come first < most_objects → HasNotBegun a → IsDriving next_of replied to_come first first a
-  drives_first first a few fresh = record {
+  pub drives_first : (first : D) (actor : Actor) → to_come first < most_objects → HasNotBegun actor → IsDriving next_of replied to_come first first actor
+  drives_first first actor few fresh = record {
     driven = subst (λ es. IsDrivenFrom next_of replied first es) (sym fresh.calls) tt;
     state = sym (ap (driver_after replied first) fresh.calls);
     doing = λ busy. absurd (false≢true (sym busy ∙ fresh.rest));
@@ -65,67 +65,67 @@ module _ {D : Type 0} (next_of : D → Option Command) (replied : D → Reply �
     };
   }
 
-  module _ (first now : D) (a : Actor) (at : IsDriving next_of replied to_come first now a) where
+  module _ (first now : D) (actor : Actor) (at : IsDriving next_of replied to_come first now actor) where
     -- the commands of its calls with the one that is next are a script
     abbrev script : List Command
-    script = with_one (commands_of a.calls) (next_of now)
+    script = with_one (commands_of actor.calls) (next_of now)
 
-    count : length (commands_of a.calls) ≡ length a.calls
-    count = length-map a.calls (λ (e : Entry). e.command)
+    count : length (commands_of actor.calls) ≡ length actor.calls
+    count = length-map actor.calls (λ (entry : Entry). entry.command)
 
-    next_there : slice_get script (length a.calls) ≡ next_of now
-    next_there = ap (slice_get script) (sym count) ∙ one_behind (commands_of a.calls) (next_of now)
+    next_there : slice_get script (length actor.calls) ≡ next_of now
+    next_there = ap (slice_get script) (sym count) ∙ one_behind (commands_of actor.calls) (next_of now)
 
-    on : IsOnScript script a
+    on : IsOnScript script actor
     on = record {
-      done = front_of (commands_of a.calls) (next_of now) ∙ ap (λ n. take n script) count;
+      done = front_of (commands_of actor.calls) (next_of now) ∙ ap (λ n. take n script) count;
       doing = λ busy. next_there ∙ at.doing busy;
       ended = λ rest gone. next_there ∙ at.ended rest gone;
     }
 
     -- where it is idle for good its driver has no command
-    pub driven_done : is_mutating a.machine ≡ true → IsIdleForGood a.machine → HasDriven next_of replied first now a
+    pub driven_done : is_mutating actor.machine ≡ true → IsIdleForGood actor.machine → HasDriven next_of replied first now actor
     driven_done role idle = record {
-      rest = (script_done script a role on (idle (slice_get script (length a.calls)))).rest;
+      rest = (script_done script actor role on (idle (slice_get script (length actor.calls)))).rest;
       driven = at.driven;
       state = at.state;
-      ended = at.ended (script_done script a role on (idle (slice_get script (length a.calls)))).rest (never_begins a.machine idle);
+      ended = at.ended (script_done script actor role on (idle (slice_get script (length actor.calls)))).rest (never_begins actor.machine idle);
     }
       where
         never_begins : (machine : Machine) → IsIdleForGood machine → may_begin machine ≡ false
         never_begins machine idle = by_may (may_begin machine) refl
           where
-            by_may : (b : Bool) → may_begin machine ≡ b → may_begin machine ≡ false
+            by_may : (holds : Bool) → may_begin machine ≡ holds → may_begin machine ≡ false
             by_may true may = absurd (let e = sym (turn_at_rest machine None may) ∙ idle None in cc)
             by_may false may = may
 
-    module _ (c : Config) (order : Order) (got : ℕ) (role : is_mutating a.machine ≡ true) (turn : order_for (next_of now) a.machine ≡ Some order) where
+    module _ (config : Config) (order : Order) (got : ℕ) (role : is_mutating actor.machine ≡ true) (turn : order_for (next_of now) actor.machine ≡ Some order) where
       -- the mutator after its turn
       abbrev then_is : Actor
-      then_is = took_of pause_image c a order got a.machine
+      then_is = took_of pause_image config actor order got actor.machine
 
       on_then : IsOnScript script then_is
-      on_then = script_step pause_image c script a order got on (ap (λ o. order_for o a.machine) next_there ∙ turn)
+      on_then = script_step pause_image config script actor order got on (ap (λ o. order_for o actor.machine) next_there ∙ turn)
 
       -- the command that it has kept is that of its call
-      kept_then : is_resting (machine_after pause_image c order got a.machine) ≡ false → call_in (machine_after pause_image c order got a.machine) ≡ command_by order a.command
-      kept_then busy = by_may (may_begin a.machine) refl
+      kept_then : is_resting (machine_after pause_image config order got actor.machine) ≡ false → call_in (machine_after pause_image config order got actor.machine) ≡ command_by order actor.command
+      kept_then busy = by_may (may_begin actor.machine) refl
         where
-          by_may : (b : Bool) → may_begin a.machine ≡ b → call_in (machine_after pause_image c order got a.machine) ≡ command_by order a.command
+          by_may : (holds : Bool) → may_begin actor.machine ≡ holds → call_in (machine_after pause_image config order got actor.machine) ≡ command_by order actor.command
           by_may true may =
-              let begin = begins pause_image c (next_of now) a.machine order got may turn busy in
-              let obeys : next_order (next_of now) ≡ order = same_Some (next_order (next_of now)) order (sym (turn_at_rest a.machine (next_of now) may) ∙ turn) in
+              let begin = begins pause_image config (next_of now) actor.machine order got may turn busy in
+              let obeys : next_order (next_of now) ≡ order = same_Some (next_order (next_of now)) order (sym (turn_at_rest actor.machine (next_of now) may) ∙ turn) in
               let is : order ≡ Begin begin.0 = sym obeys ∙ ap next_order begin.1 in
-              ap (λ (o : Order). call_in (machine_after pause_image c o got a.machine)) is ∙ (call_begins pause_image c begin.0 got a.machine may).0 ∙ ap (λ (o : Order). command_by o a.command) (sym is)
+              ap (λ (order : Order). call_in (machine_after pause_image config order got actor.machine)) is ∙ (call_begins pause_image config begin.0 got actor.machine may).0 ∙ ap (λ (order : Order). command_by order actor.command) (sym is)
           by_may false may =
-              let goes = goes_on_with (next_of now) a.machine order may turn in
-              ap (λ (o : Order). call_in (machine_after pause_image c o got a.machine)) goes.1 ∙ call_kept pause_image c got a.machine ∙ at.kept goes.0
-              ∙ ap (λ (o : Order). command_by o a.command) (sym goes.1)
+              let goes = goes_on_with (next_of now) actor.machine order may turn in
+              ap (λ (order : Order). call_in (machine_after pause_image config order got actor.machine)) goes.1 ∙ call_kept pause_image config got actor.machine ∙ at.kept goes.0
+              ∙ ap (λ (order : Order). command_by order actor.command) (sym goes.1)
 
       -- no reply was given
-      pub drives_on : reply_of_step a.machine ≡ None → IsDriving next_of replied to_come first now then_is
+      pub drives_on : reply_of_step actor.machine ≡ None → IsDriving next_of replied to_come first now then_is
       drives_on none =
-          let same : a.calls ++ ended_by a.command a.machine ≡ a.calls = ap (λ es. a.calls ++ es) (ended_none a.command a.machine none) ∙ append-nil a.calls in
+          let same : actor.calls ++ ended_by actor.command actor.machine ≡ actor.calls = ap (λ es. actor.calls ++ es) (ended_none actor.command actor.machine none) ∙ append-nil actor.calls in
           let next_then : slice_get script (length then_is.calls) ≡ next_of now = ap (λ (es : List Entry). slice_get script (length es)) same ∙ next_there in
           record {
             driven = subst (λ es. IsDrivenFrom next_of replied first es) (sym same) at.driven;
@@ -133,26 +133,26 @@ module _ {D : Type 0} (next_of : D → Option Command) (replied : D → Reply �
             doing = λ busy. sym next_then ∙ on_then.doing busy;
             kept = kept_then;
             ended = λ rest gone. sym next_then ∙ on_then.ended rest gone;
-            names = left_on pause_image c (next_of now) order got a.machine (to_come now) role at.names turn none;
+            names = left_on pause_image config (next_of now) order got actor.machine (to_come now) role at.names turn none;
           }
 
       -- its driver has taken the reply
-      pub drives_noted : (r : Reply) → reply_of_step a.machine ≡ Some r → to_come (replied now r) ≤ to_come now
-          → ((command : Command) → next_of now ≡ Some command → IsNew command → to_come (replied now r) < to_come now)
-          → IsDriving next_of replied to_come first (replied now r) then_is
-      drives_noted r gives falls pays =
-          let given = given_after pause_image c order got a.machine r gives in
-          let ended = ended_some a.command a.machine r gives in
-          let more : a.calls ++ ended_by a.command a.machine ≡ a.calls ++ ended.0 ∷ [] = ap (λ es. a.calls ++ es) ended.1 in
-          let follows : next_of (driver_after replied first a.calls) ≡ Some ended.0.command =
-          ap next_of (sym at.state) ∙ at.doing given.busy ∙ ap (λ (k : Command). Some k) (sym ended.2) in
+      pub drives_noted : (reply : Reply) → reply_of_step actor.machine ≡ Some reply → to_come (replied now reply) ≤ to_come now
+          → ((command : Command) → next_of now ≡ Some command → IsNew command → to_come (replied now reply) < to_come now)
+          → IsDriving next_of replied to_come first (replied now reply) then_is
+      drives_noted reply gives falls pays =
+          let given = given_after pause_image config order got actor.machine reply gives in
+          let ended = ended_some actor.command actor.machine reply gives in
+          let more : actor.calls ++ ended_by actor.command actor.machine ≡ actor.calls ++ ended.0 ∷ [] = ap (λ es. actor.calls ++ es) ended.1 in
+          let follows : next_of (driver_after replied first actor.calls) ≡ Some ended.0.command =
+          ap next_of (sym at.state) ∙ at.doing given.busy ∙ ap (λ (command : Command). Some command) (sym ended.2) in
           record {
-            driven = subst (λ es. IsDrivenFrom next_of replied first es) (sym more) (driven_more next_of replied first a.calls ended.0 at.driven follows);
-            state = ap (λ d. replied d r) at.state ∙ ap (replied (driver_after replied first a.calls)) (sym ended.3)
-                ∙ sym (after_more next_of replied first a.calls ended.0) ∙ ap (driver_after replied first) (sym more);
+            driven = subst (λ es. IsDrivenFrom next_of replied first es) (sym more) (driven_more next_of replied first actor.calls ended.0 at.driven follows);
+            state = ap (λ d. replied d reply) at.state ∙ ap (replied (driver_after replied first actor.calls)) (sym ended.3)
+                ∙ sym (after_more next_of replied first actor.calls ended.0) ∙ ap (driver_after replied first) (sym more);
             doing = λ busy. absurd (false≢true (sym busy ∙ given.rest));
             kept = λ busy. absurd (false≢true (sym busy ∙ given.rest));
             ended = λ rest gone. absurd (false≢true (sym gone ∙ given.free));
-            names = left_given pause_image c (next_of now) order got a.machine (to_come now) role at.names r (to_come (replied now r)) gives falls
-                (λ makes. pays a.command (at.doing given.busy) (makes_is_new a.command (sym (ap makes_object (at.kept given.busy)) ∙ makes)));
+            names = left_given pause_image config (next_of now) order got actor.machine (to_come now) role at.names reply (to_come (replied now reply)) gives falls
+                (λ makes. pays actor.command (at.doing given.busy) (makes_is_new actor.command (sym (ap makes_object (at.kept given.busy)) ∙ makes)));
           }

@@ -27,16 +27,16 @@ use Rattle.table_heap.specs.Running.{Jobs, CanStartOn, IsAtWork, IsAtWorkOn, IsI
 use Rattle.table_heap.proofs.Jobs.{progress_there, script_here, replies_here}
 
 -- a mutator that has called nothing is on any script
-on_first : (script : List Command) (a : Actor) → a.calls ≡ [] → is_resting a.machine ≡ true → may_begin a.machine ≡ true → IsOnScript script a
-on_first script a none rest free = record {
+on_first : (script : List Command) (actor : Actor) → actor.calls ≡ [] → is_resting actor.machine ≡ true → may_begin actor.machine ≡ true → IsOnScript script actor
+on_first script actor none rest free = record {
   done = ap commands_of none ∙ ap (λ (es : List Entry). take (length es) script) (sym none);
   doing = λ busy. absurd (false≢true (sym busy ∙ rest));
   ended = λ _ gone. absurd (false≢true (sym gone ∙ free));
 }
 
 -- it is at work before it begins
-pub starts : (jobs : Jobs) (number : ℕ) (a : Actor) → CanStartOn jobs number a → IsAtWorkOn jobs number a
-starts jobs number a can =
+pub starts : (jobs : Jobs) (number : ℕ) (actor : Actor) → CanStartOn jobs number actor → IsAtWorkOn jobs number actor
+starts jobs number actor can =
     let there = progress_there jobs number can.script in
     let script = script_here jobs number there.0 there.1 in
     let replies : there.0.replies ≡ [] = sym (replies_here jobs number there.0 there.1) ∙ can.replies in
@@ -45,73 +45,73 @@ starts jobs number a can =
       there.0,
       there.1,
       record {
-        on = on_first there.0.script a can.calls can.rest can.free;
+        on = on_first there.0.script actor can.calls can.rest can.free;
         replies = replies ∙ sym (ap history.replies_of can.calls);
         commands = subst (λ xs. All IsValid xs) script can.commands;
         made = omega (arith, few, none);
       },
     )
 
-module _ (p : Progress) (a : Actor) (at : IsAtWork p a) where
+module _ (progress : Progress) (actor : Actor) (at : IsAtWork progress actor) where
   -- as many replies as calls
-  pub count : length p.replies ≡ length a.calls
-  count = ap length at.replies ∙ length-map a.calls (λ e. e.reply)
+  pub count : length progress.replies ≡ length actor.calls
+  count = ap length at.replies ∙ length-map actor.calls (λ e. e.reply)
 
   -- the command that follows can be given
-  pub next_fits : may_begin a.machine ≡ true → IfSome (slice_get p.script (length p.replies)) (λ command. IsValid command × (made_of_machine a.machine < most_objects))
-  next_fits may = command_fits a.machine p.script (length p.replies) at.commands at.made may
+  pub next_fits : may_begin actor.machine ≡ true → IfSome (slice_get progress.script (length progress.replies)) (λ command. IsValid command × (made_of_machine actor.machine < most_objects))
+  next_fits may = command_fits actor.machine progress.script (length progress.replies) at.commands at.made may
 
   -- it has called its whole script where it is idle for good
-  pub done : is_mutating a.machine ≡ true → IsIdleForGood a.machine → HasDone p.script p.replies a
+  pub done : is_mutating actor.machine ≡ true → IsIdleForGood actor.machine → HasDone progress.script progress.replies actor
   done role idle = record {
-    whole = script_done p.script a role at.on (idle (slice_get p.script (length a.calls)));
+    whole = script_done progress.script actor role at.on (idle (slice_get progress.script (length actor.calls)));
     told = at.replies;
   }
 
-  module _ (c : Config) (order : Order) (got : ℕ) (next : order_for (slice_get p.script (length p.replies)) a.machine ≡ Some order) where
+  module _ (config : Config) (order : Order) (got : ℕ) (next : order_for (slice_get progress.script (length progress.replies)) actor.machine ≡ Some order) where
     -- the mutator after its turn
     abbrev then_is : Actor
-    then_is = took_of pause_image c a order got a.machine
+    then_is = took_of pause_image config actor order got actor.machine
 
     -- it is on its script
-    on_then : IsOnScript p.script then_is
-    on_then = script_step pause_image c p.script a order got at.on (ap (λ n. order_for (slice_get p.script n) a.machine) (sym count) ∙ next)
+    on_then : IsOnScript progress.script then_is
+    on_then = script_step pause_image config progress.script actor order got at.on (ap (λ n. order_for (slice_get progress.script n) actor.machine) (sym count) ∙ next)
 
     -- the replies of its calls
-    replies_then : map (λ e. e.reply) then_is.calls ≡ p.replies ++ listed (reply_of_step a.machine)
-    replies_then = took_replies a ∙ ap (λ rs. rs ++ listed (reply_of_step a.machine)) (sym at.replies)
+    replies_then : map (λ e. e.reply) then_is.calls ≡ progress.replies ++ listed (reply_of_step actor.machine)
+    replies_then = took_replies actor ∙ ap (λ rs. rs ++ listed (reply_of_step actor.machine)) (sym at.replies)
 
     -- no reply was given
-    pub goes_on : reply_of_step a.machine ≡ None → IsAtWork p then_is
+    pub goes_on : reply_of_step actor.machine ≡ None → IsAtWork progress then_is
     goes_on none = record {
       on = on_then;
-      replies = sym (replies_then ∙ ap (λ g. p.replies ++ listed g) none ∙ append-nil p.replies);
+      replies = sym (replies_then ∙ ap (λ g. progress.replies ++ listed g) none ∙ append-nil progress.replies);
       commands = at.commands;
-      made = names_on pause_image c order got a.machine (length p.script) (length p.replies) at.made none;
+      made = names_on pause_image config order got actor.machine (length progress.script) (length progress.replies) at.made none;
     }
 
-    module _ (reply : Reply) (gives : reply_of_step a.machine ≡ Some reply) where
+    module _ (reply : Reply) (gives : reply_of_step actor.machine ≡ Some reply) where
       -- in its call there are more commands than replies
-      pub more : length p.replies < length p.script
+      pub more : length progress.replies < length progress.script
       more =
-          let busy = (given_after pause_image c order got a.machine reply gives).busy in
-          let within = slice_get_within p.script (length a.calls) a.command (at.on.doing busy) in
+          let busy = (given_after pause_image config order got actor.machine reply gives).busy in
+          let within = slice_get_within progress.script (length actor.calls) actor.command (at.on.doing busy) in
           omega (arith, within, count)
 
       -- the reply is noted
-      pub noted : IsAtWork (answered p reply) then_is
+      pub noted : IsAtWork (answered progress reply) then_is
       noted = record {
         on = on_then;
-        replies = sym (replies_then ∙ ap (λ g. p.replies ++ listed g) gives);
+        replies = sym (replies_then ∙ ap (λ g. progress.replies ++ listed g) gives);
         commands = at.commands;
-        made = subst (λ n. HasNames (machine_after pause_image c order got a.machine) (length p.script) n) (sym (length-append p.replies (reply ∷ [])))
-            (names_noted pause_image c order got a.machine (length p.script) (length p.replies) at.made reply gives);
+        made = subst (λ n. HasNames (machine_after pause_image config order got actor.machine) (length progress.script) n) (sym (length-append progress.replies (reply ∷ [])))
+            (names_noted pause_image config order got actor.machine (length progress.script) (length progress.replies) at.made reply gives);
       }
 
 -- a machine that has no turn whatever follows has none by any command
 pub idle_for_good : (machine : Machine) (next : Option Command) → order_for next machine ≡ None → IsIdleForGood machine
 idle_for_good machine next idle other = by_may (may_begin machine) refl
   where
-    by_may : (b : Bool) → may_begin machine ≡ b → order_for other machine ≡ None
+    by_may : (holds : Bool) → may_begin machine ≡ holds → order_for other machine ≡ None
     by_may true may = absurd (let e = sym (turn_at_rest machine next may) ∙ idle in cc)
     by_may false none = turn_in_call machine other none ∙ sym (turn_in_call machine next none) ∙ idle

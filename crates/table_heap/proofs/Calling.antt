@@ -52,9 +52,9 @@ module _ (makes : Bool) where
   abbrev InCall : Spot → Type 0
   InCall spot = may_stand makes spot ≡ true
 
-  either : (b : Bool) (x y : Spot) → InCall x → InCall y → InCall (if b then x else y)
-  either true x y one other = one
-  either false x y one other = other
+  either : (holds : Bool) (spot other_spot : Spot) → InCall spot → InCall other_spot → InCall (if holds then spot else other_spot)
+  either true spot other_spot one other = one
+  either false spot other_spot one other = other
 
   in_enter : (next : Entered) (at now : EnterSpot) → InCall (Entering at next) → InCall (after_enter next now)
   in_enter Call at Inside may = refl
@@ -129,24 +129,24 @@ module _ (makes : Bool) where
   in_resolved found answer ForRoot = refl
   in_resolved found answer (ToCompare object expect value) = in_expected object expect value found answer
 
-  in_loaded : (c : Config) (phase cset found : ℕ) (next : Loaded) → InCall (with_loaded c phase cset found next)
-  in_loaded c phase cset found next = either (must_resolve c phase cset found) (Resolving found LoadHeader next) (after_resolved found found next) refl (in_resolved found found next)
+  in_loaded : (config : Config) (phase cset found : ℕ) (next : Loaded) → InCall (with_loaded config phase cset found next)
+  in_loaded config phase cset found next = either (must_resolve config phase cset found) (Resolving found LoadHeader next) (after_resolved found found next) refl (in_resolved found found next)
 
   in_resolve : (found : ℕ) (next : Loaded) (at : ResolveSpot) → InCall (after_resolve found next at)
   in_resolve found next (Resolved answer) = in_resolved found answer next
   in_resolve found next _ = refl
 
-  in_swap : (c : Config) (phase cset found : ℕ) → InCall (after_swap c phase cset found)
-  in_swap c phase cset found = either (is_to_record phase found) (Recording LoadCount found overwrites.Xchg) (with_loaded c phase cset found ForRoot) refl (in_loaded c phase cset found ForRoot)
+  in_swap : (config : Config) (phase cset found : ℕ) → InCall (after_swap config phase cset found)
+  in_swap config phase cset found = either (is_to_record phase found) (Recording LoadCount found overwrites.Xchg) (with_loaded config phase cset found ForRoot) refl (in_loaded config phase cset found ForRoot)
 
-  in_field : (c : Config) (phase cset object : ℕ) (at : FieldSpot) (got : ℕ) → InCall (field_next c phase cset object at got)
-  in_field c phase cset object fields.Load got = in_loaded c phase cset got ForRoot
-  in_field c phase cset object (fields.LoadExpected expect value) got = in_loaded c phase cset got (ToCompare object expect value)
-  in_field c phase cset object (fields.LoadOld value) got = in_overwritten phase got (overwrites.Set object value)
-  in_field c phase cset object (fields.Swap value) got = in_swap c phase cset got
-  in_field c phase cset object (fields.Exchange found expect value) got =
+  in_field : (config : Config) (phase cset object : ℕ) (at : FieldSpot) (got : ℕ) → InCall (field_next config phase cset object at got)
+  in_field config phase cset object fields.Load got = in_loaded config phase cset got ForRoot
+  in_field config phase cset object (fields.LoadExpected expect value) got = in_loaded config phase cset got (ToCompare object expect value)
+  in_field config phase cset object (fields.LoadOld value) got = in_overwritten phase got (overwrites.Set object value)
+  in_field config phase cset object (fields.Swap value) got = in_swap config phase cset got
+  in_field config phase cset object (fields.Exchange found expect value) got =
       either (got == found) (overwritten phase found overwrites.Cas) (OnField object (fields.LoadExpected expect value)) (in_overwritten phase found overwrites.Cas) refl
-  in_field c phase cset object _ got = refl
+  in_field config phase cset object _ got = refl
 
   in_numbers : (at : NumberSpot) (got : ℕ) → InCall (number_next at got)
   in_numbers number.Load got = refl
@@ -160,10 +160,10 @@ module _ (makes : Bool) where
   in_pin value command pin.Look got = either (fits_slot command got) (Pinning value pin.Store) (Leave reply.Bad) refl refl
   in_pin value command pin.Store got = refl
 
-  in_make : (c : Config) (seat made : ℕ) (command : Command) (at : MakeSpot) (got : ℕ) → makes ≡ true → InCall (make_next c seat made command at got)
-  in_make c seat made command (make.Taking take) got may = in_take (take_next c command take got) may
-  in_make c seat made command (make.StoreWord address done) got may = may
-  in_make c seat made command (make.StoreRoot address) got may = refl
+  in_make : (config : Config) (seat made : ℕ) (command : Command) (at : MakeSpot) (got : ℕ) → makes ≡ true → InCall (make_next config seat made command at got)
+  in_make config seat made command (make.Taking take) got may = in_take (take_next config command take got) may
+  in_make config seat made command (make.StoreWord address done) got may = may
+  in_make config seat made command (make.StoreRoot address) got may = refl
 
   in_wait : (seat made : ℕ) (at : WaitSpot) (got : ℕ) → makes ≡ true → InCall (wait_next seat made at got)
   in_wait seat made wait.StoreRequest got may = may
@@ -175,23 +175,23 @@ module _ (makes : Bool) where
   in_wait seat made (wait.ClearAnswer reply) got may = refl
 
   -- and so it does after a step that gives no reply
-  pub call_stands : (c : Config) (m : Mutating) (got : ℕ) (spot : Spot) → (makes_object m.kept.command ≡ true → makes ≡ true) → may_stand makes spot ≡ true → given_at spot ≡ None
-      → may_stand makes (next_at c m Nothing got spot).spot ≡ true
-  call_stands c m got Rest own may none = absurd cc
-  call_stands c m got (Ended reply) own may none = absurd cc
-  call_stands c m got Gone own may none = absurd cc
-  call_stands c m got (Entering at next) own may none = in_enter next at (enter_next at got) may
-  call_stands c m got LoadPhase own may none = refl
-  call_stands c m got LoadSet own may none = in_first_spot m.kept.command own
-  call_stands c m got (Loading at) own may none = in_load m.kept.phase m.kept.command at got
-  call_stands c m got (OnField object at) own may none = in_field c m.kept.phase m.kept.cset object at got
-  call_stands c m got (Resolving address at next) own may none = in_resolve address next (resolves.next_at c address m.kept.phase at got)
-  call_stands c m got (Recording at address next) own may none = in_remember address next (satb.next_at at got)
-  call_stands c m got (OnNumber object refs at) own may none = in_numbers at got
-  call_stands c m got (Showing value at) own may none = in_show value at got
-  call_stands c m got (StoreRoot value) own may none = refl
-  call_stands c m got (Making at) own may none = in_make c m.seat m.made m.kept.command at got may
-  call_stands c m got AskCycle own may none = refl
-  call_stands c m got (Pinning value at) own may none = in_pin value m.kept.command at got
-  call_stands c m got (Waiting at) own may none = in_wait m.seat m.made at got may
-  call_stands c m got (Leave reply) own may none = absurd (cc (none))
+  pub call_stands : (config : Config) (mutator : Mutating) (got : ℕ) (spot : Spot) → (makes_object mutator.kept.command ≡ true → makes ≡ true) → may_stand makes spot ≡ true → given_at spot ≡ None
+      → may_stand makes (next_at config mutator Nothing got spot).spot ≡ true
+  call_stands config mutator got Rest own may none = absurd cc
+  call_stands config mutator got (Ended reply) own may none = absurd cc
+  call_stands config mutator got Gone own may none = absurd cc
+  call_stands config mutator got (Entering at next) own may none = in_enter next at (enter_next at got) may
+  call_stands config mutator got LoadPhase own may none = refl
+  call_stands config mutator got LoadSet own may none = in_first_spot mutator.kept.command own
+  call_stands config mutator got (Loading at) own may none = in_load mutator.kept.phase mutator.kept.command at got
+  call_stands config mutator got (OnField object at) own may none = in_field config mutator.kept.phase mutator.kept.cset object at got
+  call_stands config mutator got (Resolving address at next) own may none = in_resolve address next (resolves.next_at config address mutator.kept.phase at got)
+  call_stands config mutator got (Recording at address next) own may none = in_remember address next (satb.next_at at got)
+  call_stands config mutator got (OnNumber object refs at) own may none = in_numbers at got
+  call_stands config mutator got (Showing value at) own may none = in_show value at got
+  call_stands config mutator got (StoreRoot value) own may none = refl
+  call_stands config mutator got (Making at) own may none = in_make config mutator.seat mutator.made mutator.kept.command at got may
+  call_stands config mutator got AskCycle own may none = refl
+  call_stands config mutator got (Pinning value at) own may none = in_pin value mutator.kept.command at got
+  call_stands config mutator got (Waiting at) own may none = in_wait mutator.seat mutator.made at got may
+  call_stands config mutator got (Leave reply) own may none = absurd (cc (none))

@@ -33,78 +33,78 @@ use Rattle.table_heap.proofs.Core.{begun, start_count, idle_is_calm, run_from}
 use Rattle.table_heap.proofs.MachineUnder.{shows_here}
 
 -- the word under a number
-number_at : (xs : List ℕ) (k x : ℕ) → get_elem? xs k ≡ some x → slice_index xs k ≡ x
-number_at [] k x here = absurd cc
+number_at : (xs : List ℕ) (index x : ℕ) → get_elem? xs index ≡ some x → slice_index xs index ≡ x
+number_at [] index x here = absurd cc
 number_at (y ∷ ys) zero x here = cc
-number_at (y ∷ ys) (suc k) x here = number_at ys k x here
+number_at (y ∷ ys) (suc index) x here = number_at ys index x here
 
 -- one word more is read
-pub read_next : (rows words : List ℕ) (at x : ℕ) → at < length words → get_elem? rows at ≡ some x → ((k : ℕ) → k < at → slice_index words k ≡ slice_index rows k)
-    → (k : ℕ) → k < at + 1 → slice_index (slice_set words at x) k ≡ slice_index rows k
-read_next rows words at x within here read k below = by_number (k == at) refl
+pub read_next : (rows words : List ℕ) (at x : ℕ) → at < length words → get_elem? rows at ≡ some x → ((index : ℕ) → index < at → slice_index words index ≡ slice_index rows index)
+    → (index : ℕ) → index < at + 1 → slice_index (slice_set words at x) index ≡ slice_index rows index
+read_next rows words at x within here read index below = by_number (index == at) refl
   where
-    by_number : (b : Bool) → (k == at) ≡ b → slice_index (slice_set words at x) k ≡ slice_index rows k
+    by_number : (holds : Bool) → (index == at) ≡ holds → slice_index (slice_set words at x) index ≡ slice_index rows index
     by_number true is =
-        let same : k ≡ at = grind (arith, nat_tests) in
+        let same : index ≡ at = grind (arith, nat_tests) in
         ap (slice_index (slice_set words at x)) same ∙ get_or-set_same words at x 0 within ∙ sym (number_at rows at x here) ∙ ap (slice_index rows) (sym same)
     by_number false is =
-        let other : k ≢ at = grind (arith, nat_tests) in
-        get_or-set_other words at k x 0 other ∙ read k (grind (arith, nat_tests))
+        let other : index ≢ at = grind (arith, nat_tests) in
+        get_or-set_other words at index x 0 other ∙ read index (grind (arith, nat_tests))
 
 -- where memory has each machine, the view has all
-pub view_is_whole : (k : HeapKey) (c : Config) → k.config ≡ c → (view : View Actor) (items : View Machine) → kept_in_view machine_in view ≡ items → length items ≡ seat_count c.mutators c.helpers
-    → ((number : ℕ) → number < seat_count c.mutators c.helpers → is_some (machine_of items number) ≡ true) → HasAllMachines (length (start_of_key k).machines) view
-view_is_whole k c sizes view items kept long here = record {
+pub view_is_whole : (key : HeapKey) (config : Config) → key.config ≡ config → (view : View Actor) (items : View Machine) → kept_in_view machine_in view ≡ items → length items ≡ seat_count config.mutators config.helpers
+    → ((number : ℕ) → number < seat_count config.mutators config.helpers → is_some (machine_of items number) ≡ true) → HasAllMachines (length (start_of_key key).machines) view
+view_is_whole key config sizes view items kept long here = record {
   all = all_here view (λ j below. sym (kept_some machine_in view j) ∙ ap (λ v. is_some (machine_of v j)) kept ∙ here j (omega (arith, below, count)));
-  counts = count ∙ ap (λ (d : Config). seat_count d.mutators d.helpers) (sym sizes) ∙ sym (start_count k);
+  counts = count ∙ ap (λ (config : Config). seat_count config.mutators config.helpers) (sym sizes) ∙ sym (start_count key);
 }
   where
-    count : length view ≡ seat_count c.mutators c.helpers
+    count : length view ≡ seat_count config.mutators config.helpers
     count = sym (length-kept machine_in view) ∙ ap length kept ∙ long
 
 -- where the control of a view is idle it stores no image
-pub view_is_calm : (view : View Actor) (number : ℕ) → view ≡ whole (machines_of view) → ((a : Actor) → machine_of view number ≡ Some a → takes_of a.machine Nothing ≡ false)
+pub view_is_calm : (view : View Actor) (number : ℕ) → view ≡ whole (machines_of view) → ((actor : Actor) → machine_of view number ≡ Some actor → takes_of actor.machine Nothing ≡ false)
     → image_of (slice_get (machines_of view) number) ≡ None
-view_is_calm view number all idle = idle_is_calm (slice_get (machines_of view) number) (λ a is. idle a (ap (λ v. machine_of v number) all ∙ machine_of-whole (machines_of view) number ∙ is))
+view_is_calm view number all idle = idle_is_calm (slice_get (machines_of view) number) (λ actor is. idle actor (ap (λ v. machine_of v number) all ∙ machine_of-whole (machines_of view) number ∙ is))
 
 -- the same stage, with other names for the key, the configuration, the words and the view
-pub reached_as : (j k : HeapKey) (c : Config) (words read : List ℕ) (view seen : View Actor) → j ≡ k → k.config ≡ c → words ≡ read → view ≡ seen
-    → IsReached (heap_kind j.config) (start_of_key j) (record { words = words; machines = machines_of view }) → IsReached (heap_kind c) (start_of_key k) (record { words = read; machines = machines_of seen })
-reached_as j k c words read view seen key config all same reached =
-    subst (λ (d : Config). IsReached (heap_kind d) (start_of_key k) (record { words = read; machines = machines_of seen })) config
-    (subst (λ (x : HeapKey). IsReached (heap_kind x.config) (start_of_key x) (record { words = read; machines = machines_of seen })) key
-    (subst (λ (xs : List ℕ). IsReached (heap_kind j.config) (start_of_key j) (record { words = xs; machines = machines_of seen })) all
-    (subst (λ (v : View Actor). IsReached (heap_kind j.config) (start_of_key j) (record { words = words; machines = machines_of v })) same reached)))
+pub reached_as : (other_key k : HeapKey) (other_config : Config) (words read : List ℕ) (view seen : View Actor) → other_key ≡ k → k.config ≡ other_config → words ≡ read → view ≡ seen
+    → IsReached (heap_kind other_key.config) (start_of_key other_key) (record { words = words; machines = machines_of view }) → IsReached (heap_kind other_config) (start_of_key k) (record { words = read; machines = machines_of seen })
+reached_as other_key k other_config words read view seen key config all same reached =
+    subst (λ (config : Config). IsReached (heap_kind config) (start_of_key k) (record { words = read; machines = machines_of seen })) config
+    (subst (λ (key : HeapKey). IsReached (heap_kind key.config) (start_of_key key) (record { words = read; machines = machines_of seen })) key
+    (subst (λ (xs : List ℕ). IsReached (heap_kind other_key.config) (start_of_key other_key) (record { words = xs; machines = machines_of seen })) all
+    (subst (λ (view : View Actor). IsReached (heap_kind other_key.config) (start_of_key other_key) (record { words = words; machines = machines_of view })) same reached)))
 
 -- after any events the machine under the number of the control is the control
-control_there : (k : HeapKey) (s : Stage Actor) → IsReached (heap_kind k.config) (start_of_key k) s → (a : Actor) → slice_get s.machines (control_number k.config) ≡ Some a → is_some (control_in a.machine) ≡ true
-control_there k s reached a here =
-    begun k (is_some (control_in a.machine) ≡ true) (hlevel Bool-set) (λ g begins.
-    let c = k.config in
-    let run = run_from c (start_of_key k) g begins reached.events in
-    let there : slice_get (ending pause_image c run).machines (control_number c) ≡ Some a = ap (λ x. slice_get x.machines (control_number c)) reached.ends ∙ here in
-    let role = control_of c (control_number c) a.machine ((run_sound pause_image heap_pauses c run).of_heap.roles (control_number c) a there) refl in
+control_there : (key : HeapKey) (stage : Stage Actor) → IsReached (heap_kind key.config) (start_of_key key) stage → (actor : Actor) → slice_get stage.machines (control_number key.config) ≡ Some actor → is_some (control_in actor.machine) ≡ true
+control_there key stage reached actor here =
+    begun key (is_some (control_in actor.machine) ≡ true) (hlevel Bool-set) (λ g begins.
+    let c = key.config in
+    let run = run_from c (start_of_key key) g begins reached.events in
+    let there : slice_get (ending pause_image c run).machines (control_number c) ≡ Some actor = ap (λ x. slice_get x.machines (control_number c)) reached.ends ∙ here in
+    let role = control_of c (control_number c) actor.machine ((run_sound pause_image heap_pauses c run).of_heap.roles (control_number c) actor there) refl in
     ap (λ machine. is_some (control_in machine)) role.1)
 
 -- so memory has it there
-has_control_at : (k : HeapKey) (items : View memory.Machine) (view : View Actor) (words : List ℕ) → kept_in_view machine_in view ≡ kept_in_view shown items → AreOfHeap k.config items → view ≡ whole (machines_of view)
-    → is_some (machine_of (kept_in_view shown items) (control_number k.config)) ≡ true → IsReached (heap_kind k.config) (start_of_key k) (record { words = words; machines = machines_of view }) → HasTheControl k.config items
-has_control_at k items view words kept of_heap all here reached = by_machine (machine_of items (control_number k.config)) refl
+has_control_at : (key : HeapKey) (items : View memory.Machine) (view : View Actor) (words : List ℕ) → kept_in_view machine_in view ≡ kept_in_view shown items → AreOfHeap key.config items → view ≡ whole (machines_of view)
+    → is_some (machine_of (kept_in_view shown items) (control_number key.config)) ≡ true → IsReached (heap_kind key.config) (start_of_key key) (record { words = words; machines = machines_of view }) → HasTheControl key.config items
+has_control_at key items view words kept of_heap all here reached = by_machine (machine_of items (control_number key.config)) refl
   where
-    by_machine : (o : Option memory.Machine) → machine_of items (control_number k.config) ≡ o → HasTheControl k.config items
-    by_machine None is = absurd (let none : is_some (machine_of (kept_in_view shown items) (control_number k.config)) ≡ false = kept_some shown items (control_number k.config) ∙ ap is_some is in cc)
+    by_machine : (o : Option memory.Machine) → machine_of items (control_number key.config) ≡ o → HasTheControl key.config items
+    by_machine None is = absurd (let none : is_some (machine_of (kept_in_view shown items) (control_number key.config)) ≡ false = kept_some shown items (control_number key.config) ∙ ap is_some is in cc)
     by_machine (Some m) is =
-        let seen = kept_here machine_in view (control_number k.config) (shown m) (ap (λ v. machine_of v (control_number k.config)) kept ∙ shows_here shown items (control_number k.config) m is) in
-        let there : slice_get (machines_of view) (control_number k.config) ≡ Some seen.0 = sym (machine_of-whole (machines_of view) (control_number k.config)) ∙ ap (λ v. machine_of v (control_number k.config)) (sym all) ∙ seen.1 in
+        let seen = kept_here machine_in view (control_number key.config) (shown m) (ap (λ v. machine_of v (control_number key.config)) kept ∙ shows_here shown items (control_number key.config) m is) in
+        let there : slice_get (machines_of view) (control_number key.config) ≡ Some seen.0 = sym (machine_of-whole (machines_of view) (control_number key.config)) ∙ ap (λ v. machine_of v (control_number key.config)) (sym all) ∙ seen.1 in
         record {
           machine = m;
           here = is;
-          heap = (of_heap (control_number k.config) m is).heap;
-          role = ap (λ machine. is_some (control_in machine)) (sym seen.2) ∙ control_there k (record { words = words; machines = machines_of view }) reached seen.0 there;
+          heap = (of_heap (control_number key.config) m is).heap;
+          role = ap (λ machine. is_some (control_in machine)) (sym seen.2) ∙ control_there key (record { words = words; machines = machines_of view }) reached seen.0 there;
         }
 
-pub has_control : (k : HeapKey) (c : Config) → k.config ≡ c → (items : View memory.Machine) (view : View Actor) (words : List ℕ) → kept_in_view machine_in view ≡ kept_in_view shown items → AreOfHeap c items
-    → view ≡ whole (machines_of view) → is_some (machine_of (kept_in_view shown items) (control_number c)) ≡ true → IsReached (heap_kind c) (start_of_key k) (record { words = words; machines = machines_of view }) → HasTheControl c items
-has_control k c sizes items view words kept =
-    subst (λ (d : Config). AreOfHeap d items → view ≡ whole (machines_of view) → is_some (machine_of (kept_in_view shown items) (control_number d)) ≡ true
-    → IsReached (heap_kind d) (start_of_key k) (record { words = words; machines = machines_of view }) → HasTheControl d items) sizes (has_control_at k items view words kept)
+pub has_control : (key : HeapKey) (config : Config) → key.config ≡ config → (items : View memory.Machine) (view : View Actor) (words : List ℕ) → kept_in_view machine_in view ≡ kept_in_view shown items → AreOfHeap config items
+    → view ≡ whole (machines_of view) → is_some (machine_of (kept_in_view shown items) (control_number config)) ≡ true → IsReached (heap_kind config) (start_of_key key) (record { words = words; machines = machines_of view }) → HasTheControl config items
+has_control key config sizes items view words kept =
+    subst (λ (config : Config). AreOfHeap config items → view ≡ whole (machines_of view) → is_some (machine_of (kept_in_view shown items) (control_number config)) ≡ true
+    → IsReached (heap_kind config) (start_of_key key) (record { words = words; machines = machines_of view }) → HasTheControl config items) sizes (has_control_at key items view words kept)

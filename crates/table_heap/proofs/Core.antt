@@ -28,55 +28,55 @@ use Rattle.step_core.proofs.Theorem.EveryList.{found_fit}
 use Rattle.table_heap.specs.declared.key.HeapKey.{HeapKey}
 use Rattle.table_heap.specs.Core.{heap_kind, heap_opening, start_of_key}
 
-pub kind_takes : (c : Config) (a : Actor) (order : Order) → (heap_kind c).takes a order ≡ takes_of a.machine order
+pub kind_takes : (config : Config) (actor : Actor) (order : Order) → (heap_kind config).takes actor order ≡ takes_of actor.machine order
 unfolding kind
-kind_takes c a order = refl
+kind_takes config actor order = refl
 
-pub kind_plan : (c : Config) (a : Actor) (order : Order) → (heap_kind c).plan a order ≡ plan_of c order a.machine
+pub kind_plan : (config : Config) (actor : Actor) (order : Order) → (heap_kind config).plan actor order ≡ plan_of config order actor.machine
 unfolding kind
-kind_plan c a order = refl
+kind_plan config actor order = refl
 
-pub kind_took : (c : Config) (a : Actor) (order : Order) (got : ℕ) → (heap_kind c).took a order got ≡ took_of pause_image c a order got a.machine
+pub kind_took : (config : Config) (actor : Actor) (order : Order) (got : ℕ) → (heap_kind config).took actor order got ≡ took_of pause_image config actor order got actor.machine
 unfolding kind
-kind_took c a order got = refl
+kind_took config actor order got = refl
 
 -- what is so of each stage that a key's heap may begin with is so of where it began, where that is a proposition
-pub begun : (k : HeapKey) (P : Type 0) → IsProp P → ((g : Graph) → Begins k.config (start_of_key k) g → P) → P
-begun k P prop each = ∥∥₁_elim k.begins prop (λ some. each some.0 some.1)
+pub begun : (key : HeapKey) (P : Type 0) → IsProp P → ((graph : Graph) → Begins key.config (start_of_key key) graph → P) → P
+begun key P prop each = ∥∥₁_elim key.begins prop (λ some. each some.0 some.1)
 
 -- a word that a machine finds after some events is fit
-pub found_fits : (k : HeapKey) (number : ℕ) (a : Actor) (order : Order) (got : ℕ) → Finds (heap_kind k.config) (start_of_key k) number a order got → IsFitFor k.config order got a.machine
-found_fits k number a order got finds =
-    begun k (IsFitFor k.config order got a.machine) (fit_is_prop k.config order got a.machine)
-    (λ g begins. found_fit pause_image heap_pauses k.config (start_of_key k) g begins number a order got finds)
+pub found_fits : (key : HeapKey) (number : ℕ) (actor : Actor) (order : Order) (got : ℕ) → Finds (heap_kind key.config) (start_of_key key) number actor order got → IsFitFor key.config order got actor.machine
+found_fits key number actor order got finds =
+    begun key (IsFitFor key.config order got actor.machine) (fit_is_prop key.config order got actor.machine)
+    (λ g begins. found_fit pause_image heap_pauses key.config (start_of_key key) g begins number actor order got finds)
 
 -- how many machines there are
-pub start_count : (k : HeapKey) → length (start_of_key k).machines ≡ seat_count k.config.mutators k.config.helpers
-start_count k = begun k (length (start_of_key k).machines ≡ seat_count k.config.mutators k.config.helpers) (hlevel ℕ_set) (λ g begins. begins.seats)
+pub start_count : (key : HeapKey) → length (start_of_key key).machines ≡ seat_count key.config.mutators key.config.helpers
+start_count key = begun key (length (start_of_key key).machines ≡ seat_count key.config.mutators key.config.helpers) (hlevel ℕ_set) (λ g begins. begins.seats)
 
 -- the first of them are the mutators
-role_of_number : (c : Config) (number : ℕ) (machine : Machine) → HasNumber c number machine → is_mutating machine ≡ nat_lt number c.mutators
-role_of_number c number (mutating m) has = sym (lt-ltb number c.mutators has.1)
-role_of_number c number (helping h) has = sym (le-ltb number c.mutators has.1)
-role_of_number c number (controlling k) has = sym (le-ltb number c.mutators (omega (arith, has)))
+role_of_number : (config : Config) (number : ℕ) (machine : Machine) → HasNumber config number machine → is_mutating machine ≡ nat_lt number config.mutators
+role_of_number config number (mutating m) has = sym (lt-ltb number config.mutators has.1)
+role_of_number config number (helping h) has = sym (le-ltb number config.mutators has.1)
+role_of_number config number (controlling k) has = sym (le-ltb number config.mutators (omega (arith, has)))
 
-pub start_role : (k : HeapKey) (number : ℕ) (a : Actor) → slice_get (start_of_key k).machines number ≡ Some a → is_mutating a.machine ≡ nat_lt number k.config.mutators
-start_role k number a here =
-    begun k (is_mutating a.machine ≡ nat_lt number k.config.mutators) (hlevel Bool-set)
-    (λ g begins. role_of_number k.config number a.machine (begins.machines number a here).number_is)
+pub start_role : (key : HeapKey) (number : ℕ) (actor : Actor) → slice_get (start_of_key key).machines number ≡ Some actor → is_mutating actor.machine ≡ nat_lt number key.config.mutators
+start_role key number actor here =
+    begun key (is_mutating actor.machine ≡ nat_lt number key.config.mutators) (hlevel Bool-set)
+    (λ g begins. role_of_number key.config number actor.machine (begins.machines number actor here).number_is)
 
 -- the words of the opening
-pub first_words : (c : Config) → (heap_opening c).words ≡ opening_words c
+pub first_words : (config : Config) → (heap_opening config).words ≡ opening_words config
 unfolding opening
-first_words c = refl
+first_words config = refl
 
 -- events from the opening are a run
-abbrev pub run_of : (c : Config) → List (Event Order) → Run c
-run_of c events = record { start = opening c; graph = first_graph c; begins = opening_begins c; events = events }
+abbrev pub run_of : (config : Config) → List (Event Order) → Run config
+run_of config events = record { start = opening config; graph = first_graph config; begins = opening_begins config; events = events }
 
 -- and so are those from any stage that begins a graph
-abbrev pub run_from : (c : Config) (start : Stage Actor) (g : Graph) → Begins c start g → List (Event Order) → Run c
-run_from c start g begins events = record { start = start; graph = g; begins = begins; events = events }
+abbrev pub run_from : (config : Config) (start : Stage Actor) (graph : Graph) → Begins config start graph → List (Event Order) → Run config
+run_from config start graph begins events = record { start = start; graph = graph; begins = begins; events = events }
 
 -- a control that has made its last access stores no image
 gone_is_calm : (spot : ControlSpot) (image : List ℕ) → (true && (if is_gone spot then false else true)) ≡ false → stored_image spot image ≡ None
@@ -87,6 +87,6 @@ machine_is_calm : (machine : Machine) → takes_of machine Nothing ≡ false →
 machine_is_calm (controlling k) idle = gone_is_calm k.spot k.image idle
 machine_is_calm _ idle = refl
 
-pub idle_is_calm : (o : Option Actor) → ((a : Actor) → o ≡ Some a → takes_of a.machine Nothing ≡ false) → image_of o ≡ None
+pub idle_is_calm : (found : Option Actor) → ((actor : Actor) → found ≡ Some actor → takes_of actor.machine Nothing ≡ false) → image_of found ≡ None
 idle_is_calm None idle = refl
-idle_is_calm (Some a) idle = machine_is_calm a.machine (idle a refl)
+idle_is_calm (Some actor) idle = machine_is_calm actor.machine (idle actor refl)

@@ -17,7 +17,7 @@ count_sum test other both either apart (suc n) =
     let rest = count_sum test other both either apart n in
     ap (λ b. if b then suc (count_below both n) else count_below both n) (either n) ∙ by_tests (test n) (other n) (apart n) (count_below both n) (count_below test n) (count_below other n) rest
   where
-    by_tests : (x y : Bool) → (x ≡ true → y ≡ false) → (s a b : ℕ) → s ≡ a + b → (if x || y then suc s else s) ≡ (if x then suc a else a) + (if y then suc b else b)
+    by_tests : (holds other_holds : Bool) → (holds ≡ true → other_holds ≡ false) → (s a b : ℕ) → s ≡ a + b → (if holds || other_holds then suc s else s) ≡ (if holds then suc a else a) + (if other_holds then suc b else b)
     by_tests true true apart s a b rest = absurd (false≢true (sym (apart refl)))
     by_tests true false apart s a b rest = omega (arith, rest)
     by_tests false true apart s a b rest = omega (arith, rest)
@@ -34,7 +34,7 @@ module _ (test : ℕ → Bool) where
   grows : (n : ℕ) → count_below test n ≤ count_below test (suc n)
   grows n = by_test (test n)
     where
-      by_test : (b : Bool) → count_below test n ≤ (if b then suc (count_below test n) else count_below test n)
+      by_test : (holds : Bool) → count_below test n ≤ (if holds then suc (count_below test n) else count_below test n)
       by_test true = omega arith
       by_test false = omega arith
 
@@ -43,7 +43,7 @@ module _ (test : ℕ → Bool) where
   count_low zero = omega arith
   count_low (suc n) = by_test (test n) (count_low n)
     where
-      by_test : (b : Bool) → count_below test n ≤ n → (if b then suc (count_below test n) else count_below test n) ≤ suc n
+      by_test : (holds : Bool) → count_below test n ≤ n → (if holds then suc (count_below test n) else count_below test n) ≤ suc n
       by_test true low = omega (arith, low)
       by_test false low = omega (arith, low)
 

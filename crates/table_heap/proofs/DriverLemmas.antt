@@ -7,10 +7,10 @@ use Rattle.table_heap.specs.Driven.{IsDrivenFrom, driver_after}
 
 module _ {D : Type 0} (next_of : D → Option Command) (replied : D → Reply → D) where
   -- one entry more is the one that the driver gives after the others
-  pub driven_more : (state : D) (es : List Entry) (e : Entry) → IsDrivenFrom next_of replied state es → next_of (driver_after replied state es) ≡ Some e.command → IsDrivenFrom next_of replied state (es ++ e ∷ [])
-  driven_more state [] e driven next = (next, tt)
-  driven_more state (x ∷ xs) e driven next = (driven.0, driven_more (replied state x.reply) xs e driven.1 next)
+  pub driven_more : (state : D) (es : List Entry) (entry : Entry) → IsDrivenFrom next_of replied state es → next_of (driver_after replied state es) ≡ Some entry.command → IsDrivenFrom next_of replied state (es ++ entry ∷ [])
+  driven_more state [] entry driven next = (next, tt)
+  driven_more state (x ∷ xs) entry driven next = (driven.0, driven_more (replied state x.reply) xs entry driven.1 next)
 
-  pub after_more : (state : D) (es : List Entry) (e : Entry) → driver_after replied state (es ++ e ∷ []) ≡ replied (driver_after replied state es) e.reply
-  after_more state [] e = refl
-  after_more state (x ∷ xs) e = after_more (replied state x.reply) xs e
+  pub after_more : (state : D) (es : List Entry) (entry : Entry) → driver_after replied state (es ++ entry ∷ []) ≡ replied (driver_after replied state es) entry.reply
+  after_more state [] entry = refl
+  after_more state (x ∷ xs) entry = after_more (replied state x.reply) xs entry

@@ -29,27 +29,27 @@ use Rattle.table_heap.proofs.Running.{at_number, role_at, in_view}
 use Rattle.table_heap.proofs.Turning.{mid, was, order, got, here, view_is, then_is, no_order, turn_was, role_then, none_given, some_given, role_given, reply_given, each_after}
 
 -- what holds of all elements of a list holds of the one at a place
-one_of_these : {A : Type 0} (P : A → Type 0) (xs : List A) (k : ℕ) (x : A) → All P xs → slice_get xs k ≡ Some x → P x
-one_of_these P xs k x all here = subst P (get_or_from_slice_get xs k x x here) (all k x (slice_get_within xs k x here))
+one_of_these : {A : Type 0} (P : A → Type 0) (xs : List A) (index : ℕ) (x : A) → All P xs → slice_get xs index ≡ Some x → P x
+one_of_these P xs index x all here = subst P (get_or_from_slice_get xs index x x here) (all index x (slice_get_within xs index x here))
 
 -- what stands at a place of a list
-pub found_at : {A : Type 0} (xs : List A) (n : ℕ) → n < length xs → (x : A) × (slice_get xs n ≡ Some x)
-found_at [] n low = absurd (omega (arith, low))
+pub found_at : {A : Type 0} (xs : List A) (index : ℕ) → index < length xs → (x : A) × (slice_get xs index ≡ Some x)
+found_at [] index low = absurd (omega (arith, low))
 found_at (y ∷ ys) zero low = (y, refl)
-found_at (y ∷ ys) (suc n) low = found_at ys n (omega (arith, low))
+found_at (y ∷ ys) (suc index) low = found_at ys index (omega (arith, low))
 
-both : (a b : Bool) → a ≡ true → b ≡ true → (a && b) ≡ true
+both : (holds other_holds : Bool) → holds ≡ true → other_holds ≡ true → (holds && other_holds) ≡ true
 both true true one two = refl
 both true false one two = absurd (false≢true two)
-both false b one two = absurd (false≢true one)
+both false other_holds one two = absurd (false≢true one)
 
 -- a machine of the view that is a mutator
-pub is_mutator : (b : Bundle) (number : ℕ) (a : Actor) → machine_of (view_of b) number ≡ Some a → is_mutating a.machine ≡ true → has_mutator b number ≡ true
-is_mutator b number a here role = both _ _ (ap is_some here) (sym (role_at b number a here) ∙ role)
+pub is_mutator : (bundle : Bundle) (number : ℕ) (actor : Actor) → machine_of (view_of bundle) number ≡ Some actor → is_mutating actor.machine ≡ true → has_mutator bundle number ≡ true
+is_mutator bundle number actor here role = both _ _ (ap is_some here) (sym (role_at bundle number actor here) ∙ role)
 
 -- the driver of a mutator stands within the list
-pub within_drivers : (b : Bundle) (number : ℕ) → has_mutator b number ≡ true → nat_lt number b.config.mutators ≡ true → mutators_below b number < mutators_below b b.config.mutators
-within_drivers b number has below = counts_above (has_mutator b) number b.config.mutators (ltb-true number b.config.mutators below) has
+pub within_drivers : (bundle : Bundle) (number : ℕ) → has_mutator bundle number ≡ true → nat_lt number bundle.config.mutators ≡ true → mutators_below bundle number < mutators_below bundle bundle.config.mutators
+within_drivers bundle number has below = counts_above (has_mutator bundle) number bundle.config.mutators (ltb-true number bundle.config.mutators below) has
 
 -- the drivers stay with their mutators in the same bundle
 pub same_places : (old new : Bundle) (n : ℕ) → IsSameBundle old new → mutators_below new n ≡ mutators_below old n
@@ -59,45 +59,45 @@ same_places old new n same =
 
 module _ {D : Type 0} (next_of : D → Option Command) (replied : D → Reply → D) (to_come : D → ℕ) where
   -- before they begin
-  pub first_drivers : (b : Bundle) (drivers : List D) → CanDrive to_come b drivers → AreDriving next_of replied to_come b drivers drivers
-  first_drivers b drivers can = record {
+  pub first_drivers : (bundle : Bundle) (drivers : List D) → CanDrive to_come bundle drivers → AreDriving next_of replied to_come bundle drivers drivers
+  first_drivers bundle drivers can = record {
     orders = can.orders;
     count = can.count;
     mutators = λ number a here role.
-        let low = within_drivers b number (is_mutator b number a here role) (sym (role_at b number a here) ∙ role) in
-        let count : length drivers ≡ mutators_below b b.config.mutators = can.count in
-        let place = found_at drivers (mutators_below b number) (omega (arith, low, count)) in (
+        let low = within_drivers bundle number (is_mutator bundle number a here role) (sym (role_at bundle number a here) ∙ role) in
+        let count : length drivers ≡ mutators_below bundle bundle.config.mutators = can.count in
+        let place = found_at drivers (mutators_below bundle number) (omega (arith, low, count)) in (
           place.0,
           place.0,
           place.1,
           place.1,
-          drives_first next_of replied to_come place.0 a (one_of_these (λ d. to_come d < most_objects) drivers (mutators_below b number) place.0 can.few place.1) (can.mutators number a here role),
+          drives_first next_of replied to_come place.0 a (one_of_these (λ d. to_come d < most_objects) drivers (mutators_below bundle number) place.0 can.few place.1) (can.mutators number a here role),
         );
   }
 
-  module _ (b : Bundle) (firsts drivers : List D) (before : AreDriving next_of replied to_come b firsts drivers) where
+  module _ (bundle : Bundle) (firsts drivers : List D) (before : AreDriving next_of replied to_come bundle firsts drivers) where
     -- what a mutator's driver gives
-    pub given_next : (number : ℕ) (a : Actor) (d : D) → machine_of (view_of b) number ≡ Some a → is_mutating a.machine ≡ true → driver_of b drivers number ≡ Some d → next_driven next_of b drivers number ≡ next_of d
-    given_next number a d here role is =
-        ap (λ t. if t then given_by next_of (driver_of b drivers number) else None) (sym (role_at b number a here) ∙ role) ∙ ap (given_by next_of) is
+    pub given_next : (number : ℕ) (actor : Actor) (d : D) → machine_of (view_of bundle) number ≡ Some actor → is_mutating actor.machine ≡ true → driver_of bundle drivers number ≡ Some d → next_driven next_of bundle drivers number ≡ next_of d
+    given_next number actor d here role is =
+        ap (λ t. if t then given_by next_of (driver_of bundle drivers number) else None) (sym (role_at bundle number actor here) ∙ role) ∙ ap (given_by next_of) is
 
     -- there is a name for what the next command makes
-    pub name_there : (number : ℕ) → HasMachine b number → may_begin (machine_at b number) ≡ true → made_of_machine (machine_at b number) < most_objects
+    pub name_there : (number : ℕ) → HasMachine bundle number → may_begin (machine_at bundle number) ≡ true → made_of_machine (machine_at bundle number) < most_objects
     name_there number here may =
-        let seen = in_view b number here in
-        let at = at_number b number seen.0 seen.1 in
+        let seen = in_view bundle number here in
+        let at = at_number bundle number seen.0 seen.1 in
         let free : may_begin seen.0.machine ≡ true = ap may_begin (sym at) ∙ may in
         let role = rest_is_mutating seen.0.machine (begins_at_rest seen.0.machine free) in
         let job = before.mutators number seen.0 seen.1 role in
         subst (λ machine. made_of_machine machine < most_objects) (sym at) (name_left seen.0.machine (to_come job.1) job.4.names free)
 
     -- a mutator of the bundle has a driver
-    pub has_driver : (number : ℕ) → HasMachine b number → nat_lt number b.config.mutators ≡ true → mutators_below b number < length drivers
+    pub has_driver : (number : ℕ) → HasMachine bundle number → nat_lt number bundle.config.mutators ≡ true → mutators_below bundle number < length drivers
     has_driver number here below =
-        let seen = in_view b number here in
-        let role : is_mutating seen.0.machine ≡ true = role_at b number seen.0 seen.1 ∙ below in
-        let low = within_drivers b number (is_mutator b number seen.0 seen.1 role) below in
-        let count : length drivers ≡ mutators_below b b.config.mutators = before.count in
+        let seen = in_view bundle number here in
+        let role : is_mutating seen.0.machine ≡ true = role_at bundle number seen.0 seen.1 ∙ below in
+        let low = within_drivers bundle number (is_mutator bundle number seen.0 seen.1 role) below in
+        let count : length drivers ≡ mutators_below bundle bundle.config.mutators = before.count in
         omega (arith, low, count)
 
   -- the drivers of a bundle that is as it was
@@ -169,12 +169,12 @@ module _ {D : Type 0} (next_of : D → Option Command) (replied : D → Reply �
         slice_get_within drivers (mutators_below old number) (job role).1 (job role).3
 
     -- its driver has taken the reply
-    pub driven_noted : (r : Reply) (d taken : D) → said ≡ stepped.Done → reply_in (machine_at new number) ≡ Some r → slice_get drivers (mutators_below old number) ≡ Some d
-        → taken ≡ replied d r → to_come taken ≤ to_come d → ((command : Command) → next_of d ≡ Some command → IsNew command → to_come taken < to_come d)
+    pub driven_noted : (reply : Reply) (d taken : D) → said ≡ stepped.Done → reply_in (machine_at new number) ≡ Some reply → slice_get drivers (mutators_below old number) ≡ Some d
+        → taken ≡ replied d reply → to_come taken ≤ to_come d → ((command : Command) → next_of d ≡ Some command → IsNew command → to_come taken < to_come d)
         → AreDriving next_of replied to_come new firsts (slice_set drivers (mutators_below old number) taken)
-    driven_noted r d taken done at_hand place_is taken_is falls pays =
-        let gives = reply_given old new next number said made r done at_hand in
-        let role = role_given old new next number said made r gives in
+    driven_noted reply d taken done at_hand place_is taken_is falls pays =
+        let gives = reply_given old new next number said made reply done at_hand in
+        let role = role_given old new next number said made reply gives in
         let at = job role in
         let alike : at.1 ≡ d = same_Some at.1 d (sym at.3 ∙ place_is) in
         let p = mutators_below old number in
@@ -189,10 +189,10 @@ module _ {D : Type 0} (next_of : D → Option Command) (replied : D → Reply �
                 taken,
                 ap (slice_get firsts) place ∙ at.2,
                 ap (slice_get (slice_set drivers p taken)) place ∙ slice_get-set_same drivers p at.1 taken at.3,
-                subst (λ t. IsDriving next_of replied to_come at.0 t (then_is old new next number said made)) (ap (λ x. replied x r) alike ∙ sym taken_is)
-                    (drives_noted next_of replied to_come at.0 at.1 a at.4 (mid old new next number said made).config (order old new next number said made) (got old new next number said made) role (turn_is role) r gives
-                    (subst (λ x. to_come (replied x r) ≤ to_come x) (sym alike) (subst (λ t. to_come t ≤ to_come d) taken_is falls))
-                    (subst (λ x. (command : Command) → next_of x ≡ Some command → IsNew command → to_come (replied x r) < to_come x) (sym alike)
+                subst (λ t. IsDriving next_of replied to_come at.0 t (then_is old new next number said made)) (ap (λ x. replied x reply) alike ∙ sym taken_is)
+                    (drives_noted next_of replied to_come at.0 at.1 a at.4 (mid old new next number said made).config (order old new next number said made) (got old new next number said made) role (turn_is role) reply gives
+                    (subst (λ x. to_come (replied x reply) ≤ to_come x) (sym alike) (subst (λ t. to_come t ≤ to_come d) taken_is falls))
+                    (subst (λ x. (command : Command) → next_of x ≡ Some command → IsNew command → to_come (replied x reply) < to_come x) (sym alike)
                     (subst (λ t. (command : Command) → next_of d ≡ Some command → IsNew command → to_come t < to_come d) taken_is pays))),
               ))
               (λ k x different there mutates at.
@@ -207,6 +207,6 @@ module _ {D : Type 0} (next_of : D → Option Command) (replied : D → Reply �
         }
 
 -- a command that is in range, and may be given
-pub given_fits : (o : Option Command) (P : Type 0) → IfSome o (λ command. IsValid command) → P → IfSome o (λ command. IsValid command × P)
+pub given_fits : (found : Option Command) (P : Type 0) → IfSome found (λ command. IsValid command) → P → IfSome found (λ command. IsValid command × P)
 given_fits None P valid may = tt
 given_fits (Some command) P valid may = (valid, may)

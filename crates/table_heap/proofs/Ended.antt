@@ -16,16 +16,16 @@ use Rattle.table_heap.specs.Running.{IsIdleForGood}
 pub idle_takes : (machine : Machine) → IsIdleForGood machine → takes_of machine Nothing ≡ false
 idle_takes machine idle = by_may (may_begin machine) refl
   where
-    by_takes : (b : Bool) → takes_of machine Nothing ≡ b → ◌≡◌ {A = Option Order} (if b then Some Nothing else None) None → takes_of machine Nothing ≡ false
+    by_takes : (holds : Bool) → takes_of machine Nothing ≡ holds → ◌≡◌ {A = Option Order} (if holds then Some Nothing else None) None → takes_of machine Nothing ≡ false
     by_takes true takes none = absurd cc
     by_takes false takes none = takes
 
-    by_may : (b : Bool) → may_begin machine ≡ b → takes_of machine Nothing ≡ false
+    by_may : (holds : Bool) → may_begin machine ≡ holds → takes_of machine Nothing ≡ false
     by_may true may = absurd (let e = sym (turn_at_rest machine None may) ∙ idle None in cc)
     by_may false none = by_takes (takes_of machine Nothing) refl (sym (turn_in_call machine None none) ∙ idle None)
 
 -- it has no turn in any stage, whatever scripts there are
-pub idle_turn : (scripts : Scripts) (s : Stage Actor) (number : ℕ) (a : Actor) → slice_get s.machines number ≡ Some a → IsIdleForGood a.machine → turn scripts s number ≡ None
-idle_turn scripts s number a here idle =
+pub idle_turn : (scripts : Scripts) (stage : Stage Actor) (number : ℕ) (actor : Actor) → slice_get stage.machines number ≡ Some actor → IsIdleForGood actor.machine → turn scripts stage number ≡ None
+idle_turn scripts stage number actor here idle =
     ap (turn_of scripts number) here
-    ∙ ap (option_map (λ order. record { number = number; order = order })) (order_of_script (nth_script scripts number) a.calls a.machine ∙ idle (slice_get (nth_script scripts number) (length a.calls)))
+    ∙ ap (option_map (λ order. record { number = number; order = order })) (order_of_script (nth_script scripts number) actor.calls actor.machine ∙ idle (slice_get (nth_script scripts number) (length actor.calls)))

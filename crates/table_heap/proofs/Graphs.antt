@@ -18,27 +18,27 @@ use Rattle.table_heap.specs.declared.key.HeapKey.{HeapKey}
 use Rattle.table_heap.specs.Core.{heap_kind, start_of_key}
 use Rattle.table_heap.proofs.Core.{run_from}
 
-module _ (c : Config) (s : Stage Actor) (rest : (t : ℕ) (a : Actor) → t < c.mutators → slice_get s.machines t ≡ Some a → is_resting a.machine ≡ true) (calm : image_of (slice_get s.machines (control_number c)) ≡ None) where
-  module _ (run : Run c) (ends : ending pause_image c run ≡ s) where
-    pub at_rest : (t : ℕ) (a : Actor) → t < c.mutators → slice_get (ending pause_image c run).machines t ≡ Some a → is_resting a.machine ≡ true
-    at_rest t a below here = rest t a below (ap (λ x. slice_get x.machines t) (sym ends) ∙ here)
+module _ (config : Config) (stage : Stage Actor) (rest : (t : ℕ) (a : Actor) → t < config.mutators → slice_get stage.machines t ≡ Some a → is_resting a.machine ≡ true) (calm : image_of (slice_get stage.machines (control_number config)) ≡ None) where
+  module _ (run : Run config) (ends : ending pause_image config run ≡ stage) where
+    pub at_rest : (mutator : ℕ) (actor : Actor) → mutator < config.mutators → slice_get (ending pause_image config run).machines mutator ≡ Some actor → is_resting actor.machine ≡ true
+    at_rest mutator actor below here = rest mutator actor below (ap (λ x. slice_get x.machines mutator) (sym ends) ∙ here)
 
-    pub is_calm : image_of (slice_get (ending pause_image c run).machines (control_number c)) ≡ None
-    is_calm = ap (λ x. image_of (slice_get x.machines (control_number c))) ends ∙ calm
+    pub is_calm : image_of (slice_get (ending pause_image config run).machines (control_number config)) ≡ None
+    is_calm = ap (λ x. image_of (slice_get x.machines (control_number config))) ends ∙ calm
 
     -- the names of the objects by their addresses
     abbrev pub names : ℕ → Option Name
-    names = standing.names c run at_rest is_calm
+    names = standing.names config run at_rest is_calm
 
-    pub words_stand : WordsStand c.region_words (heap_in c s.words) (roots_in c s.words) (pins_in c s.words) names (graph_after pause_image c run)
-    words_stand = subst (λ x. WordsStand c.region_words (heap_in c x.words) (roots_in c x.words) (pins_in c x.words) names (graph_after pause_image c run)) ends (standing.words_stand c run at_rest is_calm)
+    pub words_stand : WordsStand config.region_words (heap_in config stage.words) (roots_in config stage.words) (pins_in config stage.words) names (graph_after pause_image config run)
+    words_stand = subst (λ x. WordsStand config.region_words (heap_in config x.words) (roots_in config x.words) (pins_in config x.words) names (graph_after pause_image config run)) ends (standing.words_stand config run at_rest is_calm)
 
   -- so they do for the graph of those events that led there
-  module _ (k : HeapKey) (sizes : k.config ≡ c) where
-    one_stands : (g : Graph) → Begins k.config (start_of_key k) g → IsReached (heap_kind c) (start_of_key k) s → (at : ℕ → Option Name) × ((h : Graph) × WordsStand c.region_words (heap_in c s.words) (roots_in c s.words) (pins_in c s.words) at h)
-    one_stands g begins reached =
-        let run : Run c = run_from c (start_of_key k) g (subst (λ (d : Config). Begins d (start_of_key k) g) sizes begins) reached.events in
-        (names run reached.ends, (graph_after pause_image c run, words_stand run reached.ends))
+  module _ (key : HeapKey) (sizes : key.config ≡ config) where
+    one_stands : (graph : Graph) → Begins key.config (start_of_key key) graph → IsReached (heap_kind config) (start_of_key key) stage → (at : ℕ → Option Name) × ((other_graph : Graph) × WordsStand config.region_words (heap_in config stage.words) (roots_in config stage.words) (pins_in config stage.words) at other_graph)
+    one_stands graph begins reached =
+        let run : Run config = run_from config (start_of_key key) graph (subst (λ (config : Config). Begins config (start_of_key key) graph) sizes begins) reached.events in
+        (names run reached.ends, (graph_after pause_image config run, words_stand run reached.ends))
 
-    pub some_stand : ∥ IsReached (heap_kind c) (start_of_key k) s ∥₁ → StandForSome c.region_words (heap_in c s.words) (roots_in c s.words) (pins_in c s.words)
-    some_stand some = ∥∥₁_elim {P = StandForSome c.region_words (heap_in c s.words) (roots_in c s.words) (pins_in c s.words)} k.begins (hlevel) (λ begun. ∥∥₁_map some (one_stands begun.0 begun.1))
+    pub some_stand : ∥ IsReached (heap_kind config) (start_of_key key) stage ∥₁ → StandForSome config.region_words (heap_in config stage.words) (roots_in config stage.words) (pins_in config stage.words)
+    some_stand some = ∥∥₁_elim {P = StandForSome config.region_words (heap_in config stage.words) (roots_in config stage.words) (pins_in config stage.words)} key.begins (hlevel) (λ begun. ∥∥₁_map some (one_stands begun.0 begun.1))

@@ -14,21 +14,21 @@ use Rattle.table_heap.proofs.Stepping.{each_merged}
 use Rattle.table_heap.proofs.Opened.{picked_some}
 
 -- what stands under a number after a change under another one, or the same
-set_at : {R : Type 0} (v : View R) (number : ℕ) (o : Option R) (k : ℕ) (r : R) → machine_of (slice_set v number o) k ≡ Some r → ((k ≡ number) × (o ≡ Some r)) ⊎ (machine_of v k ≡ Some r)
-set_at [] number o k r there = inr there
-set_at (x ∷ xs) zero o zero r there = inl (refl, there)
-set_at (x ∷ xs) zero o (suc k) r there = inr there
-set_at (x ∷ xs) (suc number) o zero r there = inr there
-set_at (x ∷ xs) (suc number) o (suc k) r there = ⊎_elim
-    (λ (here : (k ≡ number) × (o ≡ Some r)). inl (ap suc here.0, here.1))
+set_at : {R : Type 0} (view : View R) (number : ℕ) (found : Option R) (k : ℕ) (r : R) → machine_of (slice_set view number found) k ≡ Some r → ((k ≡ number) × (found ≡ Some r)) ⊎ (machine_of view k ≡ Some r)
+set_at [] number found k r there = inr there
+set_at (x ∷ xs) zero found zero r there = inl (refl, there)
+set_at (x ∷ xs) zero found (suc k) r there = inr there
+set_at (x ∷ xs) (suc number) found zero r there = inr there
+set_at (x ∷ xs) (suc number) found (suc k) r there = ⊎_elim
+    (λ (here : (k ≡ number) × (found ≡ Some r)). inl (ap suc here.0, here.1))
     (λ (other : machine_of xs k ≡ Some r). inr other)
-    (set_at xs number o k r there)
+    (set_at xs number found k r there)
 
 -- a machine is there after another has taken a place
-there_still : (items : View Machine) (number : ℕ) (m n : Machine) → machine_of items number ≡ Some m → (k : ℕ) → is_some (machine_of items k) ≡ true → is_some (machine_of (slice_set items number (Some n)) k) ≡ true
-there_still items number m n here k there = ap is_some (machine_of-set items number m (Some n) here k) ∙ by_number (k == number)
+there_still : (items : View Machine) (number : ℕ) (machine other_machine : Machine) → machine_of items number ≡ Some machine → (k : ℕ) → is_some (machine_of items k) ≡ true → is_some (machine_of (slice_set items number (Some other_machine)) k) ≡ true
+there_still items number machine other_machine here k there = ap is_some (machine_of-set items number machine (Some other_machine) here k) ∙ by_number (k == number)
   where
-    by_number : (b : Bool) → is_some (if b then Some n else machine_of items k) ≡ true
+    by_number : (holds : Bool) → is_some (if holds then Some other_machine else machine_of items k) ≡ true
     by_number true = refl
     by_number false = there
 
@@ -38,72 +38,72 @@ none_greyed zero k address there = cc
 none_greyed (suc n) zero address there = cc
 none_greyed (suc n) (suc k) address there = none_greyed n k address there
 
-module _ (c : Config) where
+module _ (config : Config) where
   -- a machine has changed
-  pub greys_put : (items : View Machine) (greyed : View ℕ) (number : ℕ) (m n : Machine) → machine_of items number ≡ Some m → AreGreyedBy c items greyed → AreGreyedBy c (slice_set items number (Some n)) greyed
-  greys_put items greyed number m n here are = record {
-    numbers = are.numbers ∙ sym (length-set items number (Some n));
-    known = λ k address there. let known = are.known k address there in (there_still items number m n here k known.0, known.1);
+  pub greys_put : (items : View Machine) (greyed : View ℕ) (number : ℕ) (machine other_machine : Machine) → machine_of items number ≡ Some machine → AreGreyedBy config items greyed → AreGreyedBy config (slice_set items number (Some other_machine)) greyed
+  greys_put items greyed number machine other_machine here are = record {
+    numbers = are.numbers ∙ sym (length-set items number (Some other_machine));
+    known = λ k address there. let known = are.known k address there in (there_still items number machine other_machine here k known.0, known.1);
   }
 
   -- and it has made an address grey, or none
-  pub greys_step : (items : View Machine) (greyed : View ℕ) (number : ℕ) (m n : Machine) (o : Option ℕ) → machine_of items number ≡ Some m → IfSome o (λ address. IsWord c (Heap address)) → AreGreyedBy c items greyed
-      → AreGreyedBy c (slice_set items number (Some n)) (slice_set greyed number o)
-  greys_step items greyed number m n o here inside are = record {
-    numbers = length-set greyed number o ∙ are.numbers ∙ sym (length-set items number (Some n));
+  pub greys_step : (items : View Machine) (greyed : View ℕ) (number : ℕ) (machine other_machine : Machine) (found : Option ℕ) → machine_of items number ≡ Some machine → IfSome found (λ address. IsWord config (Heap address)) → AreGreyedBy config items greyed
+      → AreGreyedBy config (slice_set items number (Some other_machine)) (slice_set greyed number found)
+  greys_step items greyed number machine other_machine found here inside are = record {
+    numbers = length-set greyed number found ∙ are.numbers ∙ sym (length-set items number (Some other_machine));
     known = λ k address there. ⊎_elim
-        (λ (now : (k ≡ number) × (o ≡ Some address)). (
-          there_still items number m n here k (ap (λ j. is_some (machine_of items j)) now.0 ∙ ap is_some here),
-          subst (λ x. IfSome x (λ a. IsWord c (Heap a))) now.1 inside,
+        (λ (now : (k ≡ number) × (found ≡ Some address)). (
+          there_still items number machine other_machine here k (ap (λ j. is_some (machine_of items j)) now.0 ∙ ap is_some here),
+          subst (λ x. IfSome x (λ a. IsWord config (Heap a))) now.1 inside,
         ))
-        (λ (before : machine_of greyed k ≡ Some address). let known = are.known k address before in (there_still items number m n here k known.0, known.1))
-        (set_at greyed number o k address there);
+        (λ (before : machine_of greyed k ≡ Some address). let known = are.known k address before in (there_still items number machine other_machine here k known.0, known.1))
+        (set_at greyed number found k address there);
   }
 
   -- the same of lists with other names
-  pub greys_as : (items m : View Machine) (greyed g : View ℕ) → items ≡ m → greyed ≡ g → AreGreyedBy c m g → AreGreyedBy c items greyed
-  greys_as items m greyed g same greys are = subst (λ v. AreGreyedBy c v greyed) (sym same) (subst (AreGreyedBy c m) (sym greys) are)
+  pub greys_as : (items m : View Machine) (greyed g : View ℕ) → items ≡ m → greyed ≡ g → AreGreyedBy config m g → AreGreyedBy config items greyed
+  greys_as items m greyed g same greys are = subst (λ v. AreGreyedBy config v greyed) (sym same) (subst (AreGreyedBy config m) (sym greys) are)
 
   -- what is known of an address that was made grey
-  pub greys_inside : (items : View Machine) (greyed : View ℕ) (k : ℕ) (o : Option ℕ) → machine_of greyed k ≡ o → AreGreyedBy c items greyed → IfSome o (λ address. IsWord c (Heap address))
+  pub greys_inside : (items : View Machine) (greyed : View ℕ) (k : ℕ) (found : Option ℕ) → machine_of greyed k ≡ found → AreGreyedBy config items greyed → IfSome found (λ address. IsWord config (Heap address))
   greys_inside items greyed k None is are = tt
   greys_inside items greyed k (Some address) is are = (are.known k address is).1
 
   -- some of the addresses, of all machines
-  pub greys_fewer : (test : ℕ → Bool) (items : View Machine) (greyed : View ℕ) → AreGreyedBy c items greyed → AreGreyedBy c items (machines_picked test greyed)
+  pub greys_fewer : (test : ℕ → Bool) (items : View Machine) (greyed : View ℕ) → AreGreyedBy config items greyed → AreGreyedBy config items (machines_picked test greyed)
   greys_fewer test items greyed are = record {
     numbers = length-picked test greyed ∙ are.numbers;
     known = λ k address there. are.known k address (picked_some test greyed k address there);
   }
 
   -- some of the machines
-  pub greys_picked : (test : ℕ → Bool) (items : View Machine) (greyed : View ℕ) → AreGreyedBy c items greyed → AreGreyedBy c (machines_picked test items) (machines_picked test greyed)
+  pub greys_picked : (test : ℕ → Bool) (items : View Machine) (greyed : View ℕ) → AreGreyedBy config items greyed → AreGreyedBy config (machines_picked test items) (machines_picked test greyed)
   greys_picked test items greyed are = record {
     numbers = length-picked test greyed ∙ are.numbers ∙ sym (length-picked test items);
     known = λ k address there. by_test k address (test k) (sym (machine_of-picked test greyed k) ∙ there) (machine_of-picked test items k);
   }
     where
-      by_test : (k address : ℕ) (b : Bool) → (if b then machine_of greyed k else None) ≡ Some address → machine_of (machines_picked test items) k ≡ (if b then machine_of items k else None)
-          → (is_some (machine_of (machines_picked test items) k) ≡ true) × IsWord c (Heap address)
+      by_test : (k address : ℕ) (holds : Bool) → (if holds then machine_of greyed k else None) ≡ Some address → machine_of (machines_picked test items) k ≡ (if holds then machine_of items k else None)
+          → (is_some (machine_of (machines_picked test items) k) ≡ true) × IsWord config (Heap address)
       by_test k address true found is = let known = are.known k address found in (ap is_some is ∙ known.0, known.1)
       by_test k address false found is = absurd cc
 
   -- the machines of two bundles
-  pub greys_merged : (v w : View Machine) (x y : View ℕ) → length v ≡ length w → AreGreyedBy c v x → AreGreyedBy c w y → AreGreyedBy c (merged v w) (merged x y)
+  pub greys_merged : (v w : View Machine) (x y : View ℕ) → length v ≡ length w → AreGreyedBy config v x → AreGreyedBy config w y → AreGreyedBy config (merged v w) (merged x y)
   greys_merged v w x y long first second = record {
     numbers = length-merged x y (first.numbers ∙ long ∙ sym second.numbers) ∙ first.numbers ∙ sym (length-merged v w long);
-    known = each_merged (λ k address. (is_some (machine_of (merged v w) k) ≡ true) × IsWord c (Heap address)) x y
+    known = each_merged (λ k address. (is_some (machine_of (merged v w) k) ≡ true) × IsWord config (Heap address)) x y
         (λ k address there. let known = first.known k address there in (ap is_some (machine_of-merged v w k) ∙ first_there (machine_of v k) (machine_of w k) known.0, known.1))
         (λ k address there. let known = second.known k address there in (ap is_some (machine_of-merged v w k) ∙ second_there (machine_of v k) (machine_of w k) known.0, known.1));
   }
     where
-      first_there : (o p : Option Machine) → is_some o ≡ true → is_some (whichever_is_there o p) ≡ true
-      first_there None p there = absurd cc
-      first_there (Some m) p there = refl
+      first_there : (found other_found : Option Machine) → is_some found ≡ true → is_some (whichever_is_there found other_found) ≡ true
+      first_there None other_found there = absurd cc
+      first_there (Some m) other_found there = refl
 
-      second_there : (o p : Option Machine) → is_some p ≡ true → is_some (whichever_is_there o p) ≡ true
-      second_there None p there = there
-      second_there (Some m) p there = refl
+      second_there : (found other_found : Option Machine) → is_some other_found ≡ true → is_some (whichever_is_there found other_found) ≡ true
+      second_there None other_found there = there
+      second_there (Some m) other_found there = refl
 
-  pub greys_none : (items : View Machine) (n : ℕ) → length items ≡ n → AreGreyedBy c items (replicate n None)
+  pub greys_none : (items : View Machine) (n : ℕ) → length items ≡ n → AreGreyedBy config items (replicate n None)
   greys_none items n count = record { numbers = length-replicate n None ∙ sym count; known = λ k address there. absurd (none_greyed n k address there) }

@@ -15,10 +15,10 @@ abbrev pub total : View memory.Machine → ℕ
 total [] = 0
 total (x ∷ xs) = place_hints x + total xs
 
-pub total_next : (v : View memory.Machine) (k : ℕ) (d : Option memory.Machine) → k < length v → total (take (suc k) v) ≡ total (take k v) + place_hints (get_or v k d)
-total_next [] k d below = absurd (omega (arith, below))
+pub total_next : (v : View memory.Machine) (index : ℕ) (d : Option memory.Machine) → index < length v → total (take (suc index) v) ≡ total (take index v) + place_hints (get_or v index d)
+total_next [] index d below = absurd (omega (arith, below))
 total_next (x ∷ xs) zero d below = omega arith
-total_next (x ∷ xs) (suc k) d below = let rest = total_next xs k d (omega (arith, below)) in omega (arith, rest)
+total_next (x ∷ xs) (suc index) d below = let rest = total_next xs index d (omega (arith, below)) in omega (arith, rest)
 
 pub total_all : (v : View memory.Machine) (n : ℕ) → length v ≤ n → total (take n v) ≡ total v
 total_all [] zero all = refl
@@ -45,11 +45,11 @@ pub total_of : (v : View memory.Machine) (actors : List Actor) → kept_in_view 
 total_of v actors same = total_seen v ∙ ap seen_total same ∙ seen_whole actors
 
 -- one place more, up to a greatest number
-pub capped_next : (v : View memory.Machine) (k most taken : ℕ) (x : Option memory.Machine) → k < length v → x ≡ get_or v k x → taken ≡ min (total (take k v)) most → min (taken + place_hints x) most ≡ min (total (take (k + 1) v)) most
-capped_next v k most taken x below is so_far =
-    let next : total (take (suc k) v) ≡ total (take k v) + place_hints x = total_next v k x below ∙ ap (λ y. total (take k v) + place_hints y) (sym is) in
-    let one : k + 1 ≡ suc k = omega arith in
-    ap (λ t. min (t + place_hints x) most) so_far ∙ min_twice (total (take k v)) (place_hints x) most ∙ ap (λ t. min t most) (sym next) ∙ ap (λ n. min (total (take n v)) most) (sym one)
+pub capped_next : (v : View memory.Machine) (index most taken : ℕ) (x : Option memory.Machine) → index < length v → x ≡ get_or v index x → taken ≡ min (total (take index v)) most → min (taken + place_hints x) most ≡ min (total (take (index + 1) v)) most
+capped_next v index most taken x below is so_far =
+    let next : total (take (suc index) v) ≡ total (take index v) + place_hints x = total_next v index x below ∙ ap (λ y. total (take index v) + place_hints y) (sym is) in
+    let one : index + 1 ≡ suc index = omega arith in
+    ap (λ t. min (t + place_hints x) most) so_far ∙ min_twice (total (take index v)) (place_hints x) most ∙ ap (λ t. min t most) (sym next) ∙ ap (λ n. min (total (take n v)) most) (sym one)
   where
     min_twice : (a b n : ℕ) → min (min a n + b) n ≡ min (a + b) n
     min_twice a b n = omega arith

@@ -30,7 +30,7 @@ use Rattle.table_heap.specs.Core.{heap_kind}
 use Rattle.std.proofs.lemmas.Bool.{and_parts}
 
 -- what stands under a number after it was put there
-put_here : {R : Type 0} (v : View R) (number : ℕ) (x y : R) → is_some (machine_of v number) ≡ true → unwrap_or (machine_of (slice_set v number (Some x)) number) y ≡ x
+put_here : {R : Type 0} (view : View R) (number : ℕ) (x y : R) → is_some (machine_of view number) ≡ true → unwrap_or (machine_of (slice_set view number (Some x)) number) y ≡ x
 put_here [] number x y there = absurd cc
 put_here (z ∷ zs) zero x y there = refl
 put_here (z ∷ zs) (suc number) x y there = put_here zs number x y there
@@ -63,8 +63,8 @@ pub record HasHinted (old new : Bundle) (next : Option Command) (number : ℕ) :
   pub has : has_turn new number ≡ true
 
 -- a machine of a bundle has an order there
-pub order_there : (b : Bundle) (number : ℕ) → HasMachine b number → is_some (machine_of (orders_of b) number) ≡ true
-order_there b number here = by_items b.machines.items number here
+pub order_there : (bundle : Bundle) (number : ℕ) → HasMachine bundle number → is_some (machine_of (orders_of bundle) number) ≡ true
+order_there bundle number here = by_items bundle.machines.items number here
   where
     by_items : (items : View memory.Machine) (k : ℕ) → is_some (machine_of (kept_in_view shown items) k) ≡ true → is_some (machine_of (kept_in_view order_of items) k) ≡ true
     by_items [] k there = absurd cc
@@ -76,7 +76,7 @@ pub after_hint : (old mid new : Bundle) (next : Option Command) (number : ℕ) �
     → orders_of mid ≡ slice_set (orders_of old) number (Some (order_at mid number)) → has_turn mid number ≡ true → IsHinted mid new number → HasHinted old new next number
 after_hint old mid new next number here first second turn orders has hinted = ⊎_elim
     (λ (same : orders_of new ≡ orders_of mid).
-    let order : order_at new number ≡ order_at mid number = ap (λ v. unwrap_or (machine_of v number) Nothing) same in
+    let order : order_at new number ≡ order_at mid number = ap (λ view. unwrap_or (machine_of view number) Nothing) same in
     record {
       unmoved = unmoved_more old mid new first second;
       turn = inl (turn ∙ ap Some (sym order));
@@ -84,19 +84,19 @@ after_hint old mid new next number here first second turn orders has hinted = �
       has = ap (λ m. takes_of m (order_at new number)) (same_machine mid new number second) ∙ ap (takes_of (machine_at mid number)) order ∙ has;
     })
     (λ (hint : (takes_hint (machine_at mid number) ≡ true) × ((address : ℕ) × IsWord (config_in mid) (Heap address) × (orders_of new ≡ slice_set (orders_of mid) number (Some (Hint address))))).
-    let order : order_at new number ≡ Hint hint.1.0 = ap (λ v. unwrap_or (machine_of v number) Nothing) hint.1.2
-    ∙ put_here (orders_of mid) number (Hint hint.1.0) Nothing (ap (λ v. is_some (machine_of v number)) orders ∙ put_there (orders_of old) number (order_at mid number) (order_there old number here)) in
+    let order : order_at new number ≡ Hint hint.1.0 = ap (λ view. unwrap_or (machine_of view number) Nothing) hint.1.2
+    ∙ put_here (orders_of mid) number (Hint hint.1.0) Nothing (ap (λ view. is_some (machine_of view number)) orders ∙ put_there (orders_of old) number (order_at mid number) (order_there old number here)) in
     let was : machine_at mid number ≡ machine_at old number = same_machine old mid number first in
     record {
       unmoved = unmoved_more old mid new first second;
       turn = inr (ap takes_hint (sym was) ∙ hint.0, (hint.1.0, subst (λ k. IsWord k (Heap hint.1.0)) first.same.config hint.1.1, order));
-      orders = hint.1.2 ∙ ap (λ v. slice_set v number (Some (Hint hint.1.0))) orders ∙ set-set (orders_of old) number _ _ ∙ ap (λ o. slice_set (orders_of old) number (Some o)) (sym order);
+      orders = hint.1.2 ∙ ap (λ view. slice_set view number (Some (Hint hint.1.0))) orders ∙ set-set (orders_of old) number _ _ ∙ ap (λ o. slice_set (orders_of old) number (Some o)) (sym order);
       has = ap (λ m. takes_of m (order_at new number)) (same_machine mid new number second) ∙ ap (takes_of (machine_at mid number)) order
           ∙ takes_any (machine_at mid number) hint.1.0 hint.0 (worked (machine_at mid number) (order_at mid number) hint.0 has);
     })
     hinted
   where
-    put_there : {R : Type 0} (v : View R) (k : ℕ) (x : R) → is_some (machine_of v k) ≡ true → is_some (machine_of (slice_set v k (Some x)) k) ≡ true
+    put_there : {R : Type 0} (view : View R) (k : ℕ) (x : R) → is_some (machine_of view k) ≡ true → is_some (machine_of (slice_set view k (Some x)) k) ≡ true
     put_there [] k x there = absurd cc
     put_there (z ∷ zs) zero x there = refl
     put_there (z ∷ zs) (suc k) x there = put_there zs k x there

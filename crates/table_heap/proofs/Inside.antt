@@ -21,10 +21,10 @@ use Rattle.table_heap.proofs.Running.{same_bundle, same_bundle_more}
 use Rattle.table_heap.proofs.Turning.{no_order, turned_on}
 
 -- where no order is pending it has none
-pub none_at : (b : Bundle) (number : ℕ) → HasNoOrder b → order_at b number ≡ Nothing
-none_at b number none = by_order (machine_of (orders_of b) number) refl
+pub none_at : (bundle : Bundle) (number : ℕ) → HasNoOrder bundle → order_at bundle number ≡ Nothing
+none_at bundle number none = by_order (machine_of (orders_of bundle) number) refl
   where
-    by_order : (o : Option Order) → machine_of (orders_of b) number ≡ o → unwrap_or (machine_of (orders_of b) number) Nothing ≡ Nothing
+    by_order : (found : Option Order) → machine_of (orders_of bundle) number ≡ found → unwrap_or (machine_of (orders_of bundle) number) Nothing ≡ Nothing
     by_order None is = ap (λ x. unwrap_or x Nothing) is
     by_order (Some order) is = ap (λ x. unwrap_or x Nothing) is ∙ none number order is
 

@@ -12,13 +12,13 @@ module _ {T S : Type 0} (f : T → S) where
   within items number here = here_within items number (sym (kept_some f items number) ∙ here)
 
   -- what was read there
-  pub read_here : (items : View T) (number : ℕ) (x : Option T) (m : T) → number < length items → x ≡ get_or items number x → x ≡ Some m → machine_of items number ≡ Some m
-  read_here items number x m below value is = machine_of-index items number x below ∙ sym value ∙ is
+  pub read_here : (items : View T) (number : ℕ) (found : Option T) (m : T) → number < length items → found ≡ get_or items number found → found ≡ Some m → machine_of items number ≡ Some m
+  read_here items number found m below value is = machine_of-index items number found below ∙ sym value ∙ is
 
   -- something is there
-  pub never_none : (items : View T) (number : ℕ) (x : Option T) → is_some (machine_of (kept_in_view f items) number) ≡ true → x ≡ get_or items number x → x ≡ None → ⊥
-  never_none items number x here value none =
-      let a : machine_of items number ≡ None = machine_of-index items number x (within items number here) ∙ sym value ∙ none in
+  pub never_none : (items : View T) (number : ℕ) (found : Option T) → is_some (machine_of (kept_in_view f items) number) ≡ true → found ≡ get_or items number found → found ≡ None → ⊥
+  never_none items number found here value none =
+      let a : machine_of items number ≡ None = machine_of-index items number found (within items number here) ∙ sym value ∙ none in
       let b : is_some (machine_of items number) ≡ true = sym (kept_some f items number) ∙ here in
       let d : is_some (machine_of items number) ≡ false = ap is_some a in
       cc
@@ -33,7 +33,7 @@ module _ {T S : Type 0} (f : T → S) where
   -- what shows where another is put that shows the same
   pub put_same : (items : View T) (number : ℕ) (m n : T) → machine_of items number ≡ Some m → f n ≡ f m → kept_in_view f (slice_set items number (Some n)) ≡ kept_in_view f items
   put_same [] number m n here same = refl
-  put_same (x ∷ xs) zero m n here same = ap (λ (y : Option S). y ∷ kept_in_view f xs) (ap (λ (z : S). Some z) same ∙ sym (ap (kept_one f) here))
+  put_same (x ∷ xs) zero m n here same = ap (λ (found : Option S). found ∷ kept_in_view f xs) (ap (λ (z : S). Some z) same ∙ sym (ap (kept_one f) here))
   put_same (x ∷ xs) (suc number) m n here same = ap (λ (ys : View S). kept_one f x ∷ ys) (put_same xs number m n here same)
 
   -- what is under the number then
@@ -43,8 +43,8 @@ module _ {T S : Type 0} (f : T → S) where
   put_there (x ∷ xs) (suc number) m n here = put_there xs number m n here
 
   -- whether something is there, by what was read
-  pub some_read : (items : View T) (number : ℕ) (x : Option T) → number < length items → x ≡ get_or items number x → is_some x ≡ is_some (machine_of (kept_in_view f items) number)
-  some_read items number x below value = ap is_some (value ∙ sym (machine_of-index items number x below)) ∙ sym (kept_some f items number)
+  pub some_read : (items : View T) (number : ℕ) (found : Option T) → number < length items → found ≡ get_or items number found → is_some found ≡ is_some (machine_of (kept_in_view f items) number)
+  some_read items number found below value = ap is_some (value ∙ sym (machine_of-index items number found below)) ∙ sym (kept_some f items number)
 
   pub some_past : (items : View T) (number : ℕ) → (number < length items → ⊥) → is_some (machine_of (kept_in_view f items) number) ≡ false
   some_past items number past = kept_some f items number ∙ ap is_some (machine_of-past items number (omega (arith, past)))

@@ -25,62 +25,62 @@ use Rattle.heap_machines.proofs.Replies.{given_after, none_after, rest_at_hand, 
 use Rattle.heap_machines.proofs.Turns.{turn_at_rest, begins_at_rest}
 
 -- a call keeps its command
-command_kept : (c : Config) (m : Mutating) (got : ℕ) (spot : Spot) → (next_at c m Nothing got spot).kept.command ≡ m.kept.command
-command_kept c m got Rest = refl
-command_kept c m got _ = refl
+command_kept : (config : Config) (mutator : Mutating) (got : ℕ) (spot : Spot) → (next_at config mutator Nothing got spot).kept.command ≡ mutator.kept.command
+command_kept config mutator got Rest = refl
+command_kept config mutator got _ = refl
 
-pub call_kept : (change : Change) (c : Config) (got : ℕ) (machine : Machine) → call_in (machine_after change c Nothing got machine) ≡ call_in machine
-call_kept change c got (mutating m) = command_kept c m got m.spot
-call_kept change c got _ = refl
+pub call_kept : (change : Change) (config : Config) (got : ℕ) (machine : Machine) → call_in (machine_after change config Nothing got machine) ≡ call_in machine
+call_kept change config got (mutating m) = command_kept config m got m.spot
+call_kept change config got _ = refl
 
 -- a mutator that begins a call has its command
-pub call_begins : (change : Change) (c : Config) (command : Command) (got : ℕ) (machine : Machine) → may_begin machine ≡ true
-    → (call_in (machine_after change c (Begin command) got machine) ≡ command) × (stands_in_its_call (machine_after change c (Begin command) got machine) ≡ true)
-call_begins change c command got (mutating m) may = by_spot m.spot may
+pub call_begins : (change : Change) (config : Config) (command : Command) (got : ℕ) (machine : Machine) → may_begin machine ≡ true
+    → (call_in (machine_after change config (Begin command) got machine) ≡ command) × (stands_in_its_call (machine_after change config (Begin command) got machine) ≡ true)
+call_begins change config command got (mutating m) may = by_spot m.spot may
   where
     by_spot : (spot : Spot) → takes_commands spot ≡ true
-        → ((next_at c m (Begin command) got spot).kept.command ≡ command)
-        × (may_stand (makes_object (next_at c m (Begin command) got spot).kept.command) (next_at c m (Begin command) got spot).spot ≡ true)
+        → ((next_at config m (Begin command) got spot).kept.command ≡ command)
+        × (may_stand (makes_object (next_at config m (Begin command) got spot).kept.command) (next_at config m (Begin command) got spot).spot ≡ true)
     by_spot Rest may = (refl, refl)
     by_spot (Ended reply) may = (refl, refl)
     by_spot _ may = absurd cc
-call_begins change c command got _ may = absurd cc
+call_begins change config command got _ may = absurd cc
 
 -- a call that makes no object has made none after its step
-none_made : (c : Config) (m : Mutating) (got : ℕ) (spot : Spot) → may_stand false spot ≡ true → (next_at c m Nothing got spot).made ≡ m.made
-none_made c m got Rest may = absurd cc
-none_made c m got (Making at) may = absurd cc
-none_made c m got (Waiting at) may = absurd cc
-none_made c m got _ may = refl
+none_made : (config : Config) (mutator : Mutating) (got : ℕ) (spot : Spot) → may_stand false spot ≡ true → (next_at config mutator Nothing got spot).made ≡ mutator.made
+none_made config mutator got Rest may = absurd cc
+none_made config mutator got (Making at) may = absurd cc
+none_made config mutator got (Waiting at) may = absurd cc
+none_made config mutator got _ may = refl
 
-none_made_in : (change : Change) (c : Config) (got : ℕ) (machine : Machine) → makes_object (call_in machine) ≡ false → stands_in_its_call machine ≡ true
-    → made_of_machine (machine_after change c Nothing got machine) ≡ made_of_machine machine
-none_made_in change c got (mutating m) none stands = none_made c m got m.spot (subst (λ b. may_stand b m.spot ≡ true) none stands)
-none_made_in change c got _ none stands = refl
+none_made_in : (change : Change) (config : Config) (got : ℕ) (machine : Machine) → makes_object (call_in machine) ≡ false → stands_in_its_call machine ≡ true
+    → made_of_machine (machine_after change config Nothing got machine) ≡ made_of_machine machine
+none_made_in change config got (mutating m) none stands = none_made config m got m.spot (subst (λ b. may_stand b m.spot ≡ true) none stands)
+none_made_in change config got _ none stands = refl
 
 -- an order makes nothing
-begun_same : (order : Order) (m : Mutating) → (call_begun order m).made ≡ m.made
-begun_same Nothing m = refl
-begun_same (Begin command) m = refl
-begun_same End m = refl
-begun_same (Hint address) m = refl
+begun_same : (order : Order) (mutator : Mutating) → (call_begun order mutator).made ≡ mutator.made
+begun_same Nothing mutator = refl
+begun_same (Begin command) mutator = refl
+begun_same End mutator = refl
+begun_same (Hint address) mutator = refl
 
 -- between two calls nothing is made, whatever follows
-made_at_rest : (change : Change) (c : Config) (order : Order) (got : ℕ) (machine : Machine) → may_begin machine ≡ true
-    → made_of_machine (machine_after change c order got machine) ≡ made_of_machine machine
-made_at_rest change c order got (mutating m) may = by_spot m.spot may
+made_at_rest : (change : Change) (config : Config) (order : Order) (got : ℕ) (machine : Machine) → may_begin machine ≡ true
+    → made_of_machine (machine_after change config order got machine) ≡ made_of_machine machine
+made_at_rest change config order got (mutating m) may = by_spot m.spot may
   where
-    by_spot : (spot : Spot) → takes_commands spot ≡ true → (next_at c m order got spot).made ≡ m.made
+    by_spot : (spot : Spot) → takes_commands spot ≡ true → (next_at config m order got spot).made ≡ m.made
     by_spot Rest may = begun_same order m
     by_spot (Ended reply) may = begun_same order m
     by_spot _ may = absurd cc
-made_at_rest change c order got _ may = absurd cc
+made_at_rest change config order got _ may = absurd cc
 
 -- what is at hand of a making is at hand
 making_low : (machine : Machine) → making_at_hand machine ≤ at_hand_of machine
 making_low machine = by_test (makes_object (call_in machine))
   where
-    by_test : (b : Bool) → (if b then at_hand_of machine else 0) ≤ at_hand_of machine
+    by_test : (holds : Bool) → (if holds then at_hand_of machine else 0) ≤ at_hand_of machine
     by_test true = omega arith
     by_test false = omega arith
 
@@ -93,38 +93,38 @@ name_left machine to_come names may =
     omega (arith, few, low, none)
 
 -- a mutator that goes on with its call stands where that call may
-stands_then : (change : Change) (c : Config) (got : ℕ) (machine : Machine) → is_mutating machine ≡ true → stands_in_its_call machine ≡ true → reply_of_step machine ≡ None
-    → stands_in_its_call (machine_after change c Nothing got machine) ≡ true
-stands_then change c got (mutating m) role stands none =
-    subst (λ k. may_stand (makes_object k) (next_at c m Nothing got m.spot).spot ≡ true) (sym (command_kept c m got m.spot))
-    (call_stands (makes_object m.kept.command) c m got m.spot (λ own. own) stands none)
-stands_then change c got _ role stands none = absurd cc
+stands_then : (change : Change) (config : Config) (got : ℕ) (machine : Machine) → is_mutating machine ≡ true → stands_in_its_call machine ≡ true → reply_of_step machine ≡ None
+    → stands_in_its_call (machine_after change config Nothing got machine) ≡ true
+stands_then change config got (mutating m) role stands none =
+    subst (λ k. may_stand (makes_object k) (next_at config m Nothing got m.spot).spot ≡ true) (sym (command_kept config m got m.spot))
+    (call_stands (makes_object m.kept.command) config m got m.spot (λ own. own) stands none)
+stands_then change config got _ role stands none = absurd cc
 
-module _ (change : Change) (c : Config) (next : Option Command) (order : Order) (got : ℕ) (machine : Machine) (to_come : ℕ) (role : is_mutating machine ≡ true)
+module _ (change : Change) (config : Config) (next : Option Command) (order : Order) (got : ℕ) (machine : Machine) (to_come : ℕ) (role : is_mutating machine ≡ true)
     (names : HasNamesFor to_come machine) where
   abbrev then_is : Machine
-  then_is = machine_after change c order got machine
+  then_is = machine_after change config order got machine
 
   -- in a call it goes on
   in_call : is_resting machine ≡ false → order ≡ Nothing → reply_of_step machine ≡ None → HasNamesFor to_come then_is
-  in_call busy is none = subst (λ o. HasNamesFor to_come (machine_after change c o got machine)) (sym is) (record {
-    call = λ _. stands_then change c got machine role (names.call busy) none;
+  in_call busy is none = subst (λ o. HasNamesFor to_come (machine_after change config o got machine)) (sym is) (record {
+    call = λ _. stands_then change config got machine role (names.call busy) none;
     few = by_makes (makes_object (call_in machine)) refl;
   })
     where
       after : Machine
-      after = machine_after change c Nothing got machine
+      after = machine_after change config Nothing got machine
 
-      by_makes : (b : Bool) → makes_object (call_in machine) ≡ b → made_of_machine after + to_come < most_objects + making_at_hand after
+      by_makes : (holds : Bool) → makes_object (call_in machine) ≡ holds → made_of_machine after + to_come < most_objects + making_at_hand after
       by_makes true makes =
-          let before : making_at_hand machine ≡ at_hand_of machine = ap (λ b. if b then at_hand_of machine else 0) makes in
-          let now : making_at_hand after ≡ at_hand_of after = ap (λ b. if b then at_hand_of after else 0) (ap makes_object (call_kept change c got machine) ∙ makes) in
-          let step = none_after change c Nothing got machine none in
+          let before : making_at_hand machine ≡ at_hand_of machine = ap (λ holds. if holds then at_hand_of machine else 0) makes in
+          let now : making_at_hand after ≡ at_hand_of after = ap (λ holds. if holds then at_hand_of after else 0) (ap makes_object (call_kept change config got machine) ∙ makes) in
+          let step = none_after change config Nothing got machine none in
           let few = names.few in
           omega (arith, before, now, step, few)
       by_makes false makes =
-          let before : making_at_hand machine ≡ 0 = ap (λ b. if b then at_hand_of machine else 0) makes in
-          let same = none_made_in change c got machine makes (names.call busy) in
+          let before : making_at_hand machine ≡ 0 = ap (λ holds. if holds then at_hand_of machine else 0) makes in
+          let same = none_made_in change config got machine makes (names.call busy) in
           let few = names.few in
           omega (arith, before, same, few)
 
@@ -133,39 +133,39 @@ module _ (change : Change) (c : Config) (next : Option Command) (order : Order) 
   at_rest may is = record {
     call = λ busy. by_next next refl busy;
     few =
-        let same = made_at_rest change c order got machine may in
+        let same = made_at_rest change config order got machine may in
         let none = rest_at_hand machine (begins_at_rest machine may) in
         let low = making_low machine in
         let few = names.few in
         omega (arith, same, none, low, few);
   }
     where
-      by_next : (o : Option Command) → next ≡ o → is_resting then_is ≡ false → stands_in_its_call then_is ≡ true
+      by_next : (found : Option Command) → next ≡ found → is_resting then_is ≡ false → stands_in_its_call then_is ≡ true
       by_next None e busy =
-          absurd (false≢true (sym busy ∙ ap (λ (x : Order). is_resting (machine_after change c x got machine)) (sym (sym (ap next_order e) ∙ is)) ∙ ended_after change c got machine may))
+          absurd (false≢true (sym busy ∙ ap (λ (order : Order). is_resting (machine_after change config order got machine)) (sym (sym (ap next_order e) ∙ is)) ∙ ended_after change config got machine may))
       by_next (Some k) e busy =
-          subst (λ (x : Order). stands_in_its_call (machine_after change c x got machine) ≡ true) (sym (ap next_order e) ∙ is) (call_begins change c k got machine may).1
+          subst (λ (order : Order). stands_in_its_call (machine_after change config order got machine) ≡ true) (sym (ap next_order e) ∙ is) (call_begins change config k got machine may).1
 
   -- after a step that gives no reply
   pub left_on : order_for next machine ≡ Some order → reply_of_step machine ≡ None → HasNamesFor to_come then_is
   left_on turn none = by_may (may_begin machine) refl
     where
-      by_may : (b : Bool) → may_begin machine ≡ b → HasNamesFor to_come then_is
+      by_may : (holds : Bool) → may_begin machine ≡ holds → HasNamesFor to_come then_is
       by_may true may = at_rest may (same_Some (next_order next) order (sym (turn_at_rest machine next may) ∙ turn))
       by_may false may = let goes = goes_on_with next machine order may turn in in_call goes.0 goes.1 none
 
   -- and after one whose reply was taken, where one allocation less is to come if it was the reply to one
-  pub left_given : (r : Reply) (fewer : ℕ) → reply_of_step machine ≡ Some r → fewer ≤ to_come → (makes_object (call_in machine) ≡ true → fewer < to_come) → HasNamesFor fewer then_is
-  left_given r fewer gives falls pays =
-      let step = given_after change c order got machine r gives in
+  pub left_given : (reply : Reply) (fewer : ℕ) → reply_of_step machine ≡ Some reply → fewer ≤ to_come → (makes_object (call_in machine) ≡ true → fewer < to_come) → HasNamesFor fewer then_is
+  left_given reply fewer gives falls pays =
+      let step = given_after change config order got machine reply gives in
       record {
         call = λ busy. absurd (false≢true (sym busy ∙ step.rest));
         few = by_makes (makes_object (call_in machine)) refl;
       }
     where
-      by_makes : (b : Bool) → makes_object (call_in machine) ≡ b → made_of_machine then_is + fewer < most_objects + making_at_hand then_is
+      by_makes : (holds : Bool) → makes_object (call_in machine) ≡ holds → made_of_machine then_is + fewer < most_objects + making_at_hand then_is
       by_makes true makes =
-          let step = given_after change c order got machine r gives in
+          let step = given_after change config order got machine reply gives in
           let made = step.made in
           let hand = step.was_at_hand in
           let low = making_low machine in
@@ -173,7 +173,7 @@ module _ (change : Change) (c : Config) (next : Option Command) (order : Order) 
           let few = names.few in
           omega (arith, made, hand, low, less, few)
       by_makes false makes =
-          let made = (given_after change c order got machine r gives).made in
-          let before : making_at_hand machine ≡ 0 = ap (λ b. if b then at_hand_of machine else 0) makes in
+          let made = (given_after change config order got machine reply gives).made in
+          let before : making_at_hand machine ≡ 0 = ap (λ holds. if holds then at_hand_of machine else 0) makes in
           let few = names.few in
           omega (arith, made, before, falls, few)

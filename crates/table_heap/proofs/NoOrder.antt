@@ -7,5 +7,5 @@ use Rattle.table_heap.specs.declared.bundle.Bundle.{Bundle}
 use Rattle.table_heap.specs.Running.{HasNoOrder}
 use Rattle.table_heap.proofs.MachineUnder.{read_here, shows_here}
 
-pub none_pending : (b : Bundle) → HasNoOrder b → (number : ℕ) (x : Option Machine) (m : Machine) → number < length b.machines.items → x ≡ get_or b.machines.items number x → x ≡ Some m → order_of m ≡ Nothing
-none_pending b none number x m below value is = none number (order_of m) (shows_here order_of b.machines.items number m (read_here order_of b.machines.items number x m below value is))
+pub none_pending : (bundle : Bundle) → HasNoOrder bundle → (number : ℕ) (found : Option Machine) (machine : Machine) → number < length bundle.machines.items → found ≡ get_or bundle.machines.items number found → found ≡ Some machine → order_of machine ≡ Nothing
+none_pending bundle none number found machine below value is = none number (order_of machine) (shows_here order_of bundle.machines.items number machine (read_here order_of bundle.machines.items number found machine below value is))

@@ -37,62 +37,62 @@ use Rattle.table_heap.specs.declared.heap.Heap.{Heap}
 use Rattle.table_heap.specs.Known.{AreOfHeap, AreMachinesOfStage}
 use Rattle.table_heap.proofs.Core.{start_count, start_role}
 
-module _ (k : HeapKey) (machines : List Machine) (are : AreMachinesOfStage k.config machines (start_of_key k)) where
-  pub opened_count : length (whole machines) ≡ seat_count k.config.mutators k.config.helpers
-  opened_count = length-whole machines ∙ sym (length-map machines shown) ∙ ap length are.machines ∙ length-map (start_of_key k).machines machine_in ∙ start_count k
+module _ (key : HeapKey) (machines : List Machine) (are : AreMachinesOfStage key.config machines (start_of_key key)) where
+  pub opened_count : length (whole machines) ≡ seat_count key.config.mutators key.config.helpers
+  opened_count = length-whole machines ∙ sym (length-map machines shown) ∙ ap length are.machines ∙ length-map (start_of_key key).machines machine_in ∙ start_count key
 
   -- memory has the machines with which the heap begins
-  pub opened_kept : kept_in_view machine_in (whole (start_of_key k).machines) ≡ kept_in_view shown (whole machines)
-  opened_kept = kept-whole machine_in (start_of_key k).machines ∙ ap whole (sym are.machines) ∙ sym (kept-whole shown machines)
+  pub opened_kept : kept_in_view machine_in (whole (start_of_key key).machines) ≡ kept_in_view shown (whole machines)
+  opened_kept = kept-whole machine_in (start_of_key key).machines ∙ ap whole (sym are.machines) ∙ sym (kept-whole shown machines)
 
-  actor_there : (o : Option Actor) (m : Machine) → option_map machine_in o ≡ Some (shown m) → (a : Actor) × (o ≡ Some a) × (machine_in a ≡ shown m)
-  actor_there None m is = absurd (cc)
-  actor_there (Some a) m is = let same : machine_in a ≡ shown m = cc in (a, refl, same)
+  actor_there : (found : Option Actor) (machine : Machine) → option_map machine_in found ≡ Some (shown machine) → (actor : Actor) × (found ≡ Some actor) × (machine_in actor ≡ shown machine)
+  actor_there None machine is = absurd (cc)
+  actor_there (Some actor) machine is = let same : machine_in actor ≡ shown machine = cc in (actor, refl, same)
 
   -- which are of the heap
-  pub opened_of_heap : AreOfHeap k.config (whole machines)
+  pub opened_of_heap : AreOfHeap key.config (whole machines)
   opened_of_heap number m there =
       let here : slice_get machines number ≡ Some m = sym (machine_of-whole machines number) ∙ there in
       let within = slice_get_within machines number m here in
-      let shows : slice_get (map machine_in (start_of_key k).machines) number ≡ Some (shown m) =
+      let shows : slice_get (map machine_in (start_of_key key).machines) number ≡ Some (shown m) =
       ap (λ xs. slice_get xs number) (sym are.machines) ∙ slice_get-map shown machines number ∙ ap (option_map shown) here in
-      let a = actor_there (slice_get (start_of_key k).machines number) m (sym (slice_get-map machine_in (start_of_key k).machines number) ∙ shows) in
+      let a = actor_there (slice_get (start_of_key key).machines number) m (sym (slice_get-map machine_in (start_of_key key).machines number) ∙ shows) in
       record {
         heap = sym (ap machine_config (get_or_from_slice_get machines number m m here)) ∙ are.heap number m within;
-        role = ap is_mutating (sym a.2) ∙ start_role k number a.0 a.1;
+        role = ap is_mutating (sym a.2) ∙ start_role key number a.0 a.1;
       }
 
 -- What was left of a heap: the words of an image, and how many objects each thread has made.
-module _ (c : Config) (left : Left) (image : Image) (counts : List ℕ) (sizes : c ≡ images.config_of image) (words : left.words.value.items ≡ images.words_of image) (made : left.counts.value.items ≡ counts) where
+module _ (config : Config) (left : Left) (image : Image) (counts : List ℕ) (sizes : config ≡ images.config_of image) (words : left.words.value.items ≡ images.words_of image) (made : left.counts.value.items ≡ counts) where
   -- where a heap of that begins
-  pub left_start : start_from c (Some left) ≡ stage_from (images.config_of image) (images.words_of image) counts
+  pub left_start : start_from config (Some left) ≡ stage_from (images.config_of image) (images.words_of image) counts
   left_start =
-      ap (λ (k : Config). stage_from k left.words.value.items left.counts.value.items) sizes ∙ ap (λ (xs : List ℕ). stage_from (images.config_of image) xs left.counts.value.items) words
+      ap (λ (config : Config). stage_from config left.words.value.items left.counts.value.items) sizes ∙ ap (λ (xs : List ℕ). stage_from (images.config_of image) xs left.counts.value.items) words
       ∙ ap (stage_from (images.config_of image) (images.words_of image)) made
 
   -- runs may begin there
-  pub left_begins : ∥ ((g : Graph) × CanBeginFrom (images.config_of image) (images.memory_of image) counts g) ∥₁ → ∥ ((g : Graph) × Begins c (start_from c (Some left)) g) ∥₁
+  pub left_begins : ∥ ((graph : Graph) × CanBeginFrom (images.config_of image) (images.memory_of image) counts graph) ∥₁ → ∥ ((graph : Graph) × Begins config (start_from config (Some left)) graph) ∥₁
   left_begins some = ∥∥₁_map some (λ can. (
     can.0,
-    subst (λ (k : Config). Begins k (start_from c (Some left)) can.0) (sym sizes)
-        (subst (λ (s : Stage Actor). Begins (images.config_of image) s can.0) (sym left_start) (begins_from (images.config_of image) (images.words_of image) counts image.all_words can.0 can.1)),
+    subst (λ (k : Config). Begins k (start_from config (Some left)) can.0) (sym sizes)
+        (subst (λ (stage : Stage Actor). Begins (images.config_of image) stage can.0) (sym left_start) (begins_from (images.config_of image) (images.words_of image) counts image.all_words can.0 can.1)),
   ))
 
-  pub left_words : (start_from c (Some left)).words ≡ images.words_of image
-  left_words = ap (λ (s : Stage Actor). s.words) left_start ∙ stage_words (images.config_of image) (images.words_of image) counts
+  pub left_words : (start_from config (Some left)).words ≡ images.words_of image
+  left_words = ap (λ (stage : Stage Actor). stage.words) left_start ∙ stage_words (images.config_of image) (images.words_of image) counts
 
   -- its machines
   pub left_machines : (machines : List Machine) → map shown machines ≡ map (machine_from (images.config_of image) counts (images.memory_of image)) (range_with_len 0 (seat_count (images.config_of image).mutators (images.config_of image).helpers))
-      → All (λ m. machine_config m ≡ images.config_of image) machines → All (λ m. order_of m ≡ Nothing) machines → AreMachinesOfStage c machines (start_from c (Some left))
+      → All (λ m. machine_config m ≡ images.config_of image) machines → All (λ m. order_of m ≡ Nothing) machines → AreMachinesOfStage config machines (start_from config (Some left))
   left_machines machines are heap none = record {
-    machines = are ∙ sym (stage_machines (images.config_of image) (images.words_of image) counts) ∙ ap (λ (s : Stage Actor). map machine_in s.machines) (sym left_start);
-    heap = subst (λ (k : Config). All (λ m. machine_config m ≡ k) machines) (sym sizes) heap;
+    machines = are ∙ sym (stage_machines (images.config_of image) (images.words_of image) counts) ∙ ap (λ (stage : Stage Actor). map machine_in stage.machines) (sym left_start);
+    heap = subst (λ (config : Config). All (λ m. machine_config m ≡ config) machines) (sym sizes) heap;
     orders = none;
   }
 
 -- what was reached from where a heap began was reached from the opening, where it was opened so
-pub reached_from_opening : (h : Heap) (c : Config) (s : Stage Actor) → config_of h ≡ c → start_of_heap h ≡ heap_opening c → IsReached (heap_kind (config_of h)) (start_of_heap h) s → IsReached (heap_kind (config_of h)) (heap_opening (config_of h)) s
-reached_from_opening h c s sizes opened reached = subst (λ (first : Stage Actor). IsReached (heap_kind (config_of h)) first s) (opened ∙ ap heap_opening (sym sizes)) reached
+pub reached_from_opening : (heap : Heap) (config : Config) (stage : Stage Actor) → config_of heap ≡ config → start_of_heap heap ≡ heap_opening config → IsReached (heap_kind (config_of heap)) (start_of_heap heap) stage → IsReached (heap_kind (config_of heap)) (heap_opening (config_of heap)) stage
+reached_from_opening heap config stage sizes opened reached = subst (λ (first : Stage Actor). IsReached (heap_kind (config_of heap)) first stage) (opened ∙ ap heap_opening (sym sizes)) reached
 
 -- no order is pending
 pub opened_orders : (machines : List Machine) → All (λ m. order_of m ≡ Nothing) machines → (number : ℕ) (order : Order) → machine_of (kept_in_view order_of (whole machines)) number ≡ Some order → order ≡ Nothing
@@ -118,7 +118,7 @@ opened_steps (r ∷ rs) (suc number) made there = opened_steps rs number made th
 pub picked_some : {R : Type 0} (test : ℕ → Bool) (v : View R) (k : ℕ) (r : R) → machine_of (machines_picked test v) k ≡ Some r → machine_of v k ≡ Some r
 picked_some {R} test v k r there = by_test (test k) (sym (machine_of-picked test v k) ∙ there)
   where
-    by_test : (b : Bool) → (if b then machine_of v k else None) ≡ Some r → machine_of v k ≡ Some r
+    by_test : (holds : Bool) → (if holds then machine_of v k else None) ≡ Some r → machine_of v k ≡ Some r
     by_test true found = found
     by_test false found = absurd cc
 
@@ -134,9 +134,9 @@ module _ {R : Type 0} (workers : ℕ) (view : View R) where
   left_next bundle = picked_twice (λ k. not (is_dealt_to workers bundle k)) (λ k. not (is_dealt_below workers bundle k)) (λ k. not (is_dealt_below workers (bundle + 1) k)) view (λ k. grind (arith, nat_tests))
 
 -- one element more
-pub each_more : {A : Type 0} (P : ℕ → A → Type 0) (xs : List A) (new : A) (n : ℕ) → length xs ≡ n → ((k : ℕ) (x : A) → slice_get xs k ≡ Some x → P k x) → P n new → (k : ℕ) (x : A) → slice_get (xs ++ new ∷ []) k ≡ Some x → P k x
+pub each_more : {A : Type 0} (P : ℕ → A → Type 0) (xs : List A) (new : A) (n : ℕ) → length xs ≡ n → ((index : ℕ) (x : A) → slice_get xs index ≡ Some x → P index x) → P n new → (index : ℕ) (x : A) → slice_get (xs ++ new ∷ []) index ≡ Some x → P index x
 each_more P [] new n long each one zero x there = let same : new ≡ x = cc in let n_is : n ≡ 0 = omega (arith, long) in subst (P 0) same (subst (λ j. P j new) n_is one)
-each_more P [] new n long each one (suc k) x there = absurd cc
+each_more P [] new n long each one (suc index) x there = absurd cc
 each_more P (y ∷ ys) new n long each one zero x there = each zero x there
-each_more P (y ∷ ys) new n long each one (suc k) x there =
-    each_more (λ j z. P (suc j) z) ys new (n - 1) (omega (arith, long)) (λ j z is. each (suc j) z is) (let n_is : n ≡ suc (n - 1) = omega (arith, long) in subst (λ j. P j new) n_is one) k x there
+each_more P (y ∷ ys) new n long each one (suc index) x there =
+    each_more (λ j z. P (suc j) z) ys new (n - 1) (omega (arith, long)) (λ j z is. each (suc j) z is) (let n_is : n ≡ suc (n - 1) = omega (arith, long) in subst (λ j. P j new) n_is one) index x there

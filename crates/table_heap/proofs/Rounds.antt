@@ -27,7 +27,7 @@ use Rattle.table_heap.proofs.Running.{in_memory, at_number, same_bundle, same_bu
 -- are idle for good.
 pub record IsRoundOf (old : Bundle) (number : ℕ) (now : Bundle) (so_far : Round) : Type 0 where
   pub same : IsSameBundle old now
-  pub idle : so_far ≡ round.Idle → (k : ℕ) (a : Actor) → k < number → machine_of (view_of now) k ≡ Some a → IsIdleForGood a.machine
+  pub idle : so_far ≡ round.Idle → (k : ℕ) (actor : Actor) → k < number → machine_of (view_of now) k ≡ Some actor → IsIdleForGood actor.machine
 
 -- what a turn of the machine has left
 pub record IsTurnOf (now new : Bundle) (number : ℕ) (said : Stepped) : Type 0 where
@@ -36,8 +36,8 @@ pub record IsTurnOf (now new : Bundle) (number : ℕ) (said : Stepped) : Type 0 
   pub idle : said ≡ stepped.Idle → IsIdleForGood (machine_at now number)
 
 -- it begins
-pub round_first : (b : Bundle) (so_far : Round) → IsRoundOf b 0 b so_far
-round_first b so_far = record { same = same_bundle b; idle = λ none k a below there. absurd (omega (arith, below)) }
+pub round_first : (bundle : Bundle) (so_far : Round) → IsRoundOf bundle 0 bundle so_far
+round_first bundle so_far = record { same = same_bundle bundle; idle = λ none k a below there. absurd (omega (arith, below)) }
 
 module _ (old now : Bundle) (number : ℕ) (so_far : Round) (before : IsRoundOf old number now so_far) where
   -- one turn more
@@ -117,8 +117,8 @@ module _ {D : Type 0} (next_of : D → Option Command) (replied : D → Reply �
   counted_none true test is n = absurd (false≢true (sym is))
   counted_none false test is n = refl
 
-  here_before : (s : Bool) → is_some (machine_of (view_of now) number) ≡ s → is_some (machine_of (view_of old) number) ≡ s
-  here_before s is = sym (before.round.same.numbers.here number) ∙ is
+  here_before : (holds : Bool) → is_some (machine_of (view_of now) number) ≡ holds → is_some (machine_of (view_of old) number) ≡ holds
+  here_before holds is = sym (before.round.same.numbers.here number) ∙ is
 
   one_more : mutators_below old (number + 1) ≡ mutators_below old (suc number)
   one_more = ap (mutators_below old) (let e : number + 1 ≡ suc number = omega arith in e)
@@ -145,12 +145,12 @@ module _ {D : Type 0} (next_of : D → Option Command) (replied : D → Reply �
   }
 
 -- a bundle that can start is at work
-pub at_start : (b : Bundle) (jobs : Jobs) → CanStart b jobs → AreAtWork b jobs
-at_start b jobs can = record { orders = can.orders; mutators = λ number a here role. starts jobs number a (can.mutators number a here role) }
+pub at_start : (bundle : Bundle) (jobs : Jobs) → CanStart bundle jobs → AreAtWork bundle jobs
+at_start bundle jobs can = record { orders = can.orders; mutators = λ number a here role. starts jobs number a (can.mutators number a here role) }
 
 -- where all machines are idle for good the mutators have called their scripts
-pub have_done : (b new : Bundle) (jobs later : Jobs) → AreSameJobs (view_of b) jobs later → AreAtWork new later → AreIdleForGood new → HaveDone new jobs later
-have_done b new jobs later same work idle number a here role =
+pub have_done : (bundle new : Bundle) (jobs later : Jobs) → AreSameJobs (view_of bundle) jobs later → AreAtWork new later → AreIdleForGood new → HaveDone new jobs later
+have_done bundle new jobs later same work idle number a here role =
     let job = work.mutators number a here role in
     subst (λ script. HasDone script (replies_of later number) a) (sym (script_here later number job.0 job.1) ∙ same.scripts number)
     (subst (λ replies. HasDone job.0.script replies a) (sym (replies_here later number job.0 job.1))

@@ -22,48 +22,48 @@ use Rattle.table_heap.proofs.Jobs.{has_here, next_here}
 use Rattle.table_heap.proofs.AtWork.{next_fits}
 
 -- a machine of the view is in memory
-pub in_memory : (b : Bundle) (number : ℕ) (a : Actor) → machine_of (view_of b) number ≡ Some a → machine_of (machines_of b) number ≡ Some a.machine
-in_memory b number a here = ap (λ v. machine_of v number) (sym b.kept) ∙ shows_here machine_in (view_of b) number a here
+pub in_memory : (bundle : Bundle) (number : ℕ) (actor : Actor) → machine_of (view_of bundle) number ≡ Some actor → machine_of (machines_of bundle) number ≡ Some actor.machine
+in_memory bundle number actor here = ap (λ v. machine_of v number) (sym bundle.kept) ∙ shows_here machine_in (view_of bundle) number actor here
 
-pub at_number : (b : Bundle) (number : ℕ) (a : Actor) → machine_of (view_of b) number ≡ Some a → machine_at b number ≡ a.machine
-at_number b number a here = ap (λ o. unwrap_or o no_machine) (in_memory b number a here)
+pub at_number : (bundle : Bundle) (number : ℕ) (actor : Actor) → machine_of (view_of bundle) number ≡ Some actor → machine_at bundle number ≡ actor.machine
+at_number bundle number actor here = ap (λ o. unwrap_or o no_machine) (in_memory bundle number actor here)
 
 -- and a machine in memory is one of the view
-pub in_view : (b : Bundle) (number : ℕ) → HasMachine b number → (a : Actor) × (machine_of (view_of b) number ≡ Some a)
-in_view b number here = by_machine (machine_of (view_of b) number) refl
+pub in_view : (bundle : Bundle) (number : ℕ) → HasMachine bundle number → (actor : Actor) × (machine_of (view_of bundle) number ≡ Some actor)
+in_view bundle number here = by_machine (machine_of (view_of bundle) number) refl
   where
-    by_machine : (o : Option Actor) → machine_of (view_of b) number ≡ o → (a : Actor) × (machine_of (view_of b) number ≡ Some a)
+    by_machine : (found : Option Actor) → machine_of (view_of bundle) number ≡ found → (actor : Actor) × (machine_of (view_of bundle) number ≡ Some actor)
     by_machine None is =
-        absurd (false≢true (sym (ap is_some is) ∙ sym (kept_some machine_in (view_of b) number) ∙ ap (λ v. is_some (machine_of v number)) b.kept ∙ here))
-    by_machine (Some a) is = (a, is)
+        absurd (false≢true (sym (ap is_some is) ∙ sym (kept_some machine_in (view_of bundle) number) ∙ ap (λ v. is_some (machine_of v number)) bundle.kept ∙ here))
+    by_machine (Some actor) is = (actor, is)
 
 -- its role is by its number
-pub role_at : (b : Bundle) (number : ℕ) (a : Actor) → machine_of (view_of b) number ≡ Some a → is_mutating a.machine ≡ nat_lt number b.config.mutators
-role_at b number a here =
-    let found = kept_here shown b.machines.items number a.machine (in_memory b number a here) in
-    ap is_mutating (sym found.2) ∙ (b.of_heap number found.0 found.1).role
+pub role_at : (bundle : Bundle) (number : ℕ) (actor : Actor) → machine_of (view_of bundle) number ≡ Some actor → is_mutating actor.machine ≡ nat_lt number bundle.config.mutators
+role_at bundle number actor here =
+    let found = kept_here shown bundle.machines.items number actor.machine (in_memory bundle number actor here) in
+    ap is_mutating (sym found.2) ∙ (bundle.of_heap number found.0 found.1).role
 
 -- the next command of a mutator's script can be given
-pub command_fits : (b : Bundle) (jobs : Jobs) (number : ℕ) → AreAtWork b jobs → HasMachine b number → may_begin (machine_at b number) ≡ true
-    → IfSome (next_for b.config jobs number) (λ command. IsValid command × (made_of_machine (machine_at b number) < most_objects))
-command_fits b jobs number work here may =
-    let seen = in_view b number here in
+pub command_fits : (bundle : Bundle) (jobs : Jobs) (number : ℕ) → AreAtWork bundle jobs → HasMachine bundle number → may_begin (machine_at bundle number) ≡ true
+    → IfSome (next_for bundle.config jobs number) (λ command. IsValid command × (made_of_machine (machine_at bundle number) < most_objects))
+command_fits bundle jobs number work here may =
+    let seen = in_view bundle number here in
     let a = seen.0 in
-    let at = at_number b number a seen.1 in
+    let at = at_number bundle number a seen.1 in
     let free : may_begin a.machine ≡ true = ap may_begin (sym at) ∙ may in
     let role : is_mutating a.machine ≡ true = rest_is_mutating a.machine (begins_at_rest a.machine free) in
-    let is : nat_lt number b.config.mutators ≡ true = sym (role_at b number a seen.1) ∙ role in
+    let is : nat_lt number bundle.config.mutators ≡ true = sym (role_at bundle number a seen.1) ∙ role in
     let job = work.mutators number a seen.1 role in
-    let next : next_for b.config jobs number ≡ slice_get job.0.script (length job.0.replies) = ap (λ t. if t then next_of jobs number else None) is ∙ next_here jobs number job.0 job.1 in
-    subst (λ o. IfSome o (λ command. IsValid command × (made_of_machine (machine_at b number) < most_objects))) (sym next)
+    let next : next_for bundle.config jobs number ≡ slice_get job.0.script (length job.0.replies) = ap (λ t. if t then next_of jobs number else None) is ∙ next_here jobs number job.0 job.1 in
+    subst (λ o. IfSome o (λ command. IsValid command × (made_of_machine (machine_at bundle number) < most_objects))) (sym next)
     (subst (λ machine. IfSome (slice_get job.0.script (length job.0.replies)) (λ command. IsValid command × (made_of_machine machine < most_objects))) (sym at)
     (next_fits job.0 a job.2 free))
 
 -- a mutator of the bundle has a script
-pub has_script : (b : Bundle) (jobs : Jobs) (number : ℕ) → AreAtWork b jobs → HasMachine b number → nat_lt number b.config.mutators ≡ true → HasScript jobs number
-has_script b jobs number work here below =
-    let seen = in_view b number here in
-    let job = work.mutators number seen.0 seen.1 (role_at b number seen.0 seen.1 ∙ below) in
+pub has_script : (bundle : Bundle) (jobs : Jobs) (number : ℕ) → AreAtWork bundle jobs → HasMachine bundle number → nat_lt number bundle.config.mutators ≡ true → HasScript jobs number
+has_script bundle jobs number work here below =
+    let seen = in_view bundle number here in
+    let job = work.mutators number seen.0 seen.1 (role_at bundle number seen.0 seen.1 ∙ below) in
     has_here jobs number job.0 job.1
 
 -- roles stay in the same bundle
@@ -72,9 +72,9 @@ no_mutator_stays old new number same none a here =
     let seen = in_old (machine_of (view_of old) number) refl in
     role_at new number a here ∙ ap (λ c. nat_lt number c.mutators) same.config ∙ sym (role_at old number seen.0 seen.1) ∙ none seen.0 seen.1
   where
-    in_old : (o : Option Actor) → machine_of (view_of old) number ≡ o → (z : Actor) × (machine_of (view_of old) number ≡ Some z)
+    in_old : (found : Option Actor) → machine_of (view_of old) number ≡ found → (actor : Actor) × (machine_of (view_of old) number ≡ Some actor)
     in_old None is = absurd (false≢true (sym (ap is_some is) ∙ sym (same.numbers.here number) ∙ ap is_some here))
-    in_old (Some z) is = (z, is)
+    in_old (Some actor) is = (actor, is)
 
 -- the same work
 pub same_jobs : (view : View Actor) (jobs : Jobs) → AreSameJobs view jobs jobs
@@ -88,8 +88,8 @@ same_jobs_more old mid jobs between later same first second = record {
 }
 
 -- the same bundle
-pub same_bundle : (b : Bundle) → IsSameBundle b b
-same_bundle b = record { table = refl; config = refl; key = refl; numbers = same_none (view_of b) }
+pub same_bundle : (bundle : Bundle) → IsSameBundle bundle bundle
+same_bundle bundle = record { table = refl; config = refl; key = refl; numbers = same_none (view_of bundle) }
 
 pub same_bundle_more : (old mid new : Bundle) → IsSameBundle old mid → IsSameBundle mid new → IsSameBundle old new
 same_bundle_more old mid new first second = record {
@@ -100,8 +100,8 @@ same_bundle_more old mid new first second = record {
 }
 
 -- so it is one of its heap still
-pub still_of : (old new : Bundle) (h : Heap) → IsSameBundle old new → IsBundleOf old h → IsBundleOf new h
-still_of old new h same of = record { table = same.table ∙ of.table; config = same.config ∙ of.config; key = ap (λ k. k.value) same.key ∙ of.key }
+pub still_of : (old new : Bundle) (heap : Heap) → IsSameBundle old new → IsBundleOf old heap → IsBundleOf new heap
+still_of old new heap same of = record { table = same.table ∙ of.table; config = same.config ∙ of.config; key = ap (λ k. k.value) same.key ∙ of.key }
 
 -- the work of a bundle that is as it was
 pub work_unchanged : (old new : Bundle) (jobs : Jobs) → IsUnchanged old new → AreAtWork old jobs → AreAtWork new jobs

@@ -22,7 +22,7 @@ done_only took.More is = absurd cc
 done_only took.Again is = absurd cc
 done_only took.Done is = refl
 
-pub done_by : (o : Option Took) → stepped_by o ≡ stepped.Done → o ≡ Some took.Done
+pub done_by : (found : Option Took) → stepped_by found ≡ stepped.Done → found ≡ Some took.Done
 done_by None is = absurd cc
 done_by (Some took.More) is = absurd cc
 done_by (Some took.Again) is = absurd cc

@@ -24,33 +24,33 @@ use Rattle.table_heap.proofs.Opened.{picked_some}
 dealt_here : {R : Type 0} (test : ℕ → Bool) (v : View R) (k : ℕ) (r : R) → (if test k then machine_of v k else None) ≡ Some r → test k ≡ true
 dealt_here {R} test v k r there = by_test (test k) refl there
   where
-    by_test : (b : Bool) → test k ≡ b → (if b then machine_of v k else None) ≡ Some r → test k ≡ true
+    by_test : (holds : Bool) → test k ≡ holds → (if holds then machine_of v k else None) ≡ Some r → test k ≡ true
     by_test true is found = is
     by_test false is found = absurd cc
 
 -- A bundle that was dealt from the machines of the opening, where the work has for each mutator that is dealt to it a script that
 -- is not begun, of commands in range, and no more than there are names for what they make.
-pub fresh_can_start : (h : Heap) (b : Bundle) (c : Config) (workers bundle : ℕ) (jobs : Jobs) → IsFresh h b (dealt_to workers bundle (whole (heap_opening c).machines))
-    → ((number : ℕ) → number < c.mutators → is_dealt_to workers bundle number ≡ true → (script : List Command) × (progress_of jobs number ≡ Some (begun script)) × All IsValid script × (length script < most_objects))
+pub fresh_can_start : (heap : Heap) (b : Bundle) (config : Config) (workers bundle : ℕ) (jobs : Jobs) → IsFresh heap b (dealt_to workers bundle (whole (heap_opening config).machines))
+    → ((number : ℕ) → number < config.mutators → is_dealt_to workers bundle number ≡ true → (script : List Command) × (progress_of jobs number ≡ Some (begun script)) × All IsValid script × (length script < most_objects))
     → CanStart b jobs
-fresh_can_start h b c workers bundle jobs fresh scripts = record {
+fresh_can_start heap b config workers bundle jobs fresh scripts = record {
   orders = fresh.orders;
   mutators = λ number a here role.
       let test : ℕ → Bool = is_dealt_to workers bundle in
-      let all : View Actor = whole (heap_opening c).machines in
+      let all : View Actor = whole (heap_opening config).machines in
       let there : machine_of (dealt_to workers bundle all) number ≡ Some a = ap (λ v. machine_of v number) (sym fresh.machines) ∙ here in
       let dealt = dealt_here test all number a (sym (machine_of-picked test all number) ∙ there) in
-      let first = first_is c number a (sym (machine_of-whole (heap_opening c).machines number) ∙ picked_some test all number a there) in
+      let first = first_is config number a (sym (machine_of-whole (heap_opening config).machines number) ∙ picked_some test all number a there) in
       let is = first.1 in
-      let mutates : nat_lt number c.mutators ≡ true = sym (first_role c number) ∙ ap (λ x. is_mutating x.machine) is ∙ role in
-      let below : number < c.mutators = ltb-true number c.mutators mutates in
+      let mutates : nat_lt number config.mutators ≡ true = sym (first_role config number) ∙ ap (λ x. is_mutating x.machine) is ∙ role in
+      let below : number < config.mutators = ltb-true number config.mutators mutates in
       let job = scripts number below dealt in
       let script = script_here jobs number (begun job.0) job.1 in
       record {
         calls = ap (λ x. x.calls) (sym is);
-        rest = ap (λ x. is_resting x.machine) (sym is) ∙ first_rests c number below;
-        free = ap (λ x. may_begin x.machine) (sym is) ∙ first_free_to_begin c number below;
-        made = ap (λ x. made_of_machine x.machine) (sym is) ∙ first_made c number;
+        rest = ap (λ x. is_resting x.machine) (sym is) ∙ first_rests config number below;
+        free = ap (λ x. may_begin x.machine) (sym is) ∙ first_free_to_begin config number below;
+        made = ap (λ x. made_of_machine x.machine) (sym is) ∙ first_made config number;
         script = has_here jobs number (begun job.0) job.1;
         replies = replies_here jobs number (begun job.0) job.1;
         commands = subst (λ xs. All IsValid xs) (sym script) job.2;

@@ -34,8 +34,8 @@ shares_more a b d first second = record {
 }
 
 -- who steals another's hints does so still
-steals_still : (a b own next : Bundle) → SharesMore a b → SharesMore own next → StealsFrom a own → StealsFrom b next
-steals_still a b own next one other from = record {
+steals_still : (bundle other_bundle own next : Bundle) → SharesMore bundle other_bundle → SharesMore own next → StealsFrom bundle own → StealsFrom other_bundle next
+steals_still bundle other_bundle own next one other from = record {
   place = from.place;
   thief = from.thief;
   there = one.thieves from.place from.thief from.there;
@@ -43,9 +43,9 @@ steals_still a b own next one other from = record {
 }
 
 -- a bundle before the first event is so still
-pub fresh_still : (h : Heap) (a b : Bundle) (view : View Actor) → OnlyHintsDiffer a b → IsFresh h a view → IsFresh h b view
-fresh_still h a b view only fresh = record {
-  of = still_of a b h (same_after a b only) fresh.of;
+pub fresh_still : (heap : Heap) (bundle other_bundle : Bundle) (view : View Actor) → OnlyHintsDiffer bundle other_bundle → IsFresh heap bundle view → IsFresh heap other_bundle view
+fresh_still heap bundle other_bundle view only fresh = record {
+  of = still_of bundle other_bundle heap (same_after bundle other_bundle only) fresh.of;
   machines = ap (λ s. uncounted_view s.me.0) only.seat ∙ fresh.machines;
   orders = λ number order there. fresh.orders number order (ap (λ ms. machine_of (kept_in_view order_of ms.items) number) (sym only.machines) ∙ there);
   steps = λ number made there. fresh.steps number made (ap (λ s. machine_of (steps_in_view s.me.0) number) (sym only.seat) ∙ there);
@@ -53,35 +53,35 @@ fresh_still h a b view only fresh = record {
 }
 
 -- what stands at a place after a change of one place
-set_place : {R : Type 0} (xs : List R) (place : ℕ) (b : R) (k : ℕ) (x : R) → slice_get (slice_set xs place b) k ≡ Some x → ((k ≡ place) × (b ≡ x)) ⊎ (slice_get xs k ≡ Some x)
-set_place [] place b k x there = inr there
+set_place : {R : Type 0} (xs : List R) (place : ℕ) (b : R) (index : ℕ) (x : R) → slice_get (slice_set xs place b) index ≡ Some x → ((index ≡ place) × (b ≡ x)) ⊎ (slice_get xs index ≡ Some x)
+set_place [] place b index x there = inr there
 set_place (y ∷ ys) zero b zero x there = inl (refl, same_Some b x there)
-set_place (y ∷ ys) zero b (suc k) x there = inr there
+set_place (y ∷ ys) zero b (suc index) x there = inr there
 set_place (y ∷ ys) (suc place) b zero x there = inr there
-set_place (y ∷ ys) (suc place) b (suc k) x there = ⊎_elim
-    (λ (here : (k ≡ place) × (b ≡ x)). inl (ap suc here.0, here.1))
-    (λ (other : slice_get ys k ≡ Some x). inr other)
-    (set_place ys place b k x there)
+set_place (y ∷ ys) (suc place) b (suc index) x there = ⊎_elim
+    (λ (here : (index ≡ place) × (b ≡ x)). inl (ap suc here.0, here.1))
+    (λ (other : slice_get ys index ≡ Some x). inr other)
+    (set_place ys place b index x there)
 
 -- what is read at a place stands there
-pub read_place : (bundles : List Bundle) (place : ℕ) (b : Bundle) → place < length bundles → b ≡ get_or bundles place b → slice_get bundles place ≡ Some b
-read_place [] place b below is = absurd (omega (arith, below))
-read_place (y ∷ ys) zero b below is = ap (λ (z : Bundle). Some z) (sym is)
-read_place (y ∷ ys) (suc place) b below is = read_place ys place b (omega (arith, below)) is
+pub read_place : (bundles : List Bundle) (place : ℕ) (bundle : Bundle) → place < length bundles → bundle ≡ get_or bundles place bundle → slice_get bundles place ≡ Some bundle
+read_place [] place bundle below is = absurd (omega (arith, below))
+read_place (y ∷ ys) zero bundle below is = ap (λ (bundle : Bundle). Some bundle) (sym is)
+read_place (y ∷ ys) (suc place) bundle below is = read_place ys place bundle (omega (arith, below)) is
 
 pub none_changed : (bundles : List Bundle) → AllShareMore bundles bundles
 none_changed bundles = record { count = refl; each = λ k b there. (b, there, record { only = record { config = refl; key = refl; seat = refl; machines = refl; greyed = refl }; deque = refl; thieves = λ place thief is. is }) }
 
 -- the hints of one bundle more differ
-pub one_changed : (old now : List Bundle) (place : ℕ) (a b : Bundle) → AllShareMore old now → slice_get now place ≡ Some a → SharesMore a b → AllShareMore old (slice_set now place b)
-one_changed old now place a b differ here only = record {
-  count = length-set now place b ∙ differ.count;
+pub one_changed : (old now : List Bundle) (place : ℕ) (bundle other_bundle : Bundle) → AllShareMore old now → slice_get now place ≡ Some bundle → SharesMore bundle other_bundle → AllShareMore old (slice_set now place other_bundle)
+one_changed old now place bundle other_bundle differ here only = record {
+  count = length-set now place other_bundle ∙ differ.count;
   each = λ k x there. ⊎_elim
-      (λ (same : (k ≡ place) × (b ≡ x)).
-      let was = differ.each place a here in
-      (was.0, ap (slice_get old) same.0 ∙ was.1, subst (SharesMore was.0) same.1 (shares_more was.0 a b was.2 only)))
+      (λ (same : (k ≡ place) × (other_bundle ≡ x)).
+      let was = differ.each place bundle here in
+      (was.0, ap (slice_get old) same.0 ∙ was.1, subst (SharesMore was.0) same.1 (shares_more was.0 bundle other_bundle was.2 only)))
       (λ (other : slice_get now k ≡ Some x). differ.each k x other)
-      (set_place now place b k x there);
+      (set_place now place other_bundle k x there);
 }
 
 pub in_more : (old mid new : List Bundle) → AllShareMore old mid → AllShareMore mid new → AllShareMore old new
@@ -94,8 +94,8 @@ in_more old mid new first second = record {
 }
 
 -- the one that is read at a place
-pub read_changed : (bundles : List Bundle) (place : ℕ) (a b : Bundle) → place < length bundles → a ≡ get_or bundles place a → SharesMore a b → AllShareMore bundles (slice_set bundles place b)
-read_changed bundles place a b below is only = one_changed bundles bundles place a b (none_changed bundles) (read_place bundles place a below is) only
+pub read_changed : (bundles : List Bundle) (place : ℕ) (bundle other_bundle : Bundle) → place < length bundles → bundle ≡ get_or bundles place bundle → SharesMore bundle other_bundle → AllShareMore bundles (slice_set bundles place other_bundle)
+read_changed bundles place bundle other_bundle below is only = one_changed bundles bundles place bundle other_bundle (none_changed bundles) (read_place bundles place bundle below is) only
 
 -- and then another
 pub both_changed : (bundles : List Bundle) (first second : ℕ) (a b x y : Bundle) → first < length bundles → second < length bundles → a ≡ get_or bundles first a → SharesMore a b
@@ -105,8 +105,8 @@ both_changed bundles first second a b x y below within is only then_is more =
     in_more bundles (slice_set bundles first b) _ (read_changed bundles first a b below is only) (read_changed (slice_set bundles first b) second x y (omega (arith, long, within)) then_is more)
 
 -- the bundles have the configuration still
-pub config_still : (c : Config) (old new : List Bundle) → AllShareMore old new → HaveConfig c old → HaveConfig c new
-config_still c old new differ have k b there = let was = differ.each k b there in was.2.only.config ∙ have k was.0 was.1
+pub config_still : (config : Config) (old new : List Bundle) → AllShareMore old new → HaveConfig config old → HaveConfig config new
+config_still config old new differ have k b there = let was = differ.each k b there in was.2.only.config ∙ have k was.0 was.1
 
 -- so do some bundles
 pub steal_still : (below number : ℕ) (old new : List Bundle) → AllShareMore old new → StealFrom below old number → StealFrom below new number
@@ -116,22 +116,22 @@ steal_still below number old new more from k b own under other there at =
     steals_still was.0 b is.0 own was.2 is.2 (from k was.0 is.0 under other was.1 is.1)
 
 -- and one more
-pub one_steals : (k number : ℕ) (bundles : List Bundle) → StealFrom k bundles number
-    → ((b own : Bundle) → k ≢ number → slice_get bundles k ≡ Some b → slice_get bundles number ≡ Some own → StealsFrom b own) → StealFrom (k + 1) bundles number
-one_steals k number bundles from next j b own under other there at = by_number (j == k) refl
+pub one_steals : (index number : ℕ) (bundles : List Bundle) → StealFrom index bundles number
+    → ((bundle own : Bundle) → index ≢ number → slice_get bundles index ≡ Some bundle → slice_get bundles number ≡ Some own → StealsFrom bundle own) → StealFrom (index + 1) bundles number
+one_steals index number bundles from next j bundle own under other there at = by_number (j == index) refl
   where
-    by_number : (t : Bool) → (j == k) ≡ t → StealsFrom b own
+    by_number : (holds : Bool) → (j == index) ≡ holds → StealsFrom bundle own
     by_number true is =
-        let same : j ≡ k = grind (arith, nat_tests) in
-        next b own (subst (λ x. x ≢ number) same other) (ap (slice_get bundles) (sym same) ∙ there) at
-    by_number false is = from j b own (grind (arith, nat_tests)) other there at
+        let same : j ≡ index = grind (arith, nat_tests) in
+        next bundle own (subst (λ x. x ≢ number) same other) (ap (slice_get bundles) (sym same) ∙ there) at
+    by_number false is = from j bundle own (grind (arith, nat_tests)) other there at
 
 -- the hints of one bundle more are shared
 pub more_shared : (n : ℕ) (old new : List Bundle) → AllShareMore old new → ((number : ℕ) → number < n → StealFrom (length old) old number) → StealFrom (length old) new n
     → (number : ℕ) → number < n + 1 → StealFrom (length new) new number
 more_shared n old new more before last number under = subst (λ m. StealFrom m new number) (sym more.count) (by_number (number == n) refl)
   where
-    by_number : (t : Bool) → (number == n) ≡ t → StealFrom (length old) new number
+    by_number : (holds : Bool) → (number == n) ≡ holds → StealFrom (length old) new number
     by_number true is = let same : number ≡ n = grind (arith, nat_tests) in subst (StealFrom (length old) new) (sym same) last
     by_number false is = steal_still (length old) number old new more (before number (grind (arith, nat_tests)))
 
@@ -152,8 +152,8 @@ changed_place (y ∷ ys) zero b x below there = same_Some b x there
 changed_place (y ∷ ys) (suc place) b x below there = changed_place ys place b x (omega (arith, below)) there
 
 -- and at another one
-pub other_place : {R : Type 0} (xs : List R) (place : ℕ) (b x : R) (k : ℕ) → k ≢ place → slice_get (slice_set xs place b) k ≡ Some x → slice_get xs k ≡ Some x
-other_place xs place b x k other there = ⊎_elim
-    (λ (here : (k ≡ place) × (b ≡ x)). absurd (other here.0))
-    (λ (was : slice_get xs k ≡ Some x). was)
-    (set_place xs place b k x there)
+pub other_place : {R : Type 0} (xs : List R) (place : ℕ) (b x : R) (index : ℕ) → index ≢ place → slice_get (slice_set xs place b) index ≡ Some x → slice_get xs index ≡ Some x
+other_place xs place b x index other there = ⊎_elim
+    (λ (here : (index ≡ place) × (b ≡ x)). absurd (other here.0))
+    (λ (was : slice_get xs index ≡ Some x). was)
+    (set_place xs place b index x there)

@@ -49,7 +49,7 @@ pub each_after : (view new : View Actor) (number : ℕ) (a b : Actor) (P Q : ℕ
 each_after view new number a b P Q here new_is each one others k x there role =
     by_number (k == number) refl (sym (machine_of-set view number a (Some b) here k) ∙ ap (λ v. machine_of v k) (sym new_is) ∙ there)
   where
-    by_number : (t : Bool) → (k == number) ≡ t → (if k == number then Some b else machine_of view k) ≡ Some x → Q k x
+    by_number : (holds : Bool) → (k == number) ≡ holds → (if k == number then Some b else machine_of view k) ≡ Some x → Q k x
     by_number true is found =
         let same : k ≡ number = grind (arith, nat_tests) in
         let next : b ≡ x = cc (rw is at found) in
@@ -60,16 +60,16 @@ each_after view new number a b P Q here new_is each one others k x there role =
         others k x other there_before role (each k x there_before role)
 
 -- a mutator is given no hint
-turn_of : (c : Config) (next : Option Command) (machine : Machine) (order : Order) → is_mutating machine ≡ true → IsOrderFor c next machine order → order_for next machine ≡ Some order
-turn_of c next machine order role (inl turn) = turn
-turn_of c next (mutating m) order role (inr hinted) = absurd (let takes = hinted.0 in cc (takes))
-turn_of c next (helping h) order role (inr hinted) = absurd (cc (role))
-turn_of c next (controlling k) order role (inr hinted) = absurd (cc (role))
+turn_of : (config : Config) (next : Option Command) (machine : Machine) (order : Order) → is_mutating machine ≡ true → IsOrderFor config next machine order → order_for next machine ≡ Some order
+turn_of config next machine order role (inl turn) = turn
+turn_of config next (mutating m) order role (inr hinted) = absurd (let takes = hinted.0 in cc (takes))
+turn_of config next (helping h) order role (inr hinted) = absurd (cc (role))
+turn_of config next (controlling k) order role (inr hinted) = absurd (cc (role))
 
 -- where another command would lead to the same order, the turn is one by that command
-order_as : (c : Config) (next other : Option Command) (machine : Machine) (order : Order) → order_for next machine ≡ order_for other machine → IsOrderFor c next machine order → IsOrderFor c other machine order
-order_as c next other machine order same (inl turn) = inl (sym same ∙ turn)
-order_as c next other machine order same (inr hinted) = inr hinted
+order_as : (config : Config) (next other : Option Command) (machine : Machine) (order : Order) → order_for next machine ≡ order_for other machine → IsOrderFor config next machine order → IsOrderFor config other machine order
+order_as config next other machine order same (inl turn) = inl (sym same ∙ turn)
+order_as config next other machine order same (inr hinted) = inr hinted
 
 pub turn_as : (old new : Bundle) (next other : Option Command) (number : ℕ) (said : Stepped) → order_for next (machine_at old number) ≡ order_for other (machine_at old number)
     → IsTurn old new next number said → IsTurn old new other number said
@@ -108,7 +108,7 @@ module _ (old new : Bundle) (next : Option Command) (number : ℕ) (said : Stepp
       ∙ ap (λ v. slice_set v number (Some then_is)) made.unmoved.view
 
   there : machine_of (view_of new) number ≡ Some then_is
-  there = ap (λ v. machine_of v number) view_is ∙ put_there (λ (x : Actor). x) (view_of old) number was then_is here
+  there = ap (λ v. machine_of v number) view_is ∙ put_there (λ (actor : Actor). actor) (view_of old) number was then_is here
 
   -- no order is pending
   pub no_order : HasNoOrder old → HasNoOrder new
@@ -139,16 +139,16 @@ module _ (old new : Bundle) (next : Option Command) (number : ℕ) (said : Stepp
   none_given other = other_gives mid.config (order_at mid number) was.machine got (λ is. other (said_is ∙ ap stepped_by is))
 
   -- a step that is done gives one
-  pub some_given : said ≡ stepped.Done → (r : Reply) × (reply_of_step was.machine ≡ Some r)
+  pub some_given : said ≡ stepped.Done → (reply : Reply) × (reply_of_step was.machine ≡ Some reply)
   some_given done = done_gives mid.config (order_at mid number) was.machine got (done_by (answer_of mid.config (order_at mid number) was.machine got) (sym said_is ∙ done))
 
   -- a machine that gives a reply is a mutator
-  pub role_given : (r : Reply) → reply_of_step was.machine ≡ Some r → is_mutating was.machine ≡ true
-  role_given r gives = (given_after pause_image mid.config order got was.machine r gives).role
+  pub role_given : (reply : Reply) → reply_of_step was.machine ≡ Some reply → is_mutating was.machine ≡ true
+  role_given reply gives = (given_after pause_image mid.config order got was.machine reply gives).role
 
   -- the reply that is at hand is the one that the step gave
-  pub reply_given : (r : Reply) → said ≡ stepped.Done → reply_in (machine_at new number) ≡ Some r → reply_of_step was.machine ≡ Some r
-  reply_given r done at_hand =
+  pub reply_given : (reply : Reply) → said ≡ stepped.Done → reply_in (machine_at new number) ≡ Some reply → reply_of_step was.machine ≡ Some reply
+  reply_given reply done at_hand =
       let given = some_given done in
       let replied = (given_after pause_image mid.config order got was.machine given.0 given.1).replied in
       given.1 ∙ sym replied ∙ ap reply_in (sym (at_number new number then_is there)) ∙ at_hand
@@ -187,32 +187,32 @@ module _ (old new : Bundle) (next : Option Command) (number : ℕ) (said : Stepp
               (more at.0 was at.2 mid.config order got (turn_is role) given.0 given.1)),
         )
 
-    module _ (r : Reply) (done : said ≡ stepped.Done) (at_hand : reply_in (machine_at new number) ≡ Some r) where
-      abbrev gives : reply_of_step was.machine ≡ Some r
-      gives = reply_given r done at_hand
+    module _ (reply : Reply) (done : said ≡ stepped.Done) (at_hand : reply_in (machine_at new number) ≡ Some reply) where
+      abbrev gives : reply_of_step was.machine ≡ Some reply
+      gives = reply_given reply done at_hand
 
       abbrev role : is_mutating was.machine ≡ true
-      role = role_given r gives
+      role = role_given reply gives
 
       -- the reply is noted
-      pub turned_noted : AreAtWork new (with_reply jobs number r)
+      pub turned_noted : AreAtWork new (with_reply jobs number reply)
       turned_noted = record {
         orders = no_order before.orders;
-        mutators = each_after (view_of old) (view_of new) number was then_is (IsAtWorkOn jobs) (IsAtWorkOn (with_reply jobs number r)) here view_is before.mutators
+        mutators = each_after (view_of old) (view_of new) number was then_is (IsAtWorkOn jobs) (IsAtWorkOn (with_reply jobs number reply)) here view_is before.mutators
             (λ mutates. (
-              answered (job role).0 r,
-              noted_here jobs number (job role).0 (job role).1 r,
-              noted (job role).0 was (job role).2 mid.config order got (turn_is role) r gives,
+              answered (job role).0 reply,
+              noted_here jobs number (job role).0 (job role).1 reply,
+              noted (job role).0 was (job role).2 mid.config order got (turn_is role) reply gives,
             ))
-            (λ k x different there role at. (at.0, progress_other jobs number r k different ∙ at.1, at.2));
+            (λ k x different there role at. (at.0, progress_other jobs number reply k different ∙ at.1, at.2));
       }
 
       -- and it is one of the bundle's mutators to whom it belongs
-      pub jobs_noted : AreSameJobs (view_of old) jobs (with_reply jobs number r)
+      pub jobs_noted : AreSameJobs (view_of old) jobs (with_reply jobs number reply)
       jobs_noted =
           let has = (can_tell done).0 in
           record {
-            scripts = λ t. script_kept jobs number r t has;
-            numbers = λ t. numbers_kept jobs number r t has;
-            others = λ t none. progress_other jobs number r t (λ same. false≢true (sym (none was (ap (machine_of (view_of old)) same ∙ here)) ∙ role));
+            scripts = λ t. script_kept jobs number reply t has;
+            numbers = λ t. numbers_kept jobs number reply t has;
+            others = λ t none. progress_other jobs number reply t (λ same. false≢true (sym (none was (ap (machine_of (view_of old)) same ∙ here)) ∙ role));
           }

@@ -16,11 +16,11 @@ use Rattle.table_heap.specs.State as state
 
 -- the bundle has all machines of its heap
 abbrev pub HasAll : Bundle → Type 0
-HasAll b = (number : ℕ) → number < seat_count (state.config_in b).mutators (state.config_in b).helpers → state.HasMachine b number
+HasAll bundle = (number : ℕ) → number < seat_count (state.config_in bundle).mutators (state.config_in bundle).helpers → state.HasMachine bundle number
 
 -- its control has made its last access
 abbrev pub IsControlIdle : Bundle → Type 0
-IsControlIdle b = (a : Actor) → views.machine_of (state.view_of b) (control_number (state.config_in b)) ≡ Some a → takes_of a.machine Nothing ≡ false
+IsControlIdle bundle = (actor : Actor) → views.machine_of (state.view_of bundle) (control_number (state.config_in bundle)) ≡ Some actor → takes_of actor.machine Nothing ≡ false
 
 -- the configuration
 abbrev pub config_of : Closed → Config
@@ -40,7 +40,7 @@ stage_of h = record { words = words_of h; machines = machines_of h }
 
 -- no mutator has a call in progress
 abbrev pub AllRest : Closed → Type 0
-AllRest h = (number : ℕ) (a : Actor) → number < (config_of h).mutators → slice_get (machines_of h) number ≡ Some a → is_resting a.machine ≡ true
+AllRest h = (number : ℕ) (actor : Actor) → number < (config_of h).mutators → slice_get (machines_of h) number ≡ Some actor → is_resting actor.machine ≡ true
 
 -- all is as it was
 pub record IsUnchanged (old new : Closed) : Type 0 where

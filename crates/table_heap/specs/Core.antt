@@ -15,27 +15,27 @@ use Rattle.table_heap.specs.declared.key.HeapKey.{HeapKey}
 use Rattle.table_heap.specs.Start.{start_from}
 
 abbrev pub heap_kind : Config → MachineKind Actor Order
-heap_kind c = kind pause_image c
+heap_kind config = kind pause_image config
 
 -- the words and machines with which a heap is opened
 abbrev pub heap_opening : Config → Stage Actor
-heap_opening c = opening c
+heap_opening config = opening config
 
 -- those with which the heap of a key begins
 abbrev pub start_of_key : HeapKey → Stage Actor
-start_of_key k = start_from k.config k.left
+start_of_key key = start_from key.config key.left
 
 -- the machines of its table: the same, and they count their steps
 abbrev pub table_kind : HeapKey → MachineKind (Counted Actor) Order
-table_kind k = counting (heap_kind k.config)
+table_kind key = counting (heap_kind key.config)
 
 -- what its table begins with: none has made a step
 abbrev pub table_start : HeapKey → Stage (Counted Actor)
-table_start k = counted_from (start_of_key k)
+table_start key = counted_from (start_of_key key)
 
 -- what memory keeps of a machine
 abbrev pub machine_in : Actor → Machine
-machine_in a = a.machine
+machine_in actor = actor.machine
 
 -- an actor of no heap
 abbrev pub nobody : Actor

@@ -18,14 +18,14 @@ view_of g = uncounted_view g.seat.me.0
 
 -- they are of this heap
 abbrev pub IsGatheredOf : Gathered → Heap → Type 0
-IsGatheredOf g h = g.seat.table_id ≡ h.table.shared.table_id
+IsGatheredOf g heap = g.seat.table_id ≡ heap.table.shared.table_id
 
 -- all machines of a heap of this configuration are there
-pub record HasAllOf (c : Config) (g : Gathered) : Type 0 where
-  pub long : length (view_of g) ≡ seat_count c.mutators c.helpers
-  pub each : (number : ℕ) → number < seat_count c.mutators c.helpers → is_some (machine_of (view_of g) number) ≡ true
+pub record HasAllOf (config : Config) (g : Gathered) : Type 0 where
+  pub long : length (view_of g) ≡ seat_count config.mutators config.helpers
+  pub each : (number : ℕ) → number < seat_count config.mutators config.helpers → is_some (machine_of (view_of g) number) ≡ true
 
 -- some events lead from where the heap began to just these machines, and to some words
-pub record StandInRun (h : Heap) (g : Gathered) : Type 0 where
+pub record StandInRun (heap : Heap) (g : Gathered) : Type 0 where
   pub words : List ℕ
-  pub reached : IsReached (heap_kind (config_of h)) (start_of_heap h) (record { words = words; machines = machines_of (view_of g) })
+  pub reached : IsReached (heap_kind (config_of heap)) (start_of_heap heap) (record { words = words; machines = machines_of (view_of g) })

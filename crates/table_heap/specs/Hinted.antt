@@ -7,7 +7,7 @@ use Rattle.step_core.specs.Machines.{hints_of}
 
 -- of one
 abbrev pub actor_hints : Actor → ℕ
-actor_hints a = hints_of a.machine
+actor_hints actor = hints_of actor.machine
 
 -- of all, up to 2^64 - 1
 abbrev pub hints_in : List Actor → ℕ

@@ -17,31 +17,31 @@ use Rattle.step_core.specs.Machines.{control_in}
 use Rattle.step_core.specs.Settled.{control_number}
 
 -- they are machines of the heap, and those of the first numbers are its mutators
-pub record IsMachineOfHeap (c : Config) (number : ℕ) (m : Machine) : Type 0 where
-  pub heap : config_of m ≡ c
-  pub role : is_mutating (shown m) ≡ nat_lt number c.mutators
+pub record IsMachineOfHeap (config : Config) (number : ℕ) (machine : Machine) : Type 0 where
+  pub heap : config_of machine ≡ config
+  pub role : is_mutating (shown machine) ≡ nat_lt number config.mutators
 
 abbrev pub AreOfHeap : Config → View Machine → Type 0
-AreOfHeap c machines = (number : ℕ) (m : Machine) → machine_of machines number ≡ Some m → IsMachineOfHeap c number m
+AreOfHeap config machines = (number : ℕ) (machine : Machine) → machine_of machines number ≡ Some machine → IsMachineOfHeap config number machine
 
 -- Under each number stands an address of the heap or none, and none where there is no machine.
-pub record AreGreyedBy (c : Config) (machines : View Machine) (greyed : View ℕ) : Type 0 where
+pub record AreGreyedBy (config : Config) (machines : View Machine) (greyed : View ℕ) : Type 0 where
   pub numbers : length greyed ≡ length machines
-  pub known : (number address : ℕ) → machine_of greyed number ≡ Some address → (is_some (machine_of machines number) ≡ true) × IsWord c (Heap address)
+  pub known : (number address : ℕ) → machine_of greyed number ≡ Some address → (is_some (machine_of machines number) ≡ true) × IsWord config (Heap address)
 
 -- those who steal hints of the heap
 abbrev pub AreThievesOf : Config → List Thief → Type 0
-AreThievesOf c thieves = All (λ thief. config_in thief ≡ c) thieves
+AreThievesOf config thieves = All (λ thief. config_in thief ≡ config) thieves
 
 -- memory has the machines of a stage, which are of the heap, and none has an order
-pub record AreMachinesOfStage (c : Config) (kept : List Machine) (s : Stage Actor) : Type 0 where
-  pub machines : map shown kept ≡ map machine_in s.machines
-  pub heap : All (λ m. config_of m ≡ c) kept
+pub record AreMachinesOfStage (config : Config) (kept : List Machine) (stage : Stage Actor) : Type 0 where
+  pub machines : map shown kept ≡ map machine_in stage.machines
+  pub heap : All (λ m. config_of m ≡ config) kept
   pub orders : All (λ m. order_of m ≡ Nothing) kept
 
 -- the control of the heap is under its number
-pub record HasTheControl (c : Config) (machines : View Machine) : Type 0 where
+pub record HasTheControl (config : Config) (machines : View Machine) : Type 0 where
   pub machine : Machine
-  pub here : machine_of machines (control_number c) ≡ Some machine
-  pub heap : config_of machine ≡ c
+  pub here : machine_of machines (control_number config) ≡ Some machine
+  pub heap : config_of machine ≡ config
   pub role : is_some (control_in (shown machine)) ≡ true

@@ -31,4 +31,4 @@ AreHints items views = (port : ℕ) (v : Bounds) → get_elem? views port ≡ so
 
 -- the bounds of a heap's addresses: the base of its first region, and the last word of its last one
 abbrev pub heap_bounds : Config → Bounds
-heap_bounds c = bounds 2 c.region_words ((c.regions + 1) * c.region_words - 1)
+heap_bounds config = bounds 2 config.region_words ((config.regions + 1) * config.region_words - 1)

@@ -6,14 +6,14 @@ use Rattle.table_heap.specs.declared.hints.Hints.{Hints}
 use Rattle.table_heap.specs.declared.hints.Thief.{Thief}
 
 abbrev pub config_of : Hints → Config
-config_of h = h.config
+config_of hints = hints.config
 
 abbrev pub config_in : Thief → Config
 config_in t = t.config
 
 -- it steals from this deque
 abbrev pub IsThiefOf : Hints → Thief → Type 0
-IsThiefOf h t = stealer_deque t.stealer ≡ worker_deque h.worker
+IsThiefOf hints t = stealer_deque t.stealer ≡ worker_deque hints.worker
 
 -- it is the same deque, whatever it holds
 abbrev pub IsSameDeque : Hints → Hints → Type 0

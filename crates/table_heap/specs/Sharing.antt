@@ -8,16 +8,16 @@ use Rattle.table_heap.specs.State.{config_in}
 use Rattle.table_heap.specs.Turning.{OnlyHintsDiffer}
 
 -- one of the bundle's thieves steals the other's hints
-pub record StealsFrom (b other : Bundle) : Type 0 where
+pub record StealsFrom (bundle other : Bundle) : Type 0 where
   pub place : ℕ
   pub thief : Thief
-  pub there : slice_get b.thieves.items place ≡ Some thief
+  pub there : slice_get bundle.thieves.items place ≡ Some thief
   pub steals : IsThiefOf other.hints thief
 
 -- each bundle with a lower number than this steals the hints of the bundle under the other number, if it is another
 abbrev pub StealFrom : (below : ℕ) → List Bundle → (number : ℕ) → Type 0
 StealFrom below bundles number =
-    (k : ℕ) (b other : Bundle) → k < below → k ≢ number → slice_get bundles k ≡ Some b → slice_get bundles number ≡ Some other → StealsFrom b other
+    (index : ℕ) (bundle other : Bundle) → index < below → index ≢ number → slice_get bundles index ≡ Some bundle → slice_get bundles number ≡ Some other → StealsFrom bundle other
 
 -- each of the bundles steals the hints of each other one
 abbrev pub StealFromEachOther : List Bundle → Type 0
@@ -25,7 +25,7 @@ StealFromEachOther bundles = (number : ℕ) → number < length bundles → Stea
 
 -- some bundles are of heaps with one configuration
 abbrev pub HaveConfig : Config → List Bundle → Type 0
-HaveConfig c bundles = (k : ℕ) (b : Bundle) → slice_get bundles k ≡ Some b → config_in b ≡ c
+HaveConfig config bundles = (index : ℕ) (bundle : Bundle) → slice_get bundles index ≡ Some bundle → config_in bundle ≡ config
 
 -- The bundle has all thieves that it had, and its own hints are in the same deque. Nothing else has changed.
 pub record SharesMore (old new : Bundle) : Type 0 where
@@ -36,4 +36,4 @@ pub record SharesMore (old new : Bundle) : Type 0 where
 -- so it is of each of some bundles
 pub record AllShareMore (old new : List Bundle) : Type 0 where
   pub count : length new ≡ length old
-  pub each : (k : ℕ) (b : Bundle) → slice_get new k ≡ Some b → (a : Bundle) × (slice_get old k ≡ Some a) × SharesMore a b
+  pub each : (index : ℕ) (bundle : Bundle) → slice_get new index ≡ Some bundle → (other_bundle : Bundle) × (slice_get old index ≡ Some other_bundle) × SharesMore other_bundle bundle

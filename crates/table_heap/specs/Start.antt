@@ -9,5 +9,5 @@ use Rattle.table_heap.specs.declared.left.Left.{Left}
 
 -- the opening, or the stage of words that were left, with these counts
 abbrev pub start_from : Config → Option Left → Stage Actor
-start_from c None = opening c
-start_from c (Some left) = stage_from c left.words.value.items left.counts.value.items
+start_from config None = opening config
+start_from config (Some left) = stage_from config left.words.value.items left.counts.value.items

@@ -21,66 +21,66 @@ use Rattle.table_heap.specs.Core.{heap_kind, start_of_key}
 
 -- the configuration of a heap, and of a bundle
 abbrev pub config_of : Heap → Config
-config_of h = h.config
+config_of heap = heap.config
 
 abbrev pub config_in : Bundle → Config
-config_in b = b.config
+config_in bundle = bundle.config
 
 -- the words and machines with which a heap began, and the heap of a bundle
 abbrev pub start_of_heap : Heap → Stage Actor
-start_of_heap h = start_of_key h.key
+start_of_heap heap = start_of_key heap.key
 
 abbrev pub start_in : Bundle → Stage Actor
-start_in b = start_of_key b.key.value
+start_in bundle = start_of_key bundle.key.value
 
 -- the bundle's machines by their numbers, as their events see them
 abbrev pub view_of : Bundle → View Actor
-view_of b = uncounted_view b.seat.me.0
+view_of bundle = uncounted_view bundle.seat.me.0
 
 -- how many steps each of them has made
 abbrev pub steps_of : Bundle → View ℕ
-steps_of b = steps_in_view b.seat.me.0
+steps_of bundle = steps_in_view bundle.seat.me.0
 
 -- the same without what memory does not keep
 abbrev pub machines_of : Bundle → View Machine
-machines_of b = kept_in_view shown b.machines.items
+machines_of bundle = kept_in_view shown bundle.machines.items
 
 -- the orders that they were given
 abbrev pub orders_of : Bundle → View Order
-orders_of b = kept_in_view order_of b.machines.items
+orders_of bundle = kept_in_view order_of bundle.machines.items
 
 -- the address that each machine made grey with its last step, where it did so
 abbrev pub greyed_of : Bundle → View ℕ
-greyed_of b = b.greyed.items
+greyed_of bundle = bundle.greyed.items
 
 -- the bundle's deques: that of its own hints, and those of other bundles from which it steals
 abbrev pub deques_of : Bundle → Hints × List Thief
-deques_of b = (b.hints, b.thieves.items)
+deques_of bundle = (bundle.hints, bundle.thieves.items)
 
 -- the bundle is one of this heap
-pub record IsBundleOf (b : Bundle) (h : Heap) : Type 0 where
-  pub table : b.seat.table_id ≡ h.table.shared.table_id
-  pub config : b.config ≡ h.config
-  pub key : b.key.value ≡ h.key
+pub record IsBundleOf (bundle : Bundle) (heap : Heap) : Type 0 where
+  pub table : bundle.seat.table_id ≡ heap.table.shared.table_id
+  pub config : bundle.config ≡ heap.config
+  pub key : bundle.key.value ≡ heap.key
 
 -- the bundle has the machine of this number
 abbrev pub HasMachine : Bundle → ℕ → Type 0
-HasMachine b number = is_some (machine_of (machines_of b) number) ≡ true
+HasMachine bundle number = is_some (machine_of (machines_of bundle) number) ≡ true
 
 -- that machine, and its order
 abbrev pub machine_at : Bundle → ℕ → Machine
-machine_at b number = unwrap_or (machine_of (machines_of b) number) no_machine
+machine_at bundle number = unwrap_or (machine_of (machines_of bundle) number) no_machine
 
 abbrev pub order_at : Bundle → ℕ → Order
-order_at b number = unwrap_or (machine_of (orders_of b) number) Nothing
+order_at bundle number = unwrap_or (machine_of (orders_of bundle) number) Nothing
 
 -- and how many steps it has made
 abbrev pub steps_at : Bundle → ℕ → ℕ
-steps_at b number = unwrap_or (machine_of (steps_of b) number) 0
+steps_at bundle number = unwrap_or (machine_of (steps_of bundle) number) 0
 
 -- whether it makes a step: it takes the order that it was given
 abbrev pub has_turn : Bundle → ℕ → Bool
-has_turn b number = takes_of (machine_at b number) (order_at b number)
+has_turn bundle number = takes_of (machine_at bundle number) (order_at bundle number)
 
 -- it is still a bundle of the same heap, with machines under the same numbers
 pub record IsSameBundle (old new : Bundle) : Type 0 where
@@ -112,14 +112,14 @@ pub record IsBundleStep (old new : Bundle) (number : ℕ) (said : Stepped) : Typ
   pub orders : orders_of new ≡ slice_set (orders_of old) number (Some Nothing)
 
 -- A bundle of the heap before the first event: its machines are these, none has an order, and none has made a step, nor an address grey.
-pub record IsFresh (h : Heap) (b : Bundle) (view : View Actor) : Type 0 where
-  pub of : IsBundleOf b h
-  pub machines : view_of b ≡ view
-  pub orders : (number : ℕ) (order : Order) → machine_of (orders_of b) number ≡ Some order → order ≡ Nothing
-  pub steps : (number made : ℕ) → machine_of (steps_of b) number ≡ Some made → made ≡ 0
-  pub greyed : (number address : ℕ) → machine_of (greyed_of b) number ≡ Some address → ⊥
+pub record IsFresh (heap : Heap) (bundle : Bundle) (view : View Actor) : Type 0 where
+  pub of : IsBundleOf bundle heap
+  pub machines : view_of bundle ≡ view
+  pub orders : (number : ℕ) (order : Order) → machine_of (orders_of bundle) number ≡ Some order → order ≡ Nothing
+  pub steps : (number made : ℕ) → machine_of (steps_of bundle) number ≡ Some made → made ≡ 0
+  pub greyed : (number address : ℕ) → machine_of (greyed_of bundle) number ≡ Some address → ⊥
 
 -- What a step promises is one event: it is not met where none was made, nor by two, of whatever machines of the bundle
 pub record StepsAreEvents : Type 0 where
-  pub not_none : (b : Bundle) (number : ℕ) (said : Stepped) → IsBundleStep b b number said → ⊥
+  pub not_none : (bundle : Bundle) (number : ℕ) (said : Stepped) → IsBundleStep bundle bundle number said → ⊥
   pub not_two : (old mid new : Bundle) (first second number : ℕ) (one other both : Stepped) → IsBundleStep old mid first one → IsBundleStep mid new second other → IsBundleStep old new number both → ⊥

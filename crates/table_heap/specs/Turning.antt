@@ -16,8 +16,8 @@ use Rattle.table_heap.specs.State.{config_in, orders_of, machine_at, order_at, I
 -- What a machine may be ordered for its turn, where this command would follow: what it does then, or, where it takes hints, the hint of
 -- an address of the heap.
 abbrev pub IsOrderFor : Config → Option Command → Machine → Order → Type 0
-IsOrderFor c next machine order =
-    (order_for next machine ≡ Some order) ⊎ ((takes_hint machine ≡ true) × ((address : ℕ) × IsWord c (Heap address) × (order ≡ Hint address)))
+IsOrderFor config next machine order =
+    (order_for next machine ≡ Some order) ⊎ ((takes_hint machine ≡ true) × ((address : ℕ) × IsWord config (Heap address) × (order ≡ Hint address)))
 
 -- A machine has had its turn, where this command would follow: it was given its order, and then it made its step, which said so.
 pub record IsTurn (old new : Bundle) (next : Option Command) (number : ℕ) (said : Stepped) : Type 0 where

@@ -194,10 +194,10 @@ impl Heap {
     ) -> Result<(Heap, Vec<Bundle>), NoMemory>
         requires workers { 1 ≤ workers }
         requires counts { length counts.items ≡ (images.config_of image).mutators }
-        requires begins { ∥ ((g : Graph) × CanBeginFrom (images.config_of image) (images.memory_of image) counts.items g) ∥₁ }
+        requires begins { ∥ ((graph : Graph) × CanBeginFrom (images.config_of image) (images.memory_of image) counts.items graph) ∥₁ }
         ensures config { IfOk result (λ t. config_of t.0 ≡ images.config_of image) }
         ensures start { IfOk result (λ t. start_of_heap t.0 ≡ stage_from (images.config_of image) (images.words_of image) counts.items) }
-        ensures begins { (g : Graph) → CanBeginFrom (images.config_of image) (images.memory_of image) counts.items g → Begins (images.config_of image) (stage_from (images.config_of image) (images.words_of image) counts.items) g }
+        ensures begins { (graph : Graph) → CanBeginFrom (images.config_of image) (images.memory_of image) counts.items graph → Begins (images.config_of image) (stage_from (images.config_of image) (images.words_of image) counts.items) graph }
         ensures count { IfOk result (λ t. length t.1.items ≡ workers) }
         ensures stealing { IfOk result (λ t. StealFromEachOther t.1.items) }
         ensures bundles { IfOk result (λ t. (k : ℕ) (b : Bundles) → slice_get t.1.items k ≡ Some b → IsFresh t.0 b (dealt_to workers k (whole (stage_from (images.config_of image) (images.words_of image) counts.items).machines))) }

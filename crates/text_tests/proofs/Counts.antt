@@ -8,31 +8,31 @@ use Rattle.shen_graph.specs.declared.command.Reply.TheVariants as reply
 use Rattle.shen_graph.specs.Graph.{Graph, Reference, Object, field_at, number_at, same_reference, with_root, with_named, with_field, with_number, with_pin}
 use Rattle.shen_graph.specs.Step.{Outcome, outcome, answers, on, shown}
 
-named_le : (g : Graph) (r : Reference) (o : Object) (u : ℕ) → (with_named g r o).count u ≤ g.count u + 1
-named_le g None o u = omega arith
-named_le g (Some n) o u = omega arith
+named_le : (graph : Graph) (reference : Reference) (object : Object) (thread : ℕ) → (with_named graph reference object).count thread ≤ graph.count thread + 1
+named_le graph None object thread = omega arith
+named_le graph (Some n) object thread = omega arith
 
-on_le : {A : Type 0} (g : Graph) (u : ℕ) (o : Option A) (f : A → Outcome) → ((v : A) → (f v).graph.count u ≤ g.count u + 1) → (on o g f).graph.count u ≤ g.count u + 1
-on_le g u None f h = omega arith
-on_le g u (Some v) f h = h v
+on_le : {A : Type 0} (graph : Graph) (thread : ℕ) (found : Option A) (f : A → Outcome) → ((v : A) → (f v).graph.count thread ≤ graph.count thread + 1) → (on found graph f).graph.count thread ≤ graph.count thread + 1
+on_le graph thread None f h = omega arith
+on_le graph thread (Some v) f h = h v
 
-outcome_le : (g : Graph) (t : ℕ) (c : Command) (u : ℕ) → (outcome g t c).graph.count u ≤ g.count u + 1
-outcome_le g t (New dst refs nums) u = elim (u == t) as (λ b. (if b then g.count u + 1 else g.count u) ≤ g.count u + 1) [ true ↦ omega arith | false ↦ omega arith ]
-outcome_le g t (Get dst src field) u = on_le g u (field_at g t src field) (λ v. answers (shown v) (with_root g t dst v)) (λ v. omega arith)
-outcome_le g t (Set obj field val) u = on_le g u (field_at g t obj field) (λ _. answers reply.Ok (with_field g t obj field (g.root t val))) (λ v. named_le g (g.root t obj) _ u)
-outcome_le g t (Cas obj field expect val) u =
-    on_le g u (field_at g t obj field) (λ v. if same_reference v (g.root t expect) then answers reply.Yes (with_field g t obj field (g.root t val)) else answers reply.No g)
-    (λ v. elim (same_reference v (g.root t expect)) as (λ b. (if b then answers reply.Yes (with_field g t obj field (g.root t val)) else answers reply.No g).graph.count u ≤ g.count u + 1)
-    [ true ↦ named_le g (g.root t obj) _ u | false ↦ omega arith ])
-outcome_le g t (Xchg dst obj field val) u = on_le g u (field_at g t obj field) (λ v. answers (shown v) (with_root (with_field g t obj field (g.root t val)) t dst v)) (λ v. named_le g (g.root t obj) _ u)
-outcome_le g t (Rd obj index) u = on_le g u (number_at g t obj index) (λ n. answers (reply.Number n) g) (λ v. omega arith)
-outcome_le g t (Wr obj index value) u = on_le g u (number_at g t obj index) (λ _. answers reply.Ok (with_number g t obj index value)) (λ v. named_le g (g.root t obj) _ u)
-outcome_le g t (Copy dst src) u = omega arith
-outcome_le g t (Drop dst) u = omega arith
-outcome_le g t (Same a b) u = omega arith
-outcome_le g t Gc u = omega arith
-outcome_le g t (Pin slot obj) u = omega arith
-outcome_le g t (Unpin slot) u = on_le g u (g.pin t slot) (λ _. answers reply.Ok (with_pin g t slot None)) (λ v. omega arith)
+outcome_le : (graph : Graph) (thread : ℕ) (command : Command) (other_thread : ℕ) → (outcome graph thread command).graph.count other_thread ≤ graph.count other_thread + 1
+outcome_le graph thread (New dst refs nums) other_thread = elim (other_thread == thread) as (λ b. (if b then graph.count other_thread + 1 else graph.count other_thread) ≤ graph.count other_thread + 1) [ true ↦ omega arith | false ↦ omega arith ]
+outcome_le graph thread (Get dst src field) other_thread = on_le graph other_thread (field_at graph thread src field) (λ v. answers (shown v) (with_root graph thread dst v)) (λ v. omega arith)
+outcome_le graph thread (Set obj field val) other_thread = on_le graph other_thread (field_at graph thread obj field) (λ _. answers reply.Ok (with_field graph thread obj field (graph.root thread val))) (λ v. named_le graph (graph.root thread obj) _ other_thread)
+outcome_le graph thread (Cas obj field expect val) other_thread =
+    on_le graph other_thread (field_at graph thread obj field) (λ v. if same_reference v (graph.root thread expect) then answers reply.Yes (with_field graph thread obj field (graph.root thread val)) else answers reply.No graph)
+    (λ v. elim (same_reference v (graph.root thread expect)) as (λ b. (if b then answers reply.Yes (with_field graph thread obj field (graph.root thread val)) else answers reply.No graph).graph.count other_thread ≤ graph.count other_thread + 1)
+    [ true ↦ named_le graph (graph.root thread obj) _ other_thread | false ↦ omega arith ])
+outcome_le graph thread (Xchg dst obj field val) other_thread = on_le graph other_thread (field_at graph thread obj field) (λ v. answers (shown v) (with_root (with_field graph thread obj field (graph.root thread val)) thread dst v)) (λ v. named_le graph (graph.root thread obj) _ other_thread)
+outcome_le graph thread (Rd obj index) other_thread = on_le graph other_thread (number_at graph thread obj index) (λ n. answers (reply.Number n) graph) (λ v. omega arith)
+outcome_le graph thread (Wr obj index value) other_thread = on_le graph other_thread (number_at graph thread obj index) (λ _. answers reply.Ok (with_number graph thread obj index value)) (λ v. named_le graph (graph.root thread obj) _ other_thread)
+outcome_le graph thread (Copy dst src) other_thread = omega arith
+outcome_le graph thread (Drop dst) other_thread = omega arith
+outcome_le graph thread (Same a b) other_thread = omega arith
+outcome_le graph thread Gc other_thread = omega arith
+outcome_le graph thread (Pin slot obj) other_thread = omega arith
+outcome_le graph thread (Unpin slot) other_thread = on_le graph other_thread (graph.pin thread slot) (λ _. answers reply.Ok (with_pin graph thread slot None)) (λ v. omega arith)
 
-pub answers_le : (g h : Graph) (t : ℕ) (c : Command) (r : Reply) → answers r h ≡ outcome g t c → (u : ℕ) → h.count u ≤ g.count u + 1
-answers_le g h t c r done u = omega (arith, ap (λ (o : Outcome). o.graph.count u) done, outcome_le g t c u)
+pub answers_le : (graph other_graph : Graph) (t : ℕ) (command : Command) (r : Reply) → answers r other_graph ≡ outcome graph t command → (thread : ℕ) → other_graph.count thread ≤ graph.count thread + 1
+answers_le graph other_graph t command r done thread = omega (arith, ap (λ (o : Outcome). o.graph.count thread) done, outcome_le graph t command thread)

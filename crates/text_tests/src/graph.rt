@@ -95,7 +95,7 @@ pub fn answers(
     requires thread { (1 ≤ thread) × (thread ≤ threads_of plain.old) }
     requires room { (graph_of plain.old).count thread + length commands.now < 2 ^ 32 - 1 }
     ensures threads { threads_of plain.new ≡ threads_of plain.old }
-    ensures made { OnOk result ((t : ℕ) → (graph_of plain.new).count t ≤ (graph_of plain.old).count t + length commands.now) }
+    ensures made { OnOk result ((thread : ℕ) → (graph_of plain.new).count thread ≤ (graph_of plain.old).count thread + length commands.now) }
 {
     let mut replies = Vec::new(alloc);
     for command in commands {

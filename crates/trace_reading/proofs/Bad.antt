@@ -25,22 +25,22 @@ nothing : (bytes : List ℕ) → (IsBehindCommands bytes → ⊥) → 1 ≤ leng
 nothing [] some = absurd (some tt)
 nothing (b ∷ bytes) some = omega arith
 
-pub command_cause : (v : ℕ) (c : Config) (bytes : List ℕ) → (IsBehindCommands bytes → ⊥) → ((l : TraceLine) (rest : List ℕ) → IsLine v c.mutators l → bytes ≢ line l ++ rest) → cause_of (body_stage v c false) (parts 10 bytes) ≡ None → ⊥
-command_cause v c bytes some refused none = by_kind (commands_spell v c bytes (nothing bytes some) none)
+pub command_cause : (v : ℕ) (config : Config) (bytes : List ℕ) → (IsBehindCommands bytes → ⊥) → ((l : TraceLine) (rest : List ℕ) → IsLine v config.mutators l → bytes ≢ line l ++ rest) → cause_of (body_stage v config false) (parts 10 bytes) ≡ None → ⊥
+command_cause v config bytes some refused none = by_kind (commands_spell v config bytes (nothing bytes some) none)
   where
-    by_kind : BeginsWithCommand v c bytes ⊎ BeginsWithTurn c bytes → ⊥
+    by_kind : BeginsWithCommand v config bytes ⊎ BeginsWithTurn config bytes → ⊥
     by_kind (inl it) = refused it.0 it.1 it.2 it.3
     by_kind (inr it) = some (subst IsBehindCommands (sym it.3) refl)
 
 -- ---- no line of the schedule
 
-pub turn_cause : (v : ℕ) (c : Config) (behind : Bool) (bytes : List ℕ) → 1 ≤ length bytes → (behind ≡ false → IsBehindCommands bytes) → ((items : List Item) (rest : List ℕ) → IsScheduleLine c items → bytes ≢ schedule_line items ++ rest)
-    → cause_of (body_stage v c behind) (parts 10 bytes) ≡ None → ⊥
-turn_cause v c true bytes some mark refused none = let it = turns_spell c bytes some none in refused it.0 it.1 it.2 it.3
-turn_cause v c false bytes some mark refused none = by_kind (commands_spell v c bytes some none)
+pub turn_cause : (v : ℕ) (config : Config) (behind : Bool) (bytes : List ℕ) → 1 ≤ length bytes → (behind ≡ false → IsBehindCommands bytes) → ((items : List Item) (rest : List ℕ) → IsScheduleLine config items → bytes ≢ schedule_line items ++ rest)
+    → cause_of (body_stage v config behind) (parts 10 bytes) ≡ None → ⊥
+turn_cause v config true bytes some mark refused none = let it = turns_spell config bytes some none in refused it.0 it.1 it.2 it.3
+turn_cause v config false bytes some mark refused none = by_kind (commands_spell v config bytes some none)
   where
-    by_kind : BeginsWithCommand v c bytes ⊎ BeginsWithTurn c bytes → ⊥
-    by_kind (inl it) = command_is_no_turn v c.mutators it.0 bytes it.1 (omega (arith, c.in_range.most_mutators)) it.2 it.3 (mark refl)
+    by_kind : BeginsWithCommand v config bytes ⊎ BeginsWithTurn config bytes → ⊥
+    by_kind (inl it) = command_is_no_turn v config.mutators it.0 bytes it.1 (omega (arith, config.in_range.most_mutators)) it.2 it.3 (mark refl)
     by_kind (inr it) = refused it.0 it.1 it.2 it.3
 
 pub not_later : (first line : ℕ) → ltb first line ≡ false → line ≤ first
@@ -56,8 +56,8 @@ turns_fit turns bytes rest e = let few = few_turns turns in let size = ap length
 
 -- ---- the whole trace
 
-pub stops_in_commands : (v : ℕ) (c : Config) (first : ℕ) (bytes : List ℕ) (n : ℕ) (why : Why) → StopsCommands v c first bytes n why → StopsBody v c first bytes n why
-stops_in_commands v c first bytes n why stops = record {
+pub stops_in_commands : (v : ℕ) (config : Config) (first : ℕ) (bytes : List ℕ) (n : ℕ) (why : Why) → StopsCommands v config first bytes n why → StopsBody v config first bytes n why
+stops_in_commands v config first bytes n why stops = record {
   lines = stops.lines;
   in_range = stops.in_range;
   turns = [];
@@ -68,9 +68,9 @@ stops_in_commands v c first bytes n why stops = record {
   cause = stops.cause;
 }
 
-pub stops_in_turns : (v : ℕ) (c : Config) (first next : ℕ) (bytes behind : List ℕ) (scripts : List (List Command)) (n : ℕ) (why : Why) (taken : HasReadLines v c.mutators bytes behind scripts) → next ≡ first + length taken.lines
-    → StopsTurns v c next behind n why → StopsBody v c first bytes n why
-stops_in_turns v c first next bytes behind scripts n why taken number stops = record {
+pub stops_in_turns : (v : ℕ) (config : Config) (first next : ℕ) (bytes behind : List ℕ) (scripts : List (List Command)) (n : ℕ) (why : Why) (taken : HasReadLines v config.mutators bytes behind scripts) → next ≡ first + length taken.lines
+    → StopsTurns v config next behind n why → StopsBody v config first bytes n why
+stops_in_turns v config first next bytes behind scripts n why taken number stops = record {
   lines = taken.lines;
   in_range = taken.in_range;
   turns = stops.turns;
@@ -81,15 +81,15 @@ stops_in_turns v c first next bytes behind scripts n why taken number stops = re
   cause = stops.cause;
 }
 
-pub stops_behind_head : (bytes rest : List ℕ) (v : ℕ) (c : Config) (n : ℕ) (why : Why) → IsVersion v → IsNarrow c → bytes ≡ header v c ++ rest → StopsBody v c 4 rest n why → StopsAt bytes n why
-stops_behind_head bytes rest v c n why known narrow e stops =
-    let head = begun_head bytes rest v c known narrow e in
+pub stops_behind_head : (bytes rest : List ℕ) (v : ℕ) (config : Config) (n : ℕ) (why : Why) → IsVersion v → IsNarrow config → bytes ≡ header v config ++ rest → StopsBody v config 4 rest n why → StopsAt bytes n why
+stops_behind_head bytes rest v config n why known narrow e stops =
+    let head = begun_head bytes rest v config known narrow e in
     let behind = flat_map schedule_line stops.turns ++ stops.rest in
-    let lines = begun_lines bytes stops.lines behind 3 v c stops.in_range (subst (λ (bs : List ℕ). Begun bytes bs 3 (Commands v c)) stops.spelled head) in
-    let turns = begun_turns bytes stops.turns stops.rest (3 + length stops.lines) v c stops.turns_in_range lines in
-    begun_stops bytes stops.rest (3 + length stops.lines + length stops.turns) n (body_stage v c (ltb 0 (length stops.turns))) why turns (omega (arith, stops.number)) stops.cause
+    let lines = begun_lines bytes stops.lines behind 3 v config stops.in_range (subst (λ (bs : List ℕ). Begun bytes bs 3 (Commands v config)) stops.spelled head) in
+    let turns = begun_turns bytes stops.turns stops.rest (3 + length stops.lines) v config stops.turns_in_range lines in
+    begun_stops bytes stops.rest (3 + length stops.lines + length stops.turns) n (body_stage v config (ltb 0 (length stops.turns))) why turns (omega (arith, stops.number)) stops.cause
 
-pub known : (o : Option Why) → (o ≡ None → ⊥) → IsSome o
+pub known : (found : Option Why) → (found ≡ None → ⊥) → IsSome found
 known (Some why) some = refl
 known None some = absurd (some refl)
 

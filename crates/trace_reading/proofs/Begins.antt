@@ -28,7 +28,7 @@ pub begun_none : (bytes : List ℕ) → Begun bytes bytes 0 Version
 begun_none bytes = record { before = []; lines = refl; number = refl; lead = refl }
 
 lead_more : (first : LineStage) (texts : List (List ℕ)) (stage : LineStage) (text : List ℕ) (next : LineStage) → Lead first texts stage → LineFollows stage text next → Lead first (texts ++ text ∷ []) next
-lead_more first [] stage text next lead f = subst (λ (s : LineStage). Lead s (text ∷ []) next) (sym lead) (next, f, refl)
+lead_more first [] stage text next lead f = subst (λ (stage : LineStage). Lead stage (text ∷ []) next) (sym lead) (next, f, refl)
 lead_more first (t ∷ texts) stage text next lead f = (lead.0, lead.1, lead_more lead.0 texts stage text next lead.2 f)
 
 pub begun_more : (bytes text rest : List ℕ) (n : ℕ) (stage next : LineStage) → Begun bytes (text ++ 10 ∷ rest) n stage → LineFollows stage text next → Begun bytes rest (n + 1) next
@@ -60,75 +60,75 @@ front_line text whole rest e = sym (append_assoc text (newline ∷ []) rest) ∙
 titled_line : (title : List ℕ) (ns : List ℕ) → (text : List ℕ) × (text ++ newline ∷ [] ≡ titled title ns)
 titled_line title ns = (_, titled_is title ns)
 
-pub begun_head : (bytes rest : List ℕ) (v : ℕ) (c : Config) → IsVersion v → IsNarrow c → bytes ≡ header v c ++ rest → Begun bytes rest 3 (Commands v c)
-begun_head bytes rest v c known narrow e =
-    let shen = titled_line (codes "shen") (v ∷ []) in
-    let heap = titled_line (codes "heap") (c.regions ∷ c.region_words ∷ c.reserve ∷ []) in
-    let threads = titled_line (codes "threads") (c.mutators ∷ c.helpers ∷ []) in
+pub begun_head : (bytes rest : List ℕ) (address : ℕ) (config : Config) → IsVersion address → IsNarrow config → bytes ≡ header address config ++ rest → Begun bytes rest 3 (Commands address config)
+begun_head bytes rest address config known narrow e =
+    let shen = titled_line (codes "shen") (address ∷ []) in
+    let heap = titled_line (codes "heap") (config.regions ∷ config.region_words ∷ config.reserve ∷ []) in
+    let threads = titled_line (codes "threads") (config.mutators ∷ config.helpers ∷ []) in
     let third = threads.0 ++ 10 ∷ rest in
     let second = heap.0 ++ 10 ∷ third in
     let whole : bytes ≡ shen.0 ++ 10 ∷ second =
-    e ∙ append_assoc (titled (codes "shen") (v ∷ [])) (titled (codes "heap") (c.regions ∷ c.region_words ∷ c.reserve ∷ []) ++ titled (codes "threads") (c.mutators ∷ c.helpers ∷ [])) rest
-    ∙ ap (λ (t : List ℕ). titled (codes "shen") (v ∷ []) ++ t)
-    (append_assoc (titled (codes "heap") (c.regions ∷ c.region_words ∷ c.reserve ∷ [])) (titled (codes "threads") (c.mutators ∷ c.helpers ∷ [])) rest
-    ∙ ap (λ (t : List ℕ). titled (codes "heap") (c.regions ∷ c.region_words ∷ c.reserve ∷ []) ++ t) (sym (front_line threads.0 (titled (codes "threads") (c.mutators ∷ c.helpers ∷ [])) rest threads.1))
-    ∙ sym (front_line heap.0 (titled (codes "heap") (c.regions ∷ c.region_words ∷ c.reserve ∷ [])) third heap.1))
-    ∙ sym (front_line shen.0 (titled (codes "shen") (v ∷ [])) second shen.1) in
-    let one = begun_more bytes shen.0 second 0 Version (Heap v) (subst (λ (bs : List ℕ). Begun bytes bs 0 Version) whole (begun_none bytes)) (v, known, shen.1, refl) in
-    let two = begun_more bytes heap.0 third 1 (Heap v) (Threads v c.regions c.region_words c.reserve) one (c, narrow, heap.1, refl) in
-    begun_more bytes threads.0 rest 2 (Threads v c.regions c.region_words c.reserve) (Commands v c) two (c, refl, refl, refl, threads.1, refl)
+    e ∙ append_assoc (titled (codes "shen") (address ∷ [])) (titled (codes "heap") (config.regions ∷ config.region_words ∷ config.reserve ∷ []) ++ titled (codes "threads") (config.mutators ∷ config.helpers ∷ [])) rest
+    ∙ ap (λ (t : List ℕ). titled (codes "shen") (address ∷ []) ++ t)
+    (append_assoc (titled (codes "heap") (config.regions ∷ config.region_words ∷ config.reserve ∷ [])) (titled (codes "threads") (config.mutators ∷ config.helpers ∷ [])) rest
+    ∙ ap (λ (t : List ℕ). titled (codes "heap") (config.regions ∷ config.region_words ∷ config.reserve ∷ []) ++ t) (sym (front_line threads.0 (titled (codes "threads") (config.mutators ∷ config.helpers ∷ [])) rest threads.1))
+    ∙ sym (front_line heap.0 (titled (codes "heap") (config.regions ∷ config.region_words ∷ config.reserve ∷ [])) third heap.1))
+    ∙ sym (front_line shen.0 (titled (codes "shen") (address ∷ [])) second shen.1) in
+    let one = begun_more bytes shen.0 second 0 Version (Heap address) (subst (λ (bs : List ℕ). Begun bytes bs 0 Version) whole (begun_none bytes)) (address, known, shen.1, refl) in
+    let two = begun_more bytes heap.0 third 1 (Heap address) (Threads address config.regions config.region_words config.reserve) one (config, narrow, heap.1, refl) in
+    begun_more bytes threads.0 rest 2 (Threads address config.regions config.region_words config.reserve) (Commands address config) two (config, refl, refl, refl, threads.1, refl)
 
 -- ---- the lines behind it
 
-pub begun_lines : (bytes : List ℕ) (lines : List TraceLine) (rest : List ℕ) (n : ℕ) (v : ℕ) (c : Config) → AllByRecursion (IsLine v c.mutators) lines → Begun bytes (flat_map line lines ++ rest) n (Commands v c) → Begun bytes rest (n + length lines) (Commands v c)
-begun_lines bytes [] rest n v c all b = subst (λ (m : ℕ). Begun bytes rest m (Commands v c)) (zero_more n) b
+pub begun_lines : (bytes : List ℕ) (lines : List TraceLine) (rest : List ℕ) (n : ℕ) (v : ℕ) (config : Config) → AllByRecursion (IsLine v config.mutators) lines → Begun bytes (flat_map line lines ++ rest) n (Commands v config) → Begun bytes rest (n + length lines) (Commands v config)
+begun_lines bytes [] rest n v config all b = subst (λ (m : ℕ). Begun bytes rest m (Commands v config)) (zero_more n) b
   where
     zero_more : (n : ℕ) → n ≡ n + 0
     zero_more n = omega arith
-begun_lines bytes (l ∷ lines) rest n v c all b =
+begun_lines bytes (l ∷ lines) rest n v config all b =
     let text = join_with_byte 32 (line_words l) in
     let others = flat_map line lines ++ rest in
     let front : flat_map line (l ∷ lines) ++ rest ≡ text ++ 10 ∷ others =
     ap (λ (t : List ℕ). t ++ rest) (flat_map-cons line l lines) ∙ append_assoc (line l) (flat_map line lines) rest ∙ sym (front_line text (line l) others (line_is l)) in
-    let one = begun_more bytes text others n (Commands v c) (Commands v c) (subst (λ (bs : List ℕ). Begun bytes bs n (Commands v c)) front b) (inl ((l, all.0, line_is l), refl)) in
-    subst (λ (m : ℕ). Begun bytes rest m (Commands v c)) (one_less n (length lines)) (begun_lines bytes lines rest (n + 1) v c all.1 one)
+    let one = begun_more bytes text others n (Commands v config) (Commands v config) (subst (λ (bs : List ℕ). Begun bytes bs n (Commands v config)) front b) (inl ((l, all.0, line_is l), refl)) in
+    subst (λ (m : ℕ). Begun bytes rest m (Commands v config)) (one_less n (length lines)) (begun_lines bytes lines rest (n + 1) v config all.1 one)
   where
     one_less : (n k : ℕ) → (n + 1) + k ≡ n + suc k
     one_less n k = omega arith
 
-begun_turn : (bytes : List ℕ) (items : List Item) (others : List ℕ) (n : ℕ) (v : ℕ) (c : Config) (behind : Bool) → IsScheduleLine c items → Begun bytes (schedule_line items ++ others) n (body_stage v c behind) → Begun bytes others (n + 1) (Turns c)
-begun_turn bytes items others n v c false good b =
+begun_turn : (bytes : List ℕ) (items : List Item) (others : List ℕ) (n : ℕ) (v : ℕ) (config : Config) (behind : Bool) → IsScheduleLine config items → Begun bytes (schedule_line items ++ others) n (body_stage v config behind) → Begun bytes others (n + 1) (Turns config)
+begun_turn bytes items others n v config false good b =
     let text = join_with_byte 32 (words_of_turn items) in
-    begun_more bytes text others n (Commands v c) (Turns c) (subst (λ (bs : List ℕ). Begun bytes bs n (Commands v c)) (sym (front_line text (schedule_line items) others (turn_is items))) b) (inr ((items, good, turn_is items), refl))
-begun_turn bytes items others n v c true good b =
+    begun_more bytes text others n (Commands v config) (Turns config) (subst (λ (bs : List ℕ). Begun bytes bs n (Commands v config)) (sym (front_line text (schedule_line items) others (turn_is items))) b) (inr ((items, good, turn_is items), refl))
+begun_turn bytes items others n v config true good b =
     let text = join_with_byte 32 (words_of_turn items) in
-    begun_more bytes text others n (Turns c) (Turns c) (subst (λ (bs : List ℕ). Begun bytes bs n (Turns c)) (sym (front_line text (schedule_line items) others (turn_is items))) b) ((items, good, turn_is items), refl)
+    begun_more bytes text others n (Turns config) (Turns config) (subst (λ (bs : List ℕ). Begun bytes bs n (Turns config)) (sym (front_line text (schedule_line items) others (turn_is items))) b) ((items, good, turn_is items), refl)
 
-begun_later : (bytes : List ℕ) (turns : List (List Item)) (rest : List ℕ) (n : ℕ) (c : Config) → AllByRecursion (IsScheduleLine c) turns → Begun bytes (flat_map schedule_line turns ++ rest) n (Turns c) → Begun bytes rest (n + length turns) (Turns c)
-begun_later bytes [] rest n c all b = subst (λ (m : ℕ). Begun bytes rest m (Turns c)) (zero_more n) b
+begun_later : (bytes : List ℕ) (turns : List (List Item)) (rest : List ℕ) (n : ℕ) (config : Config) → AllByRecursion (IsScheduleLine config) turns → Begun bytes (flat_map schedule_line turns ++ rest) n (Turns config) → Begun bytes rest (n + length turns) (Turns config)
+begun_later bytes [] rest n config all b = subst (λ (m : ℕ). Begun bytes rest m (Turns config)) (zero_more n) b
   where
     zero_more : (n : ℕ) → n ≡ n + 0
     zero_more n = omega arith
-begun_later bytes (items ∷ turns) rest n c all b =
+begun_later bytes (items ∷ turns) rest n config all b =
     let others = flat_map schedule_line turns ++ rest in
     let front : flat_map schedule_line (items ∷ turns) ++ rest ≡ schedule_line items ++ others = ap (λ (t : List ℕ). t ++ rest) (flat_map-cons schedule_line items turns) ∙ append_assoc (schedule_line items) (flat_map schedule_line turns) rest in
-    let one = begun_turn bytes items others n 1 c true all.0 (subst (λ (bs : List ℕ). Begun bytes bs n (Turns c)) front b) in
-    subst (λ (m : ℕ). Begun bytes rest m (Turns c)) (one_less n (length turns)) (begun_later bytes turns rest (n + 1) c all.1 one)
+    let one = begun_turn bytes items others n 1 config true all.0 (subst (λ (bs : List ℕ). Begun bytes bs n (Turns config)) front b) in
+    subst (λ (m : ℕ). Begun bytes rest m (Turns config)) (one_less n (length turns)) (begun_later bytes turns rest (n + 1) config all.1 one)
   where
     one_less : (n k : ℕ) → (n + 1) + k ≡ n + suc k
     one_less n k = omega arith
 
-pub begun_turns : (bytes : List ℕ) (turns : List (List Item)) (rest : List ℕ) (n : ℕ) (v : ℕ) (c : Config) → AllByRecursion (IsScheduleLine c) turns → Begun bytes (flat_map schedule_line turns ++ rest) n (Commands v c) → Begun bytes rest (n + length turns) (body_stage v c (ltb 0 (length turns)))
-begun_turns bytes [] rest n v c all b = subst (λ (m : ℕ). Begun bytes rest m (Commands v c)) (zero_more n) b
+pub begun_turns : (bytes : List ℕ) (turns : List (List Item)) (rest : List ℕ) (n : ℕ) (v : ℕ) (config : Config) → AllByRecursion (IsScheduleLine config) turns → Begun bytes (flat_map schedule_line turns ++ rest) n (Commands v config) → Begun bytes rest (n + length turns) (body_stage v config (ltb 0 (length turns)))
+begun_turns bytes [] rest n v config all b = subst (λ (m : ℕ). Begun bytes rest m (Commands v config)) (zero_more n) b
   where
     zero_more : (n : ℕ) → n ≡ n + 0
     zero_more n = omega arith
-begun_turns bytes (items ∷ turns) rest n v c all b =
+begun_turns bytes (items ∷ turns) rest n v config all b =
     let others = flat_map schedule_line turns ++ rest in
     let front : flat_map schedule_line (items ∷ turns) ++ rest ≡ schedule_line items ++ others = ap (λ (t : List ℕ). t ++ rest) (flat_map-cons schedule_line items turns) ∙ append_assoc (schedule_line items) (flat_map schedule_line turns) rest in
-    let one = begun_turn bytes items others n v c false all.0 (subst (λ (bs : List ℕ). Begun bytes bs n (Commands v c)) front b) in
-    let later : Begun bytes rest (n + suc (length turns)) (Turns c) = subst (λ (m : ℕ). Begun bytes rest m (Turns c)) (one_less n (length turns)) (begun_later bytes turns rest (n + 1) c all.1 one) in
-    subst (λ (some : Bool). Begun bytes rest (n + suc (length turns)) (body_stage v c some)) (sym (is_some (length turns))) later
+    let one = begun_turn bytes items others n v config false all.0 (subst (λ (bs : List ℕ). Begun bytes bs n (Commands v config)) front b) in
+    let later : Begun bytes rest (n + suc (length turns)) (Turns config) = subst (λ (m : ℕ). Begun bytes rest m (Turns config)) (one_less n (length turns)) (begun_later bytes turns rest (n + 1) config all.1 one) in
+    subst (λ (some : Bool). Begun bytes rest (n + suc (length turns)) (body_stage v config some)) (sym (is_some (length turns))) later
   where
     is_some : (k : ℕ) → ltb 0 (suc k) ≡ true
     is_some k = grind (arith, nat_tests)
@@ -154,38 +154,38 @@ version_read bytes rest behind none =
       whole ∙ front_line behind.0 (titled (codes "shen") (v ∷ [])) rest made.2,
     )
 
-pub heap_read : (v : ℕ) (bytes first rest : List ℕ) → Begun bytes first 1 (Heap v) → IsBehindLine first rest → cause_of (Heap v) (parts 10 first) ≡ None
-    → (h : Config) × IsNarrow h × Begun bytes rest 2 (Threads v h.regions h.region_words h.reserve) × (first ≡ titled (codes "heap") (h.regions ∷ h.region_words ∷ h.reserve ∷ []) ++ rest)
-heap_read v bytes first rest b behind none =
-    let read = line_of (Heap v) first rest behind.0 behind.1 refl none in
-    let made = heap_spelled v behind.0 read.1 in
+pub heap_read : (address : ℕ) (bytes first rest : List ℕ) → Begun bytes first 1 (Heap address) → IsBehindLine first rest → cause_of (Heap address) (parts 10 first) ≡ None
+    → (h : Config) × IsNarrow h × Begun bytes rest 2 (Threads address h.regions h.region_words h.reserve) × (first ≡ titled (codes "heap") (h.regions ∷ h.region_words ∷ h.reserve ∷ []) ++ rest)
+heap_read address bytes first rest b behind none =
+    let read = line_of (Heap address) first rest behind.0 behind.1 refl none in
+    let made = heap_spelled address behind.0 read.1 in
     let h = made.0 in
     let whole = bytes_of_line first behind.0 rest read.0 in (
       h,
       made.1,
-      begun_more bytes behind.0 rest 1 (Heap v) (Threads v h.regions h.region_words h.reserve) (subst (λ (bs : List ℕ). Begun bytes bs 1 (Heap v)) whole b) (h, made.1, made.2, refl),
+      begun_more bytes behind.0 rest 1 (Heap address) (Threads address h.regions h.region_words h.reserve) (subst (λ (bs : List ℕ). Begun bytes bs 1 (Heap address)) whole b) (h, made.1, made.2, refl),
       whole ∙ front_line behind.0 (titled (codes "heap") (h.regions ∷ h.region_words ∷ h.reserve ∷ [])) rest made.2,
     )
 
-pub threads_read : (v : ℕ) (h : Config) (first : List ℕ) → IsNarrow h → cause_of (Threads v h.regions h.region_words h.reserve) (parts 10 first) ≡ None
-    → (c : Config) × IsNarrow c × (rest : List ℕ) × (titled (codes "heap") (h.regions ∷ h.region_words ∷ h.reserve ∷ []) ≡ titled (codes "heap") (c.regions ∷ c.region_words ∷ c.reserve ∷ [])) × (first ≡ titled (codes "threads") (c.mutators ∷ c.helpers ∷ []) ++ rest)
-threads_read v h first narrow none =
+pub threads_read : (v : ℕ) (config : Config) (first : List ℕ) → IsNarrow config → cause_of (Threads v config.regions config.region_words config.reserve) (parts 10 first) ≡ None
+    → (c : Config) × IsNarrow c × (rest : List ℕ) × (titled (codes "heap") (config.regions ∷ config.region_words ∷ config.reserve ∷ []) ≡ titled (codes "heap") (c.regions ∷ c.region_words ∷ c.reserve ∷ [])) × (first ≡ titled (codes "threads") (c.mutators ∷ c.helpers ∷ []) ++ rest)
+threads_read v config first narrow none =
     let behind = first_line first in
-    let stage = Threads v h.regions h.region_words h.reserve in
+    let stage = Threads v config.regions config.region_words config.reserve in
     let read = line_of stage first behind.1 behind.0 behind.2 refl none in
-    let made = threads_spelled v h.regions h.region_words h.reserve h behind.0 refl refl refl read.1 in
+    let made = threads_spelled v config.regions config.region_words config.reserve config behind.0 refl refl refl read.1 in
     let c = made.0 in (
       c,
       omega (arith, narrow, made.2),
       behind.1,
-      ap (λ (r : ℕ). titled (codes "heap") (r ∷ h.region_words ∷ h.reserve ∷ [])) (sym made.1) ∙ ap (λ (w : ℕ). titled (codes "heap") (c.regions ∷ w ∷ h.reserve ∷ [])) (sym made.2) ∙ ap (λ (e : ℕ). titled (codes "heap") (c.regions ∷ c.region_words ∷ e ∷ [])) (sym made.3),
+      ap (λ (r : ℕ). titled (codes "heap") (r ∷ config.region_words ∷ config.reserve ∷ [])) (sym made.1) ∙ ap (λ (w : ℕ). titled (codes "heap") (c.regions ∷ w ∷ config.reserve ∷ [])) (sym made.2) ∙ ap (λ (e : ℕ). titled (codes "heap") (c.regions ∷ c.region_words ∷ e ∷ [])) (sym made.3),
       bytes_of_line first behind.0 behind.1 read.0 ∙ front_line behind.0 (titled (codes "threads") (c.mutators ∷ c.helpers ∷ [])) behind.1 made.4,
     )
 
-pub head_read : (bytes first second rest : List ℕ) (v : ℕ) (h c : Config) → bytes ≡ titled (codes "shen") (v ∷ []) ++ first → first ≡ titled (codes "heap") (h.regions ∷ h.region_words ∷ h.reserve ∷ []) ++ second
-    → titled (codes "heap") (h.regions ∷ h.region_words ∷ h.reserve ∷ []) ≡ titled (codes "heap") (c.regions ∷ c.region_words ∷ c.reserve ∷ []) → second ≡ titled (codes "threads") (c.mutators ∷ c.helpers ∷ []) ++ rest → bytes ≡ header v c ++ rest
-head_read bytes first second rest v h c first_is second_is same third_is =
+pub head_read : (bytes first second rest : List ℕ) (v : ℕ) (config other_config : Config) → bytes ≡ titled (codes "shen") (v ∷ []) ++ first → first ≡ titled (codes "heap") (config.regions ∷ config.region_words ∷ config.reserve ∷ []) ++ second
+    → titled (codes "heap") (config.regions ∷ config.region_words ∷ config.reserve ∷ []) ≡ titled (codes "heap") (other_config.regions ∷ other_config.region_words ∷ other_config.reserve ∷ []) → second ≡ titled (codes "threads") (other_config.mutators ∷ other_config.helpers ∷ []) ++ rest → bytes ≡ header v other_config ++ rest
+head_read bytes first second rest v config other_config first_is second_is same third_is =
     let shen = titled (codes "shen") (v ∷ []) in
-    let heap = titled (codes "heap") (c.regions ∷ c.region_words ∷ c.reserve ∷ []) in
-    let threads = titled (codes "threads") (c.mutators ∷ c.helpers ∷ []) in
+    let heap = titled (codes "heap") (other_config.regions ∷ other_config.region_words ∷ other_config.reserve ∷ []) in
+    let threads = titled (codes "threads") (other_config.mutators ∷ other_config.helpers ∷ []) in
     first_is ∙ ap (λ (t : List ℕ). shen ++ t) (second_is ∙ ap (λ (t : List ℕ). t ++ second) same ∙ ap (λ (t : List ℕ). heap ++ t) third_is ∙ sym (append_assoc heap threads rest)) ∙ sym (append_assoc shen (heap ++ threads) rest)

@@ -19,27 +19,27 @@ use Rattle.trace_reading.proofs.Heads.{join_numbers}
 
 -- ---- kinds
 
-pub kind_spelled : (ks : List CommandKind) (w : List ℕ) (k : CommandKind) → kind_named ks w ≡ Some k → w ≡ word k
+pub kind_spelled : (ks : List CommandKind) (w : List ℕ) (kind : CommandKind) → kind_named ks w ≡ Some kind → w ≡ word kind
 unfolding kind_named
-kind_spelled [] w k e = absurd cc
-kind_spelled (x ∷ ks) w k e = by_test (is_same w (word x)) refl (kind_spelled ks w k) e
+kind_spelled [] w kind e = absurd cc
+kind_spelled (x ∷ ks) w kind e = by_test (is_same w (word x)) refl (kind_spelled ks w kind) e
   where
-    by_test : (test : Bool) → is_same w (word x) ≡ test → (kind_named ks w ≡ Some k → w ≡ word k) → cond test (Some x) (kind_named ks w) ≡ Some k → w ≡ word k
-    by_test true same others e = same_text w (word x) (sym same) ∙ ap word (same_some x k e)
+    by_test : (test : Bool) → is_same w (word x) ≡ test → (kind_named ks w ≡ Some kind → w ≡ word kind) → cond test (Some x) (kind_named ks w) ≡ Some kind → w ≡ word kind
+    by_test true same others e = same_text w (word x) (sym same) ∙ ap word (same_some x kind e)
     by_test false other others e = others e
 
 -- what all of the kinds are, the one that was found is
-kind_is : (P : CommandKind → Type 0) (ks : List CommandKind) (w : List ℕ) (k : CommandKind) → AllByRecursion P ks → kind_named ks w ≡ Some k → P k
+kind_is : (P : CommandKind → Type 0) (ks : List CommandKind) (w : List ℕ) (kind : CommandKind) → AllByRecursion P ks → kind_named ks w ≡ Some kind → P kind
 unfolding kind_named
-kind_is P [] w k all e = absurd cc
-kind_is P (x ∷ ks) w k all e = by_test (is_same w (word x)) (kind_is P ks w k all.1) e
+kind_is P [] w kind all e = absurd cc
+kind_is P (x ∷ ks) w kind all e = by_test (is_same w (word x)) (kind_is P ks w kind all.1) e
   where
-    by_test : (test : Bool) → (kind_named ks w ≡ Some k → P k) → cond test (Some x) (kind_named ks w) ≡ Some k → P k
-    by_test true others e = subst P (same_some x k e) all.0
+    by_test : (test : Bool) → (kind_named ks w ≡ Some kind → P kind) → cond test (Some x) (kind_named ks w) ≡ Some kind → P kind
+    by_test true others e = subst P (same_some x kind e) all.0
     by_test false others e = others e
 
 -- a kind of version 1, whatever kinds follow
-first_again : (later : List CommandKind) (k : CommandKind) → HasKind 1 k → kind_named (first_kinds ++ later) (word k) ≡ Some k
+first_again : (later : List CommandKind) (kind : CommandKind) → HasKind 1 kind → kind_named (first_kinds ++ later) (word kind) ≡ Some kind
 unfolding kind_named
 first_again later Pin old = absurd (omega (arith, old))
 first_again later Unpin old = absurd (omega (arith, old))
@@ -50,18 +50,18 @@ first_again later _ old = refl
 kinds_by : (version : ℕ) (P : List CommandKind → Type 0) → (version < 2 → P first_kinds) → (2 ≤ version → P (first_kinds ++ later_kinds)) → P (kinds version)
 kinds_by version P one two = by_test (ltb version 2) refl
   where
-    by_test : (b : Bool) → ltb version 2 ≡ b → P (cond b first_kinds (first_kinds ++ later_kinds))
+    by_test : (holds : Bool) → ltb version 2 ≡ holds → P (cond holds first_kinds (first_kinds ++ later_kinds))
     by_test true e = one (ltb-true version 2 e)
     by_test false e = two (ltb-false version 2 e)
 
-old_again : (version : ℕ) (k : CommandKind) → HasKind 1 k → kind_named (kinds version) (word k) ≡ Some k
-old_again version k old =
-    kinds_by version (λ (ks : List CommandKind). kind_named ks (word k) ≡ Some k) (λ one. first_again [] k old) (λ two. first_again later_kinds k old)
+old_again : (version : ℕ) (kind : CommandKind) → HasKind 1 kind → kind_named (kinds version) (word kind) ≡ Some kind
+old_again version kind old =
+    kinds_by version (λ (ks : List CommandKind). kind_named ks (word kind) ≡ Some kind) (λ one. first_again [] kind old) (λ two. first_again later_kinds kind old)
 
-later_again : (version : ℕ) (k : CommandKind) → 2 ≤ version → kind_named (first_kinds ++ later_kinds) (word k) ≡ Some k → kind_named (kinds version) (word k) ≡ Some k
-later_again version k two e = kinds_by version (λ (ks : List CommandKind). kind_named ks (word k) ≡ Some k) (λ one. absurd (omega (arith, one, two))) (λ same. e)
+later_again : (version : ℕ) (kind : CommandKind) → 2 ≤ version → kind_named (first_kinds ++ later_kinds) (word kind) ≡ Some kind → kind_named (kinds version) (word kind) ≡ Some kind
+later_again version kind two e = kinds_by version (λ (ks : List CommandKind). kind_named ks (word kind) ≡ Some kind) (λ one. absurd (omega (arith, one, two))) (λ same. e)
 
-pub kind_again : (version : ℕ) (k : CommandKind) → HasKind version k → kind_named (kinds version) (word k) ≡ Some k
+pub kind_again : (version : ℕ) (kind : CommandKind) → HasKind version kind → kind_named (kinds version) (word kind) ≡ Some kind
 unfolding kind_named
 kind_again version Pin known = later_again version Pin known refl
 kind_again version Unpin known = later_again version Unpin known refl
@@ -77,7 +77,7 @@ kind_again version Drop known = old_again version Drop tt
 kind_again version Same known = old_again version Same tt
 kind_again version Gc known = old_again version Gc tt
 
-pub kind_word : (k : CommandKind) → IsWord (word k)
+pub kind_word : (kind : CommandKind) → IsWord (word kind)
 kind_word New = record { no_space = refl; no_end = refl }
 kind_word _ = record { no_space = refl; no_end = refl }
 
@@ -99,8 +99,8 @@ between_limits [] (n ∷ ns) within = absurd within
 between_limits (b ∷ bounds) [] within = absurd within
 between_limits (b ∷ bounds) (n ∷ ns) within = (omega arith, within.0, between_limits bounds ns within.1)
 
-small_ranges : (threads : ℕ) (k : CommandKind) → threads < 2 ^ 64 → AreSmallRanges (ranges_of threads (limits k))
-small_ranges threads k small = (small, small_up_to (limits k) (limits_small k))
+small_ranges : (threads : ℕ) (kind : CommandKind) → threads < 2 ^ 64 → AreSmallRanges (ranges_of threads (limits kind))
+small_ranges threads kind small = (small, small_up_to (limits kind) (limits_small kind))
 
 -- ---- lines
 
@@ -143,27 +143,27 @@ unfolding command_cause
 line_spelled version threads thread [] small e = absurd cc
 line_spelled version threads thread (w ∷ ws) small e = by_kind (kind_named (kinds version) w) refl e
   where
-    with_numbers : (k : CommandKind) → HasKind version k → w ≡ word k → (ns : List ℕ) → thread ∷ ws ≡ map decimal ns → AreBetween (ranges_of threads (limits k)) ns → (l : TraceLine) × IsLine version threads l × (thread ∷ w ∷ ws ≡ line_words l)
-    with_numbers k has same [] spelled between = absurd between
-    with_numbers k has same (n ∷ ns) spelled between =
-        let within = within_limits (limits k) ns between.2 in
-        let valid = made_valid k ns within in
-        let l : TraceLine = record { thread = n; command = command_from k ns } in
+    with_numbers : (kind : CommandKind) → HasKind version kind → w ≡ word kind → (ns : List ℕ) → thread ∷ ws ≡ map decimal ns → AreBetween (ranges_of threads (limits kind)) ns → (l : TraceLine) × IsLine version threads l × (thread ∷ w ∷ ws ≡ line_words l)
+    with_numbers kind has same [] spelled between = absurd between
+    with_numbers kind has same (n ∷ ns) spelled between =
+        let within = within_limits (limits kind) ns between.2 in
+        let valid = made_valid kind ns within in
+        let l : TraceLine = record { thread = n; command = command_from kind ns } in
         let first : thread ≡ decimal n = cc in
         let others : ws ≡ map decimal ns = cc in (
           l,
-          record { from_one = between.0; to_last = between.1; known = made_known version k ns has; valid = valid.0; fits = valid.1 },
-          ap (λ (t : List ℕ). t ∷ w ∷ ws) first ∙ ap (λ (t : List ℕ). decimal n ∷ t ∷ ws) (same ∙ sym (made_word k ns))
-              ∙ ap (λ (ts : List (List ℕ)). decimal n ∷ command_word (command_from k ns) ∷ ts) (others ∙ ap (map decimal) (sym (made_numbers k ns within))),
+          record { from_one = between.0; to_last = between.1; known = made_known version kind ns has; valid = valid.0; fits = valid.1 },
+          ap (λ (t : List ℕ). t ∷ w ∷ ws) first ∙ ap (λ (t : List ℕ). decimal n ∷ t ∷ ws) (same ∙ sym (made_word kind ns))
+              ∙ ap (λ (ts : List (List ℕ)). decimal n ∷ command_word (command_from kind ns) ∷ ts) (others ∙ ap (map decimal) (sym (made_numbers kind ns within))),
         )
 
-    by_count : (k : CommandKind) → HasKind version k → w ≡ word k → (test : Bool) → eqb (length ws) (length (limits k)) ≡ test → cond test (numbers_cause (ranges_of threads (limits k)) (thread ∷ ws)) (Some Command) ≡ None → (l : TraceLine) × IsLine version threads l × (thread ∷ w ∷ ws ≡ line_words l)
-    by_count k has same false count e = absurd cc
-    by_count k has same true count e =
-        let size : length ws ≡ length (limits k) = eqb-true _ _ count in
-        let made = numbers_spelled (ranges_of threads (limits k)) (thread ∷ ws) (small_ranges threads k small) (ap suc (size ∙ sym (up_to_length (limits k)))) e in
-        with_numbers k has same made.0 made.1 made.2
+    by_count : (kind : CommandKind) → HasKind version kind → w ≡ word kind → (test : Bool) → eqb (length ws) (length (limits kind)) ≡ test → cond test (numbers_cause (ranges_of threads (limits kind)) (thread ∷ ws)) (Some Command) ≡ None → (l : TraceLine) × IsLine version threads l × (thread ∷ w ∷ ws ≡ line_words l)
+    by_count kind has same false count e = absurd cc
+    by_count kind has same true count e =
+        let size : length ws ≡ length (limits kind) = eqb-true _ _ count in
+        let made = numbers_spelled (ranges_of threads (limits kind)) (thread ∷ ws) (small_ranges threads kind small) (ap suc (size ∙ sym (up_to_length (limits kind)))) e in
+        with_numbers kind has same made.0 made.1 made.2
 
     by_kind : (found : Option CommandKind) → kind_named (kinds version) w ≡ found → numbers_of_kind threads thread found ws ≡ None → (l : TraceLine) × IsLine version threads l × (thread ∷ w ∷ ws ≡ line_words l)
     by_kind None is e = absurd cc
-    by_kind (Some k) is e = by_count k (kind_is (HasKind version) (kinds version) w k (kinds_known version) is) (kind_spelled (kinds version) w k is) (eqb (length ws) (length (limits k))) refl e
+    by_kind (Some kind) is e = by_count kind (kind_is (HasKind version) (kinds version) w kind (kinds_known version) is) (kind_spelled (kinds version) w kind is) (eqb (length ws) (length (limits kind))) refl e

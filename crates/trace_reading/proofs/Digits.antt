@@ -16,9 +16,9 @@ behind_by_front [] bytes = refl
 behind_by_front (t ∷ text) [] = refl
 behind_by_front (t ∷ text) (b ∷ bytes) = by_first (eqb b t) (pointwise eqb (take (length text) bytes) text) (behind text bytes) (Some (drop (length text) bytes)) (behind_by_front text bytes)
   where
-    by_first : (first others : Bool) (x y : Option (List ℕ)) → x ≡ cond others y None → cond first x None ≡ cond (mathlib.Core.Bool.◌&&◌ first others) y None
-    by_first true others x y e = e
-    by_first false others x y e = refl
+    by_first : (first others : Bool) (found other_found : Option (List ℕ)) → found ≡ cond others other_found None → cond first found None ≡ cond (mathlib.Core.Bool.◌&&◌ first others) other_found None
+    by_first true others found other_found e = e
+    by_first false others found other_found e = refl
 
 pub digit_is_digit : (c : ℕ) → is_ascii_digit c ≡ true → digit_value c < 10
 digit_is_digit c e = grind (arith, nat_tests)
@@ -39,10 +39,10 @@ digits_are_digits (b ∷ bytes) = by_first (is_ascii_digit b) refl (digits_are_d
     by_first true e all = rw one-add (digit_is_digit b e, all)
 
 -- what a comparison of the front answered
-pub stripped : {R : Type 0} (now : R → List ℕ) (r : Option R) (same : Bool) (rest : List ℕ) (size : R → Type 0) → MatchOption r (same ≡ false) (λ x. (same ≡ true) × (now x ≡ rest) × size x) → option_map now r ≡ cond same (Some rest) None
+pub stripped : {R : Type 0} (now : R → List ℕ) (found : Option R) (same : Bool) (rest : List ℕ) (size : R → Type 0) → MatchOption found (same ≡ false) (λ x. (same ≡ true) × (now x ≡ rest) × size x) → option_map now found ≡ cond same (Some rest) None
 stripped now None same rest size h = rw h refl
 stripped now (Some x) same rest size h = rw (h.0, h.1) refl
 
 -- one digit more
-pub value_more : (digits : List ℕ) (i : ℕ) → AllDigits 10 digits → i < length digits → digits_value 10 (take (i + 1) digits) ≡ digits_value 10 (take i digits) * 10 + (get_or digits i 0 - 48)
-value_more digits i all lt = digits_value_more 10 digits i lt ∙ ap (λ d. digits_value 10 (take i digits) * 10 + d) (value_of_digit _ (digit_at digits i all lt))
+pub value_more : (digits : List ℕ) (index : ℕ) → AllDigits 10 digits → index < length digits → digits_value 10 (take (index + 1) digits) ≡ digits_value 10 (take index digits) * 10 + (get_or digits index 0 - 48)
+value_more digits index all lt = digits_value_more 10 digits index lt ∙ ap (λ d. digits_value 10 (take index digits) * 10 + d) (value_of_digit _ (digit_at digits index all lt))

@@ -85,15 +85,15 @@ walk zero stage bytes fits le = by_first (first_line bytes).0 (first_line bytes)
     by_first : (text rest : List ℕ) → (parts 10 bytes ≡ text ∷ []) ⊎ (parts 10 bytes ≡ text ∷ parts 10 rest) → Stops stage bytes ⊎ Completes stage bytes
     by_first text rest (inl e) = at_last stage bytes text e (end_cause stage text) refl
     by_first text rest (inr e) = absurd (some_byte bytes text rest (bytes_of_line bytes text rest e) le)
-walk (suc k) stage bytes fits le = by_first (first_line bytes).0 (first_line bytes).1 (first_line bytes).2 (λ s b f l. walk k s b f l)
+walk (suc k) stage bytes fits le = by_first (first_line bytes).0 (first_line bytes).1 (first_line bytes).2 (λ other_stage b f l. walk k other_stage b f l)
   where
-    by_cause : (text rest : List ℕ) → parts 10 bytes ≡ text ∷ parts 10 rest → (cause : Option Why) → words_cause stage (parts 32 text) ≡ cause → ((s : LineStage) (b : List ℕ) → Fits s → length b ≤ k → Stops s b ⊎ Completes s b) → Stops stage bytes ⊎ Completes stage bytes
+    by_cause : (text rest : List ℕ) → parts 10 bytes ≡ text ∷ parts 10 rest → (cause : Option Why) → words_cause stage (parts 32 text) ≡ cause → ((other_stage : LineStage) (b : List ℕ) → Fits other_stage → length b ≤ k → Stops other_stage b ⊎ Completes other_stage b) → Stops stage bytes ⊎ Completes stage bytes
     by_cause text rest e (Some why) is go = inl (stops_here stage bytes why (whole_line stage bytes text rest e ∙ is))
     by_cause text rest e None is go =
         let next = follows stage text fits is in
         one_more stage next.0 bytes text rest next.1 e (go next.0 rest next.2 (shorter bytes text rest k (bytes_of_line bytes text rest e) le))
 
-    by_first : (text rest : List ℕ) → (parts 10 bytes ≡ text ∷ []) ⊎ (parts 10 bytes ≡ text ∷ parts 10 rest) → ((s : LineStage) (b : List ℕ) → Fits s → length b ≤ k → Stops s b ⊎ Completes s b) → Stops stage bytes ⊎ Completes stage bytes
+    by_first : (text rest : List ℕ) → (parts 10 bytes ≡ text ∷ []) ⊎ (parts 10 bytes ≡ text ∷ parts 10 rest) → ((other_stage : LineStage) (b : List ℕ) → Fits other_stage → length b ≤ k → Stops other_stage b ⊎ Completes other_stage b) → Stops stage bytes ⊎ Completes stage bytes
     by_first text rest (inl e) go = at_last stage bytes text e (end_cause stage text) refl
     by_first text rest (inr e) go = by_cause text rest e (words_cause stage (parts 32 text)) refl go
 
@@ -102,24 +102,24 @@ walk (suc k) stage bytes fits le = by_first (first_line bytes).0 (first_line byt
 ended-cons : (text : List ℕ) (texts : List (List ℕ)) (whole others : List ℕ) → text ++ newline ∷ [] ≡ whole → ended texts ≡ others → ended (text ∷ texts) ≡ whole ++ others
 ended-cons text texts whole others e f = flat_map-cons (λ (t : List ℕ). t ++ newline ∷ []) text texts ∙ ap (λ (t : List ℕ). t ++ ended texts) e ∙ ap (λ (t : List ℕ). whole ++ t) f
 
-of_turns : (c : Config) (texts : List (List ℕ)) (last : LineStage) → Lead (Turns c) texts last → (turns : List (List Item)) × AllByRecursion (IsScheduleLine c) turns × (ended texts ≡ flat_map schedule_line turns)
-of_turns c [] last lead = ([], tt, refl)
-of_turns c (text ∷ texts) last lead =
+of_turns : (config : Config) (texts : List (List ℕ)) (last : LineStage) → Lead (Turns config) texts last → (turns : List (List Item)) × AllByRecursion (IsScheduleLine config) turns × (ended texts ≡ flat_map schedule_line turns)
+of_turns config [] last lead = ([], tt, refl)
+of_turns config (text ∷ texts) last lead =
     let it = lead.1.0 in
-    let others = of_turns c texts last (subst (λ (s : LineStage). Lead s texts last) lead.1.1 lead.2) in
+    let others = of_turns config texts last (subst (λ (stage : LineStage). Lead stage texts last) lead.1.1 lead.2) in
     (it.0 ∷ others.0, (it.1, others.1), ended-cons text texts (schedule_line it.0) (flat_map schedule_line others.0) it.2 others.2 ∙ sym (flat_map-cons schedule_line it.0 others.0))
 
-of_commands : (v : ℕ) (c : Config) (texts : List (List ℕ)) (last : LineStage) → Lead (Commands v c) texts last
-    → (lines : List TraceLine) × (turns : List (List Item)) × AllByRecursion (IsLine v c.mutators) lines × AllByRecursion (IsScheduleLine c) turns × (ended texts ≡ flat_map line lines ++ flat_map schedule_line turns)
-of_commands v c [] last lead = ([], [], tt, tt, refl)
-of_commands v c (text ∷ texts) last lead = by_kind lead.0 lead.1 lead.2 (of_commands v c texts last)
+of_commands : (v : ℕ) (config : Config) (texts : List (List ℕ)) (last : LineStage) → Lead (Commands v config) texts last
+    → (lines : List TraceLine) × (turns : List (List Item)) × AllByRecursion (IsLine v config.mutators) lines × AllByRecursion (IsScheduleLine config) turns × (ended texts ≡ flat_map line lines ++ flat_map schedule_line turns)
+of_commands v config [] last lead = ([], [], tt, tt, refl)
+of_commands v config (text ∷ texts) last lead = by_kind lead.0 lead.1 lead.2 (of_commands v config texts last)
   where
-    by_kind : (next : LineStage) → LineFollows (Commands v c) text next → Lead next texts last
-        → (Lead (Commands v c) texts last → (lines : List TraceLine) × (turns : List (List Item)) × AllByRecursion (IsLine v c.mutators) lines × AllByRecursion (IsScheduleLine c) turns × (ended texts ≡ flat_map line lines ++ flat_map schedule_line turns))
-        → (lines : List TraceLine) × (turns : List (List Item)) × AllByRecursion (IsLine v c.mutators) lines × AllByRecursion (IsScheduleLine c) turns × (ended (text ∷ texts) ≡ flat_map line lines ++ flat_map schedule_line turns)
+    by_kind : (next : LineStage) → LineFollows (Commands v config) text next → Lead next texts last
+        → (Lead (Commands v config) texts last → (lines : List TraceLine) × (turns : List (List Item)) × AllByRecursion (IsLine v config.mutators) lines × AllByRecursion (IsScheduleLine config) turns × (ended texts ≡ flat_map line lines ++ flat_map schedule_line turns))
+        → (lines : List TraceLine) × (turns : List (List Item)) × AllByRecursion (IsLine v config.mutators) lines × AllByRecursion (IsScheduleLine config) turns × (ended (text ∷ texts) ≡ flat_map line lines ++ flat_map schedule_line turns)
     by_kind next (inl f) lead go =
         let it = f.0 in
-        let others = go (subst (λ (s : LineStage). Lead s texts last) f.1 lead) in (
+        let others = go (subst (λ (stage : LineStage). Lead stage texts last) f.1 lead) in (
           it.0 ∷ others.0,
           others.1,
           (it.1, others.2),
@@ -129,7 +129,7 @@ of_commands v c (text ∷ texts) last lead = by_kind lead.0 lead.1 lead.2 (of_co
         )
     by_kind next (inr f) lead go =
         let it = f.0 in
-        let others = of_turns c texts last (subst (λ (s : LineStage). Lead s texts last) f.1 lead) in
+        let others = of_turns config texts last (subst (λ (stage : LineStage). Lead stage texts last) f.1 lead) in
         ([], it.0 ∷ others.0, tt, (it.1, others.1), ended-cons text texts (schedule_line it.0) (flat_map schedule_line others.0) it.2 others.2 ∙ sym (flat_map-cons schedule_line it.0 others.0))
 
 of_threads : (v r w e : ℕ) (texts : List (List ℕ)) (last : LineStage) → Lead (Threads v r w e) texts last → IsBody last
@@ -139,17 +139,17 @@ of_threads v r w e [] last lead body = absurd (subst IsBody (sym lead) body)
 of_threads v r w e (text ∷ texts) last lead body =
     let f = lead.1 in
     let c = f.0 in
-    let others = of_commands v c texts last (subst (λ (s : LineStage). Lead s texts last) f.5 lead.2) in
+    let others = of_commands v c texts last (subst (λ (stage : LineStage). Lead stage texts last) f.5 lead.2) in
     (c, f.1, f.2, f.3, others.0, others.1, others.2, others.3, ended-cons text texts (titled (codes "threads") (c.mutators ∷ c.helpers ∷ [])) (flat_map line others.0 ++ flat_map schedule_line others.1) f.4 others.4)
 
-of_heap : (v : ℕ) (texts : List (List ℕ)) (last : LineStage) → Lead (Heap v) texts last → IsBody last
-    → (c : Config) × IsNarrow c × (lines : List TraceLine) × (turns : List (List Item)) × AllByRecursion (IsLine v c.mutators) lines × AllByRecursion (IsScheduleLine c) turns
+of_heap : (address : ℕ) (texts : List (List ℕ)) (last : LineStage) → Lead (Heap address) texts last → IsBody last
+    → (c : Config) × IsNarrow c × (lines : List TraceLine) × (turns : List (List Item)) × AllByRecursion (IsLine address c.mutators) lines × AllByRecursion (IsScheduleLine c) turns
     × (ended texts ≡ titled (codes "heap") (c.regions ∷ c.region_words ∷ c.reserve ∷ []) ++ (titled (codes "threads") (c.mutators ∷ c.helpers ∷ []) ++ (flat_map line lines ++ flat_map schedule_line turns)))
-of_heap v [] last lead body = absurd (subst IsBody (sym lead) body)
-of_heap v (text ∷ texts) last lead body =
+of_heap address [] last lead body = absurd (subst IsBody (sym lead) body)
+of_heap address (text ∷ texts) last lead body =
     let f = lead.1 in
     let h = f.0 in
-    let others = of_threads v h.regions h.region_words h.reserve texts last (subst (λ (s : LineStage). Lead s texts last) f.3 lead.2) body in
+    let others = of_threads address h.regions h.region_words h.reserve texts last (subst (λ (stage : LineStage). Lead stage texts last) f.3 lead.2) body in
     let c = others.0 in
     let same : titled (codes "heap") (h.regions ∷ h.region_words ∷ h.reserve ∷ []) ≡ titled (codes "heap") (c.regions ∷ c.region_words ∷ c.reserve ∷ []) =
     ap (λ (r : ℕ). titled (codes "heap") (r ∷ h.region_words ∷ h.reserve ∷ [])) (sym others.1) ∙ ap (λ (w : ℕ). titled (codes "heap") (c.regions ∷ w ∷ h.reserve ∷ [])) (sym others.2) ∙ ap (λ (e : ℕ). titled (codes "heap") (c.regions ∷ c.region_words ∷ e ∷ [])) (sym others.3) in
@@ -161,7 +161,7 @@ of_version bytes [] last short spelled lead body = absurd (subst IsBody (sym lea
 of_version bytes (text ∷ texts) last short spelled lead body =
     let f = lead.1 in
     let v = f.0 in
-    let others = of_heap v texts last (subst (λ (s : LineStage). Lead s texts last) f.3 lead.2) body in
+    let others = of_heap v texts last (subst (λ (stage : LineStage). Lead stage texts last) f.3 lead.2) body in
     let c = others.0 in
     let shen = titled (codes "shen") (v ∷ []) in
     let heap = titled (codes "heap") (c.regions ∷ c.region_words ∷ c.reserve ∷ []) in
@@ -170,9 +170,9 @@ of_version bytes (text ∷ texts) last short spelled lead body =
     let whole : bytes ≡ header v c ++ rest = spelled ∙ ended-cons text texts shen (heap ++ (threads ++ rest)) f.2 others.6 ∙ ap (λ (t : List ℕ). shen ++ t) (sym (append_assoc heap threads rest)) ∙ sym (append_assoc shen (heap ++ threads) rest) in
     (v, c, scripts_of c.mutators others.2, items_of others.3, record { known = f.1; narrow = others.1; lines = others.2; in_range = others.4; turns = others.3; turns_in_range = others.5; spelled = whole; by_thread = refl; in_order = refl; short = short })
 
-pub either : (bytes : List ℕ) → length bytes ≤ most_bytes → ((v : ℕ) × (c : Config) × (scripts : List (List Command)) × (items : List Item) × Reads bytes v c scripts items) ⊎ ((n : ℕ) × (why : Why) × Refused bytes n why)
+pub either : (bytes : List ℕ) → length bytes ≤ most_bytes → ((v : ℕ) × (config : Config) × (scripts : List (List Command)) × (items : List Item) × Reads bytes v config scripts items) ⊎ ((n : ℕ) × (why : Why) × Refused bytes n why)
 either bytes short = by_end (walk (length bytes) Version bytes tt (omega arith))
   where
-    by_end : Stops Version bytes ⊎ Completes Version bytes → ((v : ℕ) × (c : Config) × (scripts : List (List Command)) × (items : List Item) × Reads bytes v c scripts items) ⊎ ((n : ℕ) × (why : Why) × Refused bytes n why)
+    by_end : Stops Version bytes ⊎ Completes Version bytes → ((v : ℕ) × (config : Config) × (scripts : List (List Command)) × (items : List Item) × Reads bytes v config scripts items) ⊎ ((n : ℕ) × (why : Why) × Refused bytes n why)
     by_end (inl s) = inr (length s.before + 1, s.why, (record { before = s.before; from_it = s.from_it; lines = s.lines; number = refl; stage = s.last; lead = s.lead; cause = s.cause }, short))
     by_end (inr s) = inl (of_version bytes s.texts s.last short s.spelled s.lead s.body)

@@ -25,50 +25,50 @@ use Rattle.trace_reading.proofs.Begins.{Begun, begun_head, begun_lines, begun_tu
 same_number : (n m : ℕ) → n < 2 ^ 64 → m < 2 ^ 64 → decimal n ≡ decimal m → n ≡ m
 same_number n m a b e = sym (digits_value-decimal own n a) ∙ ap (digits_value 10) e ∙ digits_value-decimal own m b
 
-same_words : (ws vs : List (List ℕ)) (i : ℕ) → ws ≡ vs → get_or ws i [] ≡ get_or vs i []
-same_words ws vs i e = ap (λ (l : List (List ℕ)). get_or l i []) e
+same_words : (ws vs : List (List ℕ)) (index : ℕ) → ws ≡ vs → get_or ws index [] ≡ get_or vs index []
+same_words ws vs index e = ap (λ (l : List (List ℕ)). get_or l index []) e
 
 same_version : (v w : ℕ) → IsVersion v → IsVersion w → codes "shen" ∷ map decimal (v ∷ []) ≡ codes "shen" ∷ map decimal (w ∷ []) → v ≡ w
 same_version v w p q e = same_number v w (omega (arith, p.1)) (omega (arith, q.1)) (same_words (codes "shen" ∷ map decimal (v ∷ [])) (codes "shen" ∷ map decimal (w ∷ [])) 1 e)
 
-same_heap : (v : ℕ) (c d : Config) → codes "heap" ∷ map decimal (c.regions ∷ c.region_words ∷ c.reserve ∷ []) ≡ codes "heap" ∷ map decimal (d.regions ∷ d.region_words ∷ d.reserve ∷ []) → Threads v c.regions c.region_words c.reserve ≡ Threads v d.regions d.region_words d.reserve
-same_heap v c d e =
-    let ws = codes "heap" ∷ map decimal (c.regions ∷ c.region_words ∷ c.reserve ∷ []) in
-    let vs = codes "heap" ∷ map decimal (d.regions ∷ d.region_words ∷ d.reserve ∷ []) in
-    let r = same_number c.regions d.regions (omega (arith, c.in_range.most_regions)) (omega (arith, d.in_range.most_regions)) (same_words ws vs 1 e) in
-    let w = same_number c.region_words d.region_words (omega (arith, c.in_range.most_words)) (omega (arith, d.in_range.most_words)) (same_words ws vs 2 e) in
-    let k = same_number c.reserve d.reserve (omega (arith, c.in_range.some_left, c.in_range.most_regions)) (omega (arith, d.in_range.some_left, d.in_range.most_regions)) (same_words ws vs 3 e) in
-    ap (λ (n : ℕ). Threads v n c.region_words c.reserve) r ∙ ap (λ (n : ℕ). Threads v d.regions n c.reserve) w ∙ ap (λ (n : ℕ). Threads v d.regions d.region_words n) k
+same_heap : (v : ℕ) (config other_config : Config) → codes "heap" ∷ map decimal (config.regions ∷ config.region_words ∷ config.reserve ∷ []) ≡ codes "heap" ∷ map decimal (other_config.regions ∷ other_config.region_words ∷ other_config.reserve ∷ []) → Threads v config.regions config.region_words config.reserve ≡ Threads v other_config.regions other_config.region_words other_config.reserve
+same_heap v config other_config e =
+    let ws = codes "heap" ∷ map decimal (config.regions ∷ config.region_words ∷ config.reserve ∷ []) in
+    let vs = codes "heap" ∷ map decimal (other_config.regions ∷ other_config.region_words ∷ other_config.reserve ∷ []) in
+    let r = same_number config.regions other_config.regions (omega (arith, config.in_range.most_regions)) (omega (arith, other_config.in_range.most_regions)) (same_words ws vs 1 e) in
+    let w = same_number config.region_words other_config.region_words (omega (arith, config.in_range.most_words)) (omega (arith, other_config.in_range.most_words)) (same_words ws vs 2 e) in
+    let k = same_number config.reserve other_config.reserve (omega (arith, config.in_range.some_left, config.in_range.most_regions)) (omega (arith, other_config.in_range.some_left, other_config.in_range.most_regions)) (same_words ws vs 3 e) in
+    ap (λ (n : ℕ). Threads v n config.region_words config.reserve) r ∙ ap (λ (n : ℕ). Threads v other_config.regions n config.reserve) w ∙ ap (λ (n : ℕ). Threads v other_config.regions other_config.region_words n) k
 
-same_threads : (r w e : ℕ) (c d : Config) → c.regions ≡ r → c.region_words ≡ w → c.reserve ≡ e → d.regions ≡ r → d.region_words ≡ w → d.reserve ≡ e
-    → codes "threads" ∷ map decimal (c.mutators ∷ c.helpers ∷ []) ≡ codes "threads" ∷ map decimal (d.mutators ∷ d.helpers ∷ []) → c ≡ d
-same_threads r w e c d c_regions c_words c_reserve d_regions d_words d_reserve same =
-    let ws = codes "threads" ∷ map decimal (c.mutators ∷ c.helpers ∷ []) in
-    let vs = codes "threads" ∷ map decimal (d.mutators ∷ d.helpers ∷ []) in
-    let m = same_number c.mutators d.mutators (omega (arith, c.in_range.most_mutators)) (omega (arith, d.in_range.most_mutators)) (same_words ws vs 1 same) in
-    let h = same_number c.helpers d.helpers (omega (arith, c.in_range.most_helpers)) (omega (arith, d.in_range.most_helpers)) (same_words ws vs 2 same) in
-    same_config c d (c_regions ∙ sym d_regions) (c_words ∙ sym d_words) m h (c_reserve ∙ sym d_reserve)
+same_threads : (r w e : ℕ) (config other_config : Config) → config.regions ≡ r → config.region_words ≡ w → config.reserve ≡ e → other_config.regions ≡ r → other_config.region_words ≡ w → other_config.reserve ≡ e
+    → codes "threads" ∷ map decimal (config.mutators ∷ config.helpers ∷ []) ≡ codes "threads" ∷ map decimal (other_config.mutators ∷ other_config.helpers ∷ []) → config ≡ other_config
+same_threads r w e config other_config c_regions c_words c_reserve d_regions d_words d_reserve same =
+    let ws = codes "threads" ∷ map decimal (config.mutators ∷ config.helpers ∷ []) in
+    let vs = codes "threads" ∷ map decimal (other_config.mutators ∷ other_config.helpers ∷ []) in
+    let m = same_number config.mutators other_config.mutators (omega (arith, config.in_range.most_mutators)) (omega (arith, other_config.in_range.most_mutators)) (same_words ws vs 1 same) in
+    let h = same_number config.helpers other_config.helpers (omega (arith, config.in_range.most_helpers)) (omega (arith, other_config.in_range.most_helpers)) (same_words ws vs 2 same) in
+    same_config config other_config (c_regions ∙ sym d_regions) (c_words ∙ sym d_words) m h (c_reserve ∙ sym d_reserve)
 
 -- a line of a command is no line of the schedule
-not_both : (v : ℕ) (c : Config) (text : List ℕ) → IsCommandLine v c text → IsTurnItem c text → ⊥
-not_both v c text it other =
+not_both : (v : ℕ) (config : Config) (text : List ℕ) → IsCommandLine v config text → IsTurnItem config text → ⊥
+not_both v config text it other =
     let l = it.0 in
-    let one = (line_text v c.mutators text l (few_threads c) it.1 it.2).0 in
-    let two = (turn_text c text other.0 other.1 other.2).0 in
-    let small : l.thread < 2 ^ 64 = omega (arith, it.1.to_last, few_threads c) in
+    let one = (line_text v config.mutators text l (few_threads config) it.1 it.2).0 in
+    let two = (turn_text config text other.0 other.1 other.2).0 in
+    let small : l.thread < 2 ^ 64 = omega (arith, it.1.to_last, few_threads config) in
     let first : decimal l.thread ≡ 33 ∷ [] = same_words (line_words l) (words_of_turn other.0) 0 (sym one ∙ two) in
     no_number l.thread small first
 
-same_next : (stage : LineStage) (text : List ℕ) (a b : LineStage) → LineFollows stage text a → LineFollows stage text b → a ≡ b
-same_next Version text a b f g = f.3 ∙ ap Heap (same_version f.0 g.0 f.1 g.1 (sym (version_again f.0 text f.1 f.2).2 ∙ (version_again g.0 text g.1 g.2).2)) ∙ sym g.3
-same_next (Heap v) text a b f g = f.3 ∙ same_heap v f.0 g.0 (sym (heap_again v f.0 text f.1 f.2).2 ∙ (heap_again v g.0 text g.1 g.2).2) ∙ sym g.3
-same_next (Threads v r w e) text a b f g =
+same_next : (stage : LineStage) (text : List ℕ) (other_stage b : LineStage) → LineFollows stage text other_stage → LineFollows stage text b → other_stage ≡ b
+same_next Version text other_stage b f g = f.3 ∙ ap Heap (same_version f.0 g.0 f.1 g.1 (sym (version_again f.0 text f.1 f.2).2 ∙ (version_again g.0 text g.1 g.2).2)) ∙ sym g.3
+same_next (Heap v) text other_stage b f g = f.3 ∙ same_heap v f.0 g.0 (sym (heap_again v f.0 text f.1 f.2).2 ∙ (heap_again v g.0 text g.1 g.2).2) ∙ sym g.3
+same_next (Threads v r w e) text other_stage b f g =
     f.5 ∙ ap (Commands v) (same_threads r w e f.0 g.0 f.1 f.2 f.3 g.1 g.2 g.3 (sym (threads_again v r w e f.0 text f.4).2 ∙ (threads_again v r w e g.0 text g.4).2)) ∙ sym g.5
-same_next (Commands v c) text a b (inl f) (inl g) = f.1 ∙ sym g.1
-same_next (Commands v c) text a b (inl f) (inr g) = absurd (not_both v c text f.0 g.0)
-same_next (Commands v c) text a b (inr f) (inl g) = absurd (not_both v c text g.0 f.0)
-same_next (Commands v c) text a b (inr f) (inr g) = f.1 ∙ sym g.1
-same_next (Turns c) text a b f g = f.1 ∙ sym g.1
+same_next (Commands v c) text other_stage b (inl f) (inl g) = f.1 ∙ sym g.1
+same_next (Commands v c) text other_stage b (inl f) (inr g) = absurd (not_both v c text f.0 g.0)
+same_next (Commands v c) text other_stage b (inr f) (inl g) = absurd (not_both v c text g.0 f.0)
+same_next (Commands v c) text other_stage b (inr f) (inr g) = f.1 ∙ sym g.1
+same_next (Turns c) text other_stage b f g = f.1 ∙ sym g.1
 
 -- ---- lines lead to one end
 
@@ -94,16 +94,16 @@ not_empty stage (x ∷ xs) ys ending e = absurd cc
 heads : (x y : List ℕ) (xs ys : List (List ℕ)) → x ∷ xs ≡ y ∷ ys → (x ≡ y) × (xs ≡ ys)
 heads x y xs ys e = (cc, cc)
 
-pub one_end : (stage : LineStage) (xs ys : List (List ℕ)) (a b : LineStage) (p q : List (List ℕ)) → Lead stage xs a → Lead stage ys b → xs ++ p ≡ ys ++ q → IsEnding a p → IsEnding b q → (length xs ≡ length ys) × (cause_of a p ≡ cause_of b q)
-one_end stage [] [] a b p q l m e f g = (refl, ap (λ (s : LineStage). cause_of s p) (sym l ∙ m) ∙ ap (cause_of b) e)
-one_end stage [] (y ∷ ys) a b p q l m e f g =
-    absurd (goes_on stage m.0 y (ys ++ q) m.1 (not_empty b ys q g) (subst (IsEnding stage) e (subst (λ (s : LineStage). IsEnding s p) (sym l) f)))
-one_end stage (x ∷ xs) [] a b p q l m e f g =
-    absurd (goes_on stage l.0 x (xs ++ p) l.1 (not_empty a xs p f) (subst (IsEnding stage) (sym e) (subst (λ (s : LineStage). IsEnding s q) (sym m) g)))
-one_end stage (x ∷ xs) (y ∷ ys) a b p q l m e f g =
+pub one_end : (stage : LineStage) (xs ys : List (List ℕ)) (other_stage b : LineStage) (p q : List (List ℕ)) → Lead stage xs other_stage → Lead stage ys b → xs ++ p ≡ ys ++ q → IsEnding other_stage p → IsEnding b q → (length xs ≡ length ys) × (cause_of other_stage p ≡ cause_of b q)
+one_end stage [] [] other_stage b p q l m e f g = (refl, ap (λ (stage : LineStage). cause_of stage p) (sym l ∙ m) ∙ ap (cause_of b) e)
+one_end stage [] (y ∷ ys) other_stage b p q l m e f g =
+    absurd (goes_on stage m.0 y (ys ++ q) m.1 (not_empty b ys q g) (subst (IsEnding stage) e (subst (λ (stage : LineStage). IsEnding stage p) (sym l) f)))
+one_end stage (x ∷ xs) [] other_stage b p q l m e f g =
+    absurd (goes_on stage l.0 x (xs ++ p) l.1 (not_empty other_stage xs p f) (subst (IsEnding stage) (sym e) (subst (λ (stage : LineStage). IsEnding stage q) (sym m) g)))
+one_end stage (x ∷ xs) (y ∷ ys) other_stage b p q l m e f g =
     let first = heads x y (xs ++ p) (ys ++ q) e in
     let same : l.0 ≡ m.0 = same_next stage x l.0 m.0 l.1 (subst (λ (t : List ℕ). LineFollows stage t m.0) (sym first.0) m.1) in
-    let others = one_end m.0 xs ys a b p q (subst (λ (s : LineStage). Lead s xs a) same l.2) m.2 first.1 f g in
+    let others = one_end m.0 xs ys other_stage b p q (subst (λ (stage : LineStage). Lead stage xs other_stage) same l.2) m.2 first.1 f g in
     (ap suc others.0, others.1)
 
 -- bytes are refused once
@@ -114,18 +114,18 @@ refused_once bytes n m why other s t =
 
 -- ---- what is read is not refused
 
-body_ends : (v : ℕ) (c : Config) (some : Bool) → cause_of (body_stage v c some) ([] ∷ []) ≡ None
+body_ends : (v : ℕ) (config : Config) (some : Bool) → cause_of (body_stage v config some) ([] ∷ []) ≡ None
 unfolding cause_of
-body_ends v c true = refl
-body_ends v c false = refl
+body_ends v config true = refl
+body_ends v config false = refl
 
-pub never_both : (bytes : List ℕ) (v : ℕ) (c : Config) (scripts : List (List Command)) (items : List Item) (n : ℕ) (why : Why) → Reads bytes v c scripts items → StopsAt bytes n why → ⊥
-never_both bytes v c scripts items n why reads stops =
-    let head = begun_head bytes (flat_map line reads.lines ++ flat_map schedule_line reads.turns) v c reads.known reads.narrow reads.spelled in
-    let lines = begun_lines bytes reads.lines (flat_map schedule_line reads.turns) 3 v c reads.in_range head in
-    let turns = begun_turns bytes reads.turns [] (3 + length reads.lines) v c reads.turns_in_range (subst (λ (bs : List ℕ). Begun bytes bs (3 + length reads.lines) (Commands v c)) (sym (append-nil (flat_map schedule_line reads.turns))) lines) in
-    let stage = body_stage v c (ltb 0 (length reads.turns)) in
-    let none = body_ends v c (ltb 0 (length reads.turns)) in
+pub never_both : (bytes : List ℕ) (v : ℕ) (config : Config) (scripts : List (List Command)) (items : List Item) (n : ℕ) (why : Why) → Reads bytes v config scripts items → StopsAt bytes n why → ⊥
+never_both bytes v config scripts items n why reads stops =
+    let head = begun_head bytes (flat_map line reads.lines ++ flat_map schedule_line reads.turns) v config reads.known reads.narrow reads.spelled in
+    let lines = begun_lines bytes reads.lines (flat_map schedule_line reads.turns) 3 v config reads.in_range head in
+    let turns = begun_turns bytes reads.turns [] (3 + length reads.lines) v config reads.turns_in_range (subst (λ (bs : List ℕ). Begun bytes bs (3 + length reads.lines) (Commands v config)) (sym (append-nil (flat_map schedule_line reads.turns))) lines) in
+    let stage = body_stage v config (ltb 0 (length reads.turns)) in
+    let none = body_ends v config (ltb 0 (length reads.turns)) in
     let one = one_end Version turns.before stops.before stage stops.stage ([] ∷ []) stops.from_it turns.lead stops.lead (sym turns.lines ∙ stops.lines) (inr (refl, none)) (inl (why, stops.cause)) in
     let e = sym none ∙ one.1 ∙ stops.cause in
     absurd cc

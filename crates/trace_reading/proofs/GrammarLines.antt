@@ -44,7 +44,7 @@ all_of_one version = (tt, (tt, (tt, (tt, (tt, (tt, (tt, (tt, (tt, (tt, (tt, tt))
 kinds_by : (version : ℕ) (P : List CommandKind → Type 0) → (version < 2 → P first_kinds) → (2 ≤ version → P (first_kinds ++ later_kinds)) → P (kinds version)
 kinds_by version P one two = by_test (ltb version 2) refl
   where
-    by_test : (b : Bool) → ltb version 2 ≡ b → P (cond b first_kinds (first_kinds ++ later_kinds))
+    by_test : (holds : Bool) → ltb version 2 ≡ holds → P (cond holds first_kinds (first_kinds ++ later_kinds))
     by_test true e = one (ltb-true version 2 e)
     by_test false e = two (ltb-false version 2 e)
 
@@ -64,7 +64,7 @@ kind_is P (k ∷ ks) bytes x all e = by_first (behind (word k) bytes) (kind_is P
         subst (λ (y : CommandKind × List ℕ). P y.0) (same_some made x e) all.0
 
 -- a kind of version 1, whatever kinds follow
-first_again : (later : List CommandKind) (k : CommandKind) (rest : List ℕ) → HasKind 1 k → kind_among (first_kinds ++ later) (word k ++ rest) ≡ Some (k, rest)
+first_again : (later : List CommandKind) (kind : CommandKind) (rest : List ℕ) → HasKind 1 kind → kind_among (first_kinds ++ later) (word kind ++ rest) ≡ Some (kind, rest)
 unfolding kind_among
 first_again later New rest old = refl
 first_again later Get rest old = refl
@@ -80,15 +80,15 @@ first_again later Gc rest old = refl
 first_again later Pin rest old = absurd (omega (arith, old))
 first_again later Unpin rest old = absurd (omega (arith, old))
 
-old_again : (version : ℕ) (k : CommandKind) (rest : List ℕ) → HasKind 1 k → kind_among (kinds version) (word k ++ rest) ≡ Some (k, rest)
-old_again version k rest old =
-    kinds_by version (λ (ks : List CommandKind). kind_among ks (word k ++ rest) ≡ Some (k, rest)) (λ one. first_again [] k rest old) (λ two. first_again later_kinds k rest old)
+old_again : (version : ℕ) (kind : CommandKind) (rest : List ℕ) → HasKind 1 kind → kind_among (kinds version) (word kind ++ rest) ≡ Some (kind, rest)
+old_again version kind rest old =
+    kinds_by version (λ (ks : List CommandKind). kind_among ks (word kind ++ rest) ≡ Some (kind, rest)) (λ one. first_again [] kind rest old) (λ two. first_again later_kinds kind rest old)
 
-later_again : (version : ℕ) (k : CommandKind) (rest : List ℕ) → 2 ≤ version → kind_among (first_kinds ++ later_kinds) (word k ++ rest) ≡ Some (k, rest) → kind_among (kinds version) (word k ++ rest) ≡ Some (k, rest)
-later_again version k rest two e =
-    kinds_by version (λ (ks : List CommandKind). kind_among ks (word k ++ rest) ≡ Some (k, rest)) (λ one. absurd (omega (arith, one, two))) (λ same. e)
+later_again : (version : ℕ) (kind : CommandKind) (rest : List ℕ) → 2 ≤ version → kind_among (first_kinds ++ later_kinds) (word kind ++ rest) ≡ Some (kind, rest) → kind_among (kinds version) (word kind ++ rest) ≡ Some (kind, rest)
+later_again version kind rest two e =
+    kinds_by version (λ (ks : List CommandKind). kind_among ks (word kind ++ rest) ≡ Some (kind, rest)) (λ one. absurd (omega (arith, one, two))) (λ same. e)
 
-pub kind_again : (version : ℕ) (k : CommandKind) (rest : List ℕ) → HasKind version k → kind_among (kinds version) (word k ++ rest) ≡ Some (k, rest)
+pub kind_again : (version : ℕ) (kind : CommandKind) (rest : List ℕ) → HasKind version kind → kind_among (kinds version) (word kind ++ rest) ≡ Some (kind, rest)
 unfolding kind_among
 kind_again version Pin rest known = later_again version Pin rest known refl
 kind_again version Unpin rest known = later_again version Unpin rest known refl
@@ -104,7 +104,7 @@ kind_again version Drop rest known = old_again version Drop rest tt
 kind_again version Same rest known = old_again version Same rest tt
 kind_again version Gc rest known = old_again version Gc rest tt
 
-pub limits_small : (k : CommandKind) → AreSmall (limits k)
+pub limits_small : (kind : CommandKind) → AreSmall (limits kind)
 limits_small New = (lit< tt, (lit< tt, (lit< tt, tt)))
 limits_small Get = (lit< tt, (lit< tt, (lit< tt, tt)))
 limits_small Set = (lit< tt, (lit< tt, (lit< tt, tt)))
@@ -120,16 +120,16 @@ limits_small Pin = (lit< tt, (lit< tt, tt))
 limits_small Unpin = (lit< tt, tt)
 
 -- a number within its limit
-pub within_at : (bounds ns : List ℕ) (i : ℕ) → AreWithinLimits bounds ns → i < length bounds → get_or ns i 0 ≤ get_or bounds i 0
-within_at [] ns i within lt = absurd (omega arith)
-within_at (b ∷ bounds) [] i within lt = absurd within
+pub within_at : (bounds ns : List ℕ) (index : ℕ) → AreWithinLimits bounds ns → index < length bounds → get_or ns index 0 ≤ get_or bounds index 0
+within_at [] ns index within lt = absurd (omega arith)
+within_at (b ∷ bounds) [] index within lt = absurd within
 within_at (b ∷ bounds) (n ∷ ns) zero within lt = within.0
-within_at (b ∷ bounds) (n ∷ ns) (suc i) within lt = within_at bounds ns i within.1 (omega arith)
+within_at (b ∷ bounds) (n ∷ ns) (suc index) within lt = within_at bounds ns index within.1 (omega arith)
 
-within_front : (bounds ns : List ℕ) (i : ℕ) → AreWithinLimits bounds (take (length bounds) ns) → i < length bounds → get_or ns i 0 ≤ get_or bounds i 0
-within_front bounds ns i within lt = subst (λ (n : ℕ). n ≤ get_or bounds i 0) (get_or-take (length bounds) ns i 0 lt) (within_at bounds (take (length bounds) ns) i within lt)
+within_front : (bounds ns : List ℕ) (index : ℕ) → AreWithinLimits bounds (take (length bounds) ns) → index < length bounds → get_or ns index 0 ≤ get_or bounds index 0
+within_front bounds ns index within lt = subst (λ (n : ℕ). n ≤ get_or bounds index 0) (get_or-take (length bounds) ns index 0 lt) (within_at bounds (take (length bounds) ns) index within lt)
 
-pub suits : (k : CommandKind) (ns : List ℕ) → AreWithinLimits (limits k) (take (length (limits k)) ns) → Suit k ns
+pub suits : (kind : CommandKind) (ns : List ℕ) → AreWithinLimits (limits kind) (take (length (limits kind)) ns) → Suit kind ns
 suits New ns h = let at = λ (i : ℕ). within_front (limits New) ns i h in (at 0 (lit< tt), at 1 (lit< tt), at 2 (lit< tt))
 suits Get ns h = let at = λ (i : ℕ). within_front (limits Get) ns i h in (at 0 (lit< tt), at 1 (lit< tt), at 2 (lit< tt))
 suits Set ns h = let at = λ (i : ℕ). within_front (limits Set) ns i h in (at 0 (lit< tt), at 1 (lit< tt), at 2 (lit< tt))
@@ -188,7 +188,7 @@ four_listed : (ns : List ℕ) → length ns ≡ 4 → get_or ns 0 0 ∷ get_or n
 four_listed [] e = absurd (omega arith)
 four_listed (a ∷ ns) e = ap (λ (xs : List ℕ). a ∷ xs) (three_listed ns (omega arith))
 
-pub made_numbers : (k : CommandKind) (ns : List ℕ) → AreWithinLimits (limits k) ns → numbers_of (command_from k ns) ≡ ns
+pub made_numbers : (kind : CommandKind) (ns : List ℕ) → AreWithinLimits (limits kind) ns → numbers_of (command_from kind ns) ≡ ns
 made_numbers New ns h = three_listed ns (within_length (limits New) ns h)
 made_numbers Get ns h = three_listed ns (within_length (limits Get) ns h)
 made_numbers Set ns h = three_listed ns (within_length (limits Set) ns h)
@@ -203,7 +203,7 @@ made_numbers Gc ns h = none_listed ns (within_length (limits Gc) ns h)
 made_numbers Pin ns h = two_listed ns (within_length (limits Pin) ns h)
 made_numbers Unpin ns h = one_listed ns (within_length (limits Unpin) ns h)
 
-pub made_word : (k : CommandKind) (ns : List ℕ) → command_word (command_from k ns) ≡ word k
+pub made_word : (kind : CommandKind) (ns : List ℕ) → command_word (command_from kind ns) ≡ word kind
 made_word New ns = refl
 made_word Get ns = refl
 made_word Set ns = refl
@@ -218,10 +218,10 @@ made_word Gc ns = refl
 made_word Pin ns = refl
 made_word Unpin ns = refl
 
-at_most : (bounds ns : List ℕ) → AreWithinLimits bounds ns → (i : ℕ) → i < length bounds → get_or ns i 0 ≤ get_or bounds i 0
-at_most bounds ns h i lt = within_at bounds ns i h lt
+at_most : (bounds ns : List ℕ) → AreWithinLimits bounds ns → (index : ℕ) → index < length bounds → get_or ns index 0 ≤ get_or bounds index 0
+at_most bounds ns h index lt = within_at bounds ns index h lt
 
-pub made_valid : (k : CommandKind) (ns : List ℕ) → AreWithinLimits (limits k) ns → IsValid (command_from k ns) × FitsWhenWritten (command_from k ns)
+pub made_valid : (kind : CommandKind) (ns : List ℕ) → AreWithinLimits (limits kind) ns → IsValid (command_from kind ns) × FitsWhenWritten (command_from kind ns)
 made_valid New ns h = let at = at_most (limits New) ns h in let a = at 0 (lit< tt) in let b = at 1 (lit< tt) in let c = at 2 (lit< tt) in ((omega arith, omega arith, omega arith), tt)
 made_valid Get ns h = let at = at_most (limits Get) ns h in let a = at 0 (lit< tt) in let b = at 1 (lit< tt) in let c = at 2 (lit< tt) in ((omega arith, omega arith, omega arith), tt)
 made_valid Set ns h = let at = at_most (limits Set) ns h in let a = at 0 (lit< tt) in let b = at 1 (lit< tt) in let c = at 2 (lit< tt) in ((omega arith, omega arith, omega arith), tt)
@@ -237,7 +237,7 @@ made_valid Pin ns h = let at = at_most (limits Pin) ns h in let a = at 0 (lit< t
 made_valid Unpin ns h = let at = at_most (limits Unpin) ns h in let a = at 0 (lit< tt) in (omega arith, tt)
 
 -- a command is of the versions that its kind is of
-pub made_known : (version : ℕ) (k : CommandKind) (ns : List ℕ) → HasKind version k → IsKnown version (command_from k ns)
+pub made_known : (version : ℕ) (kind : CommandKind) (ns : List ℕ) → HasKind version kind → IsKnown version (command_from kind ns)
 made_known version Pin ns known = known
 made_known version Unpin ns known = known
 made_known version New ns known = tt

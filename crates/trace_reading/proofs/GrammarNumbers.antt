@@ -16,22 +16,22 @@ use Rattle.trace_reading.specs.Front.{NoDigit}
 use Rattle.trace_reading.proofs.Digits.{digits_are_digits}
 
 -- the value of a step that gave something
-pub bind_some : {A B : Type 0} (o : Option A) (f : A → Option B) (y : B) → (o >>= f) ≡ Some y → (x : A) × (o ≡ Some x) × (f x ≡ Some y)
+pub bind_some : {A B : Type 0} (found : Option A) (f : A → Option B) (y : B) → (found >>= f) ≡ Some y → (x : A) × (found ≡ Some x) × (f x ≡ Some y)
 bind_some (Some x) f y e = (x, refl, e)
 bind_some None f y e = absurd cc
 
-pub then_some : {A B P : Type 0} (o : Option A) (f : A → Option B) (y : B) → (o >>= f) ≡ Some y → ((x : A) → o ≡ Some x → f x ≡ Some y → P) → P
+pub then_some : {A B P : Type 0} (found : Option A) (f : A → Option B) (y : B) → (found >>= f) ≡ Some y → ((x : A) → found ≡ Some x → f x ≡ Some y → P) → P
 then_some (Some x) f y e go = go x refl e
 then_some None f y e go = absurd cc
 
 -- a test that let pass
-pub passed : {A : Type 0} (b : Bool) (o : Option A) (y : A) → cond b o None ≡ Some y → (b ≡ true) × (o ≡ Some y)
-passed true o y e = (refl, e)
-passed false o y e = absurd cc
+pub passed : {A : Type 0} (holds : Bool) (found : Option A) (y : A) → cond holds found None ≡ Some y → (holds ≡ true) × (found ≡ Some y)
+passed true found y e = (refl, e)
+passed false found y e = absurd cc
 
-pub not_stopped : {A : Type 0} (b : Bool) (o : Option A) (y : A) → cond b None o ≡ Some y → (b ≡ false) × (o ≡ Some y)
-not_stopped true o y e = absurd cc
-not_stopped false o y e = (refl, e)
+pub not_stopped : {A : Type 0} (holds : Bool) (found : Option A) (y : A) → cond holds None found ≡ Some y → (holds ≡ false) × (found ≡ Some y)
+not_stopped true found y e = absurd cc
+not_stopped false found y e = (refl, e)
 
 pub same_some : {A : Type 0} (x y : A) → ◌≡◌ {A = Option A} (Some x) (Some y) → x ≡ y
 same_some x y e = cc

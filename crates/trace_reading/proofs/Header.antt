@@ -24,7 +24,7 @@ these_numbers version heap threads = record { version = version; heap = heap; th
 
 -- the numbers in the head of this configuration
 abbrev pub numbers_in_head : ℕ → Config → HeadNumbers
-numbers_in_head version c = these_numbers version (c.regions ∷ c.region_words ∷ c.reserve ∷ []) (c.mutators ∷ c.helpers ∷ [])
+numbers_in_head version config = these_numbers version (config.regions ∷ config.region_words ∷ config.reserve ∷ []) (config.mutators ∷ config.helpers ∷ [])
 
 first-line : (version : ℕ) (rest : List ℕ) → titled (codes "shen") (version ∷ []) ++ rest ≡ codes "shen " ++ (decimal version ++ 10 ∷ rest)
 first-line version rest = ap (λ (bs : List ℕ). codes "shen" ++ bs) (append_assoc (numbers (version ∷ [])) (10 ∷ []) rest ∙ numbers-cons version [] (10 ∷ rest))
@@ -87,11 +87,11 @@ sizes_take bytes x e =
     a ∙ ap (λ (bs : List ℕ). codes "shen " ++ bs) (b.0 ∙ ap (λ (bs : List ℕ). decimal version.0 ++ bs) c.0 ∙ ap (λ (n : ℕ). decimal n ++ after) (sym c.3)) in
     (spelled ∙ sym (head-append x.0.version x.0.heap x.0.threads x.1), subst IsVersion (sym c.3) (b.1, b.2), c.1, c.2)))
 
-pub sizes_again : (version : ℕ) (c : Config) (rest : List ℕ) → IsVersion version → IsNarrow c → sizes_at (header version c ++ rest) ≡ Some (numbers_in_head version c, rest)
+pub sizes_again : (version : ℕ) (config : Config) (rest : List ℕ) → IsVersion version → IsNarrow config → sizes_at (header version config ++ rest) ≡ Some (numbers_in_head version config, rest)
 unfolding sizes_at
-sizes_again version c rest known narrow =
-    let heap = c.regions ∷ c.region_words ∷ c.reserve ∷ [] in
-    let threads = c.mutators ∷ c.helpers ∷ [] in
+sizes_again version config rest known narrow =
+    let heap = config.regions ∷ config.region_words ∷ config.reserve ∷ [] in
+    let threads = config.mutators ∷ config.helpers ∷ [] in
     let fourth = numbers threads ++ 10 ∷ rest in
     let third = (10 ∷ codes "threads") ++ fourth in
     let second = (10 ∷ codes "heap") ++ (numbers heap ++ third) in
@@ -101,23 +101,23 @@ sizes_again version c rest known narrow =
     ap sizes_at (head-append version heap threads rest) ∙ rw (version_is, heap_is, threads_are) refl
 
 -- a configuration that a trace can have has no fault
-pub no_fault : (c : Config) → IsNarrow c → fault_of c.regions c.region_words c.mutators c.helpers c.reserve ≡ None
-no_fault c narrow = grind (arith, nat_tests)
+pub no_fault : (config : Config) → IsNarrow config → fault_of config.regions config.region_words config.mutators config.helpers config.reserve ≡ None
+no_fault config narrow = grind (arith, nat_tests)
 
 -- where the head was not read there is none
 pub no_head : (bytes : List ℕ) → None ≡ sizes_at bytes → HasNoHead bytes
 no_head bytes h version config rest known narrow e = let again = sizes_again version config rest known narrow in let here = ap sizes_at e in cc
 
 -- the numbers of the head, as an array holds them
-record HasNumbers (heap threads : List ℕ) (c : Config) : Type 0 where
-  regions : get_or heap 0 0 ≡ c.regions
-  region_words : get_or heap 1 0 ≡ c.region_words
-  reserve : get_or heap 2 0 ≡ c.reserve
-  mutators : get_or threads 0 0 ≡ c.mutators
-  helpers : get_or threads 1 0 ≡ c.helpers
+record HasNumbers (heap threads : List ℕ) (config : Config) : Type 0 where
+  regions : get_or heap 0 0 ≡ config.regions
+  region_words : get_or heap 1 0 ≡ config.region_words
+  reserve : get_or heap 2 0 ≡ config.reserve
+  mutators : get_or threads 0 0 ≡ config.mutators
+  helpers : get_or threads 1 0 ≡ config.helpers
 
-at_front : (n i : ℕ) (xs ys : List ℕ) → i < n → take n xs ≡ ys → get_or xs i 0 ≡ get_or ys i 0
-at_front n i xs ys lt e = sym (get_or-take n xs i 0 lt) ∙ ap (λ (l : List ℕ). get_or l i 0) e
+at_front : (n index : ℕ) (xs ys : List ℕ) → index < n → take n xs ≡ ys → get_or xs index 0 ≡ get_or ys index 0
+at_front n index xs ys lt e = sym (get_or-take n xs index 0 lt) ∙ ap (λ (l : List ℕ). get_or l index 0) e
 
 -- the numbers that were read, as arrays hold them, and the bytes behind them
 abbrev HasReadHead : List ℕ → ℕ → List ℕ → List ℕ → List ℕ → Type 0

@@ -136,15 +136,15 @@ at_most_64 n = by_test (ltb 64 n) refl
     by_test true e = (64, omega arith, λ le. absurd (above n e le))
     by_test false e = (n, ltb-false _ _ e, λ le. refl)
 
-pub heap_spelled : (v : ℕ) (text : List ℕ) → words_cause (Heap v) (parts 32 text) ≡ None → (c : Config) × IsNarrow c × (text ++ newline ∷ [] ≡ titled (codes "heap") (c.regions ∷ c.region_words ∷ c.reserve ∷ []))
-heap_spelled v text e =
+pub heap_spelled : (address : ℕ) (text : List ℕ) → words_cause (Heap address) (parts 32 text) ≡ None → (c : Config) × IsNarrow c × (text ++ newline ∷ [] ≡ titled (codes "heap") (c.regions ∷ c.region_words ∷ c.reserve ∷ []))
+heap_spelled address text e =
     let words = parts 32 text in
     let d = digits_value 10 (get_or words 1 []) in
     let m = at_most_64 d in
     let ranges : List (ℕ × ℕ) = (4, 64) ∷ (64, 1024) ∷ (0, m.0 - 1) ∷ [] in
     let small : AreSmallRanges ranges = (lit< tt, (lit< tt, (omega (arith, m.1), tt))) in
     let bounded = same_heap words (m.0 - 1) (λ fine. ap (λ (n : ℕ). n - 1) (m.2 (number_fine 4 64 (get_or words 1 []) fine).2)) in
-    let made = title_spelled (codes "heap") ranges words small (bounded ∙ sym (heap_words v words) ∙ e) in
+    let made = title_spelled (codes "heap") ranges words small (bounded ∙ sym (heap_words address words) ∙ e) in
     let numbers = three 4 64 64 1024 0 (m.0 - 1) made.0 made.2 in
     let r = numbers.0 in let w = numbers.1 in let k = numbers.2 in
     let spelled : words ≡ codes "heap" ∷ map decimal (r ∷ w ∷ k ∷ []) = made.1 ∙ ap (λ (ns : List ℕ). codes "heap" ∷ map decimal ns) numbers.3 in
@@ -160,17 +160,17 @@ heap_spelled v text e =
     } in
     (c, numbers.7, titled_text (codes "heap") (r ∷ w ∷ k ∷ []) text spelled)
 
-pub heap_again : (v : ℕ) (c : Config) (text : List ℕ) → IsNarrow c → text ++ newline ∷ [] ≡ titled (codes "heap") (c.regions ∷ c.region_words ∷ c.reserve ∷ [])
-    → (words_cause (Heap v) (parts 32 text) ≡ None) × (is_free 10 text ≡ true) × (parts 32 text ≡ codes "heap" ∷ map decimal (c.regions ∷ c.region_words ∷ c.reserve ∷ []))
-heap_again v c text narrow e =
-    let ns = c.regions ∷ c.region_words ∷ c.reserve ∷ [] in
-    let ranges : List (ℕ × ℕ) = (4, 64) ∷ (64, 1024) ∷ (0, c.regions - 1) ∷ [] in
-    let small : AreSmallRanges ranges = (lit< tt, (lit< tt, (omega (arith, c.in_range.most_regions), tt))) in
-    let between : AreBetween ranges ns = (c.in_range.least_regions, c.in_range.most_regions, (c.in_range.least_words, narrow, (omega arith, omega (arith, c.in_range.some_left), tt))) in
+pub heap_again : (address : ℕ) (config : Config) (text : List ℕ) → IsNarrow config → text ++ newline ∷ [] ≡ titled (codes "heap") (config.regions ∷ config.region_words ∷ config.reserve ∷ [])
+    → (words_cause (Heap address) (parts 32 text) ≡ None) × (is_free 10 text ≡ true) × (parts 32 text ≡ codes "heap" ∷ map decimal (config.regions ∷ config.region_words ∷ config.reserve ∷ []))
+heap_again address config text narrow e =
+    let ns = config.regions ∷ config.region_words ∷ config.reserve ∷ [] in
+    let ranges : List (ℕ × ℕ) = (4, 64) ∷ (64, 1024) ∷ (0, config.regions - 1) ∷ [] in
+    let small : AreSmallRanges ranges = (lit< tt, (lit< tt, (omega (arith, config.in_range.most_regions), tt))) in
+    let between : AreBetween ranges ns = (config.in_range.least_regions, config.in_range.most_regions, (config.in_range.least_words, narrow, (omega arith, omega (arith, config.in_range.some_left), tt))) in
     let read = titled_parts (codes "heap") ranges ns text heap_word small between e in
-    let value : digits_value 10 (decimal c.regions) ≡ c.regions = digits_value-decimal own c.regions (omega (arith, c.in_range.most_regions)) in
+    let value : digits_value 10 (decimal config.regions) ≡ config.regions = digits_value-decimal own config.regions (omega (arith, config.in_range.most_regions)) in
     let bounds : heap_ranges (codes "heap" ∷ map decimal ns) ≡ ranges = ap (λ (n : ℕ). up n) value in (
-      heap_words v (parts 32 text) ∙ ap (λ (ws : List (List ℕ)). title_cause (codes "heap") (heap_ranges ws) ws) read.0
+      heap_words address (parts 32 text) ∙ ap (λ (ws : List (List ℕ)). title_cause (codes "heap") (heap_ranges ws) ws) read.0
           ∙ ap (λ (rs : List (ℕ × ℕ)). title_cause (codes "heap") rs (codes "heap" ∷ map decimal ns)) bounds ∙ title_again (codes "heap") ranges ns small between,
       read.1,
       read.0,
@@ -190,27 +190,27 @@ two a b c d (x ∷ []) between = absurd between.2
 two a b c d (x ∷ y ∷ []) between = (x, y, refl, between.0, between.1, between.2.0, between.2.1)
 two a b c d (x ∷ y ∷ z ∷ ns) between = absurd between.2.2
 
-pub threads_spelled : (v r w k : ℕ) (h : Config) (text : List ℕ) → h.regions ≡ r → h.region_words ≡ w → h.reserve ≡ k → words_cause (Threads v r w k) (parts 32 text) ≡ None
+pub threads_spelled : (v r w k : ℕ) (config : Config) (text : List ℕ) → config.regions ≡ r → config.region_words ≡ w → config.reserve ≡ k → words_cause (Threads v r w k) (parts 32 text) ≡ None
     → (c : Config) × (c.regions ≡ r) × (c.region_words ≡ w) × (c.reserve ≡ k) × (text ++ newline ∷ [] ≡ titled (codes "threads") (c.mutators ∷ c.helpers ∷ []))
-threads_spelled v r w k h text same_r same_w same_k e =
+threads_spelled v r w k config text same_r same_w same_k e =
     let ranges : List (ℕ × ℕ) = (1, 8) ∷ (0, 3) ∷ [] in
     let made = title_spelled (codes "threads") ranges (parts 32 text) (lit< tt, (lit< tt, tt)) (sym (threads_words v r w k (parts 32 text)) ∙ e) in
     let numbers = two 1 8 0 3 made.0 made.2 in
     let c : Config = record {
-      regions = h.regions;
-      region_words = h.region_words;
+      regions = config.regions;
+      region_words = config.region_words;
       mutators = numbers.0;
       helpers = numbers.1;
-      reserve = h.reserve;
-      in_range = record { least_regions = h.in_range.least_regions; most_regions = h.in_range.most_regions; least_words = h.in_range.least_words; most_words = h.in_range.most_words; least_mutators = numbers.3; most_mutators = numbers.4; most_helpers = numbers.6; some_left = h.in_range.some_left };
+      reserve = config.reserve;
+      in_range = record { least_regions = config.in_range.least_regions; most_regions = config.in_range.most_regions; least_words = config.in_range.least_words; most_words = config.in_range.most_words; least_mutators = numbers.3; most_mutators = numbers.4; most_helpers = numbers.6; some_left = config.in_range.some_left };
     } in
     (c, same_r, same_w, same_k, titled_text (codes "threads") (numbers.0 ∷ numbers.1 ∷ []) text (made.1 ∙ ap (λ (ns : List ℕ). codes "threads" ∷ map decimal ns) numbers.2))
 
-pub threads_again : (v r w e : ℕ) (c : Config) (text : List ℕ) → text ++ newline ∷ [] ≡ titled (codes "threads") (c.mutators ∷ c.helpers ∷ [])
-    → (words_cause (Threads v r w e) (parts 32 text) ≡ None) × (is_free 10 text ≡ true) × (parts 32 text ≡ codes "threads" ∷ map decimal (c.mutators ∷ c.helpers ∷ []))
-threads_again v r w e c text spelled =
-    let ns = c.mutators ∷ c.helpers ∷ [] in
+pub threads_again : (v r w e : ℕ) (config : Config) (text : List ℕ) → text ++ newline ∷ [] ≡ titled (codes "threads") (config.mutators ∷ config.helpers ∷ [])
+    → (words_cause (Threads v r w e) (parts 32 text) ≡ None) × (is_free 10 text ≡ true) × (parts 32 text ≡ codes "threads" ∷ map decimal (config.mutators ∷ config.helpers ∷ []))
+threads_again v r w e config text spelled =
+    let ns = config.mutators ∷ config.helpers ∷ [] in
     let ranges : List (ℕ × ℕ) = (1, 8) ∷ (0, 3) ∷ [] in
-    let between : AreBetween ranges ns = (c.in_range.least_mutators, c.in_range.most_mutators, (omega arith, c.in_range.most_helpers, tt)) in
+    let between : AreBetween ranges ns = (config.in_range.least_mutators, config.in_range.most_mutators, (omega arith, config.in_range.most_helpers, tt)) in
     let read = titled_parts (codes "threads") ranges ns text threads_word (lit< tt, (lit< tt, tt)) between spelled in
     (threads_words v r w e (parts 32 text) ∙ ap (title_cause (codes "threads") ranges) read.0 ∙ title_again (codes "threads") ranges ns (lit< tt, (lit< tt, tt)) between, read.1, read.0)

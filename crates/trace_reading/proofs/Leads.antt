@@ -20,8 +20,8 @@ use Rattle.trace_reading.proofs.Heads.{joined, same_before_end, version_spelled,
 use Rattle.trace_reading.proofs.Commands.{line_words, line_is, line_clean, line_fine, line_spelled}
 use Rattle.trace_reading.proofs.ScheduleWords.{words_of_turn, turn_is, turn_clean, schedule_spelled, schedule_again}
 
-pub few_threads : (c : Config) → c.mutators < 2 ^ 64
-few_threads c = omega (arith, c.in_range.most_mutators)
+pub few_threads : (config : Config) → config.mutators < 2 ^ 64
+few_threads config = omega (arith, config.in_range.most_mutators)
 
 -- ---- a line of the grammar has no cause, and no end within it
 
@@ -32,10 +32,10 @@ line_text version threads text l small fits e =
     let others = command_word l.command ∷ map decimal (numbers_of l.command) in
     (ap (parts 32) same ∙ parts_again (decimal l.thread) others clean, ap (is_free 10) same ∙ joined_free (decimal l.thread) others clean)
 
-pub turn_text : (c : Config) (text : List ℕ) (items : List Item) → IsScheduleLine c items → text ++ newline ∷ [] ≡ schedule_line items → (parts 32 text ≡ words_of_turn items) × (is_free 10 text ≡ true)
-turn_text c text items good e =
+pub turn_text : (config : Config) (text : List ℕ) (items : List Item) → IsScheduleLine config items → text ++ newline ∷ [] ≡ schedule_line items → (parts 32 text ≡ words_of_turn items) × (is_free 10 text ≡ true)
+turn_text config text items good e =
     let same : text ≡ join_with_byte 32 (words_of_turn items) = same_before_end text (join_with_byte 32 (words_of_turn items)) newline (e ∙ sym (turn_is items)) in
-    let clean = turn_clean c items good in
+    let clean = turn_clean config items good in
     (ap (parts 32) same ∙ parts_again (33 ∷ []) (map item items) clean, ap (is_free 10) same ∙ joined_free (33 ∷ []) (map item items) clean)
 
 -- a number is no mark of the schedule
@@ -49,17 +49,17 @@ no_mark n small = by_test (is_same (decimal n) (33 ∷ [])) refl
     by_test false e = refl
     by_test true e = absurd (no_number n small (same_text (decimal n) (33 ∷ []) (sym e)))
 
-command_fine : (v : ℕ) (c : Config) (text : List ℕ) → IsCommandLine v c text → (words_cause (Commands v c) (parts 32 text) ≡ None) × (is_free 10 text ≡ true)
-command_fine v c text it =
+command_fine : (v : ℕ) (config : Config) (text : List ℕ) → IsCommandLine v config text → (words_cause (Commands v config) (parts 32 text) ≡ None) × (is_free 10 text ≡ true)
+command_fine v config text it =
     let l = it.0 in
-    let read = line_text v c.mutators text l (few_threads c) it.1 it.2 in
-    let small : l.thread < 2 ^ 64 = omega (arith, it.1.to_last, few_threads c) in
-    (command_words v c false (parts 32 text) (decimal l.thread) (command_word l.command ∷ map decimal (numbers_of l.command)) read.0 (no_mark l.thread small) refl ∙ line_fine v c.mutators l (few_threads c) it.1, read.1)
+    let read = line_text v config.mutators text l (few_threads config) it.1 it.2 in
+    let small : l.thread < 2 ^ 64 = omega (arith, it.1.to_last, few_threads config) in
+    (command_words v config false (parts 32 text) (decimal l.thread) (command_word l.command ∷ map decimal (numbers_of l.command)) read.0 (no_mark l.thread small) refl ∙ line_fine v config.mutators l (few_threads config) it.1, read.1)
 
-turn_fine : (v : ℕ) (c : Config) (behind : Bool) (text : List ℕ) → IsTurnItem c text → (words_cause (body_stage v c behind) (parts 32 text) ≡ None) × (is_free 10 text ≡ true)
-turn_fine v c behind text it =
-    let read = turn_text c text it.0 it.1 it.2 in
-    (turn_words v c behind (parts 32 text) (33 ∷ []) (map item it.0) read.0 refl ∙ schedule_again c it.0 it.1, read.1)
+turn_fine : (v : ℕ) (config : Config) (behind : Bool) (text : List ℕ) → IsTurnItem config text → (words_cause (body_stage v config behind) (parts 32 text) ≡ None) × (is_free 10 text ≡ true)
+turn_fine v config behind text it =
+    let read = turn_text config text it.0 it.1 it.2 in
+    (turn_words v config behind (parts 32 text) (33 ∷ []) (map item it.0) read.0 refl ∙ schedule_again config it.0 it.1, read.1)
 
 pub fine : (stage : LineStage) (text : List ℕ) (next : LineStage) → LineFollows stage text next → (words_cause stage (parts 32 text) ≡ None) × (is_free 10 text ≡ true)
 fine Version text next f = let read = version_again f.0 text f.1 f.2 in (read.0, read.1)
@@ -75,34 +75,34 @@ fine (Turns c) text next f = turn_fine 1 c true text f.0
 abbrev pub Fits : LineStage → Type 0
 Fits Version = Unit {0}
 Fits (Heap v) = Unit {0}
-Fits (Threads v r w e) = (h : Config) × (h.regions ≡ r) × (h.region_words ≡ w) × (h.reserve ≡ e)
+Fits (Threads v r w e) = (config : Config) × (config.regions ≡ r) × (config.region_words ≡ w) × (config.reserve ≡ e)
 Fits (Commands v c) = Unit {0}
 Fits (Turns c) = Unit {0}
 
-body_turn : (c : Config) (text w : List ℕ) (more : List (List ℕ)) → parts 32 text ≡ w ∷ more → true ≡ is_same w (33 ∷ []) → schedule_cause c more ≡ None → IsTurnItem c text
-body_turn c text w more e same none =
-    let made = schedule_spelled c more none in
+body_turn : (config : Config) (text w : List ℕ) (more : List (List ℕ)) → parts 32 text ≡ w ∷ more → true ≡ is_same w (33 ∷ []) → schedule_cause config more ≡ None → IsTurnItem config text
+body_turn config text w more e same none =
+    let made = schedule_spelled config more none in
     let words : parts 32 text ≡ words_of_turn made.0 = e ∙ ap (λ (v : List ℕ). v ∷ more) (same_text w (33 ∷ []) same) ∙ ap (λ (vs : List (List ℕ)). (33 ∷ []) ∷ vs) made.2 in
     (made.0, made.1, ap (λ (t : List ℕ). t ++ newline ∷ []) (joined text (words_of_turn made.0) words) ∙ turn_is made.0)
 
-body_command : (v : ℕ) (c : Config) (text w : List ℕ) (more : List (List ℕ)) → parts 32 text ≡ w ∷ more → command_cause v c.mutators w more ≡ None → IsCommandLine v c text
-body_command v c text w more e none =
-    let made = line_spelled v c.mutators w more (few_threads c) none in
+body_command : (v : ℕ) (config : Config) (text w : List ℕ) (more : List (List ℕ)) → parts 32 text ≡ w ∷ more → command_cause v config.mutators w more ≡ None → IsCommandLine v config text
+body_command v config text w more e none =
+    let made = line_spelled v config.mutators w more (few_threads config) none in
     (made.0, made.1, ap (λ (t : List ℕ). t ++ newline ∷ []) (joined text (line_words made.0) (e ∙ made.2)) ∙ line_is made.0)
 
-pub commands_follow : (v : ℕ) (c : Config) (text : List ℕ) → words_cause (Commands v c) (parts 32 text) ≡ None → IsCommandLine v c text ⊎ IsTurnItem c text
-commands_follow v c text none = by_test (is_same (take (count_before 32 text) text) (33 ∷ [])) refl
+pub commands_follow : (v : ℕ) (config : Config) (text : List ℕ) → words_cause (Commands v config) (parts 32 text) ≡ None → IsCommandLine v config text ⊎ IsTurnItem config text
+commands_follow v config text none = by_test (is_same (take (count_before 32 text) text) (33 ∷ [])) refl
   where
-    by_test : (test : Bool) → is_same (take (count_before 32 text) text) (33 ∷ []) ≡ test → IsCommandLine v c text ⊎ IsTurnItem c text
-    by_test true same = inr (body_turn c text _ _ (cut_parts 32 text) (sym same) (sym (turn_words v c false (parts 32 text) _ _ (cut_parts 32 text) (sym same)) ∙ none))
-    by_test false other = inl (body_command v c text _ _ (cut_parts 32 text) (sym (command_words v c false (parts 32 text) _ _ (cut_parts 32 text) (sym other) refl) ∙ none))
+    by_test : (test : Bool) → is_same (take (count_before 32 text) text) (33 ∷ []) ≡ test → IsCommandLine v config text ⊎ IsTurnItem config text
+    by_test true same = inr (body_turn config text _ _ (cut_parts 32 text) (sym same) (sym (turn_words v config false (parts 32 text) _ _ (cut_parts 32 text) (sym same)) ∙ none))
+    by_test false other = inl (body_command v config text _ _ (cut_parts 32 text) (sym (command_words v config false (parts 32 text) _ _ (cut_parts 32 text) (sym other) refl) ∙ none))
 
-pub turns_follow : (c : Config) (text : List ℕ) → words_cause (Turns c) (parts 32 text) ≡ None → IsTurnItem c text
-turns_follow c text none = by_test (is_same (take (count_before 32 text) text) (33 ∷ [])) refl
+pub turns_follow : (config : Config) (text : List ℕ) → words_cause (Turns config) (parts 32 text) ≡ None → IsTurnItem config text
+turns_follow config text none = by_test (is_same (take (count_before 32 text) text) (33 ∷ [])) refl
   where
-    by_test : (test : Bool) → is_same (take (count_before 32 text) text) (33 ∷ []) ≡ test → IsTurnItem c text
-    by_test true same = body_turn c text _ _ (cut_parts 32 text) (sym same) (sym (turn_words 1 c true (parts 32 text) _ _ (cut_parts 32 text) (sym same)) ∙ none)
-    by_test false other = absurd (let late = late_words 1 c true (parts 32 text) _ _ (cut_parts 32 text) (sym other) refl in cc)
+    by_test : (test : Bool) → is_same (take (count_before 32 text) text) (33 ∷ []) ≡ test → IsTurnItem config text
+    by_test true same = body_turn config text _ _ (cut_parts 32 text) (sym same) (sym (turn_words 1 config true (parts 32 text) _ _ (cut_parts 32 text) (sym same)) ∙ none)
+    by_test false other = absurd (let late = late_words 1 config true (parts 32 text) _ _ (cut_parts 32 text) (sym other) refl in cc)
 
 pub follows : (stage : LineStage) (text : List ℕ) → Fits stage → words_cause stage (parts 32 text) ≡ None → (next : LineStage) × LineFollows stage text next × Fits next
 follows Version text fits none = let made = version_spelled text none in (Heap made.0, (made.0, made.1, made.2, refl), tt)

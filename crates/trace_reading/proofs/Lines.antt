@@ -39,9 +39,9 @@ pub version_words : (words : List (List ℕ)) → words_cause Version words ≡ 
 unfolding words_cause
 version_words words = refl
 
-pub heap_words : (v : ℕ) (words : List (List ℕ)) → words_cause (Heap v) words ≡ title_cause (codes "heap") (heap_ranges words) words
+pub heap_words : (address : ℕ) (words : List (List ℕ)) → words_cause (Heap address) words ≡ title_cause (codes "heap") (heap_ranges words) words
 unfolding words_cause
-heap_words v words = refl
+heap_words address words = refl
 
 pub threads_words : (v r w e : ℕ) (words : List (List ℕ)) → words_cause (Threads v r w e) words ≡ title_cause (codes "threads") ((1, 8) ∷ (0, 3) ∷ []) words
 unfolding words_cause
@@ -49,20 +49,20 @@ threads_words v r w e words = refl
 
 -- ---- the lines behind it
 
-pub turn_words : (v : ℕ) (c : Config) (behind : Bool) (words : List (List ℕ)) (w : List ℕ) (more : List (List ℕ)) → words ≡ w ∷ more → true ≡ is_same w (33 ∷ []) → words_cause (body_stage v c behind) words ≡ schedule_cause c more
+pub turn_words : (v : ℕ) (config : Config) (behind : Bool) (words : List (List ℕ)) (w : List ℕ) (more : List (List ℕ)) → words ≡ w ∷ more → true ≡ is_same w (33 ∷ []) → words_cause (body_stage v config behind) words ≡ schedule_cause config more
 unfolding words_cause
-turn_words v c true words w more e same = rw (e, ← same) refl
-turn_words v c false words w more e same = rw (e, ← same) refl
+turn_words v config true words w more e same = rw (e, ← same) refl
+turn_words v config false words w more e same = rw (e, ← same) refl
 
-pub late_words : (v : ℕ) (c : Config) (behind : Bool) (words : List (List ℕ)) (w : List ℕ) (more : List (List ℕ)) → words ≡ w ∷ more → false ≡ is_same w (33 ∷ []) → behind ≡ true → words_cause (body_stage v c behind) words ≡ Some ScheduleLast
+pub late_words : (v : ℕ) (config : Config) (behind : Bool) (words : List (List ℕ)) (w : List ℕ) (more : List (List ℕ)) → words ≡ w ∷ more → false ≡ is_same w (33 ∷ []) → behind ≡ true → words_cause (body_stage v config behind) words ≡ Some ScheduleLast
 unfolding words_cause
-late_words v c true words w more e other late = rw (e, ← other) refl
-late_words v c false words w more e other late = absurd cc
+late_words v config true words w more e other late = rw (e, ← other) refl
+late_words v config false words w more e other late = absurd cc
 
-pub command_words : (v : ℕ) (c : Config) (behind : Bool) (words : List (List ℕ)) (w : List ℕ) (more : List (List ℕ)) → words ≡ w ∷ more → false ≡ is_same w (33 ∷ []) → behind ≡ false → words_cause (body_stage v c behind) words ≡ command_cause v c.mutators w more
+pub command_words : (v : ℕ) (config : Config) (behind : Bool) (words : List (List ℕ)) (w : List ℕ) (more : List (List ℕ)) → words ≡ w ∷ more → false ≡ is_same w (33 ∷ []) → behind ≡ false → words_cause (body_stage v config behind) words ≡ command_cause v config.mutators w more
 unfolding words_cause
-command_words v c true words w more e other early = absurd cc
-command_words v c false words w more e other early = rw (e, ← other) refl
+command_words v config true words w more e other early = absurd cc
+command_words v config false words w more e other early = rw (e, ← other) refl
 
 pub ended : (stage : LineStage) (bytes text end : List ℕ) → parts 10 bytes ≡ text ∷ parts_behind 10 end → false ≡ eqb (length end) 0 → cause_of stage (parts 10 bytes) ≡ words_cause stage (parts 32 text)
 ended stage bytes text [] e some = absurd cc
@@ -72,12 +72,12 @@ not_ended : (stage : LineStage) (bytes text end : List ℕ) → parts 10 bytes �
 not_ended stage bytes text [] e none = cut_line stage bytes text e
 not_ended stage bytes text (b ∷ rest) e none = absurd (grind (arith, nat_tests))
 
-pub nothing_left : (v : ℕ) (c : Config) (behind : Bool) (bytes text end : List ℕ) → parts 10 bytes ≡ text ∷ parts_behind 10 end → true ≡ eqb (length end) 0 → true ≡ eqb (length text) 0 → cause_of (body_stage v c behind) (parts 10 bytes) ≡ None
-nothing_left v c behind bytes (b ∷ text) end e none empty = absurd (grind (arith, nat_tests))
-nothing_left v c true bytes [] end e none empty = not_ended (Turns c) bytes [] end e none
-nothing_left v c false bytes [] end e none empty = not_ended (Commands v c) bytes [] end e none
+pub nothing_left : (v : ℕ) (config : Config) (behind : Bool) (bytes text end : List ℕ) → parts 10 bytes ≡ text ∷ parts_behind 10 end → true ≡ eqb (length end) 0 → true ≡ eqb (length text) 0 → cause_of (body_stage v config behind) (parts 10 bytes) ≡ None
+nothing_left v config behind bytes (b ∷ text) end e none empty = absurd (grind (arith, nat_tests))
+nothing_left v config true bytes [] end e none empty = not_ended (Turns config) bytes [] end e none
+nothing_left v config false bytes [] end e none empty = not_ended (Commands v config) bytes [] end e none
 
-pub cut_off : (v : ℕ) (c : Config) (behind : Bool) (bytes text end : List ℕ) → parts 10 bytes ≡ text ∷ parts_behind 10 end → true ≡ eqb (length end) 0 → false ≡ eqb (length text) 0 → cause_of (body_stage v c behind) (parts 10 bytes) ≡ Some EndOfLine
-cut_off v c behind bytes [] end e none some = absurd cc
-cut_off v c true bytes (b ∷ text) end e none some = not_ended (Turns c) bytes (b ∷ text) end e none
-cut_off v c false bytes (b ∷ text) end e none some = not_ended (Commands v c) bytes (b ∷ text) end e none
+pub cut_off : (v : ℕ) (config : Config) (behind : Bool) (bytes text end : List ℕ) → parts 10 bytes ≡ text ∷ parts_behind 10 end → true ≡ eqb (length end) 0 → false ≡ eqb (length text) 0 → cause_of (body_stage v config behind) (parts 10 bytes) ≡ Some EndOfLine
+cut_off v config behind bytes [] end e none some = absurd cc
+cut_off v config true bytes (b ∷ text) end e none some = not_ended (Turns config) bytes (b ∷ text) end e none
+cut_off v config false bytes (b ∷ text) end e none some = not_ended (Commands v config) bytes (b ∷ text) end e none

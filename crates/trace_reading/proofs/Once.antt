@@ -29,33 +29,33 @@ use Rattle.trace_reading.proofs.ScheduleLines.{IsEmpty, items_are_pieces, lines_
 number_once : (limit n : ℕ) (rest : List ℕ) → limit < 2 ^ 64 → IsUpTo limit n → NoDigit rest → BeginsWith decimal (IsUpTo limit) (decimal n ++ rest) n rest
 number_once limit n rest small good none = number_read limit (decimal n ++ rest) n rest small (sym (positive_again limit n rest good.0 good.1 small none))
 
-place_once : (p : Place) (rest : List ℕ) → BeginsWith code_of IsAny (code_of p ++ rest) p rest
-place_once p rest = record { good = tt; spelled = refl; only = λ q after good none e. let both = two_each p q rest after e in (same_code p q both.0, both.1) }
+place_once : (place : Place) (rest : List ℕ) → BeginsWith code_of IsAny (code_of place ++ rest) place rest
+place_once place rest = record { good = tt; spelled = refl; only = λ other_place after good none e. let both = two_each place other_place rest after e in (same_code place other_place both.0, both.1) }
   where
-    two_listed : (p : Place) → code_of p ≡ get_or (code_of p) 0 0 ∷ get_or (code_of p) 1 0 ∷ []
+    two_listed : (place : Place) → code_of place ≡ get_or (code_of place) 0 0 ∷ get_or (code_of place) 1 0 ∷ []
     two_listed E1 = refl
     two_listed _ = refl
 
     by_two : (a b c d : ℕ) (xs ys : List ℕ) → a ∷ b ∷ xs ≡ c ∷ d ∷ ys → (a ∷ b ∷ [] ≡ c ∷ d ∷ []) × (xs ≡ ys)
     by_two a b c d xs ys e = (cc, cc)
 
-    two_each : (p q : Place) (xs ys : List ℕ) → code_of p ++ xs ≡ code_of q ++ ys → (code_of p ≡ code_of q) × (xs ≡ ys)
-    two_each p q xs ys e =
-        let a : ℕ = get_or (code_of p) 0 0 in let b : ℕ = get_or (code_of p) 1 0 in let c : ℕ = get_or (code_of q) 0 0 in let d : ℕ = get_or (code_of q) 1 0 in
-        let both = by_two a b c d xs ys (ap (λ (zs : List ℕ). zs ++ xs) (sym (two_listed p)) ∙ e ∙ ap (λ (zs : List ℕ). zs ++ ys) (two_listed q)) in
-        (two_listed p ∙ both.0 ∙ sym (two_listed q), both.1)
+    two_each : (place other_place : Place) (xs ys : List ℕ) → code_of place ++ xs ≡ code_of other_place ++ ys → (code_of place ≡ code_of other_place) × (xs ≡ ys)
+    two_each place other_place xs ys e =
+        let a : ℕ = get_or (code_of place) 0 0 in let b : ℕ = get_or (code_of place) 1 0 in let c : ℕ = get_or (code_of other_place) 0 0 in let d : ℕ = get_or (code_of other_place) 1 0 in
+        let both = by_two a b c d xs ys (ap (λ (zs : List ℕ). zs ++ xs) (sym (two_listed place)) ∙ e ∙ ap (λ (zs : List ℕ). zs ++ ys) (two_listed other_place)) in
+        (two_listed place ∙ both.0 ∙ sym (two_listed other_place), both.1)
 
-aim_once : (c : Config) (i : Item) (rest : List ℕ) → IsItem c i → NoDigit rest → BeginsWith aim (IsItemOf c (number_of i)) (aim i ++ rest) i rest
-aim_once c (Steps n k) rest good none = steps_read c n (58 ∷ (decimal k ++ rest)) (decimal k ++ rest) k rest good.0 refl (number_once 4000000000 k rest (lit< tt) good.1 none)
-aim_once c (Until n p) rest good none = until_read c n (64 ∷ (code_of p ++ rest)) (code_of p ++ rest) p rest good refl (place_once p rest)
-aim_once c (Replies n k) rest good none = replies_read c n (61 ∷ (decimal k ++ rest)) (decimal k ++ rest) k rest good.0 refl (number_once 4000000000 k rest (lit< tt) good.1 none)
+aim_once : (config : Config) (i : Item) (rest : List ℕ) → IsItem config i → NoDigit rest → BeginsWith aim (IsItemOf config (number_of i)) (aim i ++ rest) i rest
+aim_once config (Steps n k) rest good none = steps_read config n (58 ∷ (decimal k ++ rest)) (decimal k ++ rest) k rest good.0 refl (number_once 4000000000 k rest (lit< tt) good.1 none)
+aim_once config (Until n p) rest good none = until_read config n (64 ∷ (code_of p ++ rest)) (code_of p ++ rest) p rest good refl (place_once p rest)
+aim_once config (Replies n k) rest good none = replies_read config n (61 ∷ (decimal k ++ rest)) (decimal k ++ rest) k rest good.0 refl (number_once 4000000000 k rest (lit< tt) good.1 none)
 
-item_once : (c : Config) (i : Item) (rest : List ℕ) → IsItem c i → NoDigit rest → BeginsWith item (IsItem c) (item i ++ rest) i rest
-item_once c i rest good none =
-    let machine = number_once (seat_count c.mutators c.helpers) (number_of i + 1) (aim i ++ rest) (omega arith) (seat_of c i good) (aim_no_digit i rest) in
+item_once : (config : Config) (i : Item) (rest : List ℕ) → IsItem config i → NoDigit rest → BeginsWith item (IsItem config) (item i ++ rest) i rest
+item_once config i rest good none =
+    let machine = number_once (seat_count config.mutators config.helpers) (number_of i + 1) (aim i ++ rest) (omega arith) (seat_of config i good) (aim_no_digit i rest) in
     let same : number_of i ≡ number_of i + 1 - 1 = omega arith in
-    let whole = item_read c (decimal (number_of i + 1) ++ (aim i ++ rest)) (aim i ++ rest) (number_of i + 1) i rest machine (subst (λ (n : ℕ). BeginsWith aim (IsItemOf c n) (aim i ++ rest) i rest) same (aim_once c i rest good none)) in
-    subst (λ (bs : List ℕ). BeginsWith item (IsItem c) bs i rest) (sym (append_assoc (decimal (number_of i + 1)) (aim i) rest)) whole
+    let whole = item_read config (decimal (number_of i + 1) ++ (aim i ++ rest)) (aim i ++ rest) (number_of i + 1) i rest machine (subst (λ (n : ℕ). BeginsWith aim (IsItemOf config n) (aim i ++ rest) i rest) same (aim_once config i rest good none)) in
+    subst (λ (bs : List ℕ). BeginsWith item (IsItem config) bs i rest) (sym (append_assoc (decimal (number_of i + 1)) (aim i) rest)) whole
 
 -- ---- pieces
 
@@ -72,25 +72,25 @@ pieces_once {A} spelling IsGood IsTail laws once (x ∷ xs) (y ∷ ys) rest afte
     let others = pieces_once spelling IsGood IsTail laws once xs ys rest after all_xs.1 all_ys.1 p q one.1 in
     (ap (λ (z : A). z ∷ xs) one.0 ∙ ap (λ (zs : List A). y ∷ zs) others.0, others.1)
 
-spaced_once : (c : Config) → IsOnce spaced_item (IsItem c)
-spaced_once c i rest good none = spaced c (32 ∷ (item i ++ rest)) (item i ++ rest) rest i refl (item_once c i rest good none)
+spaced_once : (config : Config) → IsOnce spaced_item (IsItem config)
+spaced_once config i rest good none = spaced config (32 ∷ (item i ++ rest)) (item i ++ rest) rest i refl (item_once config i rest good none)
 
 behind_mark : (a b : ℕ) (xs ys : List ℕ) → a ∷ xs ≡ b ∷ ys → xs ≡ ys
 behind_mark a b xs ys e = cc
 
-line_once : (c : Config) → IsOnce schedule_line (IsScheduleLine c)
-line_once c items rest good none = record {
+line_once : (config : Config) → IsOnce schedule_line (IsScheduleLine config)
+line_once config items rest good none = record {
   good = good;
   spelled = refl;
   only = λ ys after other digit e.
-      let both = pieces_once spaced_item (IsItem c) IsLineEnd items_are_pieces (spaced_once c) items ys (10 ∷ rest) (10 ∷ after) good.in_range other.in_range refl refl
+      let both = pieces_once spaced_item (IsItem config) IsLineEnd items_are_pieces (spaced_once config) items ys (10 ∷ rest) (10 ∷ after) good.in_range other.in_range refl refl
       (sym (with_end items rest) ∙ behind_mark 33 33 (items_and_end items ++ rest) (items_and_end ys ++ after) e ∙ with_end ys after) in
       (both.0, behind_mark 10 10 rest after both.1);
 }
 
-pub turns_once : (c : Config) (xs ys : List (List Item)) → AllByRecursion (IsScheduleLine c) xs → AllByRecursion (IsScheduleLine c) ys → flat_map schedule_line xs ≡ flat_map schedule_line ys → xs ≡ ys
-turns_once c xs ys all_xs all_ys e =
-    (pieces_once schedule_line (IsScheduleLine c) IsEmpty lines_are_pieces (line_once c) xs ys [] [] all_xs all_ys refl refl (append-nil (flat_map schedule_line xs) ∙ e ∙ sym (append-nil (flat_map schedule_line ys)))).0
+pub turns_once : (config : Config) (xs ys : List (List Item)) → AllByRecursion (IsScheduleLine config) xs → AllByRecursion (IsScheduleLine config) ys → flat_map schedule_line xs ≡ flat_map schedule_line ys → xs ≡ ys
+turns_once config xs ys all_xs all_ys e =
+    (pieces_once schedule_line (IsScheduleLine config) IsEmpty lines_are_pieces (line_once config) xs ys [] [] all_xs all_ys refl refl (append-nil (flat_map schedule_line xs) ∙ e ∙ sym (append-nil (flat_map schedule_line ys)))).0
 
 -- ---- traces
 
@@ -101,33 +101,33 @@ one_proof : (r w m h e : ℕ) → IsProp (IsInRange r w m h e)
 one_proof r w m h e = Prim.hlevel props
 
 -- a configuration is its numbers
-pub same_config : (c d : Config) → c.regions ≡ d.regions → c.region_words ≡ d.region_words → c.mutators ≡ d.mutators → c.helpers ≡ d.helpers → c.reserve ≡ d.reserve → c ≡ d
-same_config c d same_regions same_words same_mutators same_helpers same_reserve =
-    subst (λ (r : ℕ). (p : IsInRange r d.region_words d.mutators d.helpers d.reserve) → c ≡ of r d.region_words d.mutators d.helpers d.reserve p) same_regions
-    (subst (λ (w : ℕ). (p : IsInRange c.regions w d.mutators d.helpers d.reserve) → c ≡ of c.regions w d.mutators d.helpers d.reserve p) same_words
-    (subst (λ (m : ℕ). (p : IsInRange c.regions c.region_words m d.helpers d.reserve) → c ≡ of c.regions c.region_words m d.helpers d.reserve p) same_mutators
-    (subst (λ (h : ℕ). (p : IsInRange c.regions c.region_words c.mutators h d.reserve) → c ≡ of c.regions c.region_words c.mutators h d.reserve p) same_helpers
-    (subst (λ (e : ℕ). (p : IsInRange c.regions c.region_words c.mutators c.helpers e) → c ≡ of c.regions c.region_words c.mutators c.helpers e p) same_reserve
-    (λ p. ap (of c.regions c.region_words c.mutators c.helpers c.reserve) (one_proof c.regions c.region_words c.mutators c.helpers c.reserve c.in_range p)))))) d.in_range
+pub same_config : (config other_config : Config) → config.regions ≡ other_config.regions → config.region_words ≡ other_config.region_words → config.mutators ≡ other_config.mutators → config.helpers ≡ other_config.helpers → config.reserve ≡ other_config.reserve → config ≡ other_config
+same_config config other_config same_regions same_words same_mutators same_helpers same_reserve =
+    subst (λ (r : ℕ). (p : IsInRange r other_config.region_words other_config.mutators other_config.helpers other_config.reserve) → config ≡ of r other_config.region_words other_config.mutators other_config.helpers other_config.reserve p) same_regions
+    (subst (λ (w : ℕ). (p : IsInRange config.regions w other_config.mutators other_config.helpers other_config.reserve) → config ≡ of config.regions w other_config.mutators other_config.helpers other_config.reserve p) same_words
+    (subst (λ (m : ℕ). (p : IsInRange config.regions config.region_words m other_config.helpers other_config.reserve) → config ≡ of config.regions config.region_words m other_config.helpers other_config.reserve p) same_mutators
+    (subst (λ (h : ℕ). (p : IsInRange config.regions config.region_words config.mutators h other_config.reserve) → config ≡ of config.regions config.region_words config.mutators h other_config.reserve p) same_helpers
+    (subst (λ (e : ℕ). (p : IsInRange config.regions config.region_words config.mutators config.helpers e) → config ≡ of config.regions config.region_words config.mutators config.helpers e p) same_reserve
+    (λ p. ap (of config.regions config.region_words config.mutators config.helpers config.reserve) (one_proof config.regions config.region_words config.mutators config.helpers config.reserve config.in_range p)))))) other_config.in_range
 
 -- bytes are read as one trace at most
-pub read_once : (bytes : List ℕ) (v w : ℕ) (c d : Config) (xs ys : List (List Command)) (is js : List Item) → Reads bytes v c xs is → Reads bytes w d ys js → IsSameTrace v c xs is w d ys js
-read_once bytes v w c d xs ys is js p q =
+pub read_once : (bytes : List ℕ) (v w : ℕ) (other_config d : Config) (xs ys : List (List Command)) (is js : List Item) → Reads bytes v other_config xs is → Reads bytes w d ys js → IsSameTrace v other_config xs is w d ys js
+read_once bytes v w other_config d xs ys is js p q =
     let rest = flat_map line p.lines ++ flat_map schedule_line p.turns in
     let after = flat_map line q.lines ++ flat_map schedule_line q.turns in
-    let one : HeadNumbers × List ℕ = (numbers_in_head v c, rest) in
+    let one : HeadNumbers × List ℕ = (numbers_in_head v other_config, rest) in
     let two : HeadNumbers × List ℕ = (numbers_in_head w d, after) in
-    let same : one ≡ two = same_some one two (sym (sizes_again v c rest p.known p.narrow) ∙ ap sizes_at (sym p.spelled ∙ q.spelled) ∙ sizes_again w d after q.known q.narrow) in
+    let same : one ≡ two = same_some one two (sym (sizes_again v other_config rest p.known p.narrow) ∙ ap sizes_at (sym p.spelled ∙ q.spelled) ∙ sizes_again w d after q.known q.narrow) in
     let version : v ≡ w = ap (λ (x : HeadNumbers × List ℕ). x.0.version) same in
-    let config : c ≡ d = same_config c d (ap (λ (x : HeadNumbers × List ℕ). get_or x.0.heap 0 0) same) (ap (λ (x : HeadNumbers × List ℕ). get_or x.0.heap 1 0) same)
+    let config : other_config ≡ d = same_config other_config d (ap (λ (x : HeadNumbers × List ℕ). get_or x.0.heap 0 0) same) (ap (λ (x : HeadNumbers × List ℕ). get_or x.0.heap 1 0) same)
     (ap (λ (x : HeadNumbers × List ℕ). get_or x.0.threads 0 0) same) (ap (λ (x : HeadNumbers × List ℕ). get_or x.0.threads 1 0) same) (ap (λ (x : HeadNumbers × List ℕ). get_or x.0.heap 2 0) same) in
-    let in_range = subst (λ (u : ℕ). AllByRecursion (IsLine u c.mutators) q.lines) (sym version) (subst (λ (e : Config). AllByRecursion (IsLine w e.mutators) q.lines) (sym config) q.in_range) in
-    let lines = lines_once v c.mutators p.lines q.lines (flat_map schedule_line p.turns) (flat_map schedule_line q.turns) (omega arith) p.in_range in_range
+    let in_range = subst (λ (u : ℕ). AllByRecursion (IsLine u other_config.mutators) q.lines) (sym version) (subst (λ (config : Config). AllByRecursion (IsLine w config.mutators) q.lines) (sym config) q.in_range) in
+    let lines = lines_once v other_config.mutators p.lines q.lines (flat_map schedule_line p.turns) (flat_map schedule_line q.turns) (omega arith) p.in_range in_range
     (turns_behind p.turns) (turns_behind q.turns) (ap (λ (x : HeadNumbers × List ℕ). x.1) same) in
-    let turns = turns_once c p.turns q.turns p.turns_in_range (subst (λ (e : Config). AllByRecursion (IsScheduleLine e) q.turns) (sym config) q.turns_in_range) lines.1 in
+    let turns = turns_once other_config p.turns q.turns p.turns_in_range (subst (λ (config : Config). AllByRecursion (IsScheduleLine config) q.turns) (sym config) q.turns_in_range) lines.1 in
     record {
       version = version;
       config = config;
-      scripts = p.by_thread ∙ ap (scripts_of c.mutators) lines.0 ∙ ap (λ (e : Config). scripts_of e.mutators q.lines) config ∙ sym q.by_thread;
+      scripts = p.by_thread ∙ ap (scripts_of other_config.mutators) lines.0 ∙ ap (λ (config : Config). scripts_of config.mutators q.lines) config ∙ sym q.by_thread;
       items = p.in_order ∙ ap items_of turns ∙ sym q.in_order;
     }

@@ -36,43 +36,43 @@ behind_mark a b xs ys e = cc
 
 -- ---- what stands behind the number
 
-pub steps_read : (c : Config) (number : ℕ) (bytes rest : List ℕ) (k : ℕ) (after : List ℕ) → number < seat_count c.mutators c.helpers → bytes ≡ 58 ∷ rest
-    → BeginsWith decimal (IsUpTo 4000000000) rest k after → BeginsWith aim (IsItemOf c number) bytes (Steps number k) after
-steps_read c number bytes rest k after seat marked read = record { good = ((seat, read.good), refl); spelled = marked ∙ ap (λ (bs : List ℕ). 58 ∷ bs) read.spelled; only = only }
+pub steps_read : (config : Config) (number : ℕ) (bytes rest : List ℕ) (k : ℕ) (after : List ℕ) → number < seat_count config.mutators config.helpers → bytes ≡ 58 ∷ rest
+    → BeginsWith decimal (IsUpTo 4000000000) rest k after → BeginsWith aim (IsItemOf config number) bytes (Steps number k) after
+steps_read config number bytes rest k after seat marked read = record { good = ((seat, read.good), refl); spelled = marked ∙ ap (λ (bs : List ℕ). 58 ∷ bs) read.spelled; only = only }
   where
-    only : (y : Item) (end : List ℕ) → IsItemOf c number y → NoDigit end → bytes ≡ aim y ++ end → (Steps number k ≡ y) × (after ≡ end)
+    only : (y : Item) (end : List ℕ) → IsItemOf config number y → NoDigit end → bytes ≡ aim y ++ end → (Steps number k ≡ y) × (after ≡ end)
     only (Steps m n) end good none e = let one = read.only n end good.0.1 none (behind_mark 58 58 rest (decimal n ++ end) (sym marked ∙ e)) in let a = good.1 in let b = one.0 in (cc, one.1)
     only (Until m p) end good none e = absurd (omega (arith, one_mark 58 64 rest (code_of p ++ end) (sym marked ∙ e)))
     only (Replies m n) end good none e = absurd (omega (arith, one_mark 58 61 rest (decimal n ++ end) (sym marked ∙ e)))
 
-pub until_read : (c : Config) (number : ℕ) (bytes rest : List ℕ) (p : Place) (after : List ℕ) → number < seat_count c.mutators c.helpers → bytes ≡ 64 ∷ rest
-    → BeginsWith code_of IsAny rest p after → BeginsWith aim (IsItemOf c number) bytes (Until number p) after
-until_read c number bytes rest p after seat marked read = record { good = (seat, refl); spelled = marked ∙ ap (λ (bs : List ℕ). 64 ∷ bs) read.spelled; only = only }
+pub until_read : (config : Config) (number : ℕ) (bytes rest : List ℕ) (place : Place) (after : List ℕ) → number < seat_count config.mutators config.helpers → bytes ≡ 64 ∷ rest
+    → BeginsWith code_of IsAny rest place after → BeginsWith aim (IsItemOf config number) bytes (Until number place) after
+until_read config number bytes rest place after seat marked read = record { good = (seat, refl); spelled = marked ∙ ap (λ (bs : List ℕ). 64 ∷ bs) read.spelled; only = only }
   where
-    only : (y : Item) (end : List ℕ) → IsItemOf c number y → NoDigit end → bytes ≡ aim y ++ end → (Until number p ≡ y) × (after ≡ end)
+    only : (y : Item) (end : List ℕ) → IsItemOf config number y → NoDigit end → bytes ≡ aim y ++ end → (Until number place ≡ y) × (after ≡ end)
     only (Steps m n) end good none e = absurd (omega (arith, one_mark 64 58 rest (decimal n ++ end) (sym marked ∙ e)))
     only (Until m q) end good none e = let one = read.only q end tt none (behind_mark 64 64 rest (code_of q ++ end) (sym marked ∙ e)) in let a = good.1 in let b = one.0 in (cc, one.1)
     only (Replies m n) end good none e = absurd (omega (arith, one_mark 64 61 rest (decimal n ++ end) (sym marked ∙ e)))
 
-pub replies_read : (c : Config) (number : ℕ) (bytes rest : List ℕ) (k : ℕ) (after : List ℕ) → number < c.mutators → bytes ≡ 61 ∷ rest
-    → BeginsWith decimal (IsUpTo 4000000000) rest k after → BeginsWith aim (IsItemOf c number) bytes (Replies number k) after
-replies_read c number bytes rest k after seat marked read = record { good = ((seat, read.good), refl); spelled = marked ∙ ap (λ (bs : List ℕ). 61 ∷ bs) read.spelled; only = only }
+pub replies_read : (config : Config) (number : ℕ) (bytes rest : List ℕ) (k : ℕ) (after : List ℕ) → number < config.mutators → bytes ≡ 61 ∷ rest
+    → BeginsWith decimal (IsUpTo 4000000000) rest k after → BeginsWith aim (IsItemOf config number) bytes (Replies number k) after
+replies_read config number bytes rest k after seat marked read = record { good = ((seat, read.good), refl); spelled = marked ∙ ap (λ (bs : List ℕ). 61 ∷ bs) read.spelled; only = only }
   where
-    only : (y : Item) (end : List ℕ) → IsItemOf c number y → NoDigit end → bytes ≡ aim y ++ end → (Replies number k ≡ y) × (after ≡ end)
+    only : (y : Item) (end : List ℕ) → IsItemOf config number y → NoDigit end → bytes ≡ aim y ++ end → (Replies number k ≡ y) × (after ≡ end)
     only (Steps m n) end good none e = absurd (omega (arith, one_mark 61 58 rest (decimal n ++ end) (sym marked ∙ e)))
     only (Until m p) end good none e = absurd (omega (arith, one_mark 61 64 rest (code_of p ++ end) (sym marked ∙ e)))
     only (Replies m n) end good none e = let one = read.only n end good.0.1 none (behind_mark 61 61 rest (decimal n ++ end) (sym marked ∙ e)) in let a = good.1 in let b = one.0 in (cc, one.1)
 
 -- nothing of the kind that this mark shows
-pub no_steps : (c : Config) (number : ℕ) (bytes rest : List ℕ) → bytes ≡ 58 ∷ rest → BeginsWithNone decimal (IsUpTo 4000000000) rest → BeginsWithNone aim (IsItemOf c number) bytes
-no_steps c number bytes rest marked none (Steps m n) end good digit e = none n end good.0.1 digit (behind_mark 58 58 rest (decimal n ++ end) (sym marked ∙ e))
-no_steps c number bytes rest marked none (Until m p) end good digit e = absurd (omega (arith, one_mark 58 64 rest (code_of p ++ end) (sym marked ∙ e)))
-no_steps c number bytes rest marked none (Replies m n) end good digit e = absurd (omega (arith, one_mark 58 61 rest (decimal n ++ end) (sym marked ∙ e)))
+pub no_steps : (config : Config) (number : ℕ) (bytes rest : List ℕ) → bytes ≡ 58 ∷ rest → BeginsWithNone decimal (IsUpTo 4000000000) rest → BeginsWithNone aim (IsItemOf config number) bytes
+no_steps config number bytes rest marked none (Steps m n) end good digit e = none n end good.0.1 digit (behind_mark 58 58 rest (decimal n ++ end) (sym marked ∙ e))
+no_steps config number bytes rest marked none (Until m p) end good digit e = absurd (omega (arith, one_mark 58 64 rest (code_of p ++ end) (sym marked ∙ e)))
+no_steps config number bytes rest marked none (Replies m n) end good digit e = absurd (omega (arith, one_mark 58 61 rest (decimal n ++ end) (sym marked ∙ e)))
 
-pub no_replies : (c : Config) (number : ℕ) (bytes rest : List ℕ) → bytes ≡ 61 ∷ rest → BeginsWithNone decimal (IsUpTo 4000000000) rest → BeginsWithNone aim (IsItemOf c number) bytes
-no_replies c number bytes rest marked none (Steps m n) end good digit e = absurd (omega (arith, one_mark 61 58 rest (decimal n ++ end) (sym marked ∙ e)))
-no_replies c number bytes rest marked none (Until m p) end good digit e = absurd (omega (arith, one_mark 61 64 rest (code_of p ++ end) (sym marked ∙ e)))
-no_replies c number bytes rest marked none (Replies m n) end good digit e = none n end good.0.1 digit (behind_mark 61 61 rest (decimal n ++ end) (sym marked ∙ e))
+pub no_replies : (config : Config) (number : ℕ) (bytes rest : List ℕ) → bytes ≡ 61 ∷ rest → BeginsWithNone decimal (IsUpTo 4000000000) rest → BeginsWithNone aim (IsItemOf config number) bytes
+no_replies config number bytes rest marked none (Steps m n) end good digit e = absurd (omega (arith, one_mark 61 58 rest (decimal n ++ end) (sym marked ∙ e)))
+no_replies config number bytes rest marked none (Until m p) end good digit e = absurd (omega (arith, one_mark 61 64 rest (code_of p ++ end) (sym marked ∙ e)))
+no_replies config number bytes rest marked none (Replies m n) end good digit e = none n end good.0.1 digit (behind_mark 61 61 rest (decimal n ++ end) (sym marked ∙ e))
 
 -- ---- whole items
 
@@ -81,18 +81,18 @@ aim_no_digit (Steps m n) after = refl
 aim_no_digit (Until m p) after = refl
 aim_no_digit (Replies m n) after = refl
 
-pub seat_of : (c : Config) (y : Item) → IsItem c y → IsUpTo (seat_count c.mutators c.helpers) (number_of y + 1)
-seat_of c (Steps m n) good = (omega arith, omega arith)
-seat_of c (Until m p) good = (omega arith, omega arith)
-seat_of c (Replies m n) good = (omega arith, omega arith)
+pub seat_of : (config : Config) (y : Item) → IsItem config y → IsUpTo (seat_count config.mutators config.helpers) (number_of y + 1)
+seat_of config (Steps m n) good = (omega arith, omega arith)
+seat_of config (Until m p) good = (omega arith, omega arith)
+seat_of config (Replies m n) good = (omega arith, omega arith)
 
-pub item_read : (c : Config) (bytes rest : List ℕ) (n : ℕ) (i : Item) (after : List ℕ) → BeginsWith decimal (IsUpTo (seat_count c.mutators c.helpers)) bytes n rest
-    → BeginsWith aim (IsItemOf c (n - 1)) rest i after → BeginsWith item (IsItem c) bytes i after
-item_read c bytes rest n i after machine aimed = record {
+pub item_read : (config : Config) (bytes rest : List ℕ) (n : ℕ) (i : Item) (after : List ℕ) → BeginsWith decimal (IsUpTo (seat_count config.mutators config.helpers)) bytes n rest
+    → BeginsWith aim (IsItemOf config (n - 1)) rest i after → BeginsWith item (IsItem config) bytes i after
+item_read config bytes rest n i after machine aimed = record {
   good = aimed.good.0;
   spelled = machine.spelled ∙ ap (λ (bs : List ℕ). decimal n ++ bs) aimed.spelled ∙ ap (λ (m : ℕ). decimal m ++ (aim i ++ after)) (one_more n (number_of i) machine.good.0 aimed.good.1) ∙ sym (append_assoc (decimal (number_of i + 1)) (aim i) after);
   only = λ y end good none e.
-      let first = machine.only (number_of y + 1) (aim y ++ end) (seat_of c y good) (aim_no_digit y end) (e ∙ append_assoc (decimal (number_of y + 1)) (aim y) end) in
+      let first = machine.only (number_of y + 1) (aim y ++ end) (seat_of config y good) (aim_no_digit y end) (e ∙ append_assoc (decimal (number_of y + 1)) (aim y) end) in
       aimed.only y end (good, one_less n (number_of y) first.0) none first.1;
 }
   where
@@ -102,23 +102,23 @@ item_read c bytes rest n i after machine aimed = record {
     one_less : (n m : ℕ) → n ≡ m + 1 → m ≡ n - 1
     one_less n m e = omega arith
 
-pub no_machine : (c : Config) (bytes : List ℕ) → BeginsWithNone decimal (IsUpTo (seat_count c.mutators c.helpers)) bytes → BeginsWithNone item (IsItem c) bytes
-no_machine c bytes none y end good digit e = none (number_of y + 1) (aim y ++ end) (seat_of c y good) (aim_no_digit y end) (e ∙ append_assoc (decimal (number_of y + 1)) (aim y) end)
+pub no_machine : (config : Config) (bytes : List ℕ) → BeginsWithNone decimal (IsUpTo (seat_count config.mutators config.helpers)) bytes → BeginsWithNone item (IsItem config) bytes
+no_machine config bytes none y end good digit e = none (number_of y + 1) (aim y ++ end) (seat_of config y good) (aim_no_digit y end) (e ∙ append_assoc (decimal (number_of y + 1)) (aim y) end)
 
-pub no_aim : (c : Config) (bytes rest : List ℕ) (n : ℕ) → BeginsWith decimal (IsUpTo (seat_count c.mutators c.helpers)) bytes n rest → BeginsWithNone aim (IsItemOf c (n - 1)) rest → BeginsWithNone item (IsItem c) bytes
-no_aim c bytes rest n machine none y end good digit e =
-    let first = machine.only (number_of y + 1) (aim y ++ end) (seat_of c y good) (aim_no_digit y end) (e ∙ append_assoc (decimal (number_of y + 1)) (aim y) end) in
+pub no_aim : (config : Config) (bytes rest : List ℕ) (n : ℕ) → BeginsWith decimal (IsUpTo (seat_count config.mutators config.helpers)) bytes n rest → BeginsWithNone aim (IsItemOf config (n - 1)) rest → BeginsWithNone item (IsItem config) bytes
+no_aim config bytes rest n machine none y end good digit e =
+    let first = machine.only (number_of y + 1) (aim y ++ end) (seat_of config y good) (aim_no_digit y end) (e ∙ append_assoc (decimal (number_of y + 1)) (aim y) end) in
     none y end (good, one_less n (number_of y) first.0) digit first.1
   where
     one_less : (n m : ℕ) → n ≡ m + 1 → m ≡ n - 1
     one_less n m e = omega arith
 
 -- what was found behind the machine's number
-pub machine_found : {R : Type 0} (c : Config) (bytes rest : List ℕ) (n : ℕ) (now : R → List ℕ) (r : Option (Item × R)) → BeginsWith decimal (IsUpTo (seat_count c.mutators c.helpers)) bytes n rest
-    → MatchOption r (BeginsWithNone aim (IsItemOf c (n - 1)) rest) (λ x. BeginsWith aim (IsItemOf c (n - 1)) rest x.0 (now x.1))
-    → MatchOption r (BeginsWithNone item (IsItem c) bytes) (λ x. BeginsWith item (IsItem c) bytes x.0 (now x.1))
-machine_found c bytes rest n now None machine none = no_aim c bytes rest n machine none
-machine_found c bytes rest n now (Some x) machine aimed = item_read c bytes rest n x.0 (now x.1) machine aimed
+pub machine_found : {R : Type 0} (config : Config) (bytes rest : List ℕ) (n : ℕ) (now : R → List ℕ) (found : Option (Item × R)) → BeginsWith decimal (IsUpTo (seat_count config.mutators config.helpers)) bytes n rest
+    → MatchOption found (BeginsWithNone aim (IsItemOf config (n - 1)) rest) (λ x. BeginsWith aim (IsItemOf config (n - 1)) rest x.0 (now x.1))
+    → MatchOption found (BeginsWithNone item (IsItem config) bytes) (λ x. BeginsWith item (IsItem config) bytes x.0 (now x.1))
+machine_found config bytes rest n now None machine none = no_aim config bytes rest n machine none
+machine_found config bytes rest n now (Some x) machine aimed = item_read config bytes rest n x.0 (now x.1) machine aimed
 
 -- a text that is a number and nothing else
 pub whole_number : (most : ℕ) (text : List ℕ) (n : ℕ) (rest : List ℕ) → BeginsWith decimal (IsUpTo most) text n rest → rest ≡ [] → IsUpTo most n × (text ≡ decimal n)

@@ -8,33 +8,33 @@ use Rattle.heap_words.specs.declared.place.Place.TheVariants.{E1}
 use Rattle.heap_words.specs.Place.{code_of}
 use Rattle.trace_reading.specs.Codes.{places, is_code}
 
-among : (ps : List Place) (text : List ℕ) → list_any (λ p. pointwise nat_eq (code_of p) text) ps ≡ true → (p : Place) × (code_of p ≡ text)
+among : (ps : List Place) (text : List ℕ) → list_any (λ place. pointwise nat_eq (code_of place) text) ps ≡ true → (place : Place) × (code_of place ≡ text)
 among [] text e = absurd cc
-among (p ∷ ps) text e = by_first (pointwise nat_eq (code_of p) text) refl (among ps text) e
+among (place ∷ ps) text e = by_first (pointwise nat_eq (code_of place) text) refl (among ps text) e
   where
-    by_first : (first : Bool) → pointwise nat_eq (code_of p) text ≡ first → (list_any (λ q. pointwise nat_eq (code_of q) text) ps ≡ true → (q : Place) × (code_of q ≡ text))
-        → (first || list_any (λ q. pointwise nat_eq (code_of q) text) ps) ≡ true → (q : Place) × (code_of q ≡ text)
-    by_first true here others e = (p, same_text (code_of p) text (sym here))
+    by_first : (first : Bool) → pointwise nat_eq (code_of place) text ≡ first → (list_any (λ other_place. pointwise nat_eq (code_of other_place) text) ps ≡ true → (other_place : Place) × (code_of other_place ≡ text))
+        → (first || list_any (λ other_place. pointwise nat_eq (code_of other_place) text) ps) ≡ true → (other_place : Place) × (code_of other_place ≡ text)
+    by_first true here others e = (place, same_text (code_of place) text (sym here))
     by_first false here others e = others e
 
-pub code_takes : (text : List ℕ) → is_code text ≡ true → (p : Place) × (code_of p ≡ text)
+pub code_takes : (text : List ℕ) → is_code text ≡ true → (place : Place) × (code_of place ≡ text)
 unfolding is_code
 code_takes text e = among places text e
 
-pub code_again : (p : Place) → is_code (code_of p) ≡ true
+pub code_again : (place : Place) → is_code (code_of place) ≡ true
 unfolding is_code
 code_again E1 = refl
 code_again _ = refl
 
 -- a text that is no place's code
-pub no_code : (text : List ℕ) → ((p : Place) → code_of p ≢ text) → is_code text ≡ false
+pub no_code : (text : List ℕ) → ((place : Place) → code_of place ≢ text) → is_code text ≡ false
 no_code text none = by_test (is_code text) refl
   where
     by_test : (test : Bool) → is_code text ≡ test → test ≡ false
     by_test true e = let found = code_takes text e in absurd (none found.0 found.1)
     by_test false e = refl
 
-pub two_letters : (p : Place) → length (code_of p) ≡ 2
+pub two_letters : (place : Place) → length (code_of place) ≡ 2
 two_letters E1 = refl
 two_letters _ = refl
 
@@ -42,6 +42,6 @@ two_letters _ = refl
 pub other_length : (text : List ℕ) → (length text ≡ 2 → ⊥) → is_code text ≡ false
 other_length text other = no_code text (λ p e. other (sym (ap length e) ∙ two_letters p))
 
-pub code_asked : (o : Option Place) (code : List ℕ) → IfSome o (λ p. code_of p ≡ code) → IfNone o ((p : Place) → code_of p ≢ code) → is_some o ≡ is_code code
-code_asked (Some p) code found unknown = sym (code_again p) ∙ ap is_code found
+pub code_asked : (o : Option Place) (code : List ℕ) → IfSome o (λ place. code_of place ≡ code) → IfNone o ((place : Place) → code_of place ≢ code) → is_some o ≡ is_code code
+code_asked (Some place) code found unknown = sym (code_again place) ∙ ap is_code found
 code_asked None code found unknown = sym (no_code code unknown)

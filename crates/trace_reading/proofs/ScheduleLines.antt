@@ -17,8 +17,8 @@ use Rattle.trace_reading.proofs.Pieces.{HasBegun, ArePieces, all_taken, none_fol
 behind_mark : (a b : ℕ) (xs ys : List ℕ) → a ∷ xs ≡ b ∷ ys → xs ≡ ys
 behind_mark a b xs ys e = cc
 
-pub spaced : (c : Config) (bytes word rest : List ℕ) (i : Item) → bytes ≡ 32 ∷ word → BeginsWith item (IsItem c) word i rest → BeginsWith spaced_item (IsItem c) bytes i rest
-spaced c bytes word rest i marked read = record {
+pub spaced : (config : Config) (bytes word rest : List ℕ) (i : Item) → bytes ≡ 32 ∷ word → BeginsWith item (IsItem config) word i rest → BeginsWith spaced_item (IsItem config) bytes i rest
+spaced config bytes word rest i marked read = record {
   good = read.good;
   spelled = marked ∙ ap (λ (bs : List ℕ). 32 ∷ bs) read.spelled;
   only = λ y after good none e. read.only y after good none (behind_mark 32 32 word (item y ++ after) (sym marked ∙ e));
@@ -45,26 +45,26 @@ behind_end (b ∷ after) at_end = rw at_end (ap (λ (bs : List ℕ). 10 ∷ bs) 
     all_of : (xs : List ℕ) → take (length (b ∷ xs) - 1) xs ≡ xs
     all_of xs = take_all (length (b ∷ xs) - 1) xs (omega arith)
 
-pub line_taken : (c : Config) (bytes rest after : List ℕ) (items : List Item) → HasBegun spaced_item (IsItem c) IsLineEnd bytes rest items → rest ≡ 10 ∷ after → BeginsWith items_and_end (AllByRecursion (IsItem c)) bytes items after
-line_taken c bytes rest after items begun at_end = record {
+pub line_taken : (config : Config) (bytes rest after : List ℕ) (items : List Item) → HasBegun spaced_item (IsItem config) IsLineEnd bytes rest items → rest ≡ 10 ∷ after → BeginsWith items_and_end (AllByRecursion (IsItem config)) bytes items after
+line_taken config bytes rest after items begun at_end = record {
   good = begun.good;
   spelled = begun.spelled ∙ ap (λ (bs : List ℕ). flat_map spaced_item items ++ bs) at_end ∙ sym (with_end items after);
   only = λ ys tail good none e.
-      let both = all_taken spaced_item (IsItem c) IsLineEnd bytes rest items items_are_pieces begun (subst IsLineEnd (sym at_end) refl) ys (10 ∷ tail) good refl (e ∙ with_end ys tail) in
+      let both = all_taken spaced_item (IsItem config) IsLineEnd bytes rest items items_are_pieces begun (subst IsLineEnd (sym at_end) refl) ys (10 ∷ tail) good refl (e ∙ with_end ys tail) in
       (both.0, behind_mark 10 10 after tail (sym at_end ∙ both.1));
 }
 
-pub no_items : (c : Config) (bytes rest : List ℕ) (items : List Item) → HasBegun spaced_item (IsItem c) IsLineEnd bytes rest items → (IsLineEnd rest → ⊥) → BeginsWithNone spaced_item (IsItem c) rest
-    → (ys : List Item) (after : List ℕ) → AllByRecursion (IsItem c) ys → bytes ≡ items_and_end ys ++ after → ⊥
-no_items c bytes rest items begun more_left none ys after good e =
-    none_follows spaced_item (IsItem c) IsLineEnd bytes rest items items_are_pieces begun more_left none ys (10 ∷ after) good refl (e ∙ with_end ys after)
+pub no_items : (config : Config) (bytes rest : List ℕ) (items : List Item) → HasBegun spaced_item (IsItem config) IsLineEnd bytes rest items → (IsLineEnd rest → ⊥) → BeginsWithNone spaced_item (IsItem config) rest
+    → (ys : List Item) (after : List ℕ) → AllByRecursion (IsItem config) ys → bytes ≡ items_and_end ys ++ after → ⊥
+no_items config bytes rest items begun more_left none ys after good e =
+    none_follows spaced_item (IsItem config) IsLineEnd bytes rest items items_are_pieces begun more_left none ys (10 ∷ after) good refl (e ∙ with_end ys after)
 
 -- ---- a whole line
 
 -- a line without an item is none
-pub empty_line : (c : Config) (bytes word : List ℕ) → bytes ≡ 33 ∷ word → IsLineEnd word → (ys : List Item) (after : List ℕ) → IsScheduleLine c ys → bytes ≡ schedule_line ys ++ after → ⊥
-empty_line c bytes word marked at_end [] after good e = absurd (omega (arith, good.some))
-empty_line c bytes word marked at_end (y ∷ ys) after good e =
+pub empty_line : (config : Config) (bytes word : List ℕ) → bytes ≡ 33 ∷ word → IsLineEnd word → (ys : List Item) (after : List ℕ) → IsScheduleLine config ys → bytes ≡ schedule_line ys ++ after → ⊥
+empty_line config bytes word marked at_end [] after good e = absurd (omega (arith, good.some))
+empty_line config bytes word marked at_end (y ∷ ys) after good e =
     let same : word ≡ items_and_end (y ∷ ys) ++ after = behind_mark 33 33 word (items_and_end (y ∷ ys) ++ after) (sym marked ∙ e) in
     absurd (omega (arith, subst IsLineEnd same at_end))
 
@@ -83,8 +83,8 @@ lines_are_pieces = record { ends = ends; no_tail = λ y after at_end. absurd cc 
 pub not_empty : (bytes : List ℕ) → eqb (length bytes) 0 ≡ false → IsEmpty bytes → ⊥
 not_empty bytes ne e = let none : length bytes ≡ 0 = ap length e in grind (arith, nat_tests)
 
-pub scheduled : (c : Config) (bytes rest : List ℕ) (turns : List (List Item)) (before after : List Item) → HasBegun schedule_line (IsScheduleLine c) IsEmpty bytes rest turns → IsEmpty rest → after ≡ before ++ items_of turns → HasScheduled c bytes before after
-scheduled c bytes rest turns before after begun at_end made = record {
+pub scheduled : (config : Config) (bytes rest : List ℕ) (turns : List (List Item)) (before after : List Item) → HasBegun schedule_line (IsScheduleLine config) IsEmpty bytes rest turns → IsEmpty rest → after ≡ before ++ items_of turns → HasScheduled config bytes before after
+scheduled config bytes rest turns before after begun at_end made = record {
   turns = turns;
   in_range = begun.good;
   spelled = begun.spelled ∙ ap (λ (bs : List ℕ). flat_map schedule_line turns ++ bs) at_end ∙ append-nil (flat_map schedule_line turns);

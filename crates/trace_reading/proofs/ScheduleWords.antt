@@ -45,11 +45,11 @@ counted most machine count small e = by_test (is_plain_number machine && is_plai
         let b = range_fine 1 4000000000 count fine.1 in
         (digits_value 10 machine, digits_value 10 count, number_spelled machine numbers.0 (omega (arith, a.1)), number_spelled count numbers.1 (omega (arith, b.1)), a.0, a.1, b.0, b.1)
 
-until : (most : ℕ) (machine code : List ℕ) → most < 2 ^ 64 → until_cause most machine code ≡ None → (n : ℕ) × (p : Place) × (machine ≡ decimal n) × (code ≡ code_of p) × (1 ≤ n) × (n ≤ most)
+until : (most : ℕ) (machine code : List ℕ) → most < 2 ^ 64 → until_cause most machine code ≡ None → (n : ℕ) × (place : Place) × (machine ≡ decimal n) × (code ≡ code_of place) × (1 ≤ n) × (n ≤ most)
 unfolding until_cause
 until most machine code small e = by_test (is_plain_number machine && is_code code) refl e
   where
-    by_test : (test : Bool) → (is_plain_number machine && is_code code) ≡ test → cond test (range_cause 1 most machine) (Some NoItem) ≡ None → (n : ℕ) × (p : Place) × (machine ≡ decimal n) × (code ≡ code_of p) × (1 ≤ n) × (n ≤ most)
+    by_test : (test : Bool) → (is_plain_number machine && is_code code) ≡ test → cond test (range_cause 1 most machine) (Some NoItem) ≡ None → (n : ℕ) × (place : Place) × (machine ≡ decimal n) × (code ≡ code_of place) × (1 ≤ n) × (n ≤ most)
     by_test false is e = absurd cc
     by_test true is e =
         let pass = both (is_plain_number machine) (is_code code) is in
@@ -64,60 +64,60 @@ one_more n le = omega arith
 item_of : (machine rest : List ℕ) (n : ℕ) (i : Item) → machine ≡ decimal n → n ≡ number_of i + 1 → rest ≡ aim i → machine ++ rest ≡ item i
 item_of machine rest n i a b c = ap (λ (m : List ℕ). m ++ rest) (a ∙ ap decimal b) ∙ ap (λ (r : List ℕ). decimal (number_of i + 1) ++ r) c
 
-aim_spelled : (c : Config) (machine rest : List ℕ) → aim_cause c machine rest ≡ None → (i : Item) × IsItem c i × (machine ++ rest ≡ item i)
-aim_spelled c machine [] e = absurd cc
-aim_spelled c machine (mark ∷ rest) e = by_colon (eqb mark 58) refl e
+aim_spelled : (config : Config) (machine rest : List ℕ) → aim_cause config machine rest ≡ None → (i : Item) × IsItem config i × (machine ++ rest ≡ item i)
+aim_spelled config machine [] e = absurd cc
+aim_spelled config machine (mark ∷ rest) e = by_colon (eqb mark 58) refl e
   where
     seats : ℕ
-    seats = seat_count c.mutators c.helpers
+    seats = seat_count config.mutators config.helpers
 
-    small : seat_count c.mutators c.helpers < 2 ^ 64
-    small = omega (arith, c.in_range.most_mutators, c.in_range.most_helpers)
+    small : seat_count config.mutators config.helpers < 2 ^ 64
+    small = omega (arith, config.in_range.most_mutators, config.in_range.most_helpers)
 
-    fewer : c.mutators < 2 ^ 64
-    fewer = omega (arith, c.in_range.most_mutators)
+    fewer : config.mutators < 2 ^ 64
+    fewer = omega (arith, config.in_range.most_mutators)
 
-    by_at : (test : Bool) → eqb mark 64 ≡ test → cond test (until_cause (seat_count c.mutators c.helpers) machine rest) (Some NoItem) ≡ None → (i : Item) × IsItem c i × (machine ++ mark ∷ rest ≡ item i)
+    by_at : (test : Bool) → eqb mark 64 ≡ test → cond test (until_cause (seat_count config.mutators config.helpers) machine rest) (Some NoItem) ≡ None → (i : Item) × IsItem config i × (machine ++ mark ∷ rest ≡ item i)
     by_at false is e = absurd cc
     by_at true is e =
-        let found = until (seat_count c.mutators c.helpers) machine rest small e in
+        let found = until (seat_count config.mutators config.helpers) machine rest small e in
         let i : Item = Until (found.0 - 1) found.1 in
-        let fits : found.0 - 1 < seat_count c.mutators c.helpers = omega (arith, found.4, found.5) in
+        let fits : found.0 - 1 < seat_count config.mutators config.helpers = omega (arith, found.4, found.5) in
         let same : mark ≡ 64 = eqb-true _ _ is in
         (i, fits, item_of machine (mark ∷ rest) found.0 i found.2 (one_more found.0 found.4) (ap (λ (m : ℕ). m ∷ rest) same ∙ ap (λ (r : List ℕ). 64 ∷ r) found.3))
 
-    by_equals : (test : Bool) → eqb mark 61 ≡ test → cond test (counted_cause c.mutators machine rest) (cond (eqb mark 64) (until_cause (seat_count c.mutators c.helpers) machine rest) (Some NoItem)) ≡ None → (i : Item) × IsItem c i × (machine ++ mark ∷ rest ≡ item i)
+    by_equals : (test : Bool) → eqb mark 61 ≡ test → cond test (counted_cause config.mutators machine rest) (cond (eqb mark 64) (until_cause (seat_count config.mutators config.helpers) machine rest) (Some NoItem)) ≡ None → (i : Item) × IsItem config i × (machine ++ mark ∷ rest ≡ item i)
     by_equals false is e = by_at (eqb mark 64) refl e
     by_equals true is e =
-        let found = counted c.mutators machine rest fewer e in
+        let found = counted config.mutators machine rest fewer e in
         let i : Item = Replies (found.0 - 1) found.1 in
-        let fits : found.0 - 1 < c.mutators = omega (arith, found.4, found.5) in
+        let fits : found.0 - 1 < config.mutators = omega (arith, found.4, found.5) in
         let same : mark ≡ 61 = eqb-true _ _ is in
         (i, (fits, (found.6, found.7)), item_of machine (mark ∷ rest) found.0 i found.2 (one_more found.0 found.4) (ap (λ (m : ℕ). m ∷ rest) same ∙ ap (λ (r : List ℕ). 61 ∷ r) found.3))
 
-    by_colon : (test : Bool) → eqb mark 58 ≡ test → cond test (counted_cause (seat_count c.mutators c.helpers) machine rest) (cond (eqb mark 61) (counted_cause c.mutators machine rest) (cond (eqb mark 64) (until_cause (seat_count c.mutators c.helpers) machine rest) (Some NoItem))) ≡ None
-        → (i : Item) × IsItem c i × (machine ++ mark ∷ rest ≡ item i)
+    by_colon : (test : Bool) → eqb mark 58 ≡ test → cond test (counted_cause (seat_count config.mutators config.helpers) machine rest) (cond (eqb mark 61) (counted_cause config.mutators machine rest) (cond (eqb mark 64) (until_cause (seat_count config.mutators config.helpers) machine rest) (Some NoItem))) ≡ None
+        → (i : Item) × IsItem config i × (machine ++ mark ∷ rest ≡ item i)
     by_colon false is e = by_equals (eqb mark 61) refl e
     by_colon true is e =
-        let found = counted (seat_count c.mutators c.helpers) machine rest small e in
+        let found = counted (seat_count config.mutators config.helpers) machine rest small e in
         let i : Item = Steps (found.0 - 1) found.1 in
-        let fits : found.0 - 1 < seat_count c.mutators c.helpers = omega (arith, found.4, found.5) in
+        let fits : found.0 - 1 < seat_count config.mutators config.helpers = omega (arith, found.4, found.5) in
         let same : mark ≡ 58 = eqb-true _ _ is in
         (i, (fits, (found.6, found.7)), item_of machine (mark ∷ rest) found.0 i found.2 (one_more found.0 found.4) (ap (λ (m : ℕ). m ∷ rest) same ∙ ap (λ (r : List ℕ). 58 ∷ r) found.3))
 
-pub item_spelled : (c : Config) (w : List ℕ) → item_cause c w ≡ None → (i : Item) × IsItem c i × (w ≡ item i)
+pub item_spelled : (config : Config) (w : List ℕ) → item_cause config w ≡ None → (i : Item) × IsItem config i × (w ≡ item i)
 unfolding item_cause
-item_spelled c w e =
-    let made = aim_spelled c (take (digit_count w) w) (drop (digit_count w) w) e in
+item_spelled config w e =
+    let made = aim_spelled config (take (digit_count w) w) (drop (digit_count w) w) e in
     (made.0, made.1, sym (take-append-drop (digit_count w) w) ∙ made.2)
 
-pub items_spelled : (c : Config) (ws : List (List ℕ)) → items_cause c ws ≡ None → (items : List Item) × AllByRecursion (IsItem c) items × (ws ≡ map item items)
+pub items_spelled : (config : Config) (ws : List (List ℕ)) → items_cause config ws ≡ None → (items : List Item) × AllByRecursion (IsItem config) items × (ws ≡ map item items)
 unfolding items_cause
-items_spelled c [] e = ([], tt, refl)
-items_spelled c (w ∷ ws) e =
-    let fine = none_first (item_cause c w) (items_cause c ws) e in
-    let first = item_spelled c w fine.0 in
-    let others = items_spelled c ws fine.1 in
+items_spelled config [] e = ([], tt, refl)
+items_spelled config (w ∷ ws) e =
+    let fine = none_first (item_cause config w) (items_cause config ws) e in
+    let first = item_spelled config w fine.0 in
+    let others = items_spelled config ws fine.1 in
     (first.0 ∷ others.0, (first.1, others.1), ap (λ (v : List ℕ). v ∷ ws) first.2 ∙ ap (λ (vs : List (List ℕ)). item first.0 ∷ vs) others.2)
 
 -- ---- an item has no cause
@@ -127,50 +127,50 @@ unfolding counted_cause
 counted_again most n k small a b c d =
     rw (decimal_is_number n (omega arith), decimal_is_number k (omega arith), range_again 1 most n (omega arith) a b, range_again 1 4000000000 k (omega arith) c d) refl
 
-until_again : (most n : ℕ) (p : Place) → most < 2 ^ 64 → 1 ≤ n → n ≤ most → until_cause most (decimal n) (code_of p) ≡ None
+until_again : (most n : ℕ) (place : Place) → most < 2 ^ 64 → 1 ≤ n → n ≤ most → until_cause most (decimal n) (code_of place) ≡ None
 unfolding until_cause
-until_again most n p small a b = rw (decimal_is_number n (omega arith), code_again p, range_again 1 most n (omega arith) a b) refl
+until_again most n place small a b = rw (decimal_is_number n (omega arith), code_again place, range_again 1 most n (omega arith) a b) refl
 
-aim_again : (c : Config) (i : Item) → IsItem c i → aim_cause c (decimal (number_of i + 1)) (aim i) ≡ None
-aim_again c (Steps n k) fits = counted_again (seat_count c.mutators c.helpers) (n + 1) k (omega (arith, c.in_range.most_mutators, c.in_range.most_helpers)) (omega arith) (omega (arith, fits.0)) fits.1.0 fits.1.1
-aim_again c (Until n p) fits = until_again (seat_count c.mutators c.helpers) (n + 1) p (omega (arith, c.in_range.most_mutators, c.in_range.most_helpers)) (omega arith) (omega (arith, fits))
-aim_again c (Replies n k) fits = counted_again c.mutators (n + 1) k (omega (arith, c.in_range.most_mutators)) (omega arith) (omega (arith, fits.0)) fits.1.0 fits.1.1
+aim_again : (config : Config) (i : Item) → IsItem config i → aim_cause config (decimal (number_of i + 1)) (aim i) ≡ None
+aim_again config (Steps n k) fits = counted_again (seat_count config.mutators config.helpers) (n + 1) k (omega (arith, config.in_range.most_mutators, config.in_range.most_helpers)) (omega arith) (omega (arith, fits.0)) fits.1.0 fits.1.1
+aim_again config (Until n p) fits = until_again (seat_count config.mutators config.helpers) (n + 1) p (omega (arith, config.in_range.most_mutators, config.in_range.most_helpers)) (omega arith) (omega (arith, fits))
+aim_again config (Replies n k) fits = counted_again config.mutators (n + 1) k (omega (arith, config.in_range.most_mutators)) (omega arith) (omega (arith, fits.0)) fits.1.0 fits.1.1
 
-small_machine : (c : Config) (i : Item) → IsItem c i → number_of i + 1 < 2 ^ 64
-small_machine c i fits = let seat = seat_of c i fits in omega (arith, seat.1, c.in_range.most_mutators, c.in_range.most_helpers)
+small_machine : (config : Config) (i : Item) → IsItem config i → number_of i + 1 < 2 ^ 64
+small_machine config i fits = let seat = seat_of config i fits in omega (arith, seat.1, config.in_range.most_mutators, config.in_range.most_helpers)
 
-pub item_again : (c : Config) (i : Item) → IsItem c i → item_cause c (item i) ≡ None
+pub item_again : (config : Config) (i : Item) → IsItem config i → item_cause config (item i) ≡ None
 unfolding item_cause
-item_again c i fits =
+item_again config i fits =
     let machine = decimal (number_of i + 1) in
-    let count : digit_count (machine ++ aim i) ≡ length machine = digit_count-append machine (aim i) (digits_decimal own (number_of i + 1) (small_machine c i fits)) (subst NoDigit (append-nil (aim i)) (aim_no_digit i [])) in
-    rw (count, take_at machine (aim i), drop_at machine (aim i)) (aim_again c i fits)
+    let count : digit_count (machine ++ aim i) ≡ length machine = digit_count-append machine (aim i) (digits_decimal own (number_of i + 1) (small_machine config i fits)) (subst NoDigit (append-nil (aim i)) (aim_no_digit i [])) in
+    rw (count, take_at machine (aim i), drop_at machine (aim i)) (aim_again config i fits)
 
-pub items_again : (c : Config) (items : List Item) → AllByRecursion (IsItem c) items → items_cause c (map item items) ≡ None
+pub items_again : (config : Config) (items : List Item) → AllByRecursion (IsItem config) items → items_cause config (map item items) ≡ None
 unfolding items_cause
-items_again c [] all = refl
-items_again c (i ∷ items) all = rw (item_again c i all.0) (items_again c items all.1)
+items_again config [] all = refl
+items_again config (i ∷ items) all = rw (item_again config i all.0) (items_again config items all.1)
 
 -- ---- items are words
 
-code_word : (p : Place) → IsWord (code_of p)
+code_word : (place : Place) → IsWord (code_of place)
 code_word E1 = record { no_space = refl; no_end = refl }
 code_word _ = record { no_space = refl; no_end = refl }
 
-aim_free : (c : Config) (i : Item) → IsItem c i → IsWord (aim i)
-aim_free c (Steps n k) fits = let w = decimal_word k (omega (arith, fits.1.1)) in record { no_space = w.no_space; no_end = w.no_end }
-aim_free c (Until n p) fits = let w = code_word p in record { no_space = w.no_space; no_end = w.no_end }
-aim_free c (Replies n k) fits = let w = decimal_word k (omega (arith, fits.1.1)) in record { no_space = w.no_space; no_end = w.no_end }
+aim_free : (config : Config) (i : Item) → IsItem config i → IsWord (aim i)
+aim_free config (Steps n k) fits = let w = decimal_word k (omega (arith, fits.1.1)) in record { no_space = w.no_space; no_end = w.no_end }
+aim_free config (Until n p) fits = let w = code_word p in record { no_space = w.no_space; no_end = w.no_end }
+aim_free config (Replies n k) fits = let w = decimal_word k (omega (arith, fits.1.1)) in record { no_space = w.no_space; no_end = w.no_end }
 
-pub item_word : (c : Config) (i : Item) → IsItem c i → IsWord (item i)
-item_word c i fits =
-    let machine = decimal_word (number_of i + 1) (small_machine c i fits) in
-    let rest = aim_free c i fits in
+pub item_word : (config : Config) (i : Item) → IsItem config i → IsWord (item i)
+item_word config i fits =
+    let machine = decimal_word (number_of i + 1) (small_machine config i fits) in
+    let rest = aim_free config i fits in
     record { no_space = free_both 32 (decimal (number_of i + 1)) (aim i) machine.no_space rest.no_space; no_end = free_both 10 (decimal (number_of i + 1)) (aim i) machine.no_end rest.no_end }
 
-pub items_words : (c : Config) (items : List Item) → AllByRecursion (IsItem c) items → AllByRecursion IsWord (map item items)
-items_words c [] all = tt
-items_words c (i ∷ items) all = (item_word c i all.0, items_words c items all.1)
+pub items_words : (config : Config) (items : List Item) → AllByRecursion (IsItem config) items → AllByRecursion IsWord (map item items)
+items_words config [] all = tt
+items_words config (i ∷ items) all = (item_word config i all.0, items_words config items all.1)
 
 -- ---- lines
 
@@ -181,17 +181,17 @@ words_of_turn items = (33 ∷ []) ∷ map item items
 pub turn_is : (items : List Item) → join_with_byte 32 (words_of_turn items) ++ newline ∷ [] ≡ schedule_line items
 turn_is items = ap (λ (t : List ℕ). t ++ newline ∷ []) (join_words (33 ∷ []) (map item items) ∙ ap (λ (t : List ℕ). 33 ∷ t) (flat_map-map (λ (v : List ℕ). 32 ∷ v) item items))
 
-pub turn_clean : (c : Config) (items : List Item) → IsScheduleLine c items → AllByRecursion IsWord (words_of_turn items)
-turn_clean c items good = (record { no_space = refl; no_end = refl }, items_words c items good.in_range)
+pub turn_clean : (config : Config) (items : List Item) → IsScheduleLine config items → AllByRecursion IsWord (words_of_turn items)
+turn_clean config items good = (record { no_space = refl; no_end = refl }, items_words config items good.in_range)
 
-pub schedule_spelled : (c : Config) (ws : List (List ℕ)) → schedule_cause c ws ≡ None → (items : List Item) × IsScheduleLine c items × (ws ≡ map item items)
-schedule_spelled c [] e = absurd cc
-schedule_spelled c (w ∷ ws) e = let made = items_spelled c (w ∷ ws) e in by_items made.0 made.1 made.2
+pub schedule_spelled : (config : Config) (ws : List (List ℕ)) → schedule_cause config ws ≡ None → (items : List Item) × IsScheduleLine config items × (ws ≡ map item items)
+schedule_spelled config [] e = absurd cc
+schedule_spelled config (w ∷ ws) e = let made = items_spelled config (w ∷ ws) e in by_items made.0 made.1 made.2
   where
-    by_items : (items : List Item) → AllByRecursion (IsItem c) items → w ∷ ws ≡ map item items → (is : List Item) × IsScheduleLine c is × (w ∷ ws ≡ map item is)
+    by_items : (items : List Item) → AllByRecursion (IsItem config) items → w ∷ ws ≡ map item items → (is : List Item) × IsScheduleLine config is × (w ∷ ws ≡ map item is)
     by_items [] all same = absurd cc
     by_items (i ∷ items) all same = (i ∷ items, record { some = omega arith; in_range = all }, same)
 
-pub schedule_again : (c : Config) (items : List Item) → IsScheduleLine c items → schedule_cause c (map item items) ≡ None
-schedule_again c [] good = absurd (omega (arith, good.some))
-schedule_again c (i ∷ items) good = items_again c (i ∷ items) good.in_range
+pub schedule_again : (config : Config) (items : List Item) → IsScheduleLine config items → schedule_cause config (map item items) ≡ None
+schedule_again config [] good = absurd (omega (arith, good.some))
+schedule_again config (i ∷ items) good = items_again config (i ∷ items) good.in_range

@@ -45,8 +45,8 @@ commands_in_other lines l t ne =
     is_other : (a b : ℕ) → a ≢ b → eqb a b ≡ false
     is_other a b h = grind (arith, nat_tests)
 
-at_thread : (threads : ℕ) (lines : List TraceLine) (i : ℕ) (d : List Command) → i < threads → get_or (scripts_of threads lines) i d ≡ commands_in lines (1 + i)
-at_thread threads lines i d lt = get_or-map-range_with_len (commands_in lines) 1 threads i (1 + i) d lt refl
+at_thread : (threads : ℕ) (lines : List TraceLine) (index : ℕ) (script : List Command) → index < threads → get_or (scripts_of threads lines) index script ≡ commands_in lines (1 + index)
+at_thread threads lines index script lt = get_or-map-range_with_len (commands_in lines) 1 threads index (1 + index) script lt refl
 
 scripts_more : (version threads : ℕ) (lines : List TraceLine) (l : TraceLine) → IsLine version threads l → with_line (scripts_of threads lines) l ≡ scripts_of threads (lines ++ l ∷ [])
 scripts_more version threads lines l fits =
@@ -64,7 +64,7 @@ scripts_more version threads lines l fits =
       | inl same ↦
           subst (λ (j : ℕ). get_or (set olds i script) j d ≡ get_or (scripts_of threads (lines ++ l ∷ [])) j d) (sym same)
           (get_or-set_same olds i script d (omega (arith, size))
-          ∙ ap (λ (s : List Command). s ++ l.command ∷ []) (at_thread threads lines i [] in_range)
+          ∙ ap (λ (script : List Command). script ++ l.command ∷ []) (at_thread threads lines i [] in_range)
           ∙ sym (at_thread threads (lines ++ l ∷ []) i d in_range ∙ commands_in_own lines l (1 + i) one))
       | inr other ↦
           get_or-set_other olds i k script d other
@@ -89,7 +89,7 @@ taken_more version threads bytes rest after scripts news l taken fits parts made
   lines = taken.lines ++ l ∷ [];
   in_range = all_more version threads taken.lines l taken.in_range fits;
   spelled = taken.spelled ∙ ap (λ (bs : List ℕ). flat_map line taken.lines ++ bs) parts ∙ sym (append_assoc (flat_map line taken.lines) (line l) after) ∙ ap (λ (bs : List ℕ). bs ++ after) (sym (flat_map-append line taken.lines (l ∷ []) ∙ ap (λ (bs : List ℕ). flat_map line taken.lines ++ bs) (flat_map-cons line l [] ∙ append-nil (line l))));
-  by_thread = made ∙ ap (λ (s : List (List Command)). with_line s l) taken.by_thread ∙ scripts_more version threads taken.lines l fits;
+  by_thread = made ∙ ap (λ (scripts : List (List Command)). with_line scripts l) taken.by_thread ∙ scripts_more version threads taken.lines l fits;
 }
 
 pub taken_count : (version threads : ℕ) (bytes rest after : List ℕ) (scripts news : List (List Command)) (l : TraceLine) (taken : HasReadLines version threads bytes rest scripts) (fits : IsLine version threads l) (parts : rest ≡ line l ++ after) (made : news ≡ with_line scripts l)
@@ -142,16 +142,16 @@ turns_behind [] = tt
 turns_behind (items ∷ turns) = refl
 
 -- what was read is a trace
-pub whole : (bytes rest behind : List ℕ) (version : ℕ) (c : Config) (threads : ℕ) (scripts : List (List Command)) (items : List Item) → IsVersion version → IsNarrow c → length bytes ≤ most_bytes → bytes ≡ header version c ++ rest → threads ≡ c.mutators
-    → HasReadLines version threads rest behind scripts → HasScheduled c behind [] items → Reads bytes version c scripts items
-whole bytes rest behind version c threads scripts items known narrow short found same taken turned = record {
+pub whole : (bytes rest behind : List ℕ) (version : ℕ) (config : Config) (threads : ℕ) (scripts : List (List Command)) (items : List Item) → IsVersion version → IsNarrow config → length bytes ≤ most_bytes → bytes ≡ header version config ++ rest → threads ≡ config.mutators
+    → HasReadLines version threads rest behind scripts → HasScheduled config behind [] items → Reads bytes version config scripts items
+whole bytes rest behind version config threads scripts items known narrow short found same taken turned = record {
   known = known;
   narrow = narrow;
   lines = taken.lines;
   in_range = subst (λ (n : ℕ). AllByRecursion (IsLine version n) taken.lines) same taken.in_range;
   turns = turned.turns;
   turns_in_range = turned.in_range;
-  spelled = found ∙ ap (λ (bs : List ℕ). header version c ++ bs) (taken.spelled ∙ ap (λ (bs : List ℕ). flat_map line taken.lines ++ bs) turned.spelled);
+  spelled = found ∙ ap (λ (bs : List ℕ). header version config ++ bs) (taken.spelled ∙ ap (λ (bs : List ℕ). flat_map line taken.lines ++ bs) turned.spelled);
   by_thread = taken.by_thread ∙ ap (λ (n : ℕ). scripts_of n taken.lines) same;
   in_order = turned.items;
   short = short;

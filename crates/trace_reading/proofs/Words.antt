@@ -15,9 +15,9 @@ use Rattle.trace_reading.proofs.Digits.{digits_are_digits}
 use Rattle.trace_reading.specs.Causes.{first_cause, is_same, parts_behind, is_plain_number, range_cause, number_cause, numbers_cause, title_cause, kind_named, ranges_of, command_cause, item_cause, items_cause, schedule_cause}
 use Rattle.trace_reading.proofs.Cuts.{cut_parts}
 
-pub both : (a b : Bool) → (a && b) ≡ true → (a ≡ true) × (b ≡ true)
-both true b e = (refl, e)
-both false b e = absurd cc
+pub both : (holds other_holds : Bool) → (holds && other_holds) ≡ true → (holds ≡ true) × (other_holds ≡ true)
+both true other_holds e = (refl, e)
+both false other_holds e = absurd cc
 
 -- a number is digits
 pub number_digits : (w : List ℕ) → is_plain_number w ≡ true → AllDigits 10 w
@@ -64,24 +64,24 @@ regions_small words r second fine large =
 
 -- ---- the loop over the words
 
-pub numbers_go_on : (ranges : List (ℕ × ℕ)) (i : ℕ) (d : ℕ × ℕ) (words : List (List ℕ)) (w : List ℕ) (more : List (List ℕ)) (whole : Option Why) → i < length ranges → words ≡ w ∷ more
-    → number_cause (get_or ranges i d).0 (get_or ranges i d).1 w ≡ None → numbers_cause (drop i ranges) words ≡ whole → numbers_cause (drop (i + 1) ranges) more ≡ whole
+pub numbers_go_on : (ranges : List (ℕ × ℕ)) (index : ℕ) (d : ℕ × ℕ) (words : List (List ℕ)) (w : List ℕ) (more : List (List ℕ)) (whole : Option Why) → index < length ranges → words ≡ w ∷ more
+    → number_cause (get_or ranges index d).0 (get_or ranges index d).1 w ≡ None → numbers_cause (drop index ranges) words ≡ whole → numbers_cause (drop (index + 1) ranges) more ≡ whole
 unfolding numbers_cause
-numbers_go_on ranges i d words w more whole lt e fine so_far =
-    let one : numbers_cause (drop i ranges) words ≡ numbers_cause (drop (i + 1) ranges) more = rw (add-one, drop-cons ranges i d, e, fine) refl in
+numbers_go_on ranges index d words w more whole lt e fine so_far =
+    let one : numbers_cause (drop index ranges) words ≡ numbers_cause (drop (index + 1) ranges) more = rw (add-one, drop-cons ranges index d, e, fine) refl in
     sym one ∙ so_far
 
-pub number_stops : (ranges : List (ℕ × ℕ)) (i : ℕ) (d : ℕ × ℕ) (words : List (List ℕ)) (w : List ℕ) (more : List (List ℕ)) (why : Why) (whole : Option Why) → i < length ranges → words ≡ w ∷ more
-    → number_cause (get_or ranges i d).0 (get_or ranges i d).1 w ≡ Some why → numbers_cause (drop i ranges) words ≡ whole → whole ≡ Some why
+pub number_stops : (ranges : List (ℕ × ℕ)) (index : ℕ) (d : ℕ × ℕ) (words : List (List ℕ)) (w : List ℕ) (more : List (List ℕ)) (why : Why) (whole : Option Why) → index < length ranges → words ≡ w ∷ more
+    → number_cause (get_or ranges index d).0 (get_or ranges index d).1 w ≡ Some why → numbers_cause (drop index ranges) words ≡ whole → whole ≡ Some why
 unfolding numbers_cause
-number_stops ranges i d words w more why whole lt e bad so_far =
-    let one : numbers_cause (drop i ranges) words ≡ Some why = rw (drop-cons ranges i d, e, bad) refl in
+number_stops ranges index d words w more why whole lt e bad so_far =
+    let one : numbers_cause (drop index ranges) words ≡ Some why = rw (drop-cons ranges index d, e, bad) refl in
     sym so_far ∙ one
 
-pub words_end : (ranges : List (ℕ × ℕ)) (i : ℕ) (d : ℕ × ℕ) (words : List (List ℕ)) (whole : Option Why) → i < length ranges → words ≡ [] → numbers_cause (drop i ranges) words ≡ whole → whole ≡ None
+pub words_end : (ranges : List (ℕ × ℕ)) (index : ℕ) (d : ℕ × ℕ) (words : List (List ℕ)) (whole : Option Why) → index < length ranges → words ≡ [] → numbers_cause (drop index ranges) words ≡ whole → whole ≡ None
 unfolding numbers_cause
-words_end ranges i d words whole lt e so_far =
-    let one : numbers_cause (drop i ranges) words ≡ None = rw (drop-cons ranges i d, e) refl in
+words_end ranges index d words whole lt e so_far =
+    let one : numbers_cause (drop index ranges) words ≡ None = rw (drop-cons ranges index d, e) refl in
     sym so_far ∙ one
 
 pub ranges_end : (ranges : List (ℕ × ℕ)) (i : ℕ) (words : List (List ℕ)) (whole : Option Why) → length ranges ≤ i → numbers_cause (drop i ranges) words ≡ whole → whole ≡ None
@@ -92,16 +92,16 @@ ranges_end ranges i words whole le so_far =
 
 -- ---- the loop over the kinds
 
-pub kind_found : (kinds : List CommandKind) (i : ℕ) (w : List ℕ) (whole : Option CommandKind) → i < length kinds → true ≡ is_same w (word (get_or kinds i New)) → kind_named (drop i kinds) w ≡ whole → whole ≡ Some (get_or kinds i New)
+pub kind_found : (kinds : List CommandKind) (index : ℕ) (w : List ℕ) (whole : Option CommandKind) → index < length kinds → true ≡ is_same w (word (get_or kinds index New)) → kind_named (drop index kinds) w ≡ whole → whole ≡ Some (get_or kinds index New)
 unfolding kind_named
-kind_found kinds i w whole lt same so_far =
-    let one : kind_named (drop i kinds) w ≡ Some (get_or kinds i New) = rw (drop-cons kinds i New, ← same) refl in
+kind_found kinds index w whole lt same so_far =
+    let one : kind_named (drop index kinds) w ≡ Some (get_or kinds index New) = rw (drop-cons kinds index New, ← same) refl in
     sym so_far ∙ one
 
-pub kind_goes_on : (kinds : List CommandKind) (i : ℕ) (w : List ℕ) (whole : Option CommandKind) → i < length kinds → false ≡ is_same w (word (get_or kinds i New)) → kind_named (drop i kinds) w ≡ whole → kind_named (drop (i + 1) kinds) w ≡ whole
+pub kind_goes_on : (kinds : List CommandKind) (index : ℕ) (w : List ℕ) (whole : Option CommandKind) → index < length kinds → false ≡ is_same w (word (get_or kinds index New)) → kind_named (drop index kinds) w ≡ whole → kind_named (drop (index + 1) kinds) w ≡ whole
 unfolding kind_named
-kind_goes_on kinds i w whole lt other so_far =
-    let one : kind_named (drop i kinds) w ≡ kind_named (drop (i + 1) kinds) w = rw (add-one, drop-cons kinds i New, ← other) refl in
+kind_goes_on kinds index w whole lt other so_far =
+    let one : kind_named (drop index kinds) w ≡ kind_named (drop (index + 1) kinds) w = rw (add-one, drop-cons kinds index New, ← other) refl in
     sym one ∙ so_far
 
 pub kinds_end : (kinds : List CommandKind) (i : ℕ) (w : List ℕ) (whole : Option CommandKind) → length kinds ≤ i → kind_named (drop i kinds) w ≡ whole → whole ≡ None
@@ -112,28 +112,28 @@ kinds_end kinds i w whole le so_far =
 
 -- ---- the loop over the items
 
-pub item_goes_on : (c : Config) (words : List (List ℕ)) (w : List ℕ) (more : List (List ℕ)) (whole : Option Why) → words ≡ w ∷ more → item_cause c w ≡ None → items_cause c words ≡ whole → items_cause c more ≡ whole
+pub item_goes_on : (config : Config) (words : List (List ℕ)) (w : List ℕ) (more : List (List ℕ)) (whole : Option Why) → words ≡ w ∷ more → item_cause config w ≡ None → items_cause config words ≡ whole → items_cause config more ≡ whole
 unfolding items_cause
-item_goes_on c words w more whole e fine so_far =
-    let one : items_cause c words ≡ items_cause c more = rw (e, fine) refl in
+item_goes_on config words w more whole e fine so_far =
+    let one : items_cause config words ≡ items_cause config more = rw (e, fine) refl in
     sym one ∙ so_far
 
-pub item_stops : (c : Config) (words : List (List ℕ)) (w : List ℕ) (more : List (List ℕ)) (why : Why) (whole : Option Why) → words ≡ w ∷ more → item_cause c w ≡ Some why → items_cause c words ≡ whole → whole ≡ Some why
+pub item_stops : (config : Config) (words : List (List ℕ)) (w : List ℕ) (more : List (List ℕ)) (why : Why) (whole : Option Why) → words ≡ w ∷ more → item_cause config w ≡ Some why → items_cause config words ≡ whole → whole ≡ Some why
 unfolding items_cause
-item_stops c words w more why whole e bad so_far =
-    let one : items_cause c words ≡ Some why = rw (e, bad) refl in
+item_stops config words w more why whole e bad so_far =
+    let one : items_cause config words ≡ Some why = rw (e, bad) refl in
     sym so_far ∙ one
 
-pub items_end : (c : Config) (words : List (List ℕ)) (whole : Option Why) → words ≡ [] → items_cause c words ≡ whole → whole ≡ None
+pub items_end : (config : Config) (words : List (List ℕ)) (whole : Option Why) → words ≡ [] → items_cause config words ≡ whole → whole ≡ None
 unfolding items_cause
-items_end c words whole e so_far =
-    let one : items_cause c words ≡ None = rw e refl in
+items_end config words whole e so_far =
+    let one : items_cause config words ≡ None = rw e refl in
     sym so_far ∙ one
 
 -- words behind a mark are some
-pub some_items : (c : Config) (bytes : List ℕ) → 1 ≤ length bytes → schedule_cause c (parts_behind 32 bytes) ≡ items_cause c (parts_behind 32 bytes)
-some_items c [] some = absurd (omega arith)
-some_items c (b ∷ bytes) some = rw (cut_parts 32 bytes) refl
+pub some_items : (config : Config) (bytes : List ℕ) → 1 ≤ length bytes → schedule_cause config (parts_behind 32 bytes) ≡ items_cause config (parts_behind 32 bytes)
+some_items config [] some = absurd (omega arith)
+some_items config (b ∷ bytes) some = rw (cut_parts 32 bytes) refl
 
 -- ---- lines
 
@@ -164,8 +164,8 @@ not_none : (bytes : List ℕ) → false ≡ eqb (length bytes) 0 → 1 ≤ lengt
 not_none [] e = absurd cc
 not_none (b ∷ bytes) e = omega arith
 
-pub some_items_left : (c : Config) (bytes : List ℕ) → false ≡ eqb (length bytes) 0 → schedule_cause c (parts_behind 32 bytes) ≡ items_cause c (parts_behind 32 bytes)
-some_items_left c bytes e = some_items c bytes (not_none bytes e)
+pub some_items_left : (config : Config) (bytes : List ℕ) → false ≡ eqb (length bytes) 0 → schedule_cause config (parts_behind 32 bytes) ≡ items_cause config (parts_behind 32 bytes)
+some_items_left config bytes e = some_items config bytes (not_none bytes e)
 
 -- ---- the line of a command
 
@@ -177,10 +177,10 @@ pub no_kind : (version threads : ℕ) (thread : List ℕ) (words : List (List �
 unfolding command_cause
 no_kind version threads thread words w more e none = rw (e, none) refl
 
-pub kind_known : (version threads : ℕ) (thread : List ℕ) (words : List (List ℕ)) (w : List ℕ) (more : List (List ℕ)) (k : CommandKind) → words ≡ w ∷ more → kind_named (kinds version) w ≡ Some k
-    → command_cause version threads thread words ≡ cond (eqb (length more) (length (limits k))) (numbers_cause (ranges_of threads (limits k)) (thread ∷ more)) (Some Command)
+pub kind_known : (version threads : ℕ) (thread : List ℕ) (words : List (List ℕ)) (w : List ℕ) (more : List (List ℕ)) (kind : CommandKind) → words ≡ w ∷ more → kind_named (kinds version) w ≡ Some kind
+    → command_cause version threads thread words ≡ cond (eqb (length more) (length (limits kind))) (numbers_cause (ranges_of threads (limits kind)) (thread ∷ more)) (Some Command)
 unfolding command_cause
-kind_known version threads thread words w more k e known = rw (e, known) refl
+kind_known version threads thread words w more kind e known = rw (e, known) refl
 
 pub thread_first : (threads : ℕ) (thread : List ℕ) (bounds : List ℕ) (more : List (List ℕ)) → numbers_cause (ranges_of threads bounds) (thread ∷ more) ≡ first_cause (number_cause 1 threads thread) (numbers_cause (map (λ limit. (0, limit)) bounds) more)
 unfolding numbers_cause
@@ -192,14 +192,14 @@ differs m n ne = grind (arith, nat_tests)
 pub agrees : (m n : ℕ) → m ≡ n → eqb m n ≡ true
 agrees m n e = grind (arith, nat_tests)
 
-pub other_numbers : (version threads : ℕ) (thread : List ℕ) (words : List (List ℕ)) (w : List ℕ) (more : List (List ℕ)) (k : CommandKind) → words ≡ w ∷ more → kind_named (kinds version) w ≡ Some k → (length more ≡ length (limits k) → ⊥)
+pub other_numbers : (version threads : ℕ) (thread : List ℕ) (words : List (List ℕ)) (w : List ℕ) (more : List (List ℕ)) (kind : CommandKind) → words ≡ w ∷ more → kind_named (kinds version) w ≡ Some kind → (length more ≡ length (limits kind) → ⊥)
     → command_cause version threads thread words ≡ Some Command
-other_numbers version threads thread words w more k e known other = kind_known version threads thread words w more k e known ∙ rw (differs (length more) (length (limits k)) other) refl
+other_numbers version threads thread words w more kind e known other = kind_known version threads thread words w more kind e known ∙ rw (differs (length more) (length (limits kind)) other) refl
 
-pub command_numbers : (version threads : ℕ) (thread : List ℕ) (words : List (List ℕ)) (w : List ℕ) (more : List (List ℕ)) (k : CommandKind) → words ≡ w ∷ more → kind_named (kinds version) w ≡ Some k → length more ≡ length (limits k)
-    → command_cause version threads thread words ≡ first_cause (number_cause 1 threads thread) (numbers_cause (map (λ limit. (0, limit)) (limits k)) more)
-command_numbers version threads thread words w more k e known same =
-    kind_known version threads thread words w more k e known ∙ rw (agrees (length more) (length (limits k)) same) (thread_first threads thread (limits k) more)
+pub command_numbers : (version threads : ℕ) (thread : List ℕ) (words : List (List ℕ)) (w : List ℕ) (more : List (List ℕ)) (kind : CommandKind) → words ≡ w ∷ more → kind_named (kinds version) w ≡ Some kind → length more ≡ length (limits kind)
+    → command_cause version threads thread words ≡ first_cause (number_cause 1 threads thread) (numbers_cause (map (λ limit. (0, limit)) (limits kind)) more)
+command_numbers version threads thread words w more kind e known same =
+    kind_known version threads thread words w more kind e known ∙ rw (agrees (length more) (length (limits kind)) same) (thread_first threads thread (limits kind) more)
 
 -- ---- the loop over the words of a command
 
@@ -211,25 +211,25 @@ pub up_to_length : (bounds : List ℕ) → length (up_to bounds) ≡ length boun
 up_to_length [] = refl
 up_to_length (b ∷ bounds) = ap suc (up_to_length bounds)
 
-at_up_to : (bounds : List ℕ) (i : ℕ) → i < length bounds → (length (up_to bounds) ≡ length bounds) × ((get_or (up_to bounds) i (0, 0)).0 ≡ 0) × ((get_or (up_to bounds) i (0, 0)).1 ≡ get_or bounds i 0)
-at_up_to [] i lt = absurd (omega arith)
+at_up_to : (bounds : List ℕ) (index : ℕ) → index < length bounds → (length (up_to bounds) ≡ length bounds) × ((get_or (up_to bounds) index (0, 0)).0 ≡ 0) × ((get_or (up_to bounds) index (0, 0)).1 ≡ get_or bounds index 0)
+at_up_to [] index lt = absurd (omega arith)
 at_up_to (b ∷ bounds) zero lt = (ap suc (up_to_length bounds), refl, refl)
-at_up_to (b ∷ bounds) (suc i) lt = let others = at_up_to bounds i (omega arith) in (ap suc others.0, others.1, others.2)
+at_up_to (b ∷ bounds) (suc index) lt = let others = at_up_to bounds index (omega arith) in (ap suc others.0, others.1, others.2)
 
-pub limits_go_on : (bounds : List ℕ) (i : ℕ) (words : List (List ℕ)) (w : List ℕ) (more : List (List ℕ)) (whole : Option Why) → i < length bounds → words ≡ w ∷ more
-    → number_cause 0 (get_or bounds i 0) w ≡ None → numbers_cause (drop i (up_to bounds)) words ≡ whole → numbers_cause (drop (i + 1) (up_to bounds)) more ≡ whole
-limits_go_on bounds i words w more whole lt e fine so_far =
-    let there = at_up_to bounds i lt in
-    numbers_go_on (up_to bounds) i (0, 0) words w more whole (omega (arith, there.0)) e (rw (there.1, there.2) fine) so_far
+pub limits_go_on : (bounds : List ℕ) (index : ℕ) (words : List (List ℕ)) (w : List ℕ) (more : List (List ℕ)) (whole : Option Why) → index < length bounds → words ≡ w ∷ more
+    → number_cause 0 (get_or bounds index 0) w ≡ None → numbers_cause (drop index (up_to bounds)) words ≡ whole → numbers_cause (drop (index + 1) (up_to bounds)) more ≡ whole
+limits_go_on bounds index words w more whole lt e fine so_far =
+    let there = at_up_to bounds index lt in
+    numbers_go_on (up_to bounds) index (0, 0) words w more whole (omega (arith, there.0)) e (rw (there.1, there.2) fine) so_far
 
-pub limit_stops : (bounds : List ℕ) (i : ℕ) (words : List (List ℕ)) (w : List ℕ) (more : List (List ℕ)) (why : Why) (whole : Option Why) → i < length bounds → words ≡ w ∷ more
-    → number_cause 0 (get_or bounds i 0) w ≡ Some why → numbers_cause (drop i (up_to bounds)) words ≡ whole → whole ≡ Some why
-limit_stops bounds i words w more why whole lt e bad so_far =
-    let there = at_up_to bounds i lt in
-    number_stops (up_to bounds) i (0, 0) words w more why whole (omega (arith, there.0)) e (rw (there.1, there.2) bad) so_far
+pub limit_stops : (bounds : List ℕ) (index : ℕ) (words : List (List ℕ)) (w : List ℕ) (more : List (List ℕ)) (why : Why) (whole : Option Why) → index < length bounds → words ≡ w ∷ more
+    → number_cause 0 (get_or bounds index 0) w ≡ Some why → numbers_cause (drop index (up_to bounds)) words ≡ whole → whole ≡ Some why
+limit_stops bounds index words w more why whole lt e bad so_far =
+    let there = at_up_to bounds index lt in
+    number_stops (up_to bounds) index (0, 0) words w more why whole (omega (arith, there.0)) e (rw (there.1, there.2) bad) so_far
 
-pub limit_words_end : (bounds : List ℕ) (i : ℕ) (words : List (List ℕ)) (whole : Option Why) → i < length bounds → words ≡ [] → numbers_cause (drop i (up_to bounds)) words ≡ whole → whole ≡ None
-limit_words_end bounds i words whole lt e so_far = let there = at_up_to bounds i lt in words_end (up_to bounds) i (0, 0) words whole (omega (arith, there.0)) e so_far
+pub limit_words_end : (bounds : List ℕ) (index : ℕ) (words : List (List ℕ)) (whole : Option Why) → index < length bounds → words ≡ [] → numbers_cause (drop index (up_to bounds)) words ≡ whole → whole ≡ None
+limit_words_end bounds index words whole lt e so_far = let there = at_up_to bounds index lt in words_end (up_to bounds) index (0, 0) words whole (omega (arith, there.0)) e so_far
 
 pub limits_end : (bounds : List ℕ) (i : ℕ) (words : List (List ℕ)) (whole : Option Why) → length bounds ≤ i → numbers_cause (drop i (up_to bounds)) words ≡ whole → whole ≡ None
 limits_end bounds i words whole le so_far = let size = up_to_length bounds in ranges_end (up_to bounds) i words whole (omega (arith, size)) so_far

@@ -98,22 +98,22 @@ until_cause most machine code = if is_plain_number machine && is_code code then 
 
 -- a machine and how far it goes: behind a colon, an equals sign or an at sign
 abbrev pub aim_cause : Config → List ℕ → List ℕ → Option Why
-aim_cause c machine [] = Some Item
-aim_cause c machine (mark ∷ rest) =
-    if mark == 58 then counted_cause (seat_count c.mutators c.helpers) machine rest else
-    (if mark == 61 then counted_cause c.mutators machine rest else
-    (if mark == 64 then until_cause (seat_count c.mutators c.helpers) machine rest else Some Item))
+aim_cause config machine [] = Some Item
+aim_cause config machine (mark ∷ rest) =
+    if mark == 58 then counted_cause (seat_count config.mutators config.helpers) machine rest else
+    (if mark == 61 then counted_cause config.mutators machine rest else
+    (if mark == 64 then until_cause (seat_count config.mutators config.helpers) machine rest else Some Item))
 
 -- a word where an item is to stand
 unfoldable pub item_cause : Config → List ℕ → Option Why
-item_cause c w = aim_cause c (take (digit_count w) w) (drop (digit_count w) w)
+item_cause config w = aim_cause config (take (digit_count w) w) (drop (digit_count w) w)
 
 -- words where items are to stand, from left to right: each for its form and then its ranges
 unfoldable pub items_cause : Config → List (List ℕ) → Option Why
-items_cause c [] = None
-items_cause c (w ∷ ws) = first_cause (item_cause c w) (items_cause c ws)
+items_cause config [] = None
+items_cause config (w ∷ ws) = first_cause (item_cause config w) (items_cause config ws)
 
 -- a line of the schedule behind its mark
 abbrev pub schedule_cause : Config → List (List ℕ) → Option Why
-schedule_cause c [] = Some Item
-schedule_cause c (w ∷ ws) = items_cause c (w ∷ ws)
+schedule_cause config [] = Some Item
+schedule_cause config (w ∷ ws) = items_cause config (w ∷ ws)

@@ -37,4 +37,4 @@ IsAny x = Unit {0}
 
 -- an item of this machine
 abbrev pub IsItemOf : Config → ℕ → Item → Type 0
-IsItemOf c number i = IsItem c i × (number_of i ≡ number)
+IsItemOf config number item = IsItem config item × (number_of item ≡ number)

@@ -37,9 +37,9 @@ abbrev pub items_of : List (List Item) → List Item
 items_of turns = flat_map (λ items. items) turns
 
 -- these bytes are lines of the schedule, whose items were added
-pub record HasScheduled (c : Config) (bytes : List ℕ) (before after : List Item) : Type 0 where
+pub record HasScheduled (config : Config) (bytes : List ℕ) (before after : List Item) : Type 0 where
   pub turns : List (List Item)
-  pub in_range : AllByRecursion (IsScheduleLine c) turns
+  pub in_range : AllByRecursion (IsScheduleLine config) turns
   pub spelled : bytes ≡ flat_map schedule_line turns
   pub items : after ≡ before ++ items_of turns
 

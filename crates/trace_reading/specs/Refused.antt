@@ -22,24 +22,24 @@ pub data LineStage : Type 0 where
 
 -- behind the head, where a line of the schedule stands before it or not
 abbrev pub body_stage : (version : ℕ) → Config → Bool → LineStage
-body_stage version c false = Commands version c
-body_stage version c true = Turns c
+body_stage version config false = Commands version config
+body_stage version config true = Turns config
 
 -- ---- the lines of a trace
 
 abbrev pub IsCommandLine : (version : ℕ) → Config → List ℕ → Type 0
-IsCommandLine version c text = (l : TraceLine) × IsLine version c.mutators l × (text ++ newline ∷ [] ≡ line l)
+IsCommandLine version config text = (l : TraceLine) × IsLine version config.mutators l × (text ++ newline ∷ [] ≡ line l)
 
 abbrev pub IsTurnItem : Config → List ℕ → Type 0
-IsTurnItem c text = (items : List Item) × IsScheduleLine c items × (text ++ newline ∷ [] ≡ schedule_line items)
+IsTurnItem config text = (items : List Item) × IsScheduleLine config items × (text ++ newline ∷ [] ≡ schedule_line items)
 
 -- this text, with the end of its line, is a line of the grammar there, and what is to stand on the next
 abbrev pub LineFollows : LineStage → List ℕ → LineStage → Type 0
-LineFollows Version text next = (v : ℕ) × IsVersion v × (text ++ newline ∷ [] ≡ titled (codes "shen") (v ∷ [])) × (next ≡ Heap v)
-LineFollows (Heap v) text next = (c : Config) × IsNarrow c × (text ++ newline ∷ [] ≡ titled (codes "heap") (c.regions ∷ c.region_words ∷ c.reserve ∷ [])) × (next ≡ Threads v c.regions c.region_words c.reserve)
-LineFollows (Threads v r w e) text next = (c : Config) × (c.regions ≡ r) × (c.region_words ≡ w) × (c.reserve ≡ e) × (text ++ newline ∷ [] ≡ titled (codes "threads") (c.mutators ∷ c.helpers ∷ [])) × (next ≡ Commands v c)
-LineFollows (Commands v c) text next = (IsCommandLine v c text × (next ≡ Commands v c)) ⊎ (IsTurnItem c text × (next ≡ Turns c))
-LineFollows (Turns c) text next = IsTurnItem c text × (next ≡ Turns c)
+LineFollows Version text next = (address : ℕ) × IsVersion address × (text ++ newline ∷ [] ≡ titled (codes "shen") (address ∷ [])) × (next ≡ Heap address)
+LineFollows (Heap address) text next = (config : Config) × IsNarrow config × (text ++ newline ∷ [] ≡ titled (codes "heap") (config.regions ∷ config.region_words ∷ config.reserve ∷ [])) × (next ≡ Threads address config.regions config.region_words config.reserve)
+LineFollows (Threads address r w e) text next = (config : Config) × (config.regions ≡ r) × (config.region_words ≡ w) × (config.reserve ≡ e) × (text ++ newline ∷ [] ≡ titled (codes "threads") (config.mutators ∷ config.helpers ∷ [])) × (next ≡ Commands address config)
+LineFollows (Commands address config) text next = (IsCommandLine address config text × (next ≡ Commands address config)) ⊎ (IsTurnItem config text × (next ≡ Turns config))
+LineFollows (Turns config) text next = IsTurnItem config text × (next ≡ Turns config)
 
 -- these lines follow one on the other
 abbrev pub Lead : LineStage → List (List ℕ) → LineStage → Type 0
@@ -50,13 +50,13 @@ Lead stage (text ∷ texts) end = (next : LineStage) × LineFollows stage text n
 
 -- a line of a command or of the schedule, by its words
 abbrev pub body_cause : Config → Option Why → List (List ℕ) → Option Why
-body_cause c other [] = other
-body_cause c other (w ∷ ws) = if is_same w (33 ∷ []) then schedule_cause c ws else other
+body_cause config other [] = other
+body_cause config other (w ∷ ws) = if is_same w (33 ∷ []) then schedule_cause config ws else other
 
 -- a line of a command, by its words
 abbrev pub command_line_cause : (version : ℕ) → Config → List (List ℕ) → Option Why
-command_line_cause version c [] = None
-command_line_cause version c (w ∷ ws) = command_cause version c.mutators w ws
+command_line_cause version config [] = None
+command_line_cause version config (w ∷ ws) = command_cause version config.mutators w ws
 
 -- the first cause that holds for a line with these words
 unfoldable pub words_cause : LineStage → List (List ℕ) → Option Why

@@ -59,8 +59,8 @@ numbers_at (limit ∷ limits) bytes = do
 
 -- the kind whose word stands at the front, or what the others give
 abbrev pub found : CommandKind → Option (List ℕ) → Option (CommandKind × List ℕ) → Option (CommandKind × List ℕ)
-found k None others = others
-found k (Some rest) others = Some (k, rest)
+found kind None others = others
+found kind (Some rest) others = Some (kind, rest)
 
 -- the first of these kinds whose word stands at the front
 unfoldable pub kind_among : List CommandKind → List ℕ → Option (CommandKind × List ℕ)

@@ -79,12 +79,12 @@ IsKnown version (Unpin slot) = 2 ≤ version
 IsKnown version _ = Unit {0}
 
 -- what may stand on a line of a version where there are so many threads, counted from 1
-pub record IsLine (version threads : ℕ) (l : TraceLine) : Type 0 where
-  pub from_one : 1 ≤ l.thread
-  pub to_last : l.thread ≤ threads
-  pub known : IsKnown version l.command
-  pub valid : IsValid l.command
-  pub fits : FitsWhenWritten l.command
+pub record IsLine (version threads : ℕ) (line : TraceLine) : Type 0 where
+  pub from_one : 1 ≤ line.thread
+  pub to_last : line.thread ≤ threads
+  pub known : IsKnown version line.command
+  pub valid : IsValid line.command
+  pub fits : FitsWhenWritten line.command
 
 -- a title and numbers, on a line of their own
 abbrev pub titled : List ℕ → List ℕ → List ℕ
@@ -92,7 +92,7 @@ titled title ns = title ++ (numbers ns ++ newline ∷ [])
 
 -- the three lines at the head of a trace of a version
 abbrev pub header : ℕ → Config → List ℕ
-header version c = titled (codes "shen") (version ∷ []) ++ (titled (codes "heap") (c.regions ∷ c.region_words ∷ c.reserve ∷ []) ++ titled (codes "threads") (c.mutators ∷ c.helpers ∷ []))
+header version config = titled (codes "shen") (version ∷ []) ++ (titled (codes "heap") (config.regions ∷ config.region_words ∷ config.reserve ∷ []) ++ titled (codes "threads") (config.mutators ∷ config.helpers ∷ []))
 
 -- ---- schedules
 
@@ -134,11 +134,11 @@ IsCount count = IsUpTo 4000000000 count
 
 -- What may stand in a schedule for these machines. Replies are those of a mutator.
 abbrev pub IsItem : Config → Item → Type 0
-IsItem c (Steps number count) = (number < seat_count c.mutators c.helpers) × IsCount count
-IsItem c (Until number place) = number < seat_count c.mutators c.helpers
-IsItem c (Replies number count) = (number < c.mutators) × IsCount count
+IsItem config (Steps number count) = (number < seat_count config.mutators config.helpers) × IsCount count
+IsItem config (Until number place) = number < seat_count config.mutators config.helpers
+IsItem config (Replies number count) = (number < config.mutators) × IsCount count
 
 -- what may stand on a line of the schedule: one item or more
-pub record IsScheduleLine (c : Config) (items : List Item) : Type 0 where
+pub record IsScheduleLine (config : Config) (items : List Item) : Type 0 where
   pub some : 1 ≤ length items
-  pub in_range : AllByRecursion (IsItem c) items
+  pub in_range : AllByRecursion (IsItem config) items

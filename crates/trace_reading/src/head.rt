@@ -62,7 +62,7 @@ fn version_cause(bytes: &[u8]) -> Option<Why>
 
 /// Why no line of the heap stands at the front.
 fn heap_cause(bytes: &[u8]) -> Option<Why>
-    ensures { (v : ℕ) → result ≡ cause_of (stage.Heap v) (parts 10 bytes.now) }
+    ensures { (address : ℕ) → result ≡ cause_of (stage.Heap address) (parts 10 bytes.now) }
 {
     match line_at(bytes) {
         Some((text, _)) => title_cause(
@@ -105,7 +105,7 @@ pub struct Refusal {
 
 /// The first line of a trace's head that is refused, and why. None: the bytes begin with a head.
 pub fn head_refusal(bytes: &[u8]) -> Option<Refusal>
-    ensures { MatchOption result ((v : ℕ) × (c : Config) × (rest : List ℕ) × IsVersion v × IsNarrow c × (bytes.now ≡ header v c ++ rest)) (λ r. StopsAt bytes.now r.line r.why) }
+    ensures { MatchOption result ((v : ℕ) × (config : Config) × (rest : List ℕ) × IsVersion v × IsNarrow config × (bytes.now ≡ header v config ++ rest)) (λ r. StopsAt bytes.now r.line r.why) }
 {
     if let Some(why) = version_cause(bytes) {
         return Some(Refusal { line: 1, why });

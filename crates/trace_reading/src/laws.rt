@@ -7,5 +7,5 @@ ghost use Rattle.trace_reading.specs.Grammar.{Reads, IsSameTrace};
 
 /// A law: bytes are a trace in one way at most.
 pub fn traces_are_read_once()
-    ensures { (bytes : List ℕ) (v w : ℕ) (c d : Config) (xs ys : List (List Command)) (is js : List Item) → Reads bytes v c xs is → Reads bytes w d ys js → IsSameTrace v c xs is w d ys js }
+    ensures { (bytes : List ℕ) (v w : ℕ) (config other_config : Config) (xs ys : List (List Command)) (is js : List Item) → Reads bytes v config xs is → Reads bytes w other_config ys js → IsSameTrace v config xs is w other_config ys js }
 {}

@@ -78,36 +78,36 @@ churn_runnable seed count small =
 
 -- ---- the history
 
-module _ (seed count : ℕ) (c : Config) (scripts : Scripts) (jobs : Jobs) (end : Closed) (sizes : IsChurnHeap c) (are : scripts ≡ churn_scripts seed count) (done : HasCome c scripts jobs end) where
-  pub three : length scripts ≡ c.mutators
+module _ (seed count : ℕ) (config : Config) (scripts : Scripts) (jobs : Jobs) (end : Closed) (sizes : IsChurnHeap config) (are : scripts ≡ churn_scripts seed count) (done : HasCome config scripts jobs end) where
+  pub three : length scripts ≡ config.mutators
   three = ap (λ (ss : Scripts). length ss) are ∙ sym sizes.mutators
 
   abbrev pub entries : List Entry
-  entries = come_past c scripts jobs end done
+  entries = come_past config scripts jobs end done
 
   pub churn_run : churn.IsWorkloadRun seed count entries
   churn_run =
-      let whole : IsWhole c scripts done.reached.events = come_whole c scripts jobs end done three in
+      let whole : IsWhole config scripts done.reached.events = come_whole config scripts jobs end done three in
       record {
         follows = subst (λ (ss : Scripts). Follows ss entries) are whole.follows;
         legal = subst (λ (ss : Scripts). IsLegalHistory 16 256 ss entries) are
             (subst (λ (n : ℕ). IsLegalHistory 16 n scripts entries) sizes.region_words
-            (subst (λ (n : ℕ). IsLegalHistory n c.region_words scripts entries) sizes.regions whole.legal));
+            (subst (λ (n : ℕ). IsLegalHistory n config.region_words scripts entries) sizes.regions whole.legal));
       }
 
-  pub churn_tells : (text : Text) → texts.ShowsGraph text c.mutators (after (first_graph c) entries) → churn.TellsRun entries jobs text.rows
+  pub churn_tells : (text : Text) → texts.ShowsGraph text config.mutators (after (first_graph config) entries) → churn.TellsRun entries jobs text.rows
   churn_tells text shown =
       let shows : texts.ShowsGraph text 3 (after (opening 3) entries) =
       subst (λ (n : ℕ). texts.ShowsGraph text n (after (opening n) entries)) sizes.mutators shown in
       record {
         names = names_of text;
-        replies = λ m below. come_told c scripts jobs end done m (omega (arith, below, sizes.mutators));
+        replies = λ m below. come_told config scripts jobs end done m (omega (arith, below, sizes.mutators));
         reach = shows.reach;
         objects = shows.rows;
       }
 
   -- so its replies and objects can be summed up
-  pub churn_can : (text : Text) → texts.ShowsGraph text c.mutators (after (first_graph c) entries) → churn.CanSumUp seed count jobs text.rows
+  pub churn_can : (text : Text) → texts.ShowsGraph text config.mutators (after (first_graph config) entries) → churn.CanSumUp seed count jobs text.rows
   churn_can text shown = runs_can_be_summed_up seed count entries jobs text.rows churn_run (churn_tells text shown)
 
 -- the numbers of a churn are not large

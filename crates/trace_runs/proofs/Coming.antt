@@ -42,7 +42,7 @@ use Rattle.trace_runs.specs.Replayed.{IsWhole, IsRun}
 use Rattle.trace_runs.specs.Running.{HasCome}
 use Rattle.trace_runs.proofs.Whole as ends
 
-some_from : {A : Type 0} (o : Option A) → is_some o ≡ true → (x : A) × (o ≡ Some x)
+some_from : {A : Type 0} (found : Option A) → is_some found ≡ true → (x : A) × (found ≡ Some x)
 some_from None e = absurd (false≢true e)
 some_from (Some x) e = (x, refl)
 
@@ -50,46 +50,46 @@ some_from (Some x) e = (x, refl)
 all_dealt : (x w n m : ℕ) → x < w → n < m → (nat_lt n m && (nat_le 0 x && nat_lt x w)) ≡ true
 all_dealt x w n m low below = grind (arith, nat_tests)
 
-module _ (h : Heap) (assigned : Assigned) (w : ℕ) (all : Part) (some : 0 < w) (done : IsDone h assigned w 0 w all) where
-  machine_there : (n : ℕ) → n < seat_count (config_of h).mutators (config_of h).helpers → is_some (machine_of (view_of all.bundle) n) ≡ true
-  machine_there n below = done.has.machines n ∙ all_dealt (n % w) w n (seat_count (config_of h).mutators (config_of h).helpers) (mod-lt n some) below
+module _ (heap : Heap) (assigned : Assigned) (w : ℕ) (all : Part) (some : 0 < w) (done : IsDone heap assigned w 0 w all) where
+  machine_there : (seat : ℕ) → seat < seat_count (config_of heap).mutators (config_of heap).helpers → is_some (machine_of (view_of all.bundle) seat) ≡ true
+  machine_there seat below = done.has.machines seat ∙ all_dealt (seat % w) w seat (seat_count (config_of heap).mutators (config_of heap).helpers) (mod-lt seat some) below
 
-  same : all.bundle.config ≡ config_of h
+  same : all.bundle.config ≡ config_of heap
   same = done.has.of.config
 
   pub has_all : HasAll all.bundle
   has_all n below =
       ap (λ v. is_some (machine_of v n)) (sym all.bundle.kept) ∙ kept_some machine_in (view_of all.bundle) n
-      ∙ machine_there n (subst (λ (c : Config). n < seat_count c.mutators c.helpers) same below)
+      ∙ machine_there n (subst (λ (config : Config). n < seat_count config.mutators config.helpers) same below)
 
   pub control_idle : IsControlIdle all.bundle
   control_idle a here = idle_takes a.machine (done.idle _ a here)
 
-  pub mutates : (t : ℕ) (a : Actor) → machine_of (view_of all.bundle) t ≡ Some a → t < (config_of h).mutators → is_mutating a.machine ≡ true
-  mutates t a here below = role_at all.bundle t a here ∙ ap (λ (c : Config). nat_lt t c.mutators) same ∙ lt-ltb t (config_of h).mutators below
+  pub mutates : (t : ℕ) (actor : Actor) → machine_of (view_of all.bundle) t ≡ Some actor → t < (config_of heap).mutators → is_mutating actor.machine ≡ true
+  mutates t actor here below = role_at all.bundle t actor here ∙ ap (λ (config : Config). nat_lt t config.mutators) same ∙ lt-ltb t (config_of heap).mutators below
 
   -- each mutator is there
-  pub mutator_there : (t : ℕ) → t < (config_of h).mutators → (a : Actor) × (machine_of (view_of all.bundle) t ≡ Some a)
+  pub mutator_there : (t : ℕ) → t < (config_of heap).mutators → (actor : Actor) × (machine_of (view_of all.bundle) t ≡ Some actor)
   mutator_there t below = some_from (machine_of (view_of all.bundle) t) (machine_there t (omega (arith, below)))
 
   module _ (end : Closed) (view : view_of all.bundle ≡ whole (closed.machines_of end)) where
-    pub at : (n : ℕ) → machine_of (view_of all.bundle) n ≡ slice_get (closed.machines_of end) n
-    at n = ap (λ v. machine_of v n) view ∙ machine_of-whole (closed.machines_of end) n
+    pub at : (index : ℕ) → machine_of (view_of all.bundle) index ≡ slice_get (closed.machines_of end) index
+    at index = ap (λ v. machine_of v index) view ∙ machine_of-whole (closed.machines_of end) index
 
-    pub seen : (n : ℕ) (a : Actor) → slice_get (closed.machines_of end) n ≡ Some a → machine_of (view_of all.bundle) n ≡ Some a
-    seen n a here = at n ∙ here
+    pub seen : (index : ℕ) (actor : Actor) → slice_get (closed.machines_of end) index ≡ Some actor → machine_of (view_of all.bundle) index ≡ Some actor
+    seen index actor here = at index ∙ here
 
     -- no machine has a turn, whatever the scripts
-    pub all_idle : (scripts : Scripts) → AreIdle (config_of h) scripts (closed.stage_of end)
+    pub all_idle : (scripts : Scripts) → AreIdle (config_of heap) scripts (closed.stage_of end)
     all_idle scripts n below = by_actor (slice_get (closed.machines_of end) n) refl
       where
-        by_actor : (o : Option Actor) → slice_get (closed.machines_of end) n ≡ o → turn scripts (closed.stage_of end) n ≡ None
+        by_actor : (found : Option Actor) → slice_get (closed.machines_of end) n ≡ found → turn scripts (closed.stage_of end) n ≡ None
         by_actor None e = ap (turn_of scripts n) e
         by_actor (Some a) e = idle_turn scripts (closed.stage_of end) n a e (done.idle n a (seen n a e))
 
     -- all scripts were called
-    pub come : (scripts : Scripts) (jobs : Jobs) → LoadIsDone (config_of h) (by_scripts scripts) w 0 w (view_of all.bundle) (Scripted jobs) → closed.config_of end ≡ config_of h
-        → IsReached (heap_kind (config_of h)) (heap_opening (config_of h)) (closed.stage_of end) → HasCome (config_of h) scripts jobs end
+    pub come : (scripts : Scripts) (jobs : Jobs) → LoadIsDone (config_of heap) (by_scripts scripts) w 0 w (view_of all.bundle) (Scripted jobs) → closed.config_of end ≡ config_of heap
+        → IsReached (heap_kind (config_of heap)) (heap_opening (config_of heap)) (closed.stage_of end) → HasCome (config_of heap) scripts jobs end
     come scripts jobs did config leads = record {
       config = config;
       reached = leads;
@@ -99,58 +99,58 @@ module _ (h : Heap) (assigned : Assigned) (w : ℕ) (all : Part) (some : 0 < w) 
           let called = did.1 t found.0 found.1 (mutates t found.0 found.1 below) in
           record { actor = found.0; here = sym (at t) ∙ found.1; called = called.whole };
       replies = λ t a below here. (did.1 t a (seen t a here) (mutates t a (seen t a here) below)).told;
-      jobs_are = λ t below. did.0.numbers t ∙ all_dealt (t % w) w t (config_of h).mutators (mod-lt t some) below;
+      jobs_are = λ t below. did.0.numbers t ∙ all_dealt (t % w) w t (config_of heap).mutators (mod-lt t some) below;
     }
 
 -- in the end no mutator has a call in progress
-pub come_rest : (c : Config) (scripts : Scripts) (jobs : Jobs) (end : Closed) → HasCome c scripts jobs end → closed.AllRest end
-come_rest c scripts jobs end done n a below here =
-    let called = done.called n (subst (λ (k : Config). n < k.mutators) done.config below) in
+pub come_rest : (config : Config) (scripts : Scripts) (jobs : Jobs) (end : Closed) → HasCome config scripts jobs end → closed.AllRest end
+come_rest config scripts jobs end done n a below here =
+    let called = done.called n (subst (λ (config : Config). n < config.mutators) done.config below) in
     let is : called.actor ≡ a = let e = sym called.here ∙ here in cc in
-    ap (λ (x : Actor). is_resting x.machine) (sym is) ∙ called.called.rest
+    ap (λ (actor : Actor). is_resting actor.machine) (sym is) ∙ called.called.rest
 
 -- ---- the history
 
-module _ (c : Config) (scripts : Scripts) (jobs : Jobs) (end : Closed) (done : HasCome c scripts jobs end) where
-  leads : reached pause_image c done.reached.events ≡ closed.stage_of end
+module _ (config : Config) (scripts : Scripts) (jobs : Jobs) (end : Closed) (done : HasCome config scripts jobs end) where
+  leads : reached pause_image config done.reached.events ≡ closed.stage_of end
   leads = done.reached.ends
 
-  called : AllHaveCalled c scripts (reached pause_image c done.reached.events)
-  called = subst (λ s. AllHaveCalled c scripts s) (sym leads) done.called
+  called : AllHaveCalled config scripts (reached pause_image config done.reached.events)
+  called = subst (λ s. AllHaveCalled config scripts s) (sym leads) done.called
 
   -- the history in which the scripts were called, and what it is
   abbrev pub come_past : List Entry
-  come_past = past pause_image c done.reached.events
+  come_past = past pause_image config done.reached.events
 
-  pub come_whole : length scripts ≡ c.mutators → IsWhole c scripts done.reached.events
-  come_whole count = ends.whole c scripts done.reached.events count (subst (λ s. AreIdle c scripts s) (sym leads) done.idle) called
+  pub come_whole : length scripts ≡ config.mutators → IsWhole config scripts done.reached.events
+  come_whole count = ends.whole config scripts done.reached.events count (subst (λ s. AreIdle config scripts s) (sym leads) done.idle) called
 
   -- the work has its replies
-  pub come_told : (t : ℕ) → t < c.mutators → work.replies_of jobs t ≡ history.replies_of (of_thread come_past (t + 1))
-  come_told t below =
-      let did = called t below in
-      told t did.actor below did.here ∙ sym (ap history.replies_of (ends.entries_called c scripts done.reached.events t did))
+  pub come_told : (other_mutator : ℕ) → other_mutator < config.mutators → work.replies_of jobs other_mutator ≡ history.replies_of (of_thread come_past (other_mutator + 1))
+  come_told other_mutator below =
+      let did = called other_mutator below in
+      told other_mutator did.actor below did.here ∙ sym (ap history.replies_of (ends.entries_called config scripts done.reached.events other_mutator did))
     where
-      told : (m : ℕ) (a : Actor) → m < c.mutators → slice_get (reached pause_image c done.reached.events).machines m ≡ Some a → work.replies_of jobs m ≡ history.replies_of a.calls
-      told = subst (λ (s : Stage Actor). (m : ℕ) (a : Actor) → m < c.mutators → slice_get s.machines m ≡ Some a → work.replies_of jobs m ≡ history.replies_of a.calls) (sym leads) done.replies
+      told : (mutator : ℕ) (actor : Actor) → mutator < config.mutators → slice_get (reached pause_image config done.reached.events).machines mutator ≡ Some actor → work.replies_of jobs mutator ≡ history.replies_of actor.calls
+      told = subst (λ (stage : Stage Actor). (mutator : ℕ) (actor : Actor) → mutator < config.mutators → slice_get stage.machines mutator ≡ Some actor → work.replies_of jobs mutator ≡ history.replies_of actor.calls) (sym leads) done.replies
 
 -- ---- the answer
 
-pub answered : (bytes : List ℕ) (v : ℕ) (c : Config) (scripts : Scripts) (items : List Item) (jobs : Jobs) (end : Closed) (text : Text)
-    → Reads bytes v c scripts items → length scripts ≡ c.mutators → (done : HasCome c scripts jobs end) → length text.roots ≡ c.mutators → texts.ShowsGraph text c.mutators (after (first_graph c) (come_past c scripts jobs end done))
-    → IsRun bytes (answer_text v (length text.roots) (λ t. work.replies_of jobs (t - 1)) text.rows (root_of text) (pin_of text))
-answered bytes v c scripts items jobs end text reads count done roots shows = record {
+pub answered : (bytes : List ℕ) (v : ℕ) (config : Config) (scripts : Scripts) (items : List Item) (jobs : Jobs) (end : Closed) (text : Text)
+    → Reads bytes v config scripts items → length scripts ≡ config.mutators → (done : HasCome config scripts jobs end) → length text.roots ≡ config.mutators → texts.ShowsGraph text config.mutators (after (first_graph config) (come_past config scripts jobs end done))
+    → IsRun bytes (answer_text v (length text.roots) (λ thread. work.replies_of jobs (thread - 1)) text.rows (root_of text) (pin_of text))
+answered bytes v config scripts items jobs end text reads count done roots shows = record {
   version = v;
-  config = c;
+  config = config;
   scripts = scripts;
   items = items;
   reads = reads;
   events = done.reached.events;
-  whole = come_whole c scripts jobs end done count;
-  text = record { names = names_of text; reach = shows.reach; text = ends.text_shown v c.mutators jobs (come_past c scripts jobs end done) text roots shows replies };
+  whole = come_whole config scripts jobs end done count;
+  text = record { names = names_of text; reach = shows.reach; text = ends.text_shown v config.mutators jobs (come_past config scripts jobs end done) text roots shows replies };
 }
   where
-    replies : (t : ℕ) → 1 ≤ t → t ≤ c.mutators → work.replies_of jobs (t - 1) ≡ history.replies_of (of_thread (come_past c scripts jobs end done) t)
-    replies t low high =
-        let back : t - 1 + 1 ≡ t = omega arith in
-        come_told c scripts jobs end done (t - 1) (omega arith) ∙ ap (λ n. history.replies_of (of_thread (come_past c scripts jobs end done) n)) back
+    replies : (thread : ℕ) → 1 ≤ thread → thread ≤ config.mutators → work.replies_of jobs (thread - 1) ≡ history.replies_of (of_thread (come_past config scripts jobs end done) thread)
+    replies thread low high =
+        let back : thread - 1 + 1 ≡ thread = omega arith in
+        come_told config scripts jobs end done (thread - 1) (omega arith) ∙ ap (λ n. history.replies_of (of_thread (come_past config scripts jobs end done) n)) back

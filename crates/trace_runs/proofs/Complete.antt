@@ -24,17 +24,17 @@ use Rattle.trace_runs.proofs.Words.{one_reading, asks_alike}
 
 -- what came from known bytes to their end is these bytes
 came_all : (bytes other : List ℕ) (before after : Option (List ℕ)) → before ≡ Some bytes → Came before after other → other ≡ bytes
-came_all bytes other before after told came = by_after after (subst (λ (b : Option (List ℕ)). Consumes b after other) told came.taken) came.at_end
+came_all bytes other before after told came = by_after after (subst (λ (found : Option (List ℕ)). Consumes found after other) told came.taken) came.at_end
   where
-    by_after : (a : Option (List ℕ)) → Consumes (Some bytes) a other → IsAtEnd a → other ≡ bytes
+    by_after : (found : Option (List ℕ)) → Consumes (Some bytes) found other → IsAtEnd found → other ≡ bytes
     by_after None taken ended = absurd taken
     by_after (Some rest) taken ended = sym (taken ∙ ap (λ (bs : List ℕ). other ++ bs) ended ∙ append-nil other)
 
 -- no more came than there was
 came_short : (bytes other : List ℕ) (before after : Option (List ℕ)) → before ≡ Some bytes → Consumes before after other → length other ≤ length bytes
-came_short bytes other before after told taken = by_after after (subst (λ (b : Option (List ℕ)). Consumes b after other) told taken)
+came_short bytes other before after told taken = by_after after (subst (λ (found : Option (List ℕ)). Consumes found after other) told taken)
   where
-    by_after : (a : Option (List ℕ)) → Consumes (Some bytes) a other → length other ≤ length bytes
+    by_after : (found : Option (List ℕ)) → Consumes (Some bytes) found other → length other ≤ length bytes
     by_after None taken = absurd taken
     by_after (Some rest) taken = omega (arith, ap length taken, length-append other rest)
 
@@ -54,9 +54,9 @@ takes_or_refuses ReadDump bytes n why takes refuses =
     reread.never_both bytes (dumped read.config read.counts read.graph) read.scripts read.items n why read.resumes refuses.0
 
 -- two readings of bytes are of one dump, and so fit alike
-fits_alike : (c k : Config) (xs ys : List ℕ) (t u : Text) → dumped c xs t ≡ dumped k ys u → Fits c t → Fits k u
-fits_alike c k xs ys t u same fits =
-    subst (λ (d : Dumped). Fits d.config (record { rows = d.rows; roots = d.roots; pins = []; spare = 0; room = 0 })) same fits
+fits_alike : (config other_config : Config) (xs ys : List ℕ) (text other_text : Text) → dumped config xs text ≡ dumped other_config ys other_text → Fits config text → Fits other_config other_text
+fits_alike config other_config xs ys text other_text same fits =
+    subst (λ (dump : Dumped). Fits dump.config (record { rows = dump.rows; roots = dump.roots; pins = []; spare = 0; room = 0 })) same fits
 
 takes_or_large : (reading : Reading) (bytes : List ℕ) → Takes reading bytes → IsTooLarge reading bytes → ⊥
 takes_or_large ReadNothing bytes takes large = takes

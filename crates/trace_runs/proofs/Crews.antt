@@ -34,39 +34,39 @@ crew_joined firsts a b c low high =
     (cases_lt (length firsts) a)
 
 -- a user of some bundles is one of all
-pub crew_at : (firsts : List Use) (a b n : ℕ) (u : Use) → a ≤ n → slice_get (crew_of firsts a b) (n - a) ≡ Some u → slice_get firsts n ≡ Some u
-crew_at firsts a b n u low here =
-    let within : n - a < length (crew_of firsts a b) = slice_get_within (crew_of firsts a b) (n - a) u here in
-    let count = crew_count firsts a b in
-    let below : n < length firsts = omega (arith, within, count, low) in
-    let under : n < b = omega (arith, within, count, low) in
-    let back : a + (n - a) ≡ n = omega (arith, low) in
-    let same : get_or firsts n u ≡ u =
-    sym (get_or-take b firsts n u under) ∙ ap (λ k. get_or (take b firsts) k u) (sym back) ∙ sym (get_or-drop a (take b firsts) (n - a) u)
-    ∙ get_or_from_slice_get (crew_of firsts a b) (n - a) u u here in
-    slice_get-get_or firsts n u below ∙ ap Some same
+pub crew_at : (firsts : List Use) (index b other_index : ℕ) (u : Use) → index ≤ other_index → slice_get (crew_of firsts index b) (other_index - index) ≡ Some u → slice_get firsts other_index ≡ Some u
+crew_at firsts index b other_index u low here =
+    let within : other_index - index < length (crew_of firsts index b) = slice_get_within (crew_of firsts index b) (other_index - index) u here in
+    let count = crew_count firsts index b in
+    let below : other_index < length firsts = omega (arith, within, count, low) in
+    let under : other_index < b = omega (arith, within, count, low) in
+    let back : index + (other_index - index) ≡ other_index = omega (arith, low) in
+    let same : get_or firsts other_index u ≡ u =
+    sym (get_or-take b firsts other_index u under) ∙ ap (λ k. get_or (take b firsts) k u) (sym back) ∙ sym (get_or-drop index (take b firsts) (other_index - index) u)
+    ∙ get_or_from_slice_get (crew_of firsts index b) (other_index - index) u u here in
+    slice_get-get_or firsts other_index u below ∙ ap Some same
 
-pub at_front : (xs ys : List Use) (k : ℕ) (u : Use) → slice_get xs k ≡ Some u → slice_get (xs ++ ys) k ≡ Some u
+pub at_front : (xs ys : List Use) (index : ℕ) (u : Use) → slice_get xs index ≡ Some u → slice_get (xs ++ ys) index ≡ Some u
 at_front [] ys zero u here = absurd cc
-at_front [] ys (suc k) u here = absurd cc
+at_front [] ys (suc index) u here = absurd cc
 at_front (x ∷ xs) ys zero u here = here
-at_front (x ∷ xs) ys (suc k) u here = at_front xs ys k u here
+at_front (x ∷ xs) ys (suc index) u here = at_front xs ys index u here
 
-pub at_back : (xs ys : List Use) (k n : ℕ) (u : Use) → n ≡ length xs + k → slice_get ys k ≡ Some u → slice_get (xs ++ ys) n ≡ Some u
-at_back [] ys k n u is here = ap (slice_get ys) (let e : n ≡ k = omega (arith, is) in e) ∙ here
-at_back (x ∷ xs) ys k zero u is here = absurd (omega (arith, is))
-at_back (x ∷ xs) ys k (suc n) u is here = at_back xs ys k n u (omega (arith, is)) here
+pub at_back : (xs ys : List Use) (index other_index : ℕ) (u : Use) → other_index ≡ length xs + index → slice_get ys index ≡ Some u → slice_get (xs ++ ys) other_index ≡ Some u
+at_back [] ys index other_index u is here = ap (slice_get ys) (let e : other_index ≡ index = omega (arith, is) in e) ∙ here
+at_back (x ∷ xs) ys index zero u is here = absurd (omega (arith, is))
+at_back (x ∷ xs) ys index (suc other_index) u is here = at_back xs ys index other_index u (omega (arith, is)) here
 
 -- the user of one bundle
-pub crew_one : (firsts : List Use) (k m : ℕ) (u : Use) → m ≡ suc k → slice_get firsts k ≡ Some u → drop k (take m firsts) ≡ u ∷ []
-crew_one [] k m u e here = absurd (let past = sym (slice_get_past [] k (omega arith)) ∙ here in cc)
+pub crew_one : (firsts : List Use) (index m : ℕ) (u : Use) → m ≡ suc index → slice_get firsts index ≡ Some u → drop index (take m firsts) ≡ u ∷ []
+crew_one [] index m u e here = absurd (let past = sym (slice_get_past [] index (omega arith)) ∙ here in cc)
 crew_one (x ∷ xs) zero m u e here = subst (λ n. drop 0 (take n (x ∷ xs)) ≡ u ∷ []) (sym e) (ap (λ y. y ∷ []) (let same : x ≡ u = cc in same))
-crew_one (x ∷ xs) (suc k) m u e here = subst (λ n. drop (suc k) (take n (x ∷ xs)) ≡ u ∷ []) (sym e) (crew_one xs k (suc k) u refl here)
+crew_one (x ∷ xs) (suc index) m u e here = subst (λ n. drop (suc index) (take n (x ∷ xs)) ≡ u ∷ []) (sym e) (crew_one xs index (suc index) u refl here)
 
-pub crew_none : (firsts : List Use) (k m : ℕ) → m ≡ suc k → slice_get firsts k ≡ None → drop k (take m firsts) ≡ []
-crew_none [] k m e here = ap (drop k) (take-nil m) ∙ drop-nil k
+pub crew_none : (firsts : List Use) (index m : ℕ) → m ≡ suc index → slice_get firsts index ≡ None → drop index (take m firsts) ≡ []
+crew_none [] index m e here = ap (drop index) (take-nil m) ∙ drop-nil index
 crew_none (x ∷ xs) zero m e here = absurd cc
-crew_none (x ∷ xs) (suc k) m e here = subst (λ n. drop (suc k) (take n (x ∷ xs)) ≡ []) (sym e) (crew_none xs k (suc k) refl here)
+crew_none (x ∷ xs) (suc index) m e here = subst (λ n. drop (suc index) (take n (x ∷ xs)) ≡ []) (sym e) (crew_none xs index (suc index) refl here)
 
 -- ---- numbers
 
@@ -82,6 +82,6 @@ span test a b m low is (suc n) within =
     outside : false ≡ (nat_le a n && nat_lt n b) → (n < a) ⊎ (b ≤ n)
     outside e = ⊎_elim (λ (lt : n < a). inl lt) (λ (le : a ≤ n). inr (grind (arith, nat_tests))) (cases_lt n a)
 
-    by_test : (t : Bool) → t ≡ (nat_le a n && nat_lt n b) → (k : ℕ) → k ≡ min b n - a → (if t then suc k else k) ≡ min b (suc n) - a
+    by_test : (holds : Bool) → holds ≡ (nat_le a n && nat_lt n b) → (k : ℕ) → k ≡ min b n - a → (if holds then suc k else k) ≡ min b (suc n) - a
     by_test true e k was = let both = inside e in omega (arith, both.0, both.1, was, low)
     by_test false e k was = ⊎_elim (λ (lt : n < a). omega (arith, lt, was, low)) (λ (le : b ≤ n). omega (arith, le, was, low)) (outside e)

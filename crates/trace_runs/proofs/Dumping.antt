@@ -32,72 +32,72 @@ use Rattle.trace_runs.proofs.Scripts.{count_scripts, short_script}
 use Rattle.trace_runs.proofs.Whole.{whole}
 
 -- a thread has made no more objects than it has entries
-made_few : (es : List Entry) (t : ℕ) → objects_made es t ≤ length (of_thread es t)
-made_few [] t = omega arith
-made_few (e ∷ es) t =
-    subst (λ (n : ℕ). n ≤ length (of_thread (e ∷ es) t)) (sym (sum_by-cons (λ (x : Entry). cond (has_made t x) 1 0) e es))
-    (by_test (eqb e.thread t) (is_allocation e.command && is_name_reply e.reply) (made_few es t))
+made_few : (es : List Entry) (thread : ℕ) → objects_made es thread ≤ length (of_thread es thread)
+made_few [] thread = omega arith
+made_few (e ∷ es) thread =
+    subst (λ (n : ℕ). n ≤ length (of_thread (e ∷ es) thread)) (sym (sum_by-cons (λ (entry : Entry). cond (has_made thread entry) 1 0) e es))
+    (by_test (eqb e.thread thread) (is_allocation e.command && is_name_reply e.reply) (made_few es thread))
   where
-    by_test : (own makes : Bool) → objects_made es t ≤ length (of_thread es t) → cond (own && makes) 1 0 + objects_made es t ≤ length (cond own (e ∷ of_thread es t) (of_thread es t))
+    by_test : (own makes : Bool) → objects_made es thread ≤ length (of_thread es thread) → cond (own && makes) 1 0 + objects_made es thread ≤ length (cond own (e ∷ of_thread es thread) (of_thread es thread))
     by_test true true others = omega arith
     by_test true false others = omega arith
     by_test false makes others = omega arith
 
-fits_value : (c : Command) → FitsWhenWritten c → FitsValue c
+fits_value : (command : Command) → FitsWhenWritten command → FitsValue command
 fits_value (Wr obj index value) fits = fits
 fits_value _ fits = tt
 
-in_range : (v : ℕ) (c : Config) (es : List Entry) → All (λ e. IsOfScript v c e.thread e.command) es → All (IsEntryInRange c.mutators) es
-in_range v c es asked =
-    All-weaker (λ (e : Entry). IsOfScript v c e.thread e.command) (IsEntryInRange c.mutators) (λ e is. record { from_first = is.from_one; to_last = is.to_last; valid = is.fits.1; fits = fits_value e.command is.fits.2 }) es asked
+in_range : (v : ℕ) (config : Config) (es : List Entry) → All (λ e. IsOfScript v config e.thread e.command) es → All (IsEntryInRange config.mutators) es
+in_range v config es asked =
+    All-weaker (λ (entry : Entry). IsOfScript v config entry.thread entry.command) (IsEntryInRange config.mutators) (λ e is. record { from_first = is.from_one; to_last = is.to_last; valid = is.fits.1; fits = fits_value e.command is.fits.2 }) es asked
 
-short_of : (bytes : List ℕ) (v : ℕ) (c : Config) (scripts : Scripts) (items : List Item) (t : ℕ) → Reads bytes v c scripts items → length (script_of scripts t) ≤ most_bytes
-short_of bytes v c scripts items zero reads = omega arith
-short_of bytes v c scripts items (suc t) reads = by_thread (cases_lt t c.mutators)
+short_of : (bytes : List ℕ) (v : ℕ) (config : Config) (scripts : Scripts) (items : List Item) (mutator : ℕ) → Reads bytes v config scripts items → length (script_of scripts mutator) ≤ most_bytes
+short_of bytes v config scripts items zero reads = omega arith
+short_of bytes v config scripts items (suc mutator) reads = by_thread (cases_lt mutator config.mutators)
   where
     none : List Command
     none = []
 
-    by_thread : (t < c.mutators) ⊎ (c.mutators ≤ t) → length (get_or scripts t []) ≤ most_bytes
-    by_thread (inl below) = short_script bytes v c scripts items t reads below
+    by_thread : (mutator < config.mutators) ⊎ (config.mutators ≤ mutator) → length (get_or scripts mutator []) ≤ most_bytes
+    by_thread (inl below) = short_script bytes v config scripts items mutator reads below
     by_thread (inr past_all) =
-        let count = count_scripts bytes v c scripts items reads in
-        let empty = ap (λ (cs : List Command). length cs) (get_or_past scripts t none (omega (arith, count, past_all))) in
+        let count = count_scripts bytes v config scripts items reads in
+        let empty = ap (λ (cs : List Command). length cs) (get_or_past scripts mutator none (omega (arith, count, past_all))) in
         omega (arith, empty)
 
 -- the history of a trace that comes to an end has a dump
-dumpable : (bytes : List ℕ) (v : ℕ) (c : Config) (scripts : Scripts) (items : List Item) (events : List (Event Order)) → Reads bytes v c scripts items → IsWhole c scripts events → IsDumpable c (past pause_image c events)
-dumpable bytes v c scripts items events reads whole = record {
-  each = subst (λ (n : ℕ). EachIsLegal c.regions c.region_words (graph_opening n) h) (count_scripts bytes v c scripts items reads) whole.legal.each;
-  entries = in_range v c h (each_asked bytes v c scripts items h reads whole.follows);
+dumpable : (bytes : List ℕ) (v : ℕ) (config : Config) (scripts : Scripts) (items : List Item) (events : List (Event Order)) → Reads bytes v config scripts items → IsWhole config scripts events → IsDumpable config (past pause_image config events)
+dumpable bytes v config scripts items events reads whole = record {
+  each = subst (λ (n : ℕ). EachIsLegal config.regions config.region_words (graph_opening n) h) (count_scripts bytes v config scripts items reads) whole.legal.each;
+  entries = in_range v config h (each_asked bytes v config scripts items h reads whole.follows);
   few = λ t.
       let same = ap (λ (cs : List Command). length cs) (whole.follows t) in
-      omega (arith, made_few h t, length-map (of_thread h t) (λ (e : Entry). e.command), same, short_of bytes v c scripts items t reads);
+      omega (arith, made_few h t, length-map (of_thread h t) (λ (entry : Entry). entry.command), same, short_of bytes v config scripts items t reads);
 }
   where
     h : List Entry
-    h = past pause_image c events
+    h = past pause_image config events
 
-module _ (bytes : List ℕ) (v : ℕ) (c : Config) (scripts : Scripts) (items : List Item) (limit : ℕ) (jobs : Jobs) (p : Plain) (noted : List Entry) (reads : Reads bytes v c scripts items) (done : HasFinished c scripts items limit jobs p) (are : noted ≡ history_of c scripts items limit) where
-  whole_of : IsWhole c scripts (events_of c scripts items limit)
-  whole_of = whole c scripts (events_of c scripts items limit) (count_scripts bytes v c scripts items reads) done.idle done.called
+module _ (bytes : List ℕ) (v : ℕ) (config : Config) (scripts : Scripts) (items : List Item) (limit : ℕ) (jobs : Jobs) (plain : Plain) (noted : List Entry) (reads : Reads bytes v config scripts items) (done : HasFinished config scripts items limit jobs plain) (are : noted ≡ history_of config scripts items limit) where
+  whole_of : IsWhole config scripts (events_of config scripts items limit)
+  whole_of = whole config scripts (events_of config scripts items limit) (count_scripts bytes v config scripts items reads) done.idle done.called
 
-  pub noted_dumpable : IsDumpable c noted
-  noted_dumpable = subst (IsDumpable c) (sym are) (dumpable bytes v c scripts items (events_of c scripts items limit) reads whole_of)
+  pub noted_dumpable : IsDumpable config noted
+  noted_dumpable = subst (IsDumpable config) (sym are) (dumpable bytes v config scripts items (events_of config scripts items limit) reads whole_of)
 
-  pub noted_shown : (text : Text) → ShowsGraph text c.mutators (after (first_graph c) (history_of c scripts items limit)) → ShowsGraph text c.mutators (after (graph_opening c.mutators) noted)
-  noted_shown text shows = subst (λ (h : List Entry). ShowsGraph text c.mutators (after (graph_opening c.mutators) h)) (sym are) shows
+  pub noted_shown : (text : Text) → ShowsGraph text config.mutators (after (first_graph config) (history_of config scripts items limit)) → ShowsGraph text config.mutators (after (graph_opening config.mutators) noted)
+  noted_shown text shows = subst (λ (entries : List Entry). ShowsGraph text config.mutators (after (graph_opening config.mutators) entries)) (sym are) shows
 
-  pub replayed_to_dump : (d : Dumped) → IsDumpOf c (after (graph_opening c.mutators) noted) d → d.counts ≡ objects_made_by_each noted c.mutators → IsReplayedToDump bytes limit (dump_text d)
-  replayed_to_dump d is counts = record {
+  pub replayed_to_dump : (dump : Dumped) → IsDumpOf config (after (graph_opening config.mutators) noted) dump → dump.counts ≡ objects_made_by_each noted config.mutators → IsReplayedToDump bytes limit (dump_text dump)
+  replayed_to_dump dump is counts = record {
     version = v;
-    config = c;
+    config = config;
     scripts = scripts;
     items = items;
     reads = reads;
     whole = whole_of;
-    dump = d;
-    is = subst (λ (h : List Entry). IsDumpOf c (after (graph_opening c.mutators) h) d) are is;
-    counts = counts ∙ ap (λ (h : List Entry). objects_made_by_each h c.mutators) are;
+    dump = dump;
+    is = subst (λ (entries : List Entry). IsDumpOf config (after (graph_opening config.mutators) entries) dump) are is;
+    counts = counts ∙ ap (λ (entries : List Entry). objects_made_by_each entries config.mutators) are;
     text = refl;
   }

@@ -25,57 +25,57 @@ use Rattle.trace_runs.specs.Replayed.{events_of, IsWhole, IsReplayed}
 
 -- no number has a turn
 abbrev IsStill : Scripts → Stage Actor → Type 0
-IsStill scripts s = (number : ℕ) → turn scripts s number ≡ None
+IsStill scripts stage = (number : ℕ) → turn scripts stage number ≡ None
 
 -- where all machines are idle there is none, since no other number has a machine
-still : (c : Config) (scripts : Scripts) (s : Stage Actor) → length s.machines ≡ seat_count c.mutators c.helpers → AreIdle c scripts s → IsStill scripts s
-still c scripts s count idle number = by_seat (cases_lt number (seat_count c.mutators c.helpers))
+still : (config : Config) (scripts : Scripts) (stage : Stage Actor) → length stage.machines ≡ seat_count config.mutators config.helpers → AreIdle config scripts stage → IsStill scripts stage
+still config scripts stage count idle number = by_seat (cases_lt number (seat_count config.mutators config.helpers))
   where
-    by_seat : (number < seat_count c.mutators c.helpers) ⊎ (seat_count c.mutators c.helpers ≤ number) → turn scripts s number ≡ None
+    by_seat : (number < seat_count config.mutators config.helpers) ⊎ (seat_count config.mutators config.helpers ≤ number) → turn scripts stage number ≡ None
     by_seat (inl below) = idle number below
-    by_seat (inr beyond) = ap (turn_of scripts number) (slice_get_past s.machines number (omega (arith, count, beyond)))
+    by_seat (inr beyond) = ap (turn_of scripts number) (slice_get_past stage.machines number (omega (arith, count, beyond)))
 
 -- then no task has an event, and neither has a round
-none_move : (c : Config) (scripts : Scripts) (s : Stage Actor) (task : Task) → IsStill scripts s → move_of c scripts s task ≡ None
-none_move c scripts s (steps number zero) none = refl
-none_move c scripts s (steps number (suc count)) none = ap (λ e. moves e (steps number count ∷ [])) (none number)
-none_move c scripts s (until number place) none = by_test (is_at_place scripts s number place)
+none_move : (config : Config) (scripts : Scripts) (stage : Stage Actor) (task : Task) → IsStill scripts stage → move_of config scripts stage task ≡ None
+none_move config scripts stage (steps number zero) none = refl
+none_move config scripts stage (steps number (suc count)) none = ap (λ e. moves e (steps number count ∷ [])) (none number)
+none_move config scripts stage (until number place) none = by_test (is_at_place scripts stage number place)
   where
-    by_test : (test : Bool) → (if test then None else moves (turn scripts s number) (until number place ∷ [])) ≡ None
+    by_test : (test : Bool) → (if test then None else moves (turn scripts stage number) (until number place ∷ [])) ≡ None
     by_test true = refl
     by_test false = ap (λ e. moves e (until number place ∷ [])) (none number)
-none_move c scripts s (replies number count) none = by_test (nat_le count (given s number))
+none_move config scripts stage (replies number count) none = by_test (nat_le count (given stage number))
   where
-    by_test : (test : Bool) → (if test then None else moves (turn scripts s number) (control_after (waits_then c s (turn scripts s number)) ++ replies number count ∷ [])) ≡ None
+    by_test : (test : Bool) → (if test then None else moves (turn scripts stage number) (control_after (waits_then config stage (turn scripts stage number)) ++ replies number count ∷ [])) ≡ None
     by_test true = refl
-    by_test false = ap (λ e. moves e (control_after (waits_then c s e) ++ replies number count ∷ [])) (none number)
-none_move c scripts s control none = ap (λ e. moves e []) (none (control_number c))
+    by_test false = ap (λ e. moves e (control_after (waits_then config stage e) ++ replies number count ∷ [])) (none number)
+none_move config scripts stage control none = ap (λ e. moves e []) (none (control_number config))
 
-none_first : (scripts : Scripts) (s : Stage Actor) (numbers : List ℕ) → IsStill scripts s → first_turn scripts s numbers ≡ None
-none_first scripts s [] none = refl
-none_first scripts s (number ∷ numbers) none = ap (λ e. or_else e (first_turn scripts s numbers)) (none number) ∙ none_first scripts s numbers none
+none_first : (scripts : Scripts) (stage : Stage Actor) (numbers : List ℕ) → IsStill scripts stage → first_turn scripts stage numbers ≡ None
+none_first scripts stage [] none = refl
+none_first scripts stage (number ∷ numbers) none = ap (λ e. or_else e (first_turn scripts stage numbers)) (none number) ∙ none_first scripts stage numbers none
 
-none_next : (c : Config) (scripts : Scripts) (s : Stage Actor) (tasks : List Task) (from : ℕ) → IsStill scripts s → next_by c scripts s tasks from ≡ None
-none_next c scripts s [] from none = ap round_of (none_first scripts s (numbers_from c from) none)
-none_next c scripts s (task ∷ tasks) from none = ap (λ m. after_move m tasks from (next_by c scripts s tasks from)) (none_move c scripts s task none) ∙ none_next c scripts s tasks from none
+none_next : (config : Config) (scripts : Scripts) (stage : Stage Actor) (tasks : List Task) (from : ℕ) → IsStill scripts stage → next_by config scripts stage tasks from ≡ None
+none_next config scripts stage [] from none = ap round_of (none_first scripts stage (numbers_from config from) none)
+none_next config scripts stage (task ∷ tasks) from none = ap (λ m. after_move m tasks from (next_by config scripts stage tasks from)) (none_move config scripts stage task none) ∙ none_next config scripts stage tasks from none
 
 -- more steps than lead to such a stage are the same events
-enough : (c : Config) (scripts : Scripts) (few many : ℕ) (todo : Agenda) (s : Stage Actor) → few ≤ many → IsStill scripts (go (kind pause_image c) s (scheduled pause_image c scripts few todo s))
-    → scheduled pause_image c scripts many todo s ≡ scheduled pause_image c scripts few todo s
+enough : (config : Config) (scripts : Scripts) (few many : ℕ) (todo : Agenda) (stage : Stage Actor) → few ≤ many → IsStill scripts (go (kind pause_image config) stage (scheduled pause_image config scripts few todo stage))
+    → scheduled pause_image config scripts many todo stage ≡ scheduled pause_image config scripts few todo stage
 unfolding scheduled
-enough c scripts zero many todo s le none = scheduled_none c scripts s todo many (none_next c scripts s todo.tasks todo.from (subst (IsStill scripts) (go-none (kind pause_image c) s) none))
-enough c scripts (suc few) zero todo s le none = absurd (omega (arith, le))
-enough c scripts (suc few) (suc many) todo s le none = by_next (next c scripts s todo) (λ later t. enough c scripts few many later t (omega (arith, le))) none
+enough config scripts zero many todo stage le none = scheduled_none config scripts stage todo many (none_next config scripts stage todo.tasks todo.from (subst (IsStill scripts) (go-none (kind pause_image config) stage) none))
+enough config scripts (suc few) zero todo stage le none = absurd (omega (arith, le))
+enough config scripts (suc few) (suc many) todo stage le none = by_next (next config scripts stage todo) (λ later other_stage. enough config scripts few many later other_stage (omega (arith, le))) none
   where
-    by_next : (o : Option Next)
-        → ((later : Agenda) (t : Stage Actor) → IsStill scripts (go (kind pause_image c) t (scheduled pause_image c scripts few later t)) → scheduled pause_image c scripts many later t ≡ scheduled pause_image c scripts few later t)
-        → IsStill scripts (go (kind pause_image c) s (and_then o (λ x. scheduled pause_image c scripts few x.agenda (act (kind pause_image c) s x.event))))
-        → and_then o (λ x. scheduled pause_image c scripts many x.agenda (act (kind pause_image c) s x.event)) ≡ and_then o (λ x. scheduled pause_image c scripts few x.agenda (act (kind pause_image c) s x.event))
+    by_next : (found : Option Next)
+        → ((later : Agenda) (other_stage : Stage Actor) → IsStill scripts (go (kind pause_image config) other_stage (scheduled pause_image config scripts few later other_stage)) → scheduled pause_image config scripts many later other_stage ≡ scheduled pause_image config scripts few later other_stage)
+        → IsStill scripts (go (kind pause_image config) stage (and_then found (λ x. scheduled pause_image config scripts few x.agenda (act (kind pause_image config) stage x.event))))
+        → and_then found (λ x. scheduled pause_image config scripts many x.agenda (act (kind pause_image config) stage x.event)) ≡ and_then found (λ x. scheduled pause_image config scripts few x.agenda (act (kind pause_image config) stage x.event))
     by_next None others it = refl
     by_next (Some x) others it =
-        let later : Stage Actor = act (kind pause_image c) s x.event in
+        let later : Stage Actor = act (kind pause_image config) stage x.event in
         ap (λ events. x.event ∷ events)
-        (others x.agenda later (subst (IsStill scripts) (go-first (kind pause_image c) s x.event (scheduled pause_image c scripts few x.agenda later)) it))
+        (others x.agenda later (subst (IsStill scripts) (go-first (kind pause_image config) stage x.event (scheduled pause_image config scripts few x.agenda later)) it))
 
 -- A trace that is replayed by so many steps is replayed by more, with the same answer.
 pub more_steps : (bytes : List ℕ) (few many : ℕ) (out : List ℕ) → few ≤ many → IsReplayed bytes few out → IsReplayed bytes many out

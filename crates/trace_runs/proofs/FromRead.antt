@@ -10,15 +10,15 @@ use Rattle.heap_dump.specs.Resumes.{Resumes}
 use Rattle.heap_dump.specs.Resumed.{IsResumed, IsCutFrom}
 use Rattle.trace_runs.specs.FromDumps.{IsDumpAndMore, IsAnswerFromDump, IsCutFromDump, IsTooLargeDump}
 
-module _ (bytes : List ℕ) (c : Config) (counts : List ℕ) (graph : Text) (scripts : List (List Command)) (items : List Item) (resumes : Resumes bytes (dumped c counts graph) scripts items) where
+module _ (bytes : List ℕ) (config : Config) (counts : List ℕ) (graph : Text) (scripts : List (List Command)) (items : List Item) (resumes : Resumes bytes (dumped config counts graph) scripts items) where
   abbrev read_so : IsDumpAndMore bytes
-  read_so = record { config = c; counts = counts; graph = graph; scripts = scripts; items = items; resumes = resumes }
+  read_so = record { config = config; counts = counts; graph = graph; scripts = scripts; items = items; resumes = resumes }
 
-  pub answered_from : (limit : ℕ) (answer : List ℕ) → Fits c graph → IsResumed c counts graph scripts items limit answer → IsAnswerFromDump bytes limit answer
+  pub answered_from : (limit : ℕ) (answer : List ℕ) → Fits config graph → IsResumed config counts graph scripts items limit answer → IsAnswerFromDump bytes limit answer
   answered_from limit answer fits resumed = record { read = read_so; fits = fits; resumed = resumed }
 
-  pub cut_from : (limit : ℕ) → Fits c graph → IsCutFrom c counts graph scripts items limit → IsCutFromDump bytes limit
+  pub cut_from : (limit : ℕ) → Fits config graph → IsCutFrom config counts graph scripts items limit → IsCutFromDump bytes limit
   cut_from limit fits cut = record { read = read_so; fits = fits; cut = cut }
 
-  pub too_large : (Fits c graph → ⊥) → IsTooLargeDump bytes
+  pub too_large : (Fits config graph → ⊥) → IsTooLargeDump bytes
   too_large large = record { read = read_so; too_large = large }

@@ -62,9 +62,9 @@ none_runnable : IsRunnable []
 none_runnable = (All-nil IsValid, omega arith)
 
 -- the part of a bundle, with the user of its one machine
-pub crewed_part : (h : Heap) (count : ℕ) (bundles : List Bundle) (w k : ℕ) (b : Bundle) (crew : ArrayVec Use) → count ≤ most_numbers → CanBeCrewed h bundles → w ≡ length bundles → slice_get bundles k ≡ Some b
-    → crew.items ≡ crew_of (queue_users count) k (k + 1) → PartIsReady h (users (queue_users count)) w k (k + 1) (record { bundle = b; load = Driven crew })
-crewed_part h count bundles w k b crew small can many here are = record {
+pub crewed_part : (heap : Heap) (count : ℕ) (bundles : List Bundle) (w index : ℕ) (bundle : Bundle) (crew : ArrayVec Use) → count ≤ most_numbers → CanBeCrewed heap bundles → w ≡ length bundles → slice_get bundles index ≡ Some bundle
+    → crew.items ≡ crew_of (queue_users count) index (index + 1) → PartIsReady heap (users (queue_users count)) w index (index + 1) (record { bundle = bundle; load = Driven crew })
+crewed_part heap count bundles w index bundle crew small can many here are = record {
   has = part;
   load = (crewed, are);
   start = record {
@@ -72,16 +72,16 @@ crewed_part h count bundles w k b crew small can many here are = record {
     mutators = λ n a there role.
         let can_start = idle.start.mutators n a there role in
         record { calls = can_start.calls; rest = can_start.rest; free = can_start.free; made = can_start.made };
-    count = ap length are ∙ crew_counts h w k (k + 1) (record { bundle = b; load = Driven crew }) part (omega arith) crewed.single (queue_users count) crewed;
+    count = ap length are ∙ crew_counts heap w index (index + 1) (record { bundle = bundle; load = Driven crew }) part (omega arith) crewed.single (queue_users count) crewed;
     few = subst (λ us. All (λ (u : Use). to_come u < most_objects) us) (sym are)
-        (All-drop (λ (u : Use). to_come u < most_objects) k (take (k + 1) (queue_users count)) (All-take (λ (u : Use). to_come u < most_objects) (k + 1) (queue_users count) (few_to_come count small)));
+        (All-drop (λ (u : Use). to_come u < most_objects) index (take (index + 1) (queue_users count)) (All-take (λ (u : Use). to_come u < most_objects) (index + 1) (queue_users count) (few_to_come count small)));
   };
 }
   where
-    crewed : IsCrewed (config_of h) (queue_users count) w
+    crewed : IsCrewed (config_of heap) (queue_users count) w
     crewed = record { single = many ∙ can.single; count = sym can.heap.mutators }
 
-    can_idle : CanBeDealt h idle_scripts (opened idle_scripts) bundles
+    can_idle : CanBeDealt heap idle_scripts (opened idle_scripts) bundles
     can_idle = record {
       fresh = can.fresh;
       jobs_are = refl;
@@ -89,21 +89,21 @@ crewed_part h count bundles w k b crew small can many here are = record {
       runnable = All-from_recursion IsRunnable idle_scripts (none_runnable, (none_runnable, (none_runnable, (none_runnable, tt))));
     }
 
-    idle : PartIsReady h (by_scripts idle_scripts) w k (k + 1) (record { bundle = b; load = Scripted (parted w k (left_after w k idle_scripts)) })
-    idle = ready_part h idle_scripts (opened idle_scripts) bundles can_idle w k b (left_after w k idle_scripts) many here refl
+    idle : PartIsReady heap (by_scripts idle_scripts) w index (index + 1) (record { bundle = bundle; load = Scripted (parted w index (left_after w index idle_scripts)) })
+    idle = ready_part heap idle_scripts (opened idle_scripts) bundles can_idle w index bundle (left_after w index idle_scripts) many here refl
 
-    part : IsPart h w k (k + 1) (record { bundle = b; load = Driven crew })
+    part : IsPart heap w index (index + 1) (record { bundle = bundle; load = Driven crew })
     part = record { of = idle.has.of; machines = idle.has.machines }
 
 -- the bundles that a heap was opened with
-pub can_be_crewed : (h : Heap) (c : Config) (bundles : List Bundle) (w : ℕ) → config_of h ≡ c → IsQueueHeap c → length bundles ≡ w → w ≡ seat_count c.mutators c.helpers
-    → ((k : ℕ) (b : Bundle) → slice_get bundles k ≡ Some b → IsFresh h b (dealt_to w k (whole (heap_opening c).machines))) → CanBeCrewed h bundles
-can_be_crewed h c bundles w config sizes count seats fresh = record {
-  fresh = λ k b here.
-      subst (λ n. IsFresh h b (dealt_to n k (whole (heap_opening (config_of h)).machines))) (sym count)
-      (subst (λ (d : Config). IsFresh h b (dealt_to w k (whole (heap_opening d).machines))) (sym config) (fresh k b here));
+pub can_be_crewed : (heap : Heap) (other_config : Config) (bundles : List Bundle) (w : ℕ) → config_of heap ≡ other_config → IsQueueHeap other_config → length bundles ≡ w → w ≡ seat_count other_config.mutators other_config.helpers
+    → ((index : ℕ) (bundle : Bundle) → slice_get bundles index ≡ Some bundle → IsFresh heap bundle (dealt_to w index (whole (heap_opening other_config).machines))) → CanBeCrewed heap bundles
+can_be_crewed heap other_config bundles w config sizes count seats fresh = record {
+  fresh = λ index bundle here.
+      subst (λ n. IsFresh heap bundle (dealt_to n index (whole (heap_opening (config_of heap)).machines))) (sym count)
+      (subst (λ (config : Config). IsFresh heap bundle (dealt_to w index (whole (heap_opening config).machines))) (sym config) (fresh index bundle here));
   heap = subst IsQueueHeap (sym config) sizes;
-  single = count ∙ seats ∙ ap (λ (d : Config). seat_count d.mutators d.helpers) (sym config);
+  single = count ∙ seats ∙ ap (λ (config : Config). seat_count config.mutators config.helpers) (sym config);
 }
 
 -- ---- what a driver's calls are to a user
@@ -116,65 +116,65 @@ as_after : (u : Use) (es : List Entry) → driver_after used u es ≡ use_after 
 as_after u [] = refl
 as_after u (e ∷ es) = as_after (used u e.reply) es
 
-user_at : (count t : ℕ) → t < 4 → slice_get (queue_users count) t ≡ Some (queue_user count t)
+user_at : (count index : ℕ) → index < 4 → slice_get (queue_users count) index ≡ Some (queue_user count index)
 user_at count zero below = refl
 user_at count (suc zero) below = refl
 user_at count (suc (suc zero)) below = refl
 user_at count (suc (suc (suc zero))) below = refl
-user_at count (suc (suc (suc (suc t)))) below = absurd (omega (arith, below))
+user_at count (suc (suc (suc (suc index)))) below = absurd (omega (arith, below))
 
 same_user : (u v : Use) → Some u ≡ Some v → u ≡ v
 same_user u v e = cc
 
 -- ---- the history
 
-module _ (h : Heap) (count w : ℕ) (all : Part) (crew : ArrayVec Use) (some : 0 < w) (done : IsDone h (users (queue_users count)) w 0 w all) (load : all.load ≡ Driven crew) (sizes : IsQueueHeap (config_of h))
-    (end : Closed) (view : view_of all.bundle ≡ whole (closed.machines_of end)) (leads : IsReached (heap_kind (config_of h)) (heap_opening (config_of h)) (closed.stage_of end)) where
-  did : LoadIsDone (config_of h) (users (queue_users count)) w 0 w (view_of all.bundle) (Driven crew)
-  did = subst (λ l. LoadIsDone (config_of h) (users (queue_users count)) w 0 w (view_of all.bundle) l) load done.load
+module _ (heap : Heap) (count w : ℕ) (all : Part) (crew : ArrayVec Use) (some : 0 < w) (done : IsDone heap (users (queue_users count)) w 0 w all) (load : all.load ≡ Driven crew) (sizes : IsQueueHeap (config_of heap))
+    (end : Closed) (view : view_of all.bundle ≡ whole (closed.machines_of end)) (leads : IsReached (heap_kind (config_of heap)) (heap_opening (config_of heap)) (closed.stage_of end)) where
+  did : LoadIsDone (config_of heap) (users (queue_users count)) w 0 w (view_of all.bundle) (Driven crew)
+  did = subst (λ l. LoadIsDone (config_of heap) (users (queue_users count)) w 0 w (view_of all.bundle) l) load done.load
 
   -- the commands that the mutators called
   abbrev script_at : ℕ → List Command
-  script_at t = commands_of (get_or (closed.machines_of end) t nobody).calls
+  script_at index = commands_of (get_or (closed.machines_of end) index nobody).calls
 
   abbrev called_scripts : Scripts
-  called_scripts = map script_at (range_with_len 0 (config_of h).mutators)
+  called_scripts = map script_at (range_with_len 0 (config_of heap).mutators)
 
   abbrev history : List Entry
-  history = past pause_image (config_of h) leads.events
+  history = past pause_image (config_of heap) leads.events
 
-  many : length called_scripts ≡ (config_of h).mutators
-  many = length-map (range_with_len 0 (config_of h).mutators) script_at ∙ length-range_with_len 0 (config_of h).mutators
+  many : length called_scripts ≡ (config_of heap).mutators
+  many = length-map (range_with_len 0 (config_of heap).mutators) script_at ∙ length-range_with_len 0 (config_of heap).mutators
 
-  used_in_end : (t : ℕ) (a : Actor) → t < (config_of h).mutators → slice_get (closed.machines_of end) t ≡ Some a → HasUsed (queue_users count) crew.items 0 t a
-  used_in_end t a below here =
-      let there = seen h (users (queue_users count)) w all some done end view t a here in
-      did.2 t a there (mutates h (users (queue_users count)) w all some done t a there below)
+  used_in_end : (index : ℕ) (actor : Actor) → index < (config_of heap).mutators → slice_get (closed.machines_of end) index ≡ Some actor → HasUsed (queue_users count) crew.items 0 index actor
+  used_in_end index actor below here =
+      let there = seen heap (users (queue_users count)) w all some done end view index actor here in
+      did.2 index actor there (mutates heap (users (queue_users count)) w all some done index actor there below)
 
-  called_in_end : AllHaveCalled (config_of h) called_scripts (closed.stage_of end)
+  called_in_end : AllHaveCalled (config_of heap) called_scripts (closed.stage_of end)
   called_in_end t below =
-      let found = mutator_there h (users (queue_users count)) w all some done t below in
-      let here : slice_get (closed.machines_of end) t ≡ Some found.0 = sym (at h (users (queue_users count)) w all some done end view t) ∙ found.1 in
+      let found = mutator_there heap (users (queue_users count)) w all some done t below in
+      let here : slice_get (closed.machines_of end) t ≡ Some found.0 = sym (at heap (users (queue_users count)) w all some done end view t) ∙ found.1 in
       let is : get_or (closed.machines_of end) t nobody ≡ found.0 = get_or_from_slice_get (closed.machines_of end) t found.0 nobody here in
       record {
         actor = found.0;
         here = here;
         called = record {
           rest = (used_in_end t found.0 below here).driven.rest;
-          commands = ap (λ (a : Actor). commands_of a.calls) (sym is) ∙ sym (get_or-map-range_with_len script_at 0 (config_of h).mutators t t [] below (omega arith));
+          commands = ap (λ (actor : Actor). commands_of actor.calls) (sym is) ∙ sym (get_or-map-range_with_len script_at 0 (config_of heap).mutators t t [] below (omega arith));
         };
       }
 
-  called : AllHaveCalled (config_of h) called_scripts (reached pause_image (config_of h) leads.events)
-  called = subst (λ s. AllHaveCalled (config_of h) called_scripts s) (sym leads.ends) called_in_end
+  called : AllHaveCalled (config_of heap) called_scripts (reached pause_image (config_of heap) leads.events)
+  called = subst (λ s. AllHaveCalled (config_of heap) called_scripts s) (sym leads.ends) called_in_end
 
-  used_in : (t : ℕ) (a : Actor) → t < (config_of h).mutators → slice_get (reached pause_image (config_of h) leads.events).machines t ≡ Some a → HasUsed (queue_users count) crew.items 0 t a
-  used_in = subst (λ (s : Stage Actor). (t : ℕ) (a : Actor) → t < (config_of h).mutators → slice_get s.machines t ≡ Some a → HasUsed (queue_users count) crew.items 0 t a) (sym leads.ends) used_in_end
+  used_in : (t : ℕ) (actor : Actor) → t < (config_of heap).mutators → slice_get (reached pause_image (config_of heap) leads.events).machines t ≡ Some actor → HasUsed (queue_users count) crew.items 0 t actor
+  used_in = subst (λ (stage : Stage Actor). (t : ℕ) (actor : Actor) → t < (config_of heap).mutators → slice_get stage.machines t ≡ Some actor → HasUsed (queue_users count) crew.items 0 t actor) (sym leads.ends) used_in_end
 
-  whole_run : IsWhole (config_of h) called_scripts leads.events
+  whole_run : IsWhole (config_of heap) called_scripts leads.events
   whole_run =
-      ends.whole (config_of h) called_scripts leads.events many
-      (subst (λ s. AreIdle (config_of h) called_scripts s) (sym leads.ends) (all_idle h (users (queue_users count)) w all some done end view called_scripts)) called
+      ends.whole (config_of heap) called_scripts leads.events many
+      (subst (λ s. AreIdle (config_of heap) called_scripts s) (sym leads.ends) (all_idle heap (users (queue_users count)) w all some done end view called_scripts)) called
 
   -- a thread's entries are those of its user, up to its end
   record IsPlayedOut (t : ℕ) : Type 0 where
@@ -184,10 +184,10 @@ module _ (h : Heap) (count w : ℕ) (all : Part) (crew : ArrayVec Use) (some : 0
 
   played_out : (t : ℕ) → t < 4 → IsPlayedOut t
   played_out t below =
-      let within : t < (config_of h).mutators = omega (arith, below, sizes.mutators) in
+      let within : t < (config_of heap).mutators = omega (arith, below, sizes.mutators) in
       let call = called t within in
       let its = used_in t call.actor within call.here in
-      let calls : of_thread history (t + 1) ≡ call.actor.calls = ends.entries_called (config_of h) called_scripts leads.events t call in
+      let calls : of_thread history (t + 1) ≡ call.actor.calls = ends.entries_called (config_of heap) called_scripts leads.events t call in
       let begun : its.begun ≡ queue_user count t = same_user its.begun (queue_user count t) (sym its.begun_is ∙ user_at count t below) in
       let last : its.ended ≡ use_after (queue_user count t) (of_thread history (t + 1)) =
       its.driven.state ∙ as_after its.begun call.actor.calls ∙ ap (λ u. use_after u call.actor.calls) begun ∙ ap (use_after (queue_user count t)) (sym calls) in
@@ -204,7 +204,7 @@ module _ (h : Heap) (count w : ℕ) (all : Part) (crew : ArrayVec Use) (some : 0
     threads = many ∙ sizes.mutators;
     follows = whole_run.follows;
     legal = subst (λ (n : ℕ). IsLegalHistory 16 n called_scripts history) sizes.region_words
-        (subst (λ (n : ℕ). IsLegalHistory n (config_of h).region_words called_scripts history) sizes.regions whole_run.legal);
+        (subst (λ (n : ℕ). IsLegalHistory n (config_of heap).region_words called_scripts history) sizes.regions whole_run.legal);
     driven = λ t below. (played_out t below).driven;
     ended = λ t below. (played_out t below).ended;
   }
@@ -230,7 +230,7 @@ module _ (h : Heap) (count w : ℕ) (all : Part) (crew : ArrayVec Use) (some : 0
       → IsQueued count (line_text (line.Queue count items sum))
   unfolding queue_run
   queued small items sum items_are sum_is = record {
-    config = config_of h;
+    config = config_of heap;
     heap = sizes;
     events = leads.events;
     run = queue_run;

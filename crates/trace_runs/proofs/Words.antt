@@ -19,7 +19,7 @@ same_from_test [] (y ∷ ys) e = absurd cc
 same_from_test (x ∷ xs) [] e = absurd cc
 same_from_test (x ∷ xs) (y ∷ ys) e = by_head (eqb x y) refl (same_from_test xs ys) e
   where
-    by_head : (b : Bool) → eqb x y ≡ b → (pointwise eqb xs ys ≡ true → xs ≡ ys) → (b && pointwise eqb xs ys) ≡ true → x ∷ xs ≡ y ∷ ys
+    by_head : (holds : Bool) → eqb x y ≡ holds → (pointwise eqb xs ys ≡ true → xs ≡ ys) → (holds && pointwise eqb xs ys) ≡ true → x ∷ xs ≡ y ∷ ys
     by_head true h rest t = rw (eqb-true x y h) (ap (λ (zs : List ℕ). y ∷ zs) (rest t))
     by_head false h rest t = absurd cc
 
@@ -31,17 +31,17 @@ test_itself [] = refl
 test_itself (x ∷ xs) = rw (same_number x) (test_itself xs)
 
 -- a list of one, and what its one element is
-pub one_word : {X : Type 0} (f : X → List ℕ) (words : List X) (w : X) (text : List ℕ) (r : Bool) → 1 ≤ length words → length words < 2 → w ≡ get_or words 0 w → r ≡ pointwise eqb (f w) text
-    → (r ≡ true → map f words ≡ text ∷ []) × (map f words ≡ text ∷ [] → r ≡ true)
-one_word f [] w text r some few is e = absurd (omega arith)
-one_word f (x ∷ []) w text r some few is e = (
+pub one_word : {X : Type 0} (f : X → List ℕ) (words : List X) (w : X) (text : List ℕ) (holds : Bool) → 1 ≤ length words → length words < 2 → w ≡ get_or words 0 w → holds ≡ pointwise eqb (f w) text
+    → (holds ≡ true → map f words ≡ text ∷ []) × (map f words ≡ text ∷ [] → holds ≡ true)
+one_word f [] w text holds some few is e = absurd (omega arith)
+one_word f (x ∷ []) w text holds some few is e = (
   (λ h. ap (λ (t : List ℕ). t ∷ []) (sym (ap f is) ∙ same_from_test (f w) text (sym e ∙ h))),
   (λ h. let same : f w ≡ text = ap f is ∙ cc in e ∙ ap (λ (t : List ℕ). pointwise eqb t text) same ∙ test_itself text),
 )
-one_word f (x ∷ y ∷ words) w text r some few is e = absurd (omega arith)
+one_word f (x ∷ y ∷ words) w text holds some few is e = absurd (omega arith)
 
 -- what a test says of that which it tests
-pub decided : (r : Bool) (P : Type 0) → (r ≡ true → P) × (P → r ≡ true) → MatchBool r P (P → ⊥)
+pub decided : (holds : Bool) (P : Type 0) → (holds ≡ true → P) × (P → holds ≡ true) → MatchBool holds P (P → ⊥)
 decided true P both = both.0 refl
 decided false P both = λ p. false≢true (both.1 p)
 
@@ -79,9 +79,9 @@ three_words f (x ∷ y ∷ z ∷ []) a b c first second some few at_a at_b at_c 
 three_words f (x ∷ y ∷ z ∷ w ∷ words) a b c first second some few at_a at_b at_c e h = absurd (omega arith)
 
 -- what the third word says
-pub number_named : (command option : List ℕ) (usual most : ℕ) (words : List (List ℕ)) (number : List ℕ) (r : Option ℕ) → words ≡ command ∷ option ∷ number ∷ []
-    → MatchOption r ((n : ℕ) → IsUpTo most n → number ≡ decimal n → ⊥) (λ n. IsUpTo most n × (number ≡ decimal n))
-    → MatchOption r (((n : ℕ) × IsNumbered command option usual most words n) → ⊥) (IsNumbered command option usual most words)
+pub number_named : (command option : List ℕ) (usual most : ℕ) (words : List (List ℕ)) (number : List ℕ) (found : Option ℕ) → words ≡ command ∷ option ∷ number ∷ []
+    → MatchOption found ((n : ℕ) → IsUpTo most n → number ≡ decimal n → ⊥) (λ n. IsUpTo most n × (number ≡ decimal n))
+    → MatchOption found (((n : ℕ) × IsNumbered command option usual most words n) → ⊥) (IsNumbered command option usual most words)
 number_named command option usual most words number (Some n) are read = inr (are ∙ ap (λ (t : List ℕ). command ∷ option ∷ t ∷ []) read.1, read.0)
 number_named command option usual most words number None are none = λ asked. by_form asked.0 asked.1
   where
@@ -97,8 +97,8 @@ number_named command option usual most words number None are none = λ asked. by
 pub zero_named : (word : List ℕ) → true ≡ pointwise eqb word (codes "0") → (0 ≤ most_seed) × (word ≡ decimal 0)
 zero_named word e = (omega arith, same_from_test word (codes "0") (sym e) ∙ sym (decimal_digit 0 (omega arith)))
 
-pub seed_named : (word : List ℕ) (r : Option ℕ) → false ≡ pointwise eqb word (codes "0") → MatchOption r ((n : ℕ) → IsUpTo most_seed n → word ≡ decimal n → ⊥) (λ n. IsUpTo most_seed n × (word ≡ decimal n))
-    → MatchOption r ((n : ℕ) → n ≤ most_seed → word ≡ decimal n → ⊥) (λ n. (n ≤ most_seed) × (word ≡ decimal n))
+pub seed_named : (word : List ℕ) (found : Option ℕ) → false ≡ pointwise eqb word (codes "0") → MatchOption found ((n : ℕ) → IsUpTo most_seed n → word ≡ decimal n → ⊥) (λ n. IsUpTo most_seed n × (word ≡ decimal n))
+    → MatchOption found ((n : ℕ) → n ≤ most_seed → word ≡ decimal n → ⊥) (λ n. (n ≤ most_seed) × (word ≡ decimal n))
 seed_named word (Some n) other read = (read.0.1, read.1)
 seed_named word None other none = by_number
   where
@@ -112,9 +112,9 @@ is_churn words a b seed count are first second =
     (are ∙ ap (λ (t : List ℕ). codes "churn" ∷ t ∷ b ∷ []) first.1 ∙ ap (λ (t : List ℕ). codes "churn" ∷ decimal seed ∷ t ∷ []) second.1, first.0, second.0)
 
 -- words of which the second is a number or none ask for a queue of that number, or for none
-pub queue_named : (words : List (List ℕ)) (number : List ℕ) (r : Option ℕ) → words ≡ codes "queue" ∷ number ∷ []
-    → MatchOption r ((n : ℕ) → IsUpTo most_numbers n → number ≡ decimal n → ⊥) (λ n. IsUpTo most_numbers n × (number ≡ decimal n))
-    → MatchOption r (((count : ℕ) × IsQueue words count) → ⊥) (IsQueue words)
+pub queue_named : (words : List (List ℕ)) (number : List ℕ) (found : Option ℕ) → words ≡ codes "queue" ∷ number ∷ []
+    → MatchOption found ((n : ℕ) → IsUpTo most_numbers n → number ≡ decimal n → ⊥) (λ n. IsUpTo most_numbers n × (number ≡ decimal n))
+    → MatchOption found (((count : ℕ) × IsQueue words count) → ⊥) (IsQueue words)
 queue_named words number (Some n) are read = (are ∙ ap (λ (t : List ℕ). codes "queue" ∷ t ∷ []) read.1, read.0)
 queue_named words number None are none = λ asked. none asked.0 asked.1.1 (ap (λ (ws : List (List ℕ)). get_or ws 1 []) (sym are ∙ asked.1.0))
 
@@ -207,21 +207,21 @@ pub asks_alike : (words : List (List ℕ)) (a b : Mode) → Asks words a → Ask
 asks_alike words a b asked also reads none = subst HasInput (one_reading words a b asked also ∙ none) reads
 
 -- a list that is not empty begins with its first word
-pub first_word : {X : Type 0} (f : X → List ℕ) (words : List X) (w : X) (text : List ℕ) (r : Bool) → 1 ≤ length words → w ≡ get_or words 0 w → r ≡ pointwise eqb (f w) text
-    → (r ≡ true → BeginWith text (map f words)) × (BeginWith text (map f words) → r ≡ true)
-first_word f [] w text r some is e = absurd (omega arith)
-first_word f (x ∷ xs) w text r some is e = (
+pub first_word : {X : Type 0} (f : X → List ℕ) (words : List X) (w : X) (text : List ℕ) (holds : Bool) → 1 ≤ length words → w ≡ get_or words 0 w → holds ≡ pointwise eqb (f w) text
+    → (holds ≡ true → BeginWith text (map f words)) × (BeginWith text (map f words) → holds ≡ true)
+first_word f [] w text holds some is e = absurd (omega arith)
+first_word f (x ∷ xs) w text holds some is e = (
   (λ h. sym (ap f is) ∙ same_from_test (f w) text (sym e ∙ h)),
   (λ begins. e ∙ ap (λ (t : List ℕ). pointwise eqb t text) (ap f is ∙ begins) ∙ test_itself text),
 )
 
 -- words of which the second is another one name no number behind an option
-pub other_option : {X : Type 0} (f : X → List ℕ) (command option : List ℕ) (usual most : ℕ) (words : List X) (b : X) (r : Bool) → 2 ≤ length words → b ≡ get_or words 1 b → r ≡ pointwise eqb (f b) option → r ≡ false
+pub other_option : {X : Type 0} (f : X → List ℕ) (command option : List ℕ) (usual most : ℕ) (words : List X) (b : X) (holds : Bool) → 2 ≤ length words → b ≡ get_or words 1 b → holds ≡ pointwise eqb (f b) option → holds ≡ false
     → (n : ℕ) → IsNumbered command option usual most (map f words) n → ⊥
-other_option f command option usual most [] b r some is e differs n asked = absurd (omega arith)
-other_option f command option usual most (x ∷ []) b r some is e differs n asked = absurd (omega arith)
-other_option f command option usual most (x ∷ y ∷ words) b r some is e differs n (inl one) = absurd (omega (arith, ap length one.0))
-other_option f command option usual most (x ∷ y ∷ words) b r some is e differs n (inr three) =
+other_option f command option usual most [] b holds some is e differs n asked = absurd (omega arith)
+other_option f command option usual most (x ∷ []) b holds some is e differs n asked = absurd (omega arith)
+other_option f command option usual most (x ∷ y ∷ words) b holds some is e differs n (inl one) = absurd (omega (arith, ap length one.0))
+other_option f command option usual most (x ∷ y ∷ words) b holds some is e differs n (inr three) =
     let second : f y ≡ option = ap (λ (ws : List (List ℕ)). get_or ws 1 []) three.0 in
     false≢true (sym differs ∙ e ∙ ap (λ (t : List ℕ). pointwise eqb t option) (ap f is ∙ second) ∙ test_itself option)
 
@@ -233,42 +233,42 @@ none_begins f (x ∷ xs) text few begins = absurd (omega arith)
 -- ---- the last word
 
 -- words of which the last one is this
-last_added : {X : Type 0} (f : X → List ℕ) (words : List X) (w : X) (text : List ℕ) (n : ℕ) → length words ≡ suc n → w ≡ get_or words n w → f w ≡ text → map f words ≡ map f (take n words) ++ text ∷ []
-last_added f [] w text n long is same = absurd (omega arith)
+last_added : {X : Type 0} (f : X → List ℕ) (words : List X) (w : X) (text : List ℕ) (index : ℕ) → length words ≡ suc index → w ≡ get_or words index w → f w ≡ text → map f words ≡ map f (take index words) ++ text ∷ []
+last_added f [] w text index long is same = absurd (omega arith)
 last_added f (x ∷ []) w text zero long is same = ap (λ (t : List ℕ). t ∷ []) (sym (ap f is) ∙ same)
-last_added f (x ∷ []) w text (suc n) long is same = absurd (omega arith)
+last_added f (x ∷ []) w text (suc index) long is same = absurd (omega arith)
 last_added f (x ∷ y ∷ words) w text zero long is same = absurd (omega arith)
-last_added f (x ∷ y ∷ words) w text (suc n) long is same = ap (λ (ws : List (List ℕ)). f x ∷ ws) (last_added f (y ∷ words) w text n (omega arith) is same)
+last_added f (x ∷ y ∷ words) w text (suc index) long is same = ap (λ (ws : List (List ℕ)). f x ∷ ws) (last_added f (y ∷ words) w text index (omega arith) is same)
 
 -- a front and one word more have this last word, and this front
-last_of : {X : Type 0} (f : X → List ℕ) (words : List X) (w : X) (front : List (List ℕ)) (text : List ℕ) (n : ℕ) → length words ≡ suc n → w ≡ get_or words n w → map f words ≡ front ++ text ∷ []
-    → (f w ≡ text) × (map f (take n words) ≡ front)
-last_of f [] w front text n long is same = absurd (omega arith)
+last_of : {X : Type 0} (f : X → List ℕ) (words : List X) (w : X) (front : List (List ℕ)) (text : List ℕ) (index : ℕ) → length words ≡ suc index → w ≡ get_or words index w → map f words ≡ front ++ text ∷ []
+    → (f w ≡ text) × (map f (take index words) ≡ front)
+last_of f [] w front text index long is same = absurd (omega arith)
 last_of f (x ∷ []) w [] text zero long is same = (ap f is ∙ ap (λ (ws : List (List ℕ)). get_or ws 0 []) same, refl)
 last_of f (x ∷ []) w (a ∷ front) text zero long is same = absurd (omega (arith, ap length same, length-append front (text ∷ [])))
-last_of f (x ∷ []) w front text (suc n) long is same = absurd (omega arith)
+last_of f (x ∷ []) w front text (suc index) long is same = absurd (omega arith)
 last_of f (x ∷ y ∷ words) w front text zero long is same = absurd (omega arith)
-last_of f (x ∷ y ∷ words) w [] text (suc n) long is same = absurd (omega (arith, ap length same))
-last_of f (x ∷ y ∷ words) w (a ∷ front) text (suc n) long is same =
+last_of f (x ∷ y ∷ words) w [] text (suc index) long is same = absurd (omega (arith, ap length same))
+last_of f (x ∷ y ∷ words) w (a ∷ front) text (suc index) long is same =
     let rest : map f (y ∷ words) ≡ front ++ text ∷ [] = ap (λ (ws : List (List ℕ)). drop 1 ws) same in
     let first : f x ≡ a = ap (λ (ws : List (List ℕ)). get_or ws 0 []) same in
-    let both = last_of f (y ∷ words) w front text n (omega arith) is rest in
-    (both.0, ap (λ (t : List ℕ). t ∷ map f (take n (y ∷ words))) first ∙ ap (λ (ws : List (List ℕ)). a ∷ ws) both.1)
+    let both = last_of f (y ∷ words) w front text index (omega arith) is rest in
+    (both.0, ap (λ (t : List ℕ). t ∷ map f (take index (y ∷ words))) first ∙ ap (λ (ws : List (List ℕ)). a ∷ ws) both.1)
 
 -- what is asked for where this is the last word: a replay by the words before it
-pub then_by_front : {X : Type 0} (f : X → List ℕ) (words front : List X) (w : X) (text : List ℕ) (n : ℕ) (r : Option ℕ) → length words ≡ suc n → w ≡ get_or words n w → front ≡ take n words
-    → true ≡ pointwise eqb (f w) text → MatchOption r (((steps : ℕ) × IsReplay (map f front) steps) → ⊥) (IsReplay (map f front)) → MatchOption r (((steps : ℕ) × IsReplayThen text (map f words) steps) → ⊥) (IsReplayThen text (map f words))
-then_by_front f words front w text n (Some steps) long is are e asked =
-    (map f front, last_added f words w text n long is (same_from_test (f w) text (sym e)) ∙ ap (λ ws. map f ws ++ text ∷ []) (sym are), asked)
-then_by_front f words front w text n None long is are e none = λ asked.
-    let parts = last_of f words w asked.1.0 text n long is asked.1.1 in
+pub then_by_front : {X : Type 0} (f : X → List ℕ) (words front : List X) (w : X) (text : List ℕ) (index : ℕ) (found : Option ℕ) → length words ≡ suc index → w ≡ get_or words index w → front ≡ take index words
+    → true ≡ pointwise eqb (f w) text → MatchOption found (((steps : ℕ) × IsReplay (map f front) steps) → ⊥) (IsReplay (map f front)) → MatchOption found (((steps : ℕ) × IsReplayThen text (map f words) steps) → ⊥) (IsReplayThen text (map f words))
+then_by_front f words front w text index (Some steps) long is are e asked =
+    (map f front, last_added f words w text index long is (same_from_test (f w) text (sym e)) ∙ ap (λ ws. map f ws ++ text ∷ []) (sym are), asked)
+then_by_front f words front w text index None long is are e none = λ asked.
+    let parts = last_of f words w asked.1.0 text index long is asked.1.1 in
     none (asked.0, subst (λ (ws : List (List ℕ)). IsReplay ws asked.0) (sym parts.1 ∙ ap (λ ws. map f ws) (sym are)) asked.1.2)
 
 -- nothing is asked for by that last word where the last one differs
-pub then_other : {X : Type 0} (f : X → List ℕ) (words : List X) (w : X) (text : List ℕ) (n : ℕ) (r : Bool) → length words ≡ suc n → w ≡ get_or words n w → r ≡ pointwise eqb (f w) text → r ≡ false
+pub then_other : {X : Type 0} (f : X → List ℕ) (words : List X) (w : X) (text : List ℕ) (index : ℕ) (holds : Bool) → length words ≡ suc index → w ≡ get_or words index w → holds ≡ pointwise eqb (f w) text → holds ≡ false
     → (steps : ℕ) → IsReplayThen text (map f words) steps → ⊥
-then_other f words w text n r long is e differs steps asked =
-    let parts = last_of f words w asked.0 text n long is asked.1 in
+then_other f words w text index holds long is e differs steps asked =
+    let parts = last_of f words w asked.0 text index long is asked.1 in
     false≢true (sym differs ∙ e ∙ ap (λ (t : List ℕ). pointwise eqb t text) parts.0 ∙ test_itself text)
 
 -- words that ask for none of the modes ask for nothing

@@ -7,12 +7,12 @@ use Rattle.trace_text.specs.Message.{line_text}
 use Rattle.trace_text.specs.declared.message.Line.TheVariants.{Churn}
 
 -- The heap of a churn: 16 regions of 256 words, of which two are kept back, for three mutators and two helpers.
-pub record IsChurnHeap (c : Config) : Type 0 where
-  pub regions : c.regions ≡ 16
-  pub region_words : c.region_words ≡ 256
-  pub mutators : c.mutators ≡ 3
-  pub helpers : c.helpers ≡ 2
-  pub reserve : c.reserve ≡ 2
+pub record IsChurnHeap (config : Config) : Type 0 where
+  pub regions : config.regions ≡ 16
+  pub region_words : config.region_words ≡ 256
+  pub mutators : config.mutators ≡ 3
+  pub helpers : config.helpers ≡ 2
+  pub reserve : config.reserve ≡ 2
 
 -- The text is the summary of the history in which the three threads of this seed and of so many rounds run one after the
 -- other, and no allocation is refused.

@@ -53,8 +53,8 @@ IsJoined _ _ _ = ⊥
 -- ---- parts
 
 -- machines of a heap that can be run
-pub record PartCanRun (h : Heap) (part : Part) : Type 0 where
-  pub of : IsBundleOf part.bundle h
+pub record PartCanRun (heap : Heap) (part : Part) : Type 0 where
+  pub of : IsBundleOf part.bundle heap
   pub start : CanBeRunBy part.bundle part.load
 
 -- all machines of the part are idle for good
@@ -73,13 +73,13 @@ abbrev pub is_dealt : (workers first beyond number : ℕ) → Bool
 is_dealt workers first beyond number = nat_le first (number % workers) && nat_lt (number % workers) beyond
 
 -- The part has the machines that are dealt to these bundles.
-pub record IsPart (h : Heap) (workers first beyond : ℕ) (part : Part) : Type 0 where
-  pub of : IsBundleOf part.bundle h
-  pub machines : (number : ℕ) → is_some (machine_of (view_of part.bundle) number) ≡ (nat_lt number (seat_count (config_of h).mutators (config_of h).helpers) && is_dealt workers first beyond number)
+pub record IsPart (heap : Heap) (workers first beyond : ℕ) (part : Part) : Type 0 where
+  pub of : IsBundleOf part.bundle heap
+  pub machines : (number : ℕ) → is_some (machine_of (view_of part.bundle) number) ≡ (nat_lt number (seat_count (config_of heap).mutators (config_of heap).helpers) && is_dealt workers first beyond number)
 
 -- The work has the scripts of those that are mutators.
-pub record HasScripts (c : Config) (scripts : Scripts) (workers first beyond : ℕ) (jobs : Jobs) : Type 0 where
-  pub numbers : (number : ℕ) → is_some (work.progress_of jobs number) ≡ (nat_lt number c.mutators && is_dealt workers first beyond number)
+pub record HasScripts (config : Config) (scripts : Scripts) (workers first beyond : ℕ) (jobs : Jobs) : Type 0 where
+  pub numbers : (number : ℕ) → is_some (work.progress_of jobs number) ≡ (nat_lt number config.mutators && is_dealt workers first beyond number)
   pub scripts_are : (number : ℕ) → work.HasScript jobs number → work.script_in jobs number ≡ nth_script scripts number
 
 -- the users of these bundles, where each bundle has one machine
@@ -87,55 +87,55 @@ abbrev pub crew_of : List Use → (first beyond : ℕ) → List Use
 crew_of firsts first beyond = drop first (take beyond firsts)
 
 -- There is a bundle for each machine, and a user for each mutator.
-pub record IsCrewed (c : Config) (firsts : List Use) (workers : ℕ) : Type 0 where
-  pub single : workers ≡ seat_count c.mutators c.helpers
-  pub count : length firsts ≡ c.mutators
+pub record IsCrewed (config : Config) (firsts : List Use) (workers : ℕ) : Type 0 where
+  pub single : workers ≡ seat_count config.mutators config.helpers
+  pub count : length firsts ≡ config.mutators
 
 -- what the mutators of these bundles are run by, before they begin
 abbrev pub IsLoad : Config → Assigned → (workers first beyond : ℕ) → Load → Type 0
-IsLoad c (scripts all) workers first beyond (Scripted jobs) = HasScripts c all workers first beyond jobs
-IsLoad c (users firsts) workers first beyond (Driven crew) = IsCrewed c firsts workers × (crew.items ≡ crew_of firsts first beyond)
-IsLoad c _ workers first beyond _ = ⊥
+IsLoad config (scripts all) workers first beyond (Scripted jobs) = HasScripts config all workers first beyond jobs
+IsLoad config (users firsts) workers first beyond (Driven crew) = IsCrewed config firsts workers × (crew.items ≡ crew_of firsts first beyond)
+IsLoad config _ workers first beyond _ = ⊥
 
 -- what a user came to that began with this one: it is at its place among those of these bundles
-pub record HasUsed (firsts crew : List Use) (first number : ℕ) (a : Actor) : Type 0 where
+pub record HasUsed (firsts crew : List Use) (first number : ℕ) (actor : Actor) : Type 0 where
   pub begun : Use
   pub ended : Use
   pub begun_is : slice_get firsts number ≡ Some begun
   pub ended_is : slice_get crew (number - first) ≡ Some ended
-  pub driven : HasDriven next_of used begun ended a
+  pub driven : HasDriven next_of used begun ended actor
 
 -- and after they have ended
 abbrev pub LoadIsDone : Config → Assigned → (workers first beyond : ℕ) → View Actor → Load → Type 0
-LoadIsDone c (scripts all) workers first beyond view (Scripted jobs) =
-    HasScripts c all workers first beyond jobs × EachMutator view (λ number a. HasDone (nth_script all number) (work.replies_of jobs number) a)
-LoadIsDone c (users firsts) workers first beyond view (Driven crew) =
-    IsCrewed c firsts workers × (length crew.items ≡ length (crew_of firsts first beyond)) × EachMutator view (HasUsed firsts crew.items first)
-LoadIsDone c _ workers first beyond view _ = ⊥
+LoadIsDone config (scripts all) workers first beyond view (Scripted jobs) =
+    HasScripts config all workers first beyond jobs × EachMutator view (λ number a. HasDone (nth_script all number) (work.replies_of jobs number) a)
+LoadIsDone config (users firsts) workers first beyond view (Driven crew) =
+    IsCrewed config firsts workers × (length crew.items ≡ length (crew_of firsts first beyond)) × EachMutator view (HasUsed firsts crew.items first)
+LoadIsDone config _ workers first beyond view _ = ⊥
 
 -- a part before its run
-pub record PartIsReady (h : Heap) (assigned : Assigned) (workers first beyond : ℕ) (part : Part) : Type 0 where
-  pub has : IsPart h workers first beyond part
-  pub load : IsLoad (config_of h) assigned workers first beyond part.load
+pub record PartIsReady (heap : Heap) (assigned : Assigned) (workers first beyond : ℕ) (part : Part) : Type 0 where
+  pub has : IsPart heap workers first beyond part
+  pub load : IsLoad (config_of heap) assigned workers first beyond part.load
   pub start : CanBeRunBy part.bundle part.load
 
 -- a part after its run
-pub record IsDone (h : Heap) (assigned : Assigned) (workers first beyond : ℕ) (part : Part) : Type 0 where
-  pub has : IsPart h workers first beyond part
+pub record IsDone (heap : Heap) (assigned : Assigned) (workers first beyond : ℕ) (part : Part) : Type 0 where
+  pub has : IsPart heap workers first beyond part
   pub idle : AreIdleForGood part.bundle
-  pub load : LoadIsDone (config_of h) assigned workers first beyond (view_of part.bundle) part.load
+  pub load : LoadIsDone (config_of heap) assigned workers first beyond (view_of part.bundle) part.load
 
 -- the first so many parts, each of one bundle
 abbrev pub AreReady : Heap → Assigned → ℕ → List Part → Type 0
-AreReady h assigned workers parts = (k : ℕ) (p : Part) → slice_get parts k ≡ Some p → PartIsReady h assigned workers k (k + 1) p
+AreReady heap assigned workers parts = (index : ℕ) (part : Part) → slice_get parts index ≡ Some part → PartIsReady heap assigned workers index (index + 1) part
 
 -- the bundles of a heap that was just opened
 abbrev pub BundlesAreFresh : Heap → List Bundle → Type 0
-BundlesAreFresh h bundles = (k : ℕ) (b : Bundle) → slice_get bundles k ≡ Some b → IsFresh h b (dealt_to (length bundles) k (whole (heap_opening (config_of h)).machines))
+BundlesAreFresh heap bundles = (index : ℕ) (bundle : Bundle) → slice_get bundles index ≡ Some bundle → IsFresh heap bundle (dealt_to (length bundles) index (whole (heap_opening (config_of heap)).machines))
 
 -- such bundles, and the work for all its mutators
-pub record CanBeDealt (h : Heap) (all : Scripts) (jobs : Jobs) (bundles : List Bundle) : Type 0 where
-  pub fresh : BundlesAreFresh h bundles
+pub record CanBeDealt (heap : Heap) (all : Scripts) (jobs : Jobs) (bundles : List Bundle) : Type 0 where
+  pub fresh : BundlesAreFresh heap bundles
   pub jobs_are : jobs ≡ work.opened all
-  pub count : length all ≡ (config_of h).mutators
+  pub count : length all ≡ (config_of heap).mutators
   pub runnable : All IsRunnable all

@@ -17,12 +17,12 @@ use Rattle.trace_runs.specs.DealtParts.{BundlesAreFresh}
 use Rattle.trace_runs.specs.Replayed.{IsWhole}
 
 -- The heap of a queue: 16 regions of 256 words, of which two are kept back, for four mutators and one helper.
-pub record IsQueueHeap (c : Config) : Type 0 where
-  pub regions : c.regions ≡ 16
-  pub region_words : c.region_words ≡ 256
-  pub mutators : c.mutators ≡ 4
-  pub helpers : c.helpers ≡ 1
-  pub reserve : c.reserve ≡ 2
+pub record IsQueueHeap (config : Config) : Type 0 where
+  pub regions : config.regions ≡ 16
+  pub region_words : config.region_words ≡ 256
+  pub mutators : config.mutators ≡ 4
+  pub helpers : config.helpers ≡ 1
+  pub reserve : config.reserve ≡ 2
 
 -- the users as they begin, one for each mutator
 abbrev pub queue_users : ℕ → List Use

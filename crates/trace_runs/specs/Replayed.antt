@@ -23,23 +23,23 @@ use Rattle.heap_dump.specs.ObjectsMade.{objects_made_by_each}
 -- the events of a trace, in a heap whose pauses go on to the next phase of the cycle, or make room: those of its
 -- schedule and of the rounds after it, from the opening on, cut after so many
 abbrev pub events_of : Config → Scripts → List Item → ℕ → List (Event Order)
-events_of c scripts items limit = schedule_events pause_image c scripts items limit (opening c)
+events_of config scripts items limit = schedule_events pause_image config scripts items limit (opening config)
 
 -- the history of these events, and the words and machines after them
 abbrev pub history_of : Config → Scripts → List Item → ℕ → List Entry
-history_of c scripts items limit = past pause_image c (events_of c scripts items limit)
+history_of config scripts items limit = past pause_image config (events_of config scripts items limit)
 
 abbrev pub end_of : Config → Scripts → List Item → ℕ → Stage Actor
-end_of c scripts items limit = reached pause_image c (events_of c scripts items limit)
+end_of config scripts items limit = reached pause_image config (events_of config scripts items limit)
 
 -- Events from the opening on, after which all machines are idle: all mutators have ended, and so have the control and all
 -- helpers. In their history each thread's commands are its script, whole and in order; each entry is a legal step from the
 -- opening graph; and each allocation that was refused was crowded out by live objects and the other threads' allocations that
 -- were not answered yet.
-pub record IsWhole (c : Config) (scripts : Scripts) (events : List (Event Order)) : Type 0 where
-  pub idle : AreIdle c scripts (reached pause_image c events)
-  pub follows : Follows scripts (past pause_image c events)
-  pub legal : IsLegalHistory c.regions c.region_words scripts (past pause_image c events)
+pub record IsWhole (config : Config) (scripts : Scripts) (events : List (Event Order)) : Type 0 where
+  pub idle : AreIdle config scripts (reached pause_image config events)
+  pub follows : Follows scripts (past pause_image config events)
+  pub legal : IsLegalHistory config.regions config.region_words scripts (past pause_image config events)
 
 -- The bytes are a trace, its events come to an end, and the text is the answer of their history.
 pub record IsReplayed (bytes : List ℕ) (limit : ℕ) (out : List ℕ) : Type 0 where
@@ -90,9 +90,9 @@ pub record IsRun (bytes : List ℕ) (out : List ℕ) : Type 0 where
   pub text : IsAnswerText version config.mutators (past pause_image config events) out
 
 -- so many events of a trace leave a machine that is not idle
-pub record IsCut (c : Config) (scripts : Scripts) (items : List Item) (limit : ℕ) : Type 0 where
-  pub busy : AreIdle c scripts (end_of c scripts items limit) → ⊥
-  pub count : length (events_of c scripts items limit) ≡ limit
+pub record IsCut (config : Config) (scripts : Scripts) (items : List Item) (limit : ℕ) : Type 0 where
+  pub busy : AreIdle config scripts (end_of config scripts items limit) → ⊥
+  pub count : length (events_of config scripts items limit) ≡ limit
 
 -- the bytes are a trace, and so many of its events leave a machine that is not idle
 pub record IsUnfinished (bytes : List ℕ) (limit : ℕ) : Type 0 where

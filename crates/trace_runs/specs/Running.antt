@@ -18,13 +18,13 @@ use Rattle.trace_runs.specs.Replayed.{end_of}
 
 -- All machines are idle after the events of the trace, and each mutator has called its whole script; memory shows the end,
 -- and the work has the replies.
-pub record HasFinished (c : Config) (scripts : Scripts) (items : List Item) (limit : ℕ) (jobs : Jobs) (p : Plain) : Type 0 where
-  pub config : config_of p ≡ c
+pub record HasFinished (c : Config) (scripts : Scripts) (items : List Item) (limit : ℕ) (jobs : Jobs) (plain : Plain) : Type 0 where
+  pub config : config_of plain ≡ c
   pub idle : AreIdle c scripts (end_of c scripts items limit)
   pub called : AllHaveCalled c scripts (end_of c scripts items limit)
-  pub shows : Shows p (end_of c scripts items limit)
+  pub shows : Shows plain (end_of c scripts items limit)
   pub tells : Tells c scripts jobs (end_of c scripts items limit)
-  pub jobs_are : (t : ℕ) → t < c.mutators → work.HasScript jobs t
+  pub jobs_are : (mutator : ℕ) → mutator < c.mutators → work.HasScript jobs mutator
 
 -- Threads have made events after which all machines are idle, and each mutator has called its whole script; memory has the words
 -- and machines after them, and the work has the replies.
@@ -33,5 +33,5 @@ pub record HasCome (c : Config) (scripts : Scripts) (jobs : Jobs) (h : Closed) :
   pub reached : IsReached (heap_kind c) (heap_opening c) (closed.stage_of h)
   pub idle : AreIdle c scripts (closed.stage_of h)
   pub called : AllHaveCalled c scripts (closed.stage_of h)
-  pub replies : (t : ℕ) (a : Actor) → t < c.mutators → slice_get (closed.machines_of h) t ≡ Some a → work.replies_of jobs t ≡ history.replies_of a.calls
-  pub jobs_are : (t : ℕ) → t < c.mutators → work.HasScript jobs t
+  pub replies : (mutator : ℕ) (actor : Actor) → mutator < c.mutators → slice_get (closed.machines_of h) mutator ≡ Some actor → work.replies_of jobs mutator ≡ history.replies_of actor.calls
+  pub jobs_are : (mutator : ℕ) → mutator < c.mutators → work.HasScript jobs mutator

@@ -8,16 +8,16 @@ use Rattle.trace_runs.specs.DealtParts.{Assigned, PartIsReady, IsDone, AreReady}
 
 -- a thread has the part of one bundle, or that part has run
 abbrev pub IsThread : Heap → Assigned → ℕ → ℕ → Thread → Type 0
-IsThread h assigned workers k (Running handle) = PartIsReady h assigned workers k (k + 1) handle.promise.0.value
-IsThread h assigned workers k (Over part) = IsDone h assigned workers k (k + 1) part
+IsThread heap assigned workers k (Running handle) = PartIsReady heap assigned workers k (k + 1) handle.promise.0.value
+IsThread heap assigned workers k (Over part) = IsDone heap assigned workers k (k + 1) part
 
 -- the parts of the last bundles, the last one first
 abbrev pub AreThreads : Heap → Assigned → ℕ → List Thread → Type 0
-AreThreads h assigned workers threads = (i : ℕ) (t : Thread) → slice_get threads i ≡ Some t → IsThread h assigned workers (workers - (i + 1)) t
+AreThreads heap assigned workers threads = (index : ℕ) (thread : Thread) → slice_get threads index ≡ Some thread → IsThread heap assigned workers (workers - (index + 1)) thread
 
 -- the parts of the first bundles are here, and threads have the others
-pub record AreSplit (h : Heap) (assigned : Assigned) (workers : ℕ) (parts : List Part) (threads : List Thread) : Type 0 where
+pub record AreSplit (heap : Heap) (assigned : Assigned) (workers : ℕ) (parts : List Part) (threads : List Thread) : Type 0 where
   pub some : 0 < length parts
   pub count : length parts + length threads ≡ workers
-  pub here : AreReady h assigned workers parts
-  pub there : AreThreads h assigned workers threads
+  pub here : AreReady heap assigned workers parts
+  pub there : AreThreads heap assigned workers threads

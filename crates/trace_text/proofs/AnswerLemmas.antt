@@ -19,19 +19,19 @@ use Rattle.trace_text.specs.Answer.{line_of, name_word, reference_word, reply_li
 -- Loops over a list.
 
 -- the texts of one element more
-pub flat_map-take_more : {X : Type 0} (f : X → List ℕ) (xs : List X) (i : ℕ) (d : X) → i < length xs
-    → flat_map f (take i xs) ++ f (get_or xs i d) ≡ flat_map f (take (i + 1) xs)
-flat_map-take_more f xs i d h =
-    let x = get_or xs i d in
-    ap (λ t. flat_map f (take i xs) ++ t) (sym (append-nil (f x)))
-    ∙ sym (flat_map-append f (take i xs) (x ∷ []))
-    ∙ sym (ap (flat_map f) (take_more xs i d h))
+pub flat_map-take_more : {X : Type 0} (f : X → List ℕ) (xs : List X) (index : ℕ) (d : X) → index < length xs
+    → flat_map f (take index xs) ++ f (get_or xs index d) ≡ flat_map f (take (index + 1) xs)
+flat_map-take_more f xs index d h =
+    let x = get_or xs index d in
+    ap (λ t. flat_map f (take index xs) ++ t) (sym (append-nil (f x)))
+    ∙ sym (flat_map-append f (take index xs) (x ∷ []))
+    ∙ sym (ap (flat_map f) (take_more xs index d h))
 
 -- the text of the next element was put
-pub puts_next : {X : Type 0} {a b c : SinkStage} (f : X → List ℕ) (xs : List X) (i : ℕ) (x d : X) → i < length xs → x ≡ get_or xs i d
-    → Puts a b (flat_map f (take i xs)) → Puts b c (f x) → Puts a c (flat_map f (take (i + 1) xs))
-puts_next f xs i x d h e p q =
-    puts_same (ap (λ y. flat_map f (take i xs) ++ f y) e ∙ flat_map-take_more f xs i d h) (puts_both p q)
+pub puts_next : {X : Type 0} {a b c : SinkStage} (f : X → List ℕ) (xs : List X) (index : ℕ) (x d : X) → index < length xs → x ≡ get_or xs index d
+    → Puts a b (flat_map f (take index xs)) → Puts b c (f x) → Puts a c (flat_map f (take (index + 1) xs))
+puts_next f xs index x d h e p q =
+    puts_same (ap (λ y. flat_map f (take index xs) ++ f y) e ∙ flat_map-take_more f xs index d h) (puts_both p q)
 
 -- the texts of all elements were put
 pub puts_all : {X : Type 0} {a b : SinkStage} (f : X → List ℕ) (xs : List X) (i : ℕ) → length xs ≤ i → Puts a b (flat_map f (take i xs)) → Puts a b (flat_map f xs)
@@ -70,24 +70,24 @@ regroup : (o n r s d : List ℕ) → (((o ++ n) ++ r) ++ s) ++ d ≡ o ++ (n ++ 
 regroup o n r s d = simp append_assoc
 
 -- the words of an object behind its name, each after a space
-field_words : (r : Row) → flat_map (λ v. space ∷ v) (map reference_word r.refs ++ codes "/" ∷ map decimal r.nums)
-    ≡ flat_map (λ x. space ∷ reference_word x) r.refs ++ (codes " /" ++ flat_map (λ n. space ∷ decimal n) r.nums)
-field_words r =
-    flat_map-append (λ v. space ∷ v) (map reference_word r.refs) (codes "/" ∷ map decimal r.nums)
-    ∙ ap (λ t. t ++ flat_map (λ v. space ∷ v) (codes "/" ∷ map decimal r.nums)) (flat_map-map (λ v. space ∷ v) reference_word r.refs)
-    ∙ ap (λ t. flat_map (λ x. space ∷ reference_word x) r.refs ++ (codes " /" ++ t)) (flat_map-map (λ v. space ∷ v) decimal r.nums)
+field_words : (row : Row) → flat_map (λ v. space ∷ v) (map reference_word row.refs ++ codes "/" ∷ map decimal row.nums)
+    ≡ flat_map (λ x. space ∷ reference_word x) row.refs ++ (codes " /" ++ flat_map (λ n. space ∷ decimal n) row.nums)
+field_words row =
+    flat_map-append (λ v. space ∷ v) (map reference_word row.refs) (codes "/" ∷ map decimal row.nums)
+    ∙ ap (λ t. t ++ flat_map (λ v. space ∷ v) (codes "/" ∷ map decimal row.nums)) (flat_map-map (λ v. space ∷ v) reference_word row.refs)
+    ∙ ap (λ t. flat_map (λ x. space ∷ reference_word x) row.refs ++ (codes " /" ++ t)) (flat_map-map (λ v. space ∷ v) decimal row.nums)
 
 -- the line of an object, as it is put
-pub object_line_is : (r : Row) (name : Name) → name ≡ r.name
-    → ((((codes "object " ++ name_word name) ++ flat_map (λ x. space ∷ reference_word x) r.refs) ++ codes " /") ++ flat_map (λ n. space ∷ decimal n) r.nums) ++ newline ∷ [] ≡ object_line r
-object_line_is r name e =
-    let refs = flat_map (λ x. space ∷ reference_word x) r.refs in
-    let nums = flat_map (λ n. space ∷ decimal n) r.nums in
+pub object_line_is : (row : Row) (name : Name) → name ≡ row.name
+    → ((((codes "object " ++ name_word name) ++ flat_map (λ x. space ∷ reference_word x) row.refs) ++ codes " /") ++ flat_map (λ n. space ∷ decimal n) row.nums) ++ newline ∷ [] ≡ object_line row
+object_line_is row name e =
+    let refs = flat_map (λ x. space ∷ reference_word x) row.refs in
+    let nums = flat_map (λ n. space ∷ decimal n) row.nums in
     ap (λ t. t ++ newline ∷ [])
     (regroup (codes "object ") (name_word name) refs (codes " /") nums
     ∙ ap (λ t. codes "object " ++ (name_word t ++ (refs ++ (codes " /" ++ nums)))) e
-    ∙ ap (λ t. codes "object " ++ (name_word r.name ++ t)) (sym (field_words r))
-    ∙ sym (joined (codes "object") (name_word r.name ∷ (map reference_word r.refs ++ codes "/" ∷ map decimal r.nums))))
+    ∙ ap (λ t. codes "object " ++ (name_word row.name ++ t)) (sym (field_words row))
+    ∙ sym (joined (codes "object") (name_word row.name ∷ (map reference_word row.refs ++ codes "/" ∷ map decimal row.nums))))
 
 -- the line of a thread's roots, as it is put
 pub roots_line_is : (thread : ℕ) (root : ℕ → Reference)
@@ -147,10 +147,10 @@ map-range_same f h from (suc n) same =
     ∙ ap (λ t. h from ∷ t) (map-range_same f h (from + 1) n others)
 
 -- the words of equal roots
-root_words_same : (root other : ℕ → Reference) → ((i : ℕ) → i < 16 → root i ≡ other i) → root_spellings root ≡ root_spellings other
+root_words_same : (root other : ℕ → Reference) → ((index : ℕ) → index < 16 → root index ≡ other index) → root_spellings root ≡ root_spellings other
 unfolding root_spellings
 root_words_same root other same =
-    map-range_same (λ i. reference_word (root i)) (λ i. reference_word (other i)) 0 16 (λ k low high. ap reference_word (same k (omega arith)))
+    map-range_same (λ index. reference_word (root index)) (λ index. reference_word (other index)) 0 16 (λ k low high. ap reference_word (same k (omega arith)))
 
 -- the words of equal pin slots
 pin_words_same : (pin other : ℕ → Reference) → ((i : ℕ) → i < 4 → pin i ≡ other i) → pin_spellings pin ≡ pin_spellings other
@@ -168,15 +168,15 @@ pins_text_same version threads pin other same =
 -- the answers of equal replies, equal roots and equal pin slots
 pub answer_text_same : (version threads : ℕ) (replies others : ℕ → List Reply) (rows : List Row) (root other pin another : ℕ → ℕ → Reference)
     → ((t : ℕ) → 1 ≤ t → t ≤ threads → replies t ≡ others t)
-    → ((t i : ℕ) → 1 ≤ t → t ≤ threads → i < 16 → root t i ≡ other t i)
-    → ((t i : ℕ) → 1 ≤ t → t ≤ threads → i < 4 → pin t i ≡ another t i)
+    → ((t index : ℕ) → 1 ≤ t → t ≤ threads → index < 16 → root t index ≡ other t index)
+    → ((t index : ℕ) → 1 ≤ t → t ≤ threads → index < 4 → pin t index ≡ another t index)
     → answer_text version threads replies rows root pin ≡ answer_text version threads others rows other another
 answer_text_same version threads replies others rows root other pin another same_replies same_roots same_pins =
     let said : flat_map (λ t. flat_map (reply_line t) (replies t)) (range_with_len 1 threads) ≡ flat_map (λ t. flat_map (reply_line t) (others t)) (range_with_len 1 threads) =
     flat_map-range_same _ _ 1 threads (λ k low high. ap (flat_map (reply_line k)) (same_replies k low (omega arith))) in
     let held : flat_map (λ t. roots_line t (root t)) (range_with_len 1 threads) ≡ flat_map (λ t. roots_line t (other t)) (range_with_len 1 threads) =
     flat_map-range_same _ _ 1 threads
-    (λ k low high. ap (λ ws. line_of (codes "roots" ∷ decimal k ∷ ws)) (root_words_same (root k) (other k) (λ i below. same_roots k i low (omega arith) below))) in
+    (λ k low high. ap (λ ws. line_of (codes "roots" ∷ decimal k ∷ ws)) (root_words_same (root k) (other k) (λ index below. same_roots k index low (omega arith) below))) in
     let pinned = pins_text_same version threads pin another same_pins in
     let graph = line_of (codes "graph" ∷ []) in
     let objects = flat_map object_line rows in

@@ -95,14 +95,14 @@ word_both a b p q = record { no_space = free_both 32 a b p.no_space q.no_space; 
 number_word : (n : ℕ) → n < 2 ^ 64 → IsWord (decimal n)
 number_word n small = decimal_word n small
 
-name_is_word : (n : Name) → IsSmallName n → IsWord (name_word n)
-name_is_word n small = word_both (decimal n.thread ++ codes ".") (decimal n.count) (word_both (decimal n.thread) (codes ".") (number_word n.thread (omega (arith, small.0))) (record { no_space = refl; no_end = refl })) (number_word n.count (omega (arith, small.1)))
+name_is_word : (name : Name) → IsSmallName name → IsWord (name_word name)
+name_is_word name small = word_both (decimal name.thread ++ codes ".") (decimal name.count) (word_both (decimal name.thread) (codes ".") (number_word name.thread (omega (arith, small.0))) (record { no_space = refl; no_end = refl })) (number_word name.count (omega (arith, small.1)))
 
-reference_is_word : (r : Reference) → IsSmallReference r → IsWord (reference_word r)
+reference_is_word : (reference : Reference) → IsSmallReference reference → IsWord (reference_word reference)
 reference_is_word None small = record { no_space = refl; no_end = refl }
 reference_is_word (Some n) small = name_is_word n small
 
-reply_is_word : (r : Reply) → FitsReply r → IsWord (reply_word r)
+reply_is_word : (reply : Reply) → FitsReply reply → IsWord (reply_word reply)
 reply_is_word (Ref n) fits = name_is_word n fits
 reply_is_word Null fits = record { no_space = refl; no_end = refl }
 reply_is_word Ok fits = record { no_space = refl; no_end = refl }
@@ -119,22 +119,22 @@ words_each f P (x ∷ xs) each all = (each x (All-head P x xs all), words_each f
 
 -- ---- the answer
 
-pub record IsSmallRow (r : Row) : Type 0 where
-  pub name : IsSmallName r.name
-  pub refs : All IsSmallReference r.refs
-  pub nums : All (λ n. n < 2 ^ 64) r.nums
+pub record IsSmallRow (row : Row) : Type 0 where
+  pub name : IsSmallName row.name
+  pub refs : All IsSmallReference row.refs
+  pub nums : All (λ n. n < 2 ^ 64) row.nums
 
-reply_lines : (t : ℕ) (r : Reply) → t < 2 ^ 64 → FitsReply r → AreLines (reply_line t r)
-reply_lines t r small fits = line_of_words (decimal t) (reply_word r) [] (number_word t small, (reply_is_word r fits, tt))
+reply_lines : (t : ℕ) (reply : Reply) → t < 2 ^ 64 → FitsReply reply → AreLines (reply_line t reply)
+reply_lines t reply small fits = line_of_words (decimal t) (reply_word reply) [] (number_word t small, (reply_is_word reply fits, tt))
 
-object_lines : (r : Row) → IsSmallRow r → AreLines (object_line r)
-object_lines r small =
-    line_of_words (codes "object") (name_word r.name) (map reference_word r.refs ++ codes "/" ∷ map decimal r.nums) (
+object_lines : (row : Row) → IsSmallRow row → AreLines (object_line row)
+object_lines row small =
+    line_of_words (codes "object") (name_word row.name) (map reference_word row.refs ++ codes "/" ∷ map decimal row.nums) (
       record { no_space = refl; no_end = refl },
       (
-        name_is_word r.name small.name,
-        all_both IsWord (map reference_word r.refs) (codes "/" ∷ map decimal r.nums) (words_each reference_word IsSmallReference r.refs reference_is_word small.refs)
-            (record { no_space = refl; no_end = refl }, words_each decimal (λ n. n < 2 ^ 64) r.nums number_word small.nums),
+        name_is_word row.name small.name,
+        all_both IsWord (map reference_word row.refs) (codes "/" ∷ map decimal row.nums) (words_each reference_word IsSmallReference row.refs reference_is_word small.refs)
+            (record { no_space = refl; no_end = refl }, words_each decimal (λ n. n < 2 ^ 64) row.nums number_word small.nums),
       ),
     )
 

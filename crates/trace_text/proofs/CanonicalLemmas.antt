@@ -66,15 +66,15 @@ scripts_again first (script ∷ scripts) =
     let behind : (k : ℕ) → first + 1 ≤ k → commands_in all k ≡ commands_in others k = λ k low.
     let ne : first ≢ k = λ e. absurd (omega arith) in
     commands_in-append (lines_of first script) others k ∙ ap (λ (cs : List Command). cs ++ commands_in others k) (other_lines first k script ne) in
-    ap (λ (s : List Command). s ∷ map (commands_in all) (range_with_len (first + 1) (length scripts))) own
+    ap (λ (script : List Command). script ∷ map (commands_in all) (range_with_len (first + 1) (length scripts))) own
     ∙ ap (λ (ss : List (List Command)). script ∷ ss)
     (map-range_same (commands_in all) (commands_in others) (first + 1) (length scripts) behind ∙ scripts_again (first + 1) scripts)
 
 -- ---- the schedule has its items
 
-turns_fit : (c : Config) (items : List Item) → AllByRecursion (IsItem c) items → AllByRecursion (IsScheduleLine c) (turns_of items)
-turns_fit c [] all = tt
-turns_fit c (i ∷ items) all = (record { some = omega arith; in_range = all }, tt)
+turns_fit : (config : Config) (items : List Item) → AllByRecursion (IsItem config) items → AllByRecursion (IsScheduleLine config) (turns_of items)
+turns_fit config [] all = tt
+turns_fit config (i ∷ items) all = (record { some = omega arith; in_range = all }, tt)
 
 items_again : (items : List Item) → items ≡ items_of (turns_of items)
 items_again [] = refl
@@ -82,14 +82,14 @@ items_again (i ∷ items) = sym (append-nil (i ∷ items))
 
 -- ---- the text is read as the trace
 
-pub reads_again : (version : ℕ) (c : Config) (scripts : List (List Command)) (items : List Item) → IsWritable version c scripts items → Reads (spelling_of version c scripts items) version c scripts items
-reads_again version c scripts items h = record {
+pub reads_again : (version : ℕ) (config : Config) (scripts : List (List Command)) (items : List Item) → IsWritable version config scripts items → Reads (spelling_of version config scripts items) version config scripts items
+reads_again version config scripts items h = record {
   known = h.known;
   narrow = h.narrow;
   lines = lines_from 1 scripts;
   in_range = h.lines_fit;
   turns = turns_of items;
-  turns_in_range = turns_fit c items h.items_fit;
+  turns_in_range = turns_fit config items h.items_fit;
   spelled = refl;
   by_thread = sym (subst (λ (n : ℕ). scripts_of n (lines_from 1 scripts) ≡ scripts) h.threads (scripts_again 1 scripts));
   in_order = items_again items;
@@ -99,40 +99,40 @@ reads_again version c scripts items h = record {
 -- ---- what is put in turn
 
 -- each item fits
-pub each_fits : (c : Config) (items : List Item) (i : ℕ) (d : Item) → i < length items → AllByRecursion (IsItem c) items → IsItem c (get_or items i d)
-each_fits c [] i d lt all = absurd (omega arith)
-each_fits c (x ∷ items) zero d lt all = all.0
-each_fits c (x ∷ items) (suc i) d lt all = each_fits c items i d (omega arith) all.1
+pub each_fits : (config : Config) (items : List Item) (index : ℕ) (item : Item) → index < length items → AllByRecursion (IsItem config) items → IsItem config (get_or items index item)
+each_fits config [] index item lt all = absurd (omega arith)
+each_fits config (x ∷ items) zero item lt all = all.0
+each_fits config (x ∷ items) (suc index) item lt all = each_fits config items index item (omega arith) all.1
 
 -- a line more of a thread
-pub line_more : (thread : ℕ) (script : List Command) (i : ℕ) (d : Command) → i < length script
-    → flat_map line (lines_of thread (take i script)) ++ line (record { thread = thread; command = get_or script i d }) ≡ flat_map line (lines_of thread (take (i + 1) script))
-line_more thread script i d lt =
+pub line_more : (thread : ℕ) (script : List Command) (index : ℕ) (command : Command) → index < length script
+    → flat_map line (lines_of thread (take index script)) ++ line (record { thread = thread; command = get_or script index command }) ≡ flat_map line (lines_of thread (take (index + 1) script))
+line_more thread script index command lt =
     let put = λ (c : Command). line (record { thread = thread; command = c }) in
-    let as_lines = λ (cs : List Command). flat_map-map line (λ (c : Command). record { thread = thread; command = c }) cs in
-    ap (λ (bs : List ℕ). bs ++ put (get_or script i d)) (as_lines (take i script)) ∙ flat_map-take_more put script i d lt ∙ sym (as_lines (take (i + 1) script))
+    let as_lines = λ (cs : List Command). flat_map-map line (λ (command : Command). record { thread = thread; command = command }) cs in
+    ap (λ (bs : List ℕ). bs ++ put (get_or script index command)) (as_lines (take index script)) ∙ flat_map-take_more put script index command lt ∙ sym (as_lines (take (index + 1) script))
 
 -- the lines of one script more
-lines_more : (first i : ℕ) (scripts : List (List Command)) (d : List Command) → i < length scripts
-    → lines_from first (take (suc i) scripts) ≡ lines_from first (take i scripts) ++ lines_of (first + i) (get_or scripts i d)
-lines_more first i [] d lt = absurd (omega arith)
+lines_more : (first index : ℕ) (scripts : List (List Command)) (d : List Command) → index < length scripts
+    → lines_from first (take (suc index) scripts) ≡ lines_from first (take index scripts) ++ lines_of (first + index) (get_or scripts index d)
+lines_more first index [] d lt = absurd (omega arith)
 lines_more first zero (script ∷ scripts) d lt =
     let same : first ≡ first + 0 = omega arith in
     append-nil (lines_of first script) ∙ ap (λ (n : ℕ). lines_of n script) same
-lines_more first (suc i) (script ∷ scripts) d lt =
-    let later : first + 1 + i ≡ first + suc i = omega arith in
-    ap (λ (ls : List TraceLine). lines_of first script ++ ls) (lines_more (first + 1) i scripts d (omega arith))
-    ∙ sym (append_assoc (lines_of first script) (lines_from (first + 1) (take i scripts)) (lines_of (first + 1 + i) (get_or scripts i d)))
-    ∙ ap (λ (n : ℕ). (lines_of first script ++ lines_from (first + 1) (take i scripts)) ++ lines_of n (get_or scripts i d)) later
+lines_more first (suc index) (script ∷ scripts) d lt =
+    let later : first + 1 + index ≡ first + suc index = omega arith in
+    ap (λ (ls : List TraceLine). lines_of first script ++ ls) (lines_more (first + 1) index scripts d (omega arith))
+    ∙ sym (append_assoc (lines_of first script) (lines_from (first + 1) (take index scripts)) (lines_of (first + 1 + index) (get_or scripts index d)))
+    ∙ ap (λ (n : ℕ). (lines_of first script ++ lines_from (first + 1) (take index scripts)) ++ lines_of n (get_or scripts index d)) later
 
 -- one script more of a trace
-pub script_more : (scripts : List (List Command)) (i : ℕ) (d : List Command) → i < length scripts
-    → flat_map line (lines_from 1 (take i scripts)) ++ flat_map line (lines_of (i + 1) (get_or scripts i d)) ≡ flat_map line (lines_from 1 (take (i + 1) scripts))
-script_more scripts i d lt =
-    let next : 1 + i ≡ i + 1 = omega arith in
-    sym (ap (λ (n : ℕ). flat_map line (lines_from 1 (take n scripts))) (add-one i)
-    ∙ ap (flat_map line) (lines_more 1 i scripts d lt ∙ ap (λ (n : ℕ). lines_from 1 (take i scripts) ++ lines_of n (get_or scripts i d)) next)
-    ∙ flat_map-append line (lines_from 1 (take i scripts)) (lines_of (i + 1) (get_or scripts i d)))
+pub script_more : (scripts : List (List Command)) (index : ℕ) (script : List Command) → index < length scripts
+    → flat_map line (lines_from 1 (take index scripts)) ++ flat_map line (lines_of (index + 1) (get_or scripts index script)) ≡ flat_map line (lines_from 1 (take (index + 1) scripts))
+script_more scripts index script lt =
+    let next : 1 + index ≡ index + 1 = omega arith in
+    sym (ap (λ (n : ℕ). flat_map line (lines_from 1 (take n scripts))) (add-one index)
+    ∙ ap (flat_map line) (lines_more 1 index scripts script lt ∙ ap (λ (n : ℕ). lines_from 1 (take index scripts) ++ lines_of n (get_or scripts index script)) next)
+    ∙ flat_map-append line (lines_from 1 (take index scripts)) (lines_of (index + 1) (get_or scripts index script)))
 
 -- all scripts of a trace
 pub all_scripts : (scripts : List (List Command)) (i : ℕ) → length scripts ≤ i → flat_map line (lines_from 1 (take i scripts)) ≡ flat_map line (lines_from 1 scripts)

@@ -41,31 +41,31 @@ no_mark text more none is =
     let same = ap (behind (33 ∷ [])) is in
     absurd cc
 
-turn_is_marked : (c : Config) (text : List ℕ) → behind (33 ∷ []) text ≡ None → IsTurnItem c text → ⊥
-turn_is_marked c text none it = let m = marked text (items_and_end it.0) it.2 in no_mark text m.0 none m.1
+turn_is_marked : (config : Config) (text : List ℕ) → behind (33 ∷ []) text ≡ None → IsTurnItem config text → ⊥
+turn_is_marked config text none it = let m = marked text (items_and_end it.0) it.2 in no_mark text m.0 none m.1
 
 -- a line with no cause against it and without the mark is that of a command
-pub is_command : (v : ℕ) (c : Config) (scheduled : Bool) (text : List ℕ) → words_cause (body_stage v c scheduled) (parts 32 text) ≡ None → behind (33 ∷ []) text ≡ None → (scheduled ≡ false) × IsCommandText v c text
-is_command v c true text none mark = absurd (turn_is_marked c text mark (turns_follow c text none))
-is_command v c false text none mark = by_kind (commands_follow v c text none)
+pub is_command : (v : ℕ) (config : Config) (scheduled : Bool) (text : List ℕ) → words_cause (body_stage v config scheduled) (parts 32 text) ≡ None → behind (33 ∷ []) text ≡ None → (scheduled ≡ false) × IsCommandText v config text
+is_command v config true text none mark = absurd (turn_is_marked config text mark (turns_follow config text none))
+is_command v config false text none mark = by_kind (commands_follow v config text none)
   where
-    by_kind : IsCommandLine v c text ⊎ IsTurnItem c text → (false ≡ false) × IsCommandText v c text
+    by_kind : IsCommandLine v config text ⊎ IsTurnItem config text → (false ≡ false) × IsCommandText v config text
     by_kind (inl it) = (refl, it)
-    by_kind (inr it) = absurd (turn_is_marked c text mark it)
+    by_kind (inr it) = absurd (turn_is_marked config text mark it)
 
-command_is_unmarked : (v : ℕ) (c : Config) (text rest : List ℕ) → behind (33 ∷ []) text ≡ Some rest → IsCommandLine v c text → ⊥
-command_is_unmarked v c text rest mark it =
+command_is_unmarked : (v : ℕ) (config : Config) (text rest : List ℕ) → behind (33 ∷ []) text ≡ Some rest → IsCommandLine v config text → ⊥
+command_is_unmarked v config text rest mark it =
     let is : text ≡ 33 ∷ rest = behind_takes (33 ∷ []) text rest mark in
     let front : IsBehindCommands (text ++ newline ∷ []) = subst (λ (t : List ℕ). IsBehindCommands (t ++ newline ∷ [])) (sym is) refl in
-    command_is_no_turn v c.mutators it.0 (text ++ newline ∷ []) [] (few_threads c) it.1 (it.2 ∙ sym (append-nil (line it.0))) front
+    command_is_no_turn v config.mutators it.0 (text ++ newline ∷ []) [] (few_threads config) it.1 (it.2 ∙ sym (append-nil (line it.0))) front
 
 -- and with it, one of the schedule
-pub is_items : (v : ℕ) (c : Config) (scheduled : Bool) (text rest : List ℕ) → words_cause (body_stage v c scheduled) (parts 32 text) ≡ None → behind (33 ∷ []) text ≡ Some rest → IsItemsText c text
-is_items v c true text rest none mark = turns_follow c text none
-is_items v c false text rest none mark = by_kind (commands_follow v c text none)
+pub is_items : (v : ℕ) (config : Config) (scheduled : Bool) (text rest : List ℕ) → words_cause (body_stage v config scheduled) (parts 32 text) ≡ None → behind (33 ∷ []) text ≡ Some rest → IsItemsText config text
+is_items v config true text rest none mark = turns_follow config text none
+is_items v config false text rest none mark = by_kind (commands_follow v config text none)
   where
-    by_kind : IsCommandLine v c text ⊎ IsTurnItem c text → IsItemsText c text
-    by_kind (inl it) = absurd (command_is_unmarked v c text rest mark it)
+    by_kind : IsCommandLine v config text ⊎ IsTurnItem config text → IsItemsText config text
+    by_kind (inl it) = absurd (command_is_unmarked v config text rest mark it)
     by_kind (inr it) = it
 
 -- ---- what is read
@@ -86,43 +86,43 @@ unfolding spelled_line
 spelled_again version threads l small fits =
     rw (positive_again threads l.thread (32 ∷ words_of l) fits.from_one fits.to_last small refl, command_again_at version l.command [] fits.known fits.valid fits.fits tt) refl
 
-pub command_read : (v : ℕ) (c : Config) (text : List ℕ) → (it : IsCommandText v c text) → spelled_line v c.mutators text ≡ Some it.0
-command_read v c text it =
+pub command_read : (v : ℕ) (config : Config) (text : List ℕ) → (it : IsCommandText v config text) → spelled_line v config.mutators text ≡ Some it.0
+command_read v config text it =
     let l = it.0 in
     let same : text ≡ decimal l.thread ++ 32 ∷ words_of l = same_before_end text (decimal l.thread ++ 32 ∷ words_of l) newline (it.2 ∙ line_text l) in
-    ap (spelled_line v c.mutators) same ∙ spelled_again v c.mutators l (few_threads c) it.1
+    ap (spelled_line v config.mutators) same ∙ spelled_again v config.mutators l (few_threads config) it.1
 
-pub items_read : (v : ℕ) (c : Config) (text bytes : List ℕ) (scripts : List (List Command)) (items : List Item) → IsItemsText c text → bytes ≡ text ++ newline ∷ [] → HasReadBody v c bytes scripts items → IsScheduleLine c items × (text ++ newline ∷ [] ≡ schedule_line items)
-items_read v c text bytes scripts items it same body =
+pub items_read : (v : ℕ) (config : Config) (text bytes : List ℕ) (scripts : List (List Command)) (items : List Item) → IsItemsText config text → bytes ≡ text ++ newline ∷ [] → HasReadBody v config bytes scripts items → IsScheduleLine config items × (text ++ newline ∷ [] ≡ schedule_line items)
+items_read v config text bytes scripts items it same body =
     let one : List (List Item) = it.0 ∷ [] in
     let alone : flat_map schedule_line one ≡ schedule_line it.0 = flat_map-cons schedule_line it.0 [] ∙ append-nil (schedule_line it.0) in
     let both : flat_map line body.lines ++ flat_map schedule_line body.turns ≡ flat_map line [] ++ flat_map schedule_line one = sym body.spelled ∙ same ∙ it.2 ∙ sym alone in
-    let lines = lines_once v c.mutators body.lines [] (flat_map schedule_line body.turns) (flat_map schedule_line one) (few_threads c) body.in_range tt (turns_behind body.turns) (turns_behind one) both in
-    let turns = turns_once c body.turns one body.turns_in_range (it.1, tt) lines.1 in
+    let lines = lines_once v config.mutators body.lines [] (flat_map schedule_line body.turns) (flat_map schedule_line one) (few_threads config) body.in_range tt (turns_behind body.turns) (turns_behind one) both in
+    let turns = turns_once config body.turns one body.turns_in_range (it.1, tt) lines.1 in
     let whole : items ≡ it.0 = body.in_order ∙ ap items_of turns ∙ (flat_map-cons (λ (is : List Item). is) it.0 [] ∙ append-nil it.0) in
-    (subst (IsScheduleLine c) (sym whole) it.1, it.2 ∙ ap schedule_line (sym whole))
+    (subst (IsScheduleLine config) (sym whole) it.1, it.2 ∙ ap schedule_line (sym whole))
 
 -- ---- in memory
 
 abbrev line_from : ℕ × Command → TraceLine
 line_from x = record { thread = x.0; command = x.1 }
 
-pub read_some : (r : Option (ℕ × Command)) (l : TraceLine) → option_map line_from r ≡ Some l → IsSome r
+pub read_some : (found : Option (ℕ × Command)) (l : TraceLine) → option_map line_from found ≡ Some l → IsSome found
 read_some (Some x) l e = refl
 read_some None l e = absurd cc
 
-pub read_is : (r : Option (ℕ × Command)) (x : ℕ × Command) (l : TraceLine) → r ≡ Some x → option_map line_from r ≡ Some l → line_from x ≡ l
-read_is r x l is e = same_some (line_from x) l (sym (ap (option_map line_from) is) ∙ e)
+pub read_is : (found : Option (ℕ × Command)) (x : ℕ × Command) (l : TraceLine) → found ≡ Some x → option_map line_from found ≡ Some l → line_from x ≡ l
+read_is found x l is e = same_some (line_from x) l (sym (ap (option_map line_from) is) ∙ e)
 
 pub is_leb : (a b : ℕ) → leb a b ≡ true → a ≤ b
 is_leb a b e = grind (arith, nat_tests)
 
 -- no list is changed behind its end
-pub set_past : (xs : List (List Command)) (i : ℕ) (x : List Command) → length xs ≤ i → set xs i x ≡ xs
-set_past [] zero x le = refl
-set_past [] (suc i) x le = refl
-set_past (y ∷ xs) zero x le = absurd (omega (arith, le))
-set_past (y ∷ xs) (suc i) x le = ap (λ (ys : List (List Command)). y ∷ ys) (set_past xs i x (omega (arith, le)))
+pub set_past : (xs : List (List Command)) (i : ℕ) (script : List Command) → length xs ≤ i → set xs i script ≡ xs
+set_past [] zero script le = refl
+set_past [] (suc i) script le = refl
+set_past (y ∷ xs) zero script le = absurd (omega (arith, le))
+set_past (y ∷ xs) (suc i) script le = ap (λ (ys : List (List Command)). y ∷ ys) (set_past xs i script (omega (arith, le)))
 
 pub on_ok : {T E P : Type 0} (r : Result T E) → is_ok r ≡ true → OnOk r P → P
 on_ok (Ok x) e h = h

@@ -28,20 +28,20 @@ lead_others stage [] last lead = tt
 lead_others stage (text ∷ texts) last lead = (λ same. no_answer stage lead.0 (subst (λ (t : List ℕ). LineFollows stage t lead.0) same lead.1), lead_others lead.0 texts last lead.2)
 
 -- behind a trace the line `answer` is the first that is so
-pub trace_cut : (trace behind : List ℕ) (v : ℕ) (c : Config) (scripts : List (List Command)) (items : List Item) → Reads trace v c scripts items → IsCutAt (codes "answer") (trace ++ (codes "answer" ++ 10 ∷ behind)) trace behind
-trace_cut trace behind v c scripts items reads =
+pub trace_cut : (trace behind : List ℕ) (v : ℕ) (config : Config) (scripts : List (List Command)) (items : List Item) → Reads trace v config scripts items → IsCutAt (codes "answer") (trace ++ (codes "answer" ++ 10 ∷ behind)) trace behind
+trace_cut trace behind v config scripts items reads =
     let rest = codes "answer" ++ 10 ∷ behind in
     let whole = trace ++ rest in
     let lines = flat_map line reads.lines in
     let turns = flat_map schedule_line reads.turns in
-    let spelled : whole ≡ header v c ++ (lines ++ (turns ++ rest)) =
-    ap (λ (bs : List ℕ). bs ++ rest) reads.spelled ∙ append_assoc (header v c) (lines ++ turns) rest ∙ ap (λ (bs : List ℕ). header v c ++ bs) (append_assoc lines turns rest) in
-    let head = begun_head whole (lines ++ (turns ++ rest)) v c reads.known reads.narrow spelled in
-    let commands = begun_lines whole reads.lines (turns ++ rest) 3 v c reads.in_range head in
-    let all = begun_turns whole reads.turns rest (3 + length reads.lines) v c reads.turns_in_range commands in
+    let spelled : whole ≡ header v config ++ (lines ++ (turns ++ rest)) =
+    ap (λ (bs : List ℕ). bs ++ rest) reads.spelled ∙ append_assoc (header v config) (lines ++ turns) rest ∙ ap (λ (bs : List ℕ). header v config ++ bs) (append_assoc lines turns rest) in
+    let head = begun_head whole (lines ++ (turns ++ rest)) v config reads.known reads.narrow spelled in
+    let commands = begun_lines whole reads.lines (turns ++ rest) 3 v config reads.in_range head in
+    let all = begun_turns whole reads.turns rest (3 + length reads.lines) v config reads.turns_in_range commands in
     record {
       lines = all.before;
       parts_are = all.lines ∙ ap (λ (ts : List (List ℕ)). all.before ++ ts) (parts_at 10 (codes "answer") behind refl);
-      others = lead_others Version all.before (body_stage v c (ltb 0 (length reads.turns))) all.lead;
+      others = lead_others Version all.before (body_stage v config (ltb 0 (length reads.turns))) all.lead;
       before_is = append_cancel_right trace (with_ends all.before) rest (bytes_of_lines all.before whole rest all.lines);
     }

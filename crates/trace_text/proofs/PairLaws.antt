@@ -27,13 +27,13 @@ Scripts = List (List Command)
 
 -- ---- once
 
-pub trace_once : (bytes b p : List ℕ) (v w : ℕ) (c d : Config) (xs ys : Scripts) (is js : List Item) → HasTrace bytes v c xs is b → HasTrace bytes w d ys js p → IsSameTrace v c xs is w d ys js × (b ≡ p)
-trace_once bytes b p v w c d xs ys is js t u =
+pub trace_once : (bytes b p : List ℕ) (v w : ℕ) (config other_config : Config) (xs ys : Scripts) (is js : List Item) → HasTrace bytes v config xs is b → HasTrace bytes w other_config ys js p → IsSameTrace v config xs is w other_config ys js × (b ≡ p)
+trace_once bytes b p v w config other_config xs ys is js t u =
     let one = cut_once (codes "answer") bytes t.trace b u.trace p t.cut u.cut in
-    (read_once t.trace v w c d xs ys is js t.reads (subst (λ (bs : List ℕ). Reads bs w d ys js) (sym one.0) u.reads), one.1)
+    (read_once t.trace v w config other_config xs ys is js t.reads (subst (λ (bs : List ℕ). Reads bs w other_config ys js) (sym one.0) u.reads), one.1)
 
-same_trace : (bytes b p : List ℕ) (v w : ℕ) (c d : Config) (xs ys : Scripts) (is js : List Item) → HasTrace bytes v c xs is b → HasTrace bytes w d ys js p → (c ≡ d) × (b ≡ p) × (v ≡ w)
-same_trace bytes b p v w c d xs ys is js t u = let one = trace_once bytes b p v w c d xs ys is js t u in (one.0.config, one.1, one.0.version)
+same_trace : (bytes b p : List ℕ) (v w : ℕ) (config other_config : Config) (xs ys : Scripts) (is js : List Item) → HasTrace bytes v config xs is b → HasTrace bytes w other_config ys js p → (config ≡ other_config) × (b ≡ p) × (v ≡ w)
+same_trace bytes b p v w config other_config xs ys is js t u = let one = trace_once bytes b p v w config other_config xs ys is js t u in (one.0.config, one.1, one.0.version)
 
 claims_once : (version threads : ℕ) (bytes body other : List ℕ) (es fs : List Entry) → threads < 2 ^ 64 → HasClaims version threads bytes body es → HasClaims version threads bytes other fs → (body ≡ other) × (es ≡ fs)
 claims_once version threads bytes body other es fs small p q =
@@ -41,13 +41,13 @@ claims_once version threads bytes body other es fs small p q =
     let none = nothing_read version threads small in
     (one.0, (entries_once version threads es fs [] [] small p.in_range q.in_range none none (append-nil (flat_map entry_line es) ∙ sym p.spelled ∙ one.1 ∙ q.spelled ∙ sym (append-nil (flat_map entry_line fs)))).0)
 
-pub pair_once : (bytes : List ℕ) (v w : ℕ) (c d : Config) (xs ys : Scripts) (is js : List Item) (body other : List ℕ) (es fs : List Entry) → IsPair bytes v c xs is body es → IsPair bytes w d ys js other fs → IsSamePair v c xs is body es w d ys js other fs
-pair_once bytes v w c d xs ys is js body other es fs p q =
-    let trace = trace_once bytes p.behind q.behind v w c d xs ys is js p.trace q.trace in
-    let claims : HasClaims v c.mutators p.behind other fs =
-    subst (λ (u : ℕ). HasClaims u c.mutators p.behind other fs) (sym trace.0.version)
-    (subst (λ (e : Config). HasClaims w e.mutators p.behind other fs) (sym trace.0.config) (subst (λ (b : List ℕ). HasClaims w d.mutators b other fs) (sym trace.1) q.claims)) in
-    let one = claims_once v c.mutators p.behind body other es fs (few_threads c) p.claims claims in
+pub pair_once : (bytes : List ℕ) (v w : ℕ) (config other_config : Config) (xs ys : Scripts) (is js : List Item) (body other : List ℕ) (es fs : List Entry) → IsPair bytes v config xs is body es → IsPair bytes w other_config ys js other fs → IsSamePair v config xs is body es w other_config ys js other fs
+pair_once bytes v w config other_config xs ys is js body other es fs p q =
+    let trace = trace_once bytes p.behind q.behind v w config other_config xs ys is js p.trace q.trace in
+    let claims : HasClaims v config.mutators p.behind other fs =
+    subst (λ (u : ℕ). HasClaims u config.mutators p.behind other fs) (sym trace.0.version)
+    (subst (λ (config : Config). HasClaims w config.mutators p.behind other fs) (sym trace.0.config) (subst (λ (b : List ℕ). HasClaims w other_config.mutators b other fs) (sym trace.1) q.claims)) in
+    let one = claims_once v config.mutators p.behind body other es fs (few_threads config) p.claims claims in
     record { trace = trace.0; text = one.0; history = one.1 }
 
 -- ---- one or the other
@@ -90,28 +90,28 @@ claims_or_not version threads bytes front behind small part = by_cut (cut_or_non
     by_cut (inr none) = inr (last_line bytes, wanted_behind behind, inl (record { none = none; number = refl; cause = refl }))
 
 abbrev IsAPair : List ℕ → Type 0
-IsAPair bytes = (v : ℕ) × (c : Config) × (scripts : Scripts) × (items : List Item) × (body : List ℕ) × (entries : List Entry) × IsPair bytes v c scripts items body entries
+IsAPair bytes = (v : ℕ) × (config : Config) × (scripts : Scripts) × (items : List Item) × (body : List ℕ) × (entries : List Entry) × IsPair bytes v config scripts items body entries
 
 abbrev IsRefused : List ℕ → Type 0
 IsRefused bytes = (n : ℕ) × (why : Why) × IsPairRefused bytes n why
 
-with_trace : (bytes behind : List ℕ) (v : ℕ) (c : Config) (xs : Scripts) (is : List Item) → length bytes ≤ most_bytes → HasTrace bytes v c xs is behind → IsAPair bytes ⊎ IsRefused bytes
-with_trace bytes behind v c xs is short trace =
+with_trace : (bytes behind : List ℕ) (v : ℕ) (config : Config) (xs : Scripts) (is : List Item) → length bytes ≤ most_bytes → HasTrace bytes v config xs is behind → IsAPair bytes ⊎ IsRefused bytes
+with_trace bytes behind v config xs is short trace =
     let part = behind_cut (codes "answer") bytes trace.trace behind trace.cut in
-    by_claims (claims_or_not v c.mutators bytes part.0 behind (few_threads c) part.1)
+    by_claims (claims_or_not v config.mutators bytes part.0 behind (few_threads config) part.1)
   where
-    by_claims : ((body : List ℕ) × (entries : List Entry) × HasClaims v c.mutators behind body entries) ⊎ ((n : ℕ) × (why : Why) × (LacksHistory bytes behind n why ⊎ LacksEntry v c.mutators bytes behind n why)) → IsAPair bytes ⊎ IsRefused bytes
-    by_claims (inl it) = inl (v, c, xs, is, it.0, it.1, record { behind = behind; trace = trace; claims = it.2; short = short })
-    by_claims (inr it) = inr (it.0, it.1, (inr (record { version = v; config = c; scripts = xs; items = is; behind = behind; trace = trace; fault = it.2 }), short))
+    by_claims : ((body : List ℕ) × (entries : List Entry) × HasClaims v config.mutators behind body entries) ⊎ ((n : ℕ) × (why : Why) × (LacksHistory bytes behind n why ⊎ LacksEntry v config.mutators bytes behind n why)) → IsAPair bytes ⊎ IsRefused bytes
+    by_claims (inl it) = inl (v, config, xs, is, it.0, it.1, record { behind = behind; trace = trace; claims = it.2; short = short })
+    by_claims (inr it) = inr (it.0, it.1, (inr (record { version = v; config = config; scripts = xs; items = is; behind = behind; trace = trace; fault = it.2 }), short))
 
 pub pair_or_refused : (bytes : List ℕ) → length bytes ≤ most_bytes → IsAPair bytes ⊎ IsRefused bytes
 pair_or_refused bytes short = by_cut (cut_or_none (length bytes) (codes "answer") bytes (omega arith))
   where
-    by_front : (trace behind : List ℕ) → IsCutAt (codes "answer") bytes trace behind → ((v : ℕ) × (c : Config) × (scripts : Scripts) × (items : List Item) × Reads trace v c scripts items) ⊎ ((n : ℕ) × (why : Why) × Refused trace n why) → IsAPair bytes ⊎ IsRefused bytes
+    by_front : (trace behind : List ℕ) → IsCutAt (codes "answer") bytes trace behind → ((v : ℕ) × (config : Config) × (scripts : Scripts) × (items : List Item) × Reads trace v config scripts items) ⊎ ((n : ℕ) × (why : Why) × Refused trace n why) → IsAPair bytes ⊎ IsRefused bytes
     by_front trace behind cut (inl r) = with_trace bytes behind r.0 r.1 r.2 r.3 short (record { trace = trace; cut = cut; reads = r.4 })
     by_front trace behind cut (inr r) = inr (r.0, r.1, (inl (inl (inl (trace, behind, cut, r.2.0))), short))
 
-    by_whole : HasNoLine (codes "answer") bytes → ((v : ℕ) × (c : Config) × (scripts : Scripts) × (items : List Item) × Reads bytes v c scripts items) ⊎ ((n : ℕ) × (why : Why) × Refused bytes n why) → IsAPair bytes ⊎ IsRefused bytes
+    by_whole : HasNoLine (codes "answer") bytes → ((v : ℕ) × (config : Config) × (scripts : Scripts) × (items : List Item) × Reads bytes v config scripts items) ⊎ ((n : ℕ) × (why : Why) × Refused bytes n why) → IsAPair bytes ⊎ IsRefused bytes
     by_whole none (inl r) = inr (last_line bytes, _, (inl (inr (record { version = r.0; config = r.1; scripts = r.2; items = r.3; none = none; reads = r.4; number = refl; cause = refl })), short))
     by_whole none (inr r) = inr (r.0, r.1, (inl (inl (inr (none, r.2.0))), short))
 
@@ -122,14 +122,14 @@ pair_or_refused bytes short = by_cut (cut_or_none (length bytes) (codes "answer"
 -- ---- never both
 
 -- a trace before the line `answer` is not refused there
-trace_stands : (bytes b : List ℕ) (v : ℕ) (c : Config) (xs : Scripts) (is : List Item) (n : ℕ) (why : Why) → HasTrace bytes v c xs is b → LacksTrace bytes n why → ⊥
-trace_stands bytes b v c xs is n why t (inl it) =
+trace_stands : (bytes b : List ℕ) (v : ℕ) (config : Config) (xs : Scripts) (is : List Item) (n : ℕ) (why : Why) → HasTrace bytes v config xs is b → LacksTrace bytes n why → ⊥
+trace_stands bytes b v config xs is n why t (inl it) =
     let one = cut_once (codes "answer") bytes t.trace b it.0 it.1 t.cut it.2 in
-    exact.never_both t.trace v c xs is n why t.reads (subst (λ (bs : List ℕ). StopsAt bs n why) (sym one.0) it.3)
-trace_stands bytes b v c xs is n why t (inr it) = it.0 t.trace b t.cut
+    exact.never_both t.trace v config xs is n why t.reads (subst (λ (bs : List ℕ). StopsAt bs n why) (sym one.0) it.3)
+trace_stands bytes b v config xs is n why t (inr it) = it.0 t.trace b t.cut
 
-answer_stands : (bytes b : List ℕ) (v : ℕ) (c : Config) (xs : Scripts) (is : List Item) (n : ℕ) (why : Why) → HasTrace bytes v c xs is b → LacksAnswer bytes n why → ⊥
-answer_stands bytes b v c xs is n why t it = it.none t.trace b t.cut
+answer_stands : (bytes b : List ℕ) (v : ℕ) (config : Config) (xs : Scripts) (is : List Item) (n : ℕ) (why : Why) → HasTrace bytes v config xs is b → LacksAnswer bytes n why → ⊥
+answer_stands bytes b v config xs is n why t it = it.none t.trace b t.cut
 
 claims_stand : (version threads : ℕ) (bytes behind body : List ℕ) (es : List Entry) (n : ℕ) (why : Why) → threads < 2 ^ 64 → HasClaims version threads behind body es → LacksHistory bytes behind n why ⊎ LacksEntry version threads bytes behind n why → ⊥
 claims_stand version threads bytes behind body es n why small p (inl it) = it.none body p.claimed p.cut
@@ -139,13 +139,13 @@ claims_stand version threads bytes behind body es n why small p (inr it) =
     let size = ap length same.1 in
     omega (arith, it.some, size)
 
-pub never_both : (bytes : List ℕ) (v : ℕ) (c : Config) (xs : Scripts) (is : List Item) (body : List ℕ) (es : List Entry) (n : ℕ) (why : Why) → IsPair bytes v c xs is body es → IsPairRefused bytes n why → ⊥
-never_both bytes v c xs is body es n why p (inl (inl it), short) = trace_stands bytes p.behind v c xs is n why p.trace it
-never_both bytes v c xs is body es n why p (inl (inr it), short) = answer_stands bytes p.behind v c xs is n why p.trace it
-never_both bytes v c xs is body es n why p (inr it, short) =
-    let same = same_trace bytes p.behind it.behind v it.version c it.config xs it.scripts is it.items p.trace it.trace in
+pub never_both : (bytes : List ℕ) (v : ℕ) (config : Config) (xs : Scripts) (is : List Item) (body : List ℕ) (es : List Entry) (n : ℕ) (why : Why) → IsPair bytes v config xs is body es → IsPairRefused bytes n why → ⊥
+never_both bytes v config xs is body es n why p (inl (inl it), short) = trace_stands bytes p.behind v config xs is n why p.trace it
+never_both bytes v config xs is body es n why p (inl (inr it), short) = answer_stands bytes p.behind v config xs is n why p.trace it
+never_both bytes v config xs is body es n why p (inr it, short) =
+    let same = same_trace bytes p.behind it.behind v it.version config it.config xs it.scripts is it.items p.trace it.trace in
     let claims : HasClaims it.version it.config.mutators it.behind body es =
-    subst (λ (u : ℕ). HasClaims u it.config.mutators it.behind body es) same.2 (subst (λ (d : Config). HasClaims v d.mutators it.behind body es) same.0 (subst (λ (b : List ℕ). HasClaims v c.mutators b body es) same.1 p.claims)) in
+    subst (λ (u : ℕ). HasClaims u it.config.mutators it.behind body es) same.2 (subst (λ (config : Config). HasClaims v config.mutators it.behind body es) same.0 (subst (λ (b : List ℕ). HasClaims v config.mutators b body es) same.1 p.claims)) in
     claims_stand it.version it.config.mutators bytes it.behind body es n why (few_threads it.config) claims it.fault
 
 -- ---- refused once
@@ -184,7 +184,7 @@ bad_claims_once bytes n m why other p q =
     let same = same_trace bytes p.behind q.behind p.version q.version p.config q.config p.scripts q.scripts p.items q.items p.trace q.trace in
     let fault : LacksHistory bytes p.behind m other ⊎ LacksEntry p.version p.config.mutators bytes p.behind m other =
     subst (λ (u : ℕ). LacksHistory bytes p.behind m other ⊎ LacksEntry u p.config.mutators bytes p.behind m other) (sym same.2)
-    (subst (λ (c : Config). LacksHistory bytes p.behind m other ⊎ LacksEntry q.version c.mutators bytes p.behind m other) (sym same.0)
+    (subst (λ (config : Config). LacksHistory bytes p.behind m other ⊎ LacksEntry q.version config.mutators bytes p.behind m other) (sym same.0)
     (subst (λ (b : List ℕ). LacksHistory bytes b m other ⊎ LacksEntry q.version q.config.mutators bytes b m other) (sym same.1) q.fault)) in
     claims_refused_once p.version p.config.mutators bytes p.behind n m why other (few_threads p.config) p.fault fault
 

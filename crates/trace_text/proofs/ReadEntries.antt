@@ -17,11 +17,11 @@ use Rattle.trace_text.specs.Entries.{IsClaim, BeginsWithNoEntry, spelled_reply, 
 use Rattle.trace_text.proofs.ReadReplies.{reply_takes, reply_again}
 
 -- the line of an entry in front of the rest
-line-append : (e : Entry) (rest : List ℕ) → entry_line e ++ rest ≡ decimal e.thread ++ 32 ∷ (command_word e.command ++ (numbers (numbers_of e.command) ++ (codes " : " ++ (reply_word e.reply ++ 10 ∷ rest))))
-line-append e rest = simp append_assoc
+line-append : (entry : Entry) (rest : List ℕ) → entry_line entry ++ rest ≡ decimal entry.thread ++ 32 ∷ (command_word entry.command ++ (numbers (numbers_of entry.command) ++ (codes " : " ++ (reply_word entry.reply ++ 10 ∷ rest))))
+line-append entry rest = simp append_assoc
 
-entry_parts : (bytes gap words after answer reply end rest : List ℕ) (e : Entry) → bytes ≡ decimal e.thread ++ gap → gap ≡ 32 ∷ words → words ≡ command_word e.command ++ (numbers (numbers_of e.command) ++ after) → after ≡ codes " : " ++ answer → answer ≡ reply_word e.reply ++ end → end ≡ 10 ∷ rest → bytes ≡ entry_line e ++ rest
-entry_parts bytes gap words after answer reply end rest e a b c d f g = rw (a, b, c, d, f, g) (sym (line-append e rest))
+entry_parts : (bytes gap words after answer reply end rest : List ℕ) (entry : Entry) → bytes ≡ decimal entry.thread ++ gap → gap ≡ 32 ∷ words → words ≡ command_word entry.command ++ (numbers (numbers_of entry.command) ++ after) → after ≡ codes " : " ++ answer → answer ≡ reply_word entry.reply ++ end → end ≡ 10 ∷ rest → bytes ≡ entry_line entry ++ rest
+entry_parts bytes gap words after answer reply end rest entry a b c d f g = rw (a, b, c, d, f, g) (sym (line-append entry rest))
 
 pub entry_takes : (version threads : ℕ) (bytes : List ℕ) (x : Entry × List ℕ) → threads < 2 ^ 64 → entry_at version threads bytes ≡ Some x → (bytes ≡ entry_line x.0 ++ x.1) × IsClaim version threads x.0
 unfolding entry_at
@@ -41,13 +41,13 @@ entry_takes version threads bytes x small e =
     subst (λ (y : Entry × List ℕ). (bytes ≡ entry_line y.0 ++ y.1) × IsClaim version threads y.0) (same_some made x from_end)
     (spelled, record { from_one = thread.1; to_last = thread.2; known = command.1; valid = command.2; fits = command.3; reply = answer.1 })))))))
 
-pub entry_again : (version threads : ℕ) (e : Entry) (rest : List ℕ) → threads < 2 ^ 64 → IsClaim version threads e → entry_at version threads (entry_line e ++ rest) ≡ Some (e, rest)
+pub entry_again : (version threads : ℕ) (entry : Entry) (rest : List ℕ) → threads < 2 ^ 64 → IsClaim version threads entry → entry_at version threads (entry_line entry ++ rest) ≡ Some (entry, rest)
 unfolding entry_at
-entry_again version threads e rest small fits =
-    let answer = reply_word e.reply ++ 10 ∷ rest in
-    let words = command_word e.command ++ (numbers (numbers_of e.command) ++ (codes " : " ++ answer)) in
-    ap (entry_at version threads) (line-append e rest)
-    ∙ rw (positive_again threads e.thread (32 ∷ words) fits.from_one fits.to_last small refl, command_again_at version e.command (codes " : " ++ answer) fits.known fits.valid fits.fits refl, reply_again e.reply rest fits.reply) refl
+entry_again version threads entry rest small fits =
+    let answer = reply_word entry.reply ++ 10 ∷ rest in
+    let words = command_word entry.command ++ (numbers (numbers_of entry.command) ++ (codes " : " ++ answer)) in
+    ap (entry_at version threads) (line-append entry rest)
+    ∙ rw (positive_again threads entry.thread (32 ∷ words) fits.from_one fits.to_last small refl, command_again_at version entry.command (codes " : " ++ answer) fits.known fits.valid fits.fits refl, reply_again entry.reply rest fits.reply) refl
 
 -- ---- one after the other
 
@@ -55,26 +55,26 @@ entry_again version threads e rest small fits =
 pub none_read : (version threads : ℕ) (bytes : List ℕ) → threads < 2 ^ 64 → entry_at version threads bytes ≡ None → BeginsWithNoEntry version threads bytes
 none_read version threads bytes small none e rest fits spelled = let again = entry_again version threads e rest small fits in let here = ap (entry_at version threads) spelled in cc
 
-some_bytes : (version threads : ℕ) (e : Entry) → threads < 2 ^ 64 → IsClaim version threads e → 1 ≤ length (entry_line e)
-some_bytes version threads e small fits =
-    let some = decimal_nonempty e.thread (omega (arith, fits.to_last, small)) in
-    omega (arith, some, length-append (decimal e.thread) (32 ∷ ((command_word e.command ++ numbers (numbers_of e.command)) ++ (codes " : " ++ (reply_word e.reply ++ 10 ∷ [])))))
+some_bytes : (version threads : ℕ) (entry : Entry) → threads < 2 ^ 64 → IsClaim version threads entry → 1 ≤ length (entry_line entry)
+some_bytes version threads entry small fits =
+    let some = decimal_nonempty entry.thread (omega (arith, fits.to_last, small)) in
+    omega (arith, some, length-append (decimal entry.thread) (32 ∷ ((command_word entry.command ++ numbers (numbers_of entry.command)) ++ (codes " : " ++ (reply_word entry.reply ++ 10 ∷ [])))))
 
 pub nothing_read : (version threads : ℕ) → threads < 2 ^ 64 → BeginsWithNoEntry version threads []
 nothing_read version threads small e rest fits spelled = let some = some_bytes version threads e small fits in let size = ap length spelled in omega (arith, some, size, length-append (entry_line e) rest)
 
-front : (e : Entry) (es : List Entry) (rest : List ℕ) → flat_map entry_line (e ∷ es) ++ rest ≡ entry_line e ++ (flat_map entry_line es ++ rest)
-front e es rest = ap (λ (bs : List ℕ). bs ++ rest) (flat_map-cons entry_line e es) ∙ append_assoc (entry_line e) (flat_map entry_line es) rest
+front : (entry : Entry) (es : List Entry) (rest : List ℕ) → flat_map entry_line (entry ∷ es) ++ rest ≡ entry_line entry ++ (flat_map entry_line es ++ rest)
+front entry es rest = ap (λ (bs : List ℕ). bs ++ rest) (flat_map-cons entry_line entry es) ∙ append_assoc (entry_line entry) (flat_map entry_line es) rest
 
 -- one entry more at the end
-pub all_more : (version threads : ℕ) (es : List Entry) (e : Entry) → AllByRecursion (IsClaim version threads) es → IsClaim version threads e → AllByRecursion (IsClaim version threads) (es ++ e ∷ [])
-all_more version threads [] e all fits = (fits, tt)
-all_more version threads (x ∷ es) e all fits = (all.0, all_more version threads es e all.1 fits)
+pub all_more : (version threads : ℕ) (es : List Entry) (entry : Entry) → AllByRecursion (IsClaim version threads) es → IsClaim version threads entry → AllByRecursion (IsClaim version threads) (es ++ entry ∷ [])
+all_more version threads [] entry all fits = (fits, tt)
+all_more version threads (x ∷ es) entry all fits = (all.0, all_more version threads es entry all.1 fits)
 
-pub spelled_more : (es : List Entry) (e : Entry) (bytes rest after : List ℕ) → bytes ≡ flat_map entry_line es ++ rest → rest ≡ entry_line e ++ after → bytes ≡ flat_map entry_line (es ++ e ∷ []) ++ after
-spelled_more es e bytes rest after a b =
-    a ∙ ap (λ (bs : List ℕ). flat_map entry_line es ++ bs) b ∙ sym (append_assoc (flat_map entry_line es) (entry_line e) after)
-    ∙ ap (λ (bs : List ℕ). bs ++ after) (sym (flat_map-append entry_line es (e ∷ []) ∙ ap (λ (bs : List ℕ). flat_map entry_line es ++ bs) (flat_map-cons entry_line e [] ∙ append-nil (entry_line e))))
+pub spelled_more : (es : List Entry) (entry : Entry) (bytes rest after : List ℕ) → bytes ≡ flat_map entry_line es ++ rest → rest ≡ entry_line entry ++ after → bytes ≡ flat_map entry_line (es ++ entry ∷ []) ++ after
+spelled_more es entry bytes rest after a b =
+    a ∙ ap (λ (bs : List ℕ). flat_map entry_line es ++ bs) b ∙ sym (append_assoc (flat_map entry_line es) (entry_line entry) after)
+    ∙ ap (λ (bs : List ℕ). bs ++ after) (sym (flat_map-append entry_line es (entry ∷ []) ∙ ap (λ (bs : List ℕ). flat_map entry_line es ++ bs) (flat_map-cons entry_line entry [] ∙ append-nil (entry_line entry))))
 
 -- entries with no other line behind them are the same
 pub entries_once : (version threads : ℕ) (xs ys : List Entry) (rest after : List ℕ) → threads < 2 ^ 64 → AllByRecursion (IsClaim version threads) xs → AllByRecursion (IsClaim version threads) ys → BeginsWithNoEntry version threads rest → BeginsWithNoEntry version threads after
@@ -117,5 +117,5 @@ entries_of (suc k) version threads bytes small le = by_first (entry_at version t
         }
 
 -- what is behind an entry is shorter
-pub entry_shorter : (version threads : ℕ) (e : Entry) (rest behind : List ℕ) → threads < 2 ^ 64 → IsClaim version threads e → rest ≡ entry_line e ++ behind → length behind < length rest
-entry_shorter version threads e rest behind small fits spelled = let some = some_bytes version threads e small fits in let size = ap length spelled in omega (arith, some, size, length-append (entry_line e) behind)
+pub entry_shorter : (version threads : ℕ) (entry : Entry) (rest behind : List ℕ) → threads < 2 ^ 64 → IsClaim version threads entry → rest ≡ entry_line entry ++ behind → length behind < length rest
+entry_shorter version threads entry rest behind small fits spelled = let some = some_bytes version threads entry small fits in let size = ap length spelled in omega (arith, some, size, length-append (entry_line entry) behind)

@@ -126,7 +126,7 @@ place_read : (place : ℕ) (rest : List ℕ) → place < 2 ^ 64 → spelled_plac
 unfolding spelled_place
 place_read place rest small = rw (number_again 18446744073709551615 place (10 ∷ rest) (omega (arith, small)) (lit< tt) refl) refl
 
-pub reply_again : (r : Reply) (rest : List ℕ) → FitsReply r → spelled_reply (reply_word r ++ 10 ∷ rest) ≡ Some (r, 10 ∷ rest)
+pub reply_again : (reply : Reply) (rest : List ℕ) → FitsReply reply → spelled_reply (reply_word reply ++ 10 ∷ rest) ≡ Some (reply, 10 ∷ rest)
 unfolding spelled_reply spelled_word
 reply_again (Ref n) rest fits =
     let parts : name_word n ++ 10 ∷ rest ≡ decimal n.thread ++ 46 ∷ (decimal n.count ++ 10 ∷ rest) =

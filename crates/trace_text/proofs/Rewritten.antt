@@ -58,9 +58,9 @@ scripts_fit version threads first (suc n) lines low high all =
 
 -- ---- the items fit
 
-items_fit : (c : Config) (turns : List (List Item)) → AllByRecursion (IsScheduleLine c) turns → AllByRecursion (IsItem c) (items_of turns)
-items_fit c [] all = tt
-items_fit c (turn ∷ turns) all = all_append (IsItem c) turn (items_of turns) all.0.in_range (items_fit c turns all.1)
+items_fit : (config : Config) (turns : List (List Item)) → AllByRecursion (IsScheduleLine config) turns → AllByRecursion (IsItem config) (items_of turns)
+items_fit config [] all = tt
+items_fit config (turn ∷ turns) all = all_append (IsItem config) turn (items_of turns) all.0.in_range (items_fit config turns all.1)
 
 -- ---- the lines are no longer
 
@@ -136,20 +136,20 @@ schedule_sorted (turn ∷ turns) = omega (arith, one_turn_bytes (items_of (turn 
 
 -- ---- all together
 
-pub can_be_written : (bytes : List ℕ) (version : ℕ) (c : Config) (scripts : List (List Command)) (items : List Item) → Reads bytes version c scripts items → IsWritable version c scripts items
-can_be_written bytes version c scripts items r =
-    let sorted = bytes_sorted 1 c.mutators r.lines in
+pub can_be_written : (bytes : List ℕ) (version : ℕ) (config : Config) (scripts : List (List Command)) (items : List Item) → Reads bytes version config scripts items → IsWritable version config scripts items
+can_be_written bytes version config scripts items r =
+    let sorted = bytes_sorted 1 config.mutators r.lines in
     let lines : length (flat_map line (lines_from 1 scripts)) ≤ length (flat_map line r.lines) = rw r.by_thread sorted in
     let turns : length (flat_map schedule_line (turns_of items)) ≤ length (flat_map schedule_line r.turns) = rw r.in_order (schedule_sorted r.turns) in
-    let read : length bytes ≡ length (header version c) + (length (flat_map line r.lines) + length (flat_map schedule_line r.turns)) =
-    ap length r.spelled ∙ length-append (header version c) (flat_map line r.lines ++ flat_map schedule_line r.turns) ∙ ap (λ (n : ℕ). length (header version c) + n) (length-append (flat_map line r.lines) (flat_map schedule_line r.turns)) in
-    let written : length (spelling_of version c scripts items) ≡ length (header version c) + (length (flat_map line (lines_from 1 scripts)) + length (flat_map schedule_line (turns_of items))) =
-    length-append (header version c) (flat_map line (lines_from 1 scripts) ++ flat_map schedule_line (turns_of items)) ∙ ap (λ (n : ℕ). length (header version c) + n) (length-append (flat_map line (lines_from 1 scripts)) (flat_map schedule_line (turns_of items))) in
+    let read : length bytes ≡ length (header version config) + (length (flat_map line r.lines) + length (flat_map schedule_line r.turns)) =
+    ap length r.spelled ∙ length-append (header version config) (flat_map line r.lines ++ flat_map schedule_line r.turns) ∙ ap (λ (n : ℕ). length (header version config) + n) (length-append (flat_map line r.lines) (flat_map schedule_line r.turns)) in
+    let written : length (spelling_of version config scripts items) ≡ length (header version config) + (length (flat_map line (lines_from 1 scripts)) + length (flat_map schedule_line (turns_of items))) =
+    length-append (header version config) (flat_map line (lines_from 1 scripts) ++ flat_map schedule_line (turns_of items)) ∙ ap (λ (n : ℕ). length (header version config) + n) (length-append (flat_map line (lines_from 1 scripts)) (flat_map schedule_line (turns_of items))) in
     record {
       known = r.known;
       narrow = r.narrow;
-      threads = ap length r.by_thread ∙ length-map-range_with_len (commands_in r.lines) 1 c.mutators;
-      lines_fit = subst (λ (ss : List (List Command)). AllByRecursion (IsLine version c.mutators) (lines_from 1 ss)) (sym r.by_thread) (scripts_fit version c.mutators 1 c.mutators r.lines (omega arith) (omega arith) r.in_range);
-      items_fit = subst (AllByRecursion (IsItem c)) (sym r.in_order) (items_fit c r.turns r.turns_in_range);
+      threads = ap length r.by_thread ∙ length-map-range_with_len (commands_in r.lines) 1 config.mutators;
+      lines_fit = subst (λ (ss : List (List Command)). AllByRecursion (IsLine version config.mutators) (lines_from 1 ss)) (sym r.by_thread) (scripts_fit version config.mutators 1 config.mutators r.lines (omega arith) (omega arith) r.in_range);
+      items_fit = subst (AllByRecursion (IsItem config)) (sym r.in_order) (items_fit config r.turns r.turns_in_range);
       short = omega (arith, lines, turns, read, written, r.short);
     }

@@ -15,38 +15,38 @@ use Rattle.trace_reading.specs.Spelling.{FitsWhenWritten}
 use Rattle.trace_text.specs.Entries.{FitsReply}
 
 abbrev pub IsSmallName : Name → Type 0
-IsSmallName n = (n.thread < 2 ^ 32) × (n.count < 2 ^ 32)
+IsSmallName name = (name.thread < 2 ^ 32) × (name.count < 2 ^ 32)
 
 abbrev pub IsSmallReference : Reference → Type 0
 IsSmallReference None = Unit {0}
 IsSmallReference (Some n) = IsSmallName n
 
-pub record IsSmallObject (o : Object) : Type 0 where
-  pub refs : All IsSmallReference o.refs
-  pub nums : All (λ n. n < 2 ^ 64) o.nums
+pub record IsSmallObject (object : Object) : Type 0 where
+  pub refs : All IsSmallReference object.refs
+  pub nums : All (λ n. n < 2 ^ 64) object.nums
 
 -- no thread has made more than so many objects
-pub record IsSmallGraph (most : ℕ) (g : Graph) : Type 0 where
-  pub root : (t r : ℕ) → IsSmallReference (g.root t r)
-  pub pin : (t s : ℕ) → IsSmallReference (name_in (g.pin t s))
-  pub object : (n : Name) (o : Object) → g.object n ≡ Some o → IsSmallObject o
-  pub count : (t : ℕ) → g.count t ≤ most
+pub record IsSmallGraph (most : ℕ) (graph : Graph) : Type 0 where
+  pub root : (thread r : ℕ) → IsSmallReference (graph.root thread r)
+  pub pin : (thread s : ℕ) → IsSmallReference (name_in (graph.pin thread s))
+  pub object : (name : Name) (o : Object) → graph.object name ≡ Some o → IsSmallObject o
+  pub count : (thread : ℕ) → graph.count thread ≤ most
 
 -- ---- graphs
 
-small_either : (b : Bool) (x y : Reference) → IsSmallReference x → IsSmallReference y → IsSmallReference (cond b x y)
-small_either true x y p q = p
-small_either false x y p q = q
+small_either : (holds : Bool) (reference other_reference : Reference) → IsSmallReference reference → IsSmallReference other_reference → IsSmallReference (cond holds reference other_reference)
+small_either true reference other_reference p q = p
+small_either false reference other_reference p q = q
 
-pin_either : (b : Bool) (x y : Option Pinned) → IsSmallReference (name_in x) → IsSmallReference (name_in y) → IsSmallReference (name_in (cond b x y))
-pin_either true x y p q = p
-pin_either false x y p q = q
+pin_either : (holds : Bool) (found other_found : Option Pinned) → IsSmallReference (name_in found) → IsSmallReference (name_in other_found) → IsSmallReference (name_in (cond holds found other_found))
+pin_either true found other_found p q = p
+pin_either false found other_found p q = q
 
-object_either : (b : Bool) (x : Object) (other : Option Object) (o : Object) → IsSmallObject x → (other ≡ Some o → IsSmallObject o) → cond b (Some x) other ≡ Some o → IsSmallObject o
-object_either true x other o p q e = subst IsSmallObject (same_Some x o e) p
-object_either false x other o p q e = q e
+object_either : (holds : Bool) (object : Object) (other : Option Object) (other_object : Object) → IsSmallObject object → (other ≡ Some other_object → IsSmallObject other_object) → cond holds (Some object) other ≡ Some other_object → IsSmallObject other_object
+object_either true object other other_object p q e = subst IsSmallObject (same_Some object other_object e) p
+object_either false object other other_object p q e = q e
 
-count_either : (b : Bool) (x y most : ℕ) → x ≤ most → y ≤ most → cond b x y ≤ most
+count_either : (holds : Bool) (x y most : ℕ) → x ≤ most → y ≤ most → cond holds x y ≤ most
 count_either true x y most p q = p
 count_either false x y most p q = q
 
@@ -64,62 +64,62 @@ opening_small threads = record {
   count = λ t. omega arith;
 }
 
-pub named_small : (most : ℕ) (g : Graph) (r : Reference) → IsSmallGraph most g → IsSmallObject (named g r)
-named_small most g None small = nothing_small
-named_small most g (Some n) small = by_object (g.object n) refl
+pub named_small : (most : ℕ) (graph : Graph) (reference : Reference) → IsSmallGraph most graph → IsSmallObject (named graph reference)
+named_small most graph None small = nothing_small
+named_small most graph (Some n) small = by_object (graph.object n) refl
   where
-    by_object : (o : Option Object) → g.object n ≡ o → IsSmallObject (unwrap_or o (record { refs = []; nums = [] }))
+    by_object : (found : Option Object) → graph.object n ≡ found → IsSmallObject (unwrap_or found (record { refs = []; nums = [] }))
     by_object None is = nothing_small
-    by_object (Some o) is = small.object n o is
+    by_object (Some found) is = small.object n found is
 
-root_small : (most : ℕ) (g : Graph) (t r : ℕ) (value : Reference) → IsSmallGraph most g → IsSmallReference value → IsSmallGraph most (with_root g t r value)
-root_small most g t r value small fits = record { root = λ u s. small_either _ value (g.root u s) fits (small.root u s); pin = small.pin; object = small.object; count = small.count }
+root_small : (most : ℕ) (graph : Graph) (t r : ℕ) (value : Reference) → IsSmallGraph most graph → IsSmallReference value → IsSmallGraph most (with_root graph t r value)
+root_small most graph t r value small fits = record { root = λ u s. small_either _ value (graph.root u s) fits (small.root u s); pin = small.pin; object = small.object; count = small.count }
 
-pin_small : (most : ℕ) (g : Graph) (t slot : ℕ) (held : Option Pinned) → IsSmallGraph most g → IsSmallReference (name_in held) → IsSmallGraph most (with_pin g t slot held)
-pin_small most g t slot held small fits = record { root = small.root; pin = λ u s. pin_either _ held (g.pin u s) fits (small.pin u s); object = small.object; count = small.count }
+pin_small : (most : ℕ) (graph : Graph) (t slot : ℕ) (held : Option Pinned) → IsSmallGraph most graph → IsSmallReference (name_in held) → IsSmallGraph most (with_pin graph t slot held)
+pin_small most graph t slot held small fits = record { root = small.root; pin = λ u s. pin_either _ held (graph.pin u s) fits (small.pin u s); object = small.object; count = small.count }
 
-object_small : (most : ℕ) (g : Graph) (n : Name) (o : Object) → IsSmallGraph most g → IsSmallObject o → IsSmallGraph most (with_object g n o)
-object_small most g n o small fits = record { root = small.root; pin = small.pin; object = λ m p e. object_either (same_name m n) o (g.object m) p fits (λ other. small.object m p other) e; count = small.count }
+object_small : (most : ℕ) (graph : Graph) (name : Name) (object : Object) → IsSmallGraph most graph → IsSmallObject object → IsSmallGraph most (with_object graph name object)
+object_small most graph name object small fits = record { root = small.root; pin = small.pin; object = λ m p e. object_either (same_name m name) object (graph.object m) p fits (λ other. small.object m p other) e; count = small.count }
 
-named_object_small : (most : ℕ) (g : Graph) (r : Reference) (o : Object) → IsSmallGraph most g → IsSmallObject o → IsSmallGraph most (with_named g r o)
-named_object_small most g None o small fits = small
-named_object_small most g (Some n) o small fits = object_small most g n o small fits
+named_object_small : (most : ℕ) (graph : Graph) (reference : Reference) (object : Object) → IsSmallGraph most graph → IsSmallObject object → IsSmallGraph most (with_named graph reference object)
+named_object_small most graph None object small fits = small
+named_object_small most graph (Some n) object small fits = object_small most graph n object small fits
 
-field_small : (most : ℕ) (g : Graph) (t root field : ℕ) (value : Reference) → IsSmallGraph most g → IsSmallReference value → IsSmallGraph most (with_field g t root field value)
-field_small most g t root field value small fits =
-    let r = g.root t root in
-    let was = named_small most g r small in
-    named_object_small most g r _ small (record { refs = All-set IsSmallReference (named g r).refs field value fits was.refs; nums = was.nums })
+field_small : (most : ℕ) (graph : Graph) (thread root field : ℕ) (value : Reference) → IsSmallGraph most graph → IsSmallReference value → IsSmallGraph most (with_field graph thread root field value)
+field_small most graph thread root field value small fits =
+    let r = graph.root thread root in
+    let was = named_small most graph r small in
+    named_object_small most graph r _ small (record { refs = All-set IsSmallReference (named graph r).refs field value fits was.refs; nums = was.nums })
 
-number_small : (most : ℕ) (g : Graph) (t root index value : ℕ) → IsSmallGraph most g → value < 2 ^ 64 → IsSmallGraph most (with_number g t root index value)
-number_small most g t root index value small fits =
-    let r = g.root t root in
-    let was = named_small most g r small in
-    named_object_small most g r _ small (record { refs = was.refs; nums = All-set (λ n. n < 2 ^ 64) (named g r).nums index value fits was.nums })
+number_small : (most : ℕ) (graph : Graph) (thread root index value : ℕ) → IsSmallGraph most graph → value < 2 ^ 64 → IsSmallGraph most (with_number graph thread root index value)
+number_small most graph thread root index value small fits =
+    let r = graph.root thread root in
+    let was = named_small most graph r small in
+    named_object_small most graph r _ small (record { refs = was.refs; nums = All-set (λ n. n < 2 ^ 64) (named graph r).nums index value fits was.nums })
 
-fresh_small : (most : ℕ) (g : Graph) (t : ℕ) (o : Object) → IsSmallGraph most g → IsSmallObject o → IsSmallGraph (most + 1) (with_fresh g t o)
-fresh_small most g t o small fits =
-    let with_it = object_small most g (fresh g t) o small fits in
+fresh_small : (most : ℕ) (graph : Graph) (t : ℕ) (object : Object) → IsSmallGraph most graph → IsSmallObject object → IsSmallGraph (most + 1) (with_fresh graph t object)
+fresh_small most graph t object small fits =
+    let with_it = object_small most graph (fresh graph t) object small fits in
     record {
       root = small.root;
       pin = small.pin;
       object = with_it.object;
-      count = λ u. let few = small.count u in count_either (eqb u t) (g.count u + 1) (g.count u) (most + 1) (omega (arith, few)) (omega (arith, few));
+      count = λ u. let few = small.count u in count_either (eqb u t) (graph.count u + 1) (graph.count u) (most + 1) (omega (arith, few)) (omega (arith, few));
     }
 
-pub later_small : (most : ℕ) (g : Graph) → IsSmallGraph most g → IsSmallGraph (most + 1) g
-later_small most g small = record { root = small.root; pin = small.pin; object = small.object; count = λ t. let few = small.count t in omega (arith, few) }
+pub later_small : (most : ℕ) (graph : Graph) → IsSmallGraph most graph → IsSmallGraph (most + 1) graph
+later_small most graph small = record { root = small.root; pin = small.pin; object = small.object; count = λ t. let few = small.count t in omega (arith, few) }
 
 -- ---- what a command answers
 
-pub element_small : {X : Type 0} (P : X → Type 0) (xs : List X) (i : ℕ) (x : X) → All P xs → slice_get xs i ≡ Some x → P x
-element_small P xs i x all there = subst P (get_or_from_slice_get xs i x x there) (all i x (slice_get_within xs i x there))
+pub element_small : {X : Type 0} (P : X → Type 0) (xs : List X) (index : ℕ) (x : X) → All P xs → slice_get xs index ≡ Some x → P x
+element_small P xs index x all there = subst P (get_or_from_slice_get xs index x x there) (all index x (slice_get_within xs index x there))
 
-shown_fits : (v : Reference) → IsSmallReference v → FitsReply (shown v)
+shown_fits : (reference : Reference) → IsSmallReference reference → FitsReply (shown reference)
 shown_fits None small = tt
 shown_fits (Some n) small = small
 
-yes_or_no_fits : (b : Bool) → FitsReply (yes_or_no b)
+yes_or_no_fits : (holds : Bool) → FitsReply (yes_or_no holds)
 yes_or_no_fits true = tt
 yes_or_no_fits false = tt
 
@@ -127,85 +127,85 @@ record IsSmallOutcome (most : ℕ) (o : Outcome) : Type 0 where
   reply : FitsReply o.reply
   graph : IsSmallGraph most o.graph
 
-on_small : {A : Type 0} (most : ℕ) (o : Option A) (g : Graph) (f : A → Outcome) → IsSmallGraph most g → ((v : A) → o ≡ Some v → IsSmallOutcome most (f v)) → IsSmallOutcome most (on o g f)
-on_small most None g f small each = record { reply = tt; graph = small }
-on_small most (Some v) g f small each = each v refl
+on_small : {A : Type 0} (most : ℕ) (found : Option A) (graph : Graph) (f : A → Outcome) → IsSmallGraph most graph → ((v : A) → found ≡ Some v → IsSmallOutcome most (f v)) → IsSmallOutcome most (on found graph f)
+on_small most None graph f small each = record { reply = tt; graph = small }
+on_small most (Some v) graph f small each = each v refl
 
-either_small : (most : ℕ) (b : Bool) (x y : Outcome) → IsSmallOutcome most x → IsSmallOutcome most y → IsSmallOutcome most (cond b x y)
+either_small : (most : ℕ) (holds : Bool) (x y : Outcome) → IsSmallOutcome most x → IsSmallOutcome most y → IsSmallOutcome most (cond holds x y)
 either_small most true x y p q = p
 either_small most false x y p q = q
 
-outcome_small : (most : ℕ) (g : Graph) (t : ℕ) (c : Command) → IsSmallGraph most g → t < 2 ^ 32 → most + 1 < 2 ^ 32 → FitsWhenWritten c → IsSmallOutcome (most + 1) (outcome g t c)
-outcome_small most g t (New dst refs nums) small thread few fits =
-    let name : IsSmallName (fresh g t) = (thread, let made = small.count t in omega (arith, made, few)) in
-    record { reply = name; graph = root_small (most + 1) _ t dst (Some (fresh g t)) (fresh_small most g t (blank refs nums) small (blank_small refs nums)) name }
-outcome_small most g t (Get dst src field) small thread few fits =
-    on_small (most + 1) (field_at g t src field) g _ (later_small most g small) (λ v there.
-    let ref = element_small IsSmallReference (named g (g.root t src)).refs field v (named_small most g (g.root t src) small).refs there in
-    record { reply = shown_fits v ref; graph = root_small (most + 1) g t dst v (later_small most g small) ref })
-outcome_small most g t (Set obj field val) small thread few fits =
-    on_small (most + 1) (field_at g t obj field) g _ (later_small most g small) (λ v there. record { reply = tt; graph = field_small (most + 1) g t obj field (g.root t val) (later_small most g small) (small.root t val) })
-outcome_small most g t (Cas obj field expect val) small thread few fits =
-    on_small (most + 1) (field_at g t obj field) g _ (later_small most g small) (λ v there.
-    either_small (most + 1) (same_reference v (g.root t expect)) _ _ (record { reply = tt; graph = field_small (most + 1) g t obj field (g.root t val) (later_small most g small) (small.root t val) }) (record { reply = tt; graph = later_small most g small }))
-outcome_small most g t (Xchg dst obj field val) small thread few fits =
-    on_small (most + 1) (field_at g t obj field) g _ (later_small most g small) (λ v there.
-    let ref = element_small IsSmallReference (named g (g.root t obj)).refs field v (named_small most g (g.root t obj) small).refs there in
-    record { reply = shown_fits v ref; graph = root_small (most + 1) _ t dst v (field_small (most + 1) g t obj field (g.root t val) (later_small most g small) (small.root t val)) ref })
-outcome_small most g t (Rd obj index) small thread few fits =
-    on_small (most + 1) (number_at g t obj index) g _ (later_small most g small) (λ n there.
-    record { reply = element_small (λ m. m < 2 ^ 64) (named g (g.root t obj)).nums index n (named_small most g (g.root t obj) small).nums there; graph = later_small most g small })
-outcome_small most g t (Wr obj index value) small thread few fits =
-    on_small (most + 1) (number_at g t obj index) g _ (later_small most g small) (λ n there. record { reply = tt; graph = number_small (most + 1) g t obj index value (later_small most g small) fits })
-outcome_small most g t (Copy dst src) small thread few fits = record { reply = tt; graph = root_small (most + 1) g t dst (g.root t src) (later_small most g small) (small.root t src) }
-outcome_small most g t (Drop dst) small thread few fits = record { reply = tt; graph = root_small (most + 1) g t dst None (later_small most g small) tt }
-outcome_small most g t (Same a b) small thread few fits = record { reply = yes_or_no_fits _; graph = later_small most g small }
-outcome_small most g t Gc small thread few fits = record { reply = tt; graph = later_small most g small }
-outcome_small most g t (Pin slot obj) small thread few fits = record { reply = tt; graph = later_small most g small }
-outcome_small most g t (Unpin slot) small thread few fits =
-    on_small (most + 1) (g.pin t slot) g _ (later_small most g small) (λ held there. record { reply = tt; graph = pin_small (most + 1) g t slot None (later_small most g small) tt })
+outcome_small : (most : ℕ) (graph : Graph) (t : ℕ) (command : Command) → IsSmallGraph most graph → t < 2 ^ 32 → most + 1 < 2 ^ 32 → FitsWhenWritten command → IsSmallOutcome (most + 1) (outcome graph t command)
+outcome_small most graph t (New dst refs nums) small thread few fits =
+    let name : IsSmallName (fresh graph t) = (thread, let made = small.count t in omega (arith, made, few)) in
+    record { reply = name; graph = root_small (most + 1) _ t dst (Some (fresh graph t)) (fresh_small most graph t (blank refs nums) small (blank_small refs nums)) name }
+outcome_small most graph t (Get dst src field) small thread few fits =
+    on_small (most + 1) (field_at graph t src field) graph _ (later_small most graph small) (λ v there.
+    let ref = element_small IsSmallReference (named graph (graph.root t src)).refs field v (named_small most graph (graph.root t src) small).refs there in
+    record { reply = shown_fits v ref; graph = root_small (most + 1) graph t dst v (later_small most graph small) ref })
+outcome_small most graph t (Set obj field val) small thread few fits =
+    on_small (most + 1) (field_at graph t obj field) graph _ (later_small most graph small) (λ v there. record { reply = tt; graph = field_small (most + 1) graph t obj field (graph.root t val) (later_small most graph small) (small.root t val) })
+outcome_small most graph t (Cas obj field expect val) small thread few fits =
+    on_small (most + 1) (field_at graph t obj field) graph _ (later_small most graph small) (λ v there.
+    either_small (most + 1) (same_reference v (graph.root t expect)) _ _ (record { reply = tt; graph = field_small (most + 1) graph t obj field (graph.root t val) (later_small most graph small) (small.root t val) }) (record { reply = tt; graph = later_small most graph small }))
+outcome_small most graph t (Xchg dst obj field val) small thread few fits =
+    on_small (most + 1) (field_at graph t obj field) graph _ (later_small most graph small) (λ v there.
+    let ref = element_small IsSmallReference (named graph (graph.root t obj)).refs field v (named_small most graph (graph.root t obj) small).refs there in
+    record { reply = shown_fits v ref; graph = root_small (most + 1) _ t dst v (field_small (most + 1) graph t obj field (graph.root t val) (later_small most graph small) (small.root t val)) ref })
+outcome_small most graph t (Rd obj index) small thread few fits =
+    on_small (most + 1) (number_at graph t obj index) graph _ (later_small most graph small) (λ n there.
+    record { reply = element_small (λ m. m < 2 ^ 64) (named graph (graph.root t obj)).nums index n (named_small most graph (graph.root t obj) small).nums there; graph = later_small most graph small })
+outcome_small most graph t (Wr obj index value) small thread few fits =
+    on_small (most + 1) (number_at graph t obj index) graph _ (later_small most graph small) (λ n there. record { reply = tt; graph = number_small (most + 1) graph t obj index value (later_small most graph small) fits })
+outcome_small most graph t (Copy dst src) small thread few fits = record { reply = tt; graph = root_small (most + 1) graph t dst (graph.root t src) (later_small most graph small) (small.root t src) }
+outcome_small most graph t (Drop dst) small thread few fits = record { reply = tt; graph = root_small (most + 1) graph t dst None (later_small most graph small) tt }
+outcome_small most graph t (Same a b) small thread few fits = record { reply = yes_or_no_fits _; graph = later_small most graph small }
+outcome_small most graph t Gc small thread few fits = record { reply = tt; graph = later_small most graph small }
+outcome_small most graph t (Pin slot obj) small thread few fits = record { reply = tt; graph = later_small most graph small }
+outcome_small most graph t (Unpin slot) small thread few fits =
+    on_small (most + 1) (graph.pin t slot) graph _ (later_small most graph small) (λ held there. record { reply = tt; graph = pin_small (most + 1) graph t slot None (later_small most graph small) tt })
 
 -- what a command pins is the object of a root
-pinned_small : (most : ℕ) (g : Graph) (t : ℕ) (c : Command) → IsSmallGraph most g → IsSmallReference (pinned_by g t c)
-pinned_small most g t (Pin slot obj) small = small_either _ None (g.root t obj) tt (small.root t obj)
-pinned_small most g t (New dst refs nums) small = tt
-pinned_small most g t _ small = tt
+pinned_small : (most : ℕ) (graph : Graph) (thread : ℕ) (command : Command) → IsSmallGraph most graph → IsSmallReference (pinned_by graph thread command)
+pinned_small most graph thread (Pin slot obj) small = small_either _ None (graph.root thread obj) tt (small.root thread obj)
+pinned_small most graph thread (New dst refs nums) small = tt
+pinned_small most graph thread _ small = tt
 
 -- ---- histories
 
 -- an entry of a thread that has a number of 32 bits, whose command can be written
-pub record IsAsked (e : Entry) : Type 0 where
-  pub thread : e.thread < 2 ^ 32
-  pub fits : FitsWhenWritten e.command
+pub record IsAsked (entry : Entry) : Type 0 where
+  pub thread : entry.thread < 2 ^ 32
+  pub fits : FitsWhenWritten entry.command
 
 -- the replies fit, and the graph in the end is small
 pub record HasSmall (most : ℕ) (g : Graph) (es : List Entry) : Type 0 where
   pub replies : AllByRecursion (λ e. FitsReply e.reply) es
   pub graph : IsSmallGraph most (after g es)
 
-entry_small : (regions region_words most : ℕ) (g : Graph) (e : Entry) (h : Graph) → (regions + 1) * region_words ≤ 2 ^ 64 → IsSmallGraph most g → IsAsked e → most + 1 < 2 ^ 32 → IsLegal regions region_words g e.thread e.command e.reply h
-    → FitsReply e.reply × IsSmallGraph (most + 1) h
-entry_small regions region_words most g e h room small asked few (inl told) =
-    let made = outcome_small most g e.thread e.command small asked.thread few asked.fits in
+entry_small : (regions region_words most : ℕ) (graph : Graph) (entry : Entry) (other_graph : Graph) → (regions + 1) * region_words ≤ 2 ^ 64 → IsSmallGraph most graph → IsAsked entry → most + 1 < 2 ^ 32 → IsLegal regions region_words graph entry.thread entry.command entry.reply other_graph
+    → FitsReply entry.reply × IsSmallGraph (most + 1) other_graph
+entry_small regions region_words most graph entry other_graph room small asked few (inl told) =
+    let made = outcome_small most graph entry.thread entry.command small asked.thread few asked.fits in
     (subst FitsReply (sym (ap (λ (o : Outcome). o.reply) told.1)) made.reply, subst (IsSmallGraph (most + 1)) (sym (ap (λ (o : Outcome). o.graph) told.1)) made.graph)
-entry_small regions region_words most g e h room small asked few (inr (inl full)) = (subst FitsReply (sym full.1) tt, subst (IsSmallGraph (most + 1)) (sym full.2) (later_small most g small))
-entry_small regions region_words most g e h room small asked few (inr (inr pinning)) =
+entry_small regions region_words most graph entry other_graph room small asked few (inr (inl full)) = (subst FitsReply (sym full.1) tt, subst (IsSmallGraph (most + 1)) (sym full.2) (later_small most graph small))
+entry_small regions region_words most graph entry other_graph room small asked few (inr (inr pinning)) =
     let place : pinning.place < 2 ^ 64 = omega (arith, pinning.may.within.1, room) in
-    let name : IsSmallReference (Some pinning.name) = subst IsSmallReference pinning.pins (pinned_small most g e.thread e.command small) in (
+    let name : IsSmallReference (Some pinning.name) = subst IsSmallReference pinning.pins (pinned_small most graph entry.thread entry.command small) in (
       subst FitsReply (sym pinning.reply) place,
-      subst (IsSmallGraph (most + 1)) (sym pinning.graph) (pin_small (most + 1) g e.thread (slot_of e.command) (Some (record { name = pinning.name; place = pinning.place })) (later_small most g small) name),
+      subst (IsSmallGraph (most + 1)) (sym pinning.graph) (pin_small (most + 1) graph entry.thread (slot_of entry.command) (Some (record { name = pinning.name; place = pinning.place })) (later_small most graph small) name),
     )
 
-pub history_small : (regions region_words most : ℕ) (g : Graph) (es : List Entry) → (regions + 1) * region_words ≤ 2 ^ 64 → IsSmallGraph most g → EachIsLegal regions region_words g es → AllByRecursion IsAsked es → most + length es < 2 ^ 32
-    → HasSmall (most + length es) g es
-history_small regions region_words most g [] room small legal asked few = record { replies = tt; graph = subst (λ (n : ℕ). IsSmallGraph n g) (no_more most) small }
+pub history_small : (regions region_words most : ℕ) (graph : Graph) (es : List Entry) → (regions + 1) * region_words ≤ 2 ^ 64 → IsSmallGraph most graph → EachIsLegal regions region_words graph es → AllByRecursion IsAsked es → most + length es < 2 ^ 32
+    → HasSmall (most + length es) graph es
+history_small regions region_words most graph [] room small legal asked few = record { replies = tt; graph = subst (λ (n : ℕ). IsSmallGraph n graph) (no_more most) small }
   where
     no_more : (n : ℕ) → n ≡ n + 0
     no_more n = omega arith
-history_small regions region_words most g (e ∷ es) room small legal asked few =
-    let one = entry_small regions region_words most g e (after_entry g e) room small asked.0 (omega (arith, few)) legal.0 in
-    let others = history_small regions region_words (most + 1) (after_entry g e) es room one.1 legal.1 asked.1 (omega (arith, few)) in
-    record { replies = (one.0, others.replies); graph = subst (λ (n : ℕ). IsSmallGraph n (after (after_entry g e) es)) (one_more most (length es)) others.graph }
+history_small regions region_words most graph (e ∷ es) room small legal asked few =
+    let one = entry_small regions region_words most graph e (after_entry graph e) room small asked.0 (omega (arith, few)) legal.0 in
+    let others = history_small regions region_words (most + 1) (after_entry graph e) es room one.1 legal.1 asked.1 (omega (arith, few)) in
+    record { replies = (one.0, others.replies); graph = subst (λ (n : ℕ). IsSmallGraph n (after (after_entry graph e) es)) (one_more most (length es)) others.graph }
   where
     one_more : (n k : ℕ) → n + 1 + k ≡ n + suc k
     one_more n k = omega arith

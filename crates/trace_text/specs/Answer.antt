@@ -21,7 +21,7 @@ line_of words = join_with_byte space words ++ newline ∷ []
 
 -- the two numbers of a name, with a dot between
 abbrev pub name_word : Name → List ℕ
-name_word n = decimal n.thread ++ codes "." ++ decimal n.count
+name_word name = decimal name.thread ++ codes "." ++ decimal name.count
 
 -- null is a dash
 abbrev pub reference_word : Reference → List ℕ
@@ -45,7 +45,7 @@ reply_line thread reply = line_of (decimal thread ∷ reply_word reply ∷ [])
 
 -- an object: its name, its references, a stroke, its numbers
 abbrev pub object_line : Row → List ℕ
-object_line r = line_of (codes "object" ∷ name_word r.name ∷ (map reference_word r.refs ++ codes "/" ∷ map decimal r.nums))
+object_line row = line_of (codes "object" ∷ name_word row.name ∷ (map reference_word row.refs ++ codes "/" ∷ map decimal row.nums))
 
 -- the words of 16 roots
 unfoldable pub root_spellings : (ℕ → Reference) → List (List ℕ)

@@ -25,14 +25,14 @@ turns_of (i ∷ items) = (i ∷ items) ∷ []
 
 -- the text of a trace of a version
 abbrev pub spelling_of : ℕ → Config → List (List Command) → List Item → List ℕ
-spelling_of version c scripts items = header version c ++ (flat_map line (lines_from 1 scripts) ++ flat_map schedule_line (turns_of items))
+spelling_of version config scripts items = header version config ++ (flat_map line (lines_from 1 scripts) ++ flat_map schedule_line (turns_of items))
 
 -- A trace can be written: its version is 1 or 2, a region has at most 1,024 words, it has a script for each mutator, its commands and
 -- its items may stand in a trace of the version, and its text is not too long for one.
-pub record IsWritable (version : ℕ) (c : Config) (scripts : List (List Command)) (items : List Item) : Type 0 where
+pub record IsWritable (version : ℕ) (config : Config) (scripts : List (List Command)) (items : List Item) : Type 0 where
   pub known : IsVersion version
-  pub narrow : IsNarrow c
-  pub threads : length scripts ≡ c.mutators
-  pub lines_fit : AllByRecursion (IsLine version c.mutators) (lines_from 1 scripts)
-  pub items_fit : AllByRecursion (IsItem c) items
-  pub short : length (spelling_of version c scripts items) ≤ most_bytes
+  pub narrow : IsNarrow config
+  pub threads : length scripts ≡ config.mutators
+  pub lines_fit : AllByRecursion (IsLine version config.mutators) (lines_from 1 scripts)
+  pub items_fit : AllByRecursion (IsItem config) items
+  pub short : length (spelling_of version config scripts items) ≤ most_bytes

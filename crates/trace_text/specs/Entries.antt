@@ -17,17 +17,17 @@ FitsReply (At place) = place < 2 ^ 64
 FitsReply _ = Unit {0}
 
 -- What an entry may say where there are so many threads, counted from 1: a valid command of the version and any reply.
-pub record IsClaim (version threads : ℕ) (e : Entry) : Type 0 where
-  pub from_one : 1 ≤ e.thread
-  pub to_last : e.thread ≤ threads
-  pub known : IsKnown version e.command
-  pub valid : IsValid e.command
-  pub fits : FitsWhenWritten e.command
-  pub reply : FitsReply e.reply
+pub record IsClaim (version threads : ℕ) (entry : Entry) : Type 0 where
+  pub from_one : 1 ≤ entry.thread
+  pub to_last : entry.thread ≤ threads
+  pub known : IsKnown version entry.command
+  pub valid : IsValid entry.command
+  pub fits : FitsWhenWritten entry.command
+  pub reply : FitsReply entry.reply
 
 -- no line of an entry stands at the front
 abbrev pub BeginsWithNoEntry : (version threads : ℕ) → List ℕ → Type 0
-BeginsWithNoEntry version threads bytes = (e : Entry) (rest : List ℕ) → IsClaim version threads e → bytes ≡ entry_line e ++ rest → ⊥
+BeginsWithNoEntry version threads bytes = (entry : Entry) (rest : List ℕ) → IsClaim version threads entry → bytes ≡ entry_line entry ++ rest → ⊥
 
 -- ---- reading
 

@@ -8,7 +8,7 @@ use Rattle.trace_text.specs.Answer.{line_of, reply_word}
 
 -- the line of an entry: the thread, its command as in a trace, a colon, and the reply
 abbrev pub entry_line : Entry → List ℕ
-entry_line e = decimal e.thread ++ (space ∷ ((command_word e.command ++ numbers (numbers_of e.command)) ++ (codes " : " ++ (reply_word e.reply ++ newline ∷ []))))
+entry_line entry = decimal entry.thread ++ (space ∷ ((command_word entry.command ++ numbers (numbers_of entry.command)) ++ (codes " : " ++ (reply_word entry.reply ++ newline ∷ []))))
 
 abbrev pub history_text : List Entry → List ℕ
 history_text entries = line_of (codes "history" ∷ []) ++ flat_map entry_line entries

@@ -21,7 +21,7 @@ pub record Taken : Type 0 where
 
 -- no line was taken yet
 abbrev pub none_taken : (version : ℕ) → Config → Taken
-none_taken version c = record { version = version; config = c; scripts = scripts_of c.mutators []; items = []; scheduled = false }
+none_taken version config = record { version = version; config = config; scripts = scripts_of config.mutators []; items = []; scheduled = false }
 
 -- the line, without its end, is that of a command, which is now the last of its thread
 abbrev pub TakesCommand : Taken → List ℕ → Taken → Type 0
@@ -42,11 +42,11 @@ line_cause t text = words_cause (body_stage t.version t.config t.scheduled) (par
 
 -- a line of a command of a version, without its end
 abbrev pub IsCommandText : (version : ℕ) → Config → List ℕ → Type 0
-IsCommandText version c text = (l : TraceLine) × IsLine version c.mutators l × (text ++ newline ∷ [] ≡ line l)
+IsCommandText version config text = (l : TraceLine) × IsLine version config.mutators l × (text ++ newline ∷ [] ≡ line l)
 
 -- a line of the schedule, without its end
 abbrev pub IsItemsText : Config → List ℕ → Type 0
-IsItemsText c text = (items : List Item) × IsScheduleLine c items × (text ++ newline ∷ [] ≡ schedule_line items)
+IsItemsText config text = (items : List Item) × IsScheduleLine config items × (text ++ newline ∷ [] ≡ schedule_line items)
 
 -- the thread and the command of a version that a text spells, to its end
 unfoldable pub spelled_line : (version threads : ℕ) → List ℕ → Option TraceLine

@@ -9,14 +9,14 @@ use Rattle.trace_text.specs.declared.message.Line.TheVariants.{BadWords, BadLine
 
 -- what is told of a run of the workload, whose threads are three: a line each, the last one without its end
 abbrev pub summary_text : Summary → List ℕ
-summary_text s =
-    codes "churn " ++ (decimal s.seed ++ (codes " " ++ (decimal s.count
-    ++ (codes "\nthreads 3\ncommands " ++ (decimal s.commands
-    ++ (codes "\nbad " ++ (decimal s.bad
-    ++ (codes "\nfull " ++ (decimal s.full
-    ++ (codes "\nobjects " ++ (decimal s.objects
-    ++ (codes "\nwords " ++ (decimal s.words
-    ++ (codes "\nsum " ++ decimal s.sum))))))))))))))
+summary_text summary =
+    codes "churn " ++ (decimal summary.seed ++ (codes " " ++ (decimal summary.count
+    ++ (codes "\nthreads 3\ncommands " ++ (decimal summary.commands
+    ++ (codes "\nbad " ++ (decimal summary.bad
+    ++ (codes "\nfull " ++ (decimal summary.full
+    ++ (codes "\nobjects " ++ (decimal summary.objects
+    ++ (codes "\nwords " ++ (decimal summary.words
+    ++ (codes "\nsum " ++ decimal summary.sum))))))))))))))
 
 -- what is told of a queue: how many numbers each user put or took, how many the takers got, and their sum
 abbrev pub queue_text : (count items sum : ℕ) → List ℕ
@@ -40,4 +40,4 @@ message NoText = codes "no: text"
 
 -- the line
 abbrev pub line_text : Line → List ℕ
-line_text l = message l ++ newline ∷ []
+line_text line = message line ++ newline ∷ []

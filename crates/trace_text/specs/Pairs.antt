@@ -32,7 +32,7 @@ pub record IsPair (bytes : List ℕ) (version : ℕ) (config : Config) (scripts 
   pub short : length bytes ≤ most_bytes
 
 -- two readings are of one trace, the same body and the same entries
-pub record IsSamePair (v : ℕ) (c : Config) (xs : List (List Command)) (is : List Item) (body : List ℕ) (es : List Entry) (w : ℕ) (d : Config) (ys : List (List Command)) (js : List Item) (other : List ℕ) (fs : List Entry) : Type 0 where
-  pub trace : IsSameTrace v c xs is w d ys js
+pub record IsSamePair (v : ℕ) (config : Config) (xs : List (List Command)) (is : List Item) (body : List ℕ) (es : List Entry) (w : ℕ) (other_config : Config) (ys : List (List Command)) (js : List Item) (other : List ℕ) (fs : List Entry) : Type 0 where
+  pub trace : IsSameTrace v config xs is w other_config ys js
   pub text : body ≡ other
   pub history : es ≡ fs

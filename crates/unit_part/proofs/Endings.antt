@@ -20,11 +20,11 @@ abbrev IsWorked : UpdateSpot → Type 0
 IsWorked spot = spot ≡ Ended Worked
 
 -- of two spots by a test, where one is no end
-where_true : (b : Bool) (x y : UpdateSpot) (P : Type 0) → (IsWorked y → ⊥) → (IsWorked x ↔ P) → (IsWorked (if b then x else y) ↔ ((b ≡ true) × P))
+where_true : (holds : Bool) (x y : UpdateSpot) (P : Type 0) → (IsWorked y → ⊥) → (IsWorked x ↔ P) → (IsWorked (if holds then x else y) ↔ ((holds ≡ true) × P))
 where_true true x y P never is = ((λ end. (refl, is.0 end)), (λ both. is.1 both.1))
 where_true false x y P never is = ((λ end. absurd (never end)), (λ both. absurd (let no = both.0 in cc)))
 
-where_false : (b : Bool) (x y : UpdateSpot) (P : Type 0) → (IsWorked x → ⊥) → (IsWorked y ↔ P) → (IsWorked (if b then x else y) ↔ ((b ≡ false) × P))
+where_false : (holds : Bool) (x y : UpdateSpot) (P : Type 0) → (IsWorked x → ⊥) → (IsWorked y ↔ P) → (IsWorked (if holds then x else y) ↔ ((holds ≡ false) × P))
 where_false true x y P never is = ((λ end. absurd (never end)), (λ both. absurd (let no = both.0 in cc)))
 where_false false x y P never is = ((λ end. (refl, is.0 end)), (λ both. is.1 both.1))
 
@@ -38,126 +38,126 @@ by_words_alone X A B to back is = ((λ x. to (is.0 x).0), (λ b. is.1 (back b, t
 ended : IsWorked (Ended Worked) ↔ Unit {0}
 ended = ((λ end. tt), (λ any. refl))
 
-object_ends : (c : Config) (walk : Walk) (address : ℕ) → IsWorked (next_object c walk address) ↔ (limit_of c walk ≤ address)
-object_ends c walk address = by_words_alone _ _ _ (ltb-false address (limit_of c walk)) (le-ltb _ _)
-    (where_false (nat_lt address (limit_of c walk)) (LoadFirst walk address) (Ended Worked) (Unit {0}) (λ end. cc) ended)
+object_ends : (config : Config) (walk : Walk) (address : ℕ) → IsWorked (next_object config walk address) ↔ (limit_of config walk ≤ address)
+object_ends config walk address = by_words_alone _ _ _ (ltb-false address (limit_of config walk)) (le-ltb _ _)
+    (where_false (nat_lt address (limit_of config walk)) (LoadFirst walk address) (Ended Worked) (Unit {0}) (λ end. cc) ended)
 
-first_ends : (c : Config) (walk : Walk) (address : ℕ) (filled : Option ℕ) → IsWorked (after_words c walk address filled) ↔ ((words : ℕ) × (filled ≡ Some words) × (limit_of c walk ≤ address + words))
-first_ends c walk address (Some words) = (
-  (λ end. (words, refl, (object_ends c walk (address + words)).0 end)),
-  (λ last. (object_ends c walk (address + words)).1 (subst (λ n. limit_of c walk ≤ address + n) (sym (same_Some words last.0 last.1)) last.2)),
+first_ends : (config : Config) (walk : Walk) (address : ℕ) (filled : Option ℕ) → IsWorked (after_words config walk address filled) ↔ ((words : ℕ) × (filled ≡ Some words) × (limit_of config walk ≤ address + words))
+first_ends config walk address (Some words) = (
+  (λ end. (words, refl, (object_ends config walk (address + words)).0 end)),
+  (λ last. (object_ends config walk (address + words)).1 (subst (λ n. limit_of config walk ≤ address + n) (sym (same_Some words last.0 last.1)) last.2)),
 )
-first_ends c walk address None = ((λ end. cc), (λ last. absurd (none-some last.0 last.1)))
+first_ends config walk address None = ((λ end. cc), (λ last. absurd (none-some last.0 last.1)))
 
-field_ends : (c : Config) (at : Visit) (field : ℕ) → IsWorked (next_field c at field) ↔ ((refs_in at.shape ≤ field) × IsLast c at)
-field_ends c at field = by_words _ _ _ _ (ltb-false field (refs_in at.shape)) (le-ltb _ _)
-    (where_false (nat_lt field (refs_in at.shape)) (LoadField at field) (next_object c at.walk (visit_end at)) (IsLast c at) (λ end. cc) (object_ends c at.walk (visit_end at)))
+field_ends : (config : Config) (at : Visit) (field : ℕ) → IsWorked (next_field config at field) ↔ ((refs_in at.shape ≤ field) × IsLast config at)
+field_ends config at field = by_words _ _ _ _ (ltb-false field (refs_in at.shape)) (le-ltb _ _)
+    (where_false (nat_lt field (refs_in at.shape)) (LoadField at field) (next_object config at.walk (visit_end at)) (IsLast config at) (λ end. cc) (object_ends config at.walk (visit_end at)))
 
-shape_ends : (c : Config) (at : Visit) → IsWorked (after_shape c at) ↔ ((refs_in at.shape ≡ 0) × IsLast c at)
-shape_ends c at = by_words _ _ _ _ (eqb-true (refs_in at.shape) 0) (eq-eqb _ _)
-    (where_true (refs_in at.shape == 0) (next_object c at.walk (visit_end at)) (if nat_lt at.address (tams_of c at.walk) then LoadBlack at else LoadField at 0) (IsLast c at)
-    (goes_on (nat_lt at.address (tams_of c at.walk))) (object_ends c at.walk (visit_end at)))
+shape_ends : (config : Config) (at : Visit) → IsWorked (after_shape config at) ↔ ((refs_in at.shape ≡ 0) × IsLast config at)
+shape_ends config at = by_words _ _ _ _ (eqb-true (refs_in at.shape) 0) (eq-eqb _ _)
+    (where_true (refs_in at.shape == 0) (next_object config at.walk (visit_end at)) (if nat_lt at.address (tams_of config at.walk) then LoadBlack at else LoadField at 0) (IsLast config at)
+    (goes_on (nat_lt at.address (tams_of config at.walk))) (object_ends config at.walk (visit_end at)))
   where
-    goes_on : (b : Bool) → IsWorked (if b then LoadBlack at else LoadField at 0) → ⊥
+    goes_on : (holds : Bool) → IsWorked (if holds then LoadBlack at else LoadField at 0) → ⊥
     goes_on true end = cc
     goes_on false end = cc
 
-claim_ends : (c : Config) (cset unit got : ℕ) → IsWorked (next_at c cset (ClaimUnit unit) got) ↔ IsDoneAt c cset (ClaimUnit unit) got
-claim_ends c cset unit got = by_words _ _ _ _ (eqb-true got unit) (eq-eqb _ _)
+claim_ends : (config : Config) (cset unit got : ℕ) → IsWorked (next_at config cset (ClaimUnit unit) got) ↔ IsDoneAt config cset (ClaimUnit unit) got
+claim_ends config cset unit got = by_words _ _ _ _ (eqb-true got unit) (eq-eqb _ _)
     (where_true (got == unit) (if bit_at cset unit == 1 then Ended Worked else LoadLimit unit) LoadClaim (bit_at cset unit ≡ 1) (λ end. cc)
     (by_words_alone _ _ _ (eqb-true (bit_at cset unit) 1) (eq-eqb _ _)
     (where_true (bit_at cset unit == 1) (Ended Worked) (LoadLimit unit) (Unit {0}) (λ end. cc) ended)))
 
-limit_ends : (c : Config) (cset region got : ℕ) → IsWorked (next_at c cset (LoadLimit region) got) ↔ (got ≡ 0)
-limit_ends c cset region got = by_words_alone _ _ _ (eqb-true got 0) (eq-eqb _ _)
+limit_ends : (config : Config) (cset region got : ℕ) → IsWorked (next_at config cset (LoadLimit region) got) ↔ (got ≡ 0)
+limit_ends config cset region got = by_words_alone _ _ _ (eqb-true got 0) (eq-eqb _ _)
     (where_true (got == 0) (Ended Worked) (LoadTams region got) (Unit {0}) (λ end. cc) ended)
 
-black_ends : (c : Config) (cset : ℕ) (at : Visit) (got : ℕ) → IsWorked (next_at c cset (LoadBlack at) got) ↔ IsDoneAt c cset (LoadBlack at) got
-black_ends c cset at got = by_words _ _ _ _ (eqb-false (bit_at got (mark_bit c at.address)) 1) (ne_eqb _ _)
-    (where_false (bit_at got (mark_bit c at.address) == 1) (LoadField at 0) (next_object c at.walk (visit_end at)) (IsLast c at) (λ end. cc) (object_ends c at.walk (visit_end at)))
+black_ends : (config : Config) (cset : ℕ) (at : Visit) (got : ℕ) → IsWorked (next_at config cset (LoadBlack at) got) ↔ IsDoneAt config cset (LoadBlack at) got
+black_ends config cset at got = by_words _ _ _ _ (eqb-false (bit_at got (mark_bit config at.address)) 1) (ne_eqb _ _)
+    (where_false (bit_at got (mark_bit config at.address) == 1) (LoadField at 0) (next_object config at.walk (visit_end at)) (IsLast config at) (λ end. cc) (object_ends config at.walk (visit_end at)))
 
-no_unit : (b : Bool) (got : ℕ) → IsWorked (if b then ClaimUnit got else Ended NoneLeft) → ⊥
+no_unit : (holds : Bool) (got : ℕ) → IsWorked (if holds then ClaimUnit got else Ended NoneLeft) → ⊥
 no_unit true got end = cc
 no_unit false got end = cc
 
 -- a unit is done exactly by these words
-pub worked_is : (c : Config) (cset : ℕ) (spot : UpdateSpot) (got : ℕ) → is_ended spot ≡ false → (next_at c cset spot got ≡ Ended Worked) ↔ IsDoneAt c cset spot got
-worked_is c cset LoadClaim got going = ((λ end. no_unit (has_unit c got) got end), (λ never. absurd never))
-worked_is c cset (ClaimUnit unit) got going = claim_ends c cset unit got
-worked_is c cset (LoadLimit region) got going = limit_ends c cset region got
-worked_is c cset (LoadTams region limit) got going = ((λ end. cc), (λ never. absurd never))
-worked_is c cset (LoadFirst walk address) got going = first_ends c walk address (filler_words_in got)
-worked_is c cset (LoadShape walk address) got going = shape_ends c (record { walk = walk; address = address; shape = got })
-worked_is c cset (LoadBlack at) got going = black_ends c cset at got
-worked_is c cset (LoadField at field) got going =
-    where_false (names_set c cset got) (LoadHeader at field got) (next_field c at (field + 1)) (IsLastField c at field) (λ end. cc) (field_ends c at (field + 1))
-worked_is c cset (LoadHeader at field found) got going =
-    where_false (is_forwarded got) (ExchangeField at field found (forwardee_in got)) (next_field c at (field + 1)) (IsLastField c at field) (λ end. cc) (field_ends c at (field + 1))
-worked_is c cset (ExchangeField at field found copy) got going = field_ends c at (field + 1)
-worked_is c cset (Ended unit) got going = absurd cc
+pub worked_is : (config : Config) (cset : ℕ) (spot : UpdateSpot) (got : ℕ) → is_ended spot ≡ false → (next_at config cset spot got ≡ Ended Worked) ↔ IsDoneAt config cset spot got
+worked_is config cset LoadClaim got going = ((λ end. no_unit (has_unit config got) got end), (λ never. absurd never))
+worked_is config cset (ClaimUnit unit) got going = claim_ends config cset unit got
+worked_is config cset (LoadLimit region) got going = limit_ends config cset region got
+worked_is config cset (LoadTams region limit) got going = ((λ end. cc), (λ never. absurd never))
+worked_is config cset (LoadFirst walk address) got going = first_ends config walk address (filler_words_in got)
+worked_is config cset (LoadShape walk address) got going = shape_ends config (record { walk = walk; address = address; shape = got })
+worked_is config cset (LoadBlack at) got going = black_ends config cset at got
+worked_is config cset (LoadField at field) got going =
+    where_false (names_set config cset got) (LoadHeader at field got) (next_field config at (field + 1)) (IsLastField config at field) (λ end. cc) (field_ends config at (field + 1))
+worked_is config cset (LoadHeader at field found) got going =
+    where_false (is_forwarded got) (ExchangeField at field found (forwardee_in got)) (next_field config at (field + 1)) (IsLastField config at field) (λ end. cc) (field_ends config at (field + 1))
+worked_is config cset (ExchangeField at field found copy) got going = field_ends config at (field + 1)
+worked_is config cset (Ended unit) got going = absurd cc
 
 -- no unit is left there
 abbrev SaysNone : UpdateSpot → Type 0
 SaysNone spot = spot ≡ Ended NoneLeft
 
-none_object : (c : Config) (walk : Walk) (address : ℕ) → SaysNone (next_object c walk address) → ⊥
-none_object c walk address = by_test (nat_lt address (limit_of c walk))
+none_object : (config : Config) (walk : Walk) (address : ℕ) → SaysNone (next_object config walk address) → ⊥
+none_object config walk address = by_test (nat_lt address (limit_of config walk))
   where
-    by_test : (b : Bool) → SaysNone (if b then LoadFirst walk address else Ended Worked) → ⊥
+    by_test : (holds : Bool) → SaysNone (if holds then LoadFirst walk address else Ended Worked) → ⊥
     by_test true end = cc
     by_test false end = cc
 
-none_first : (c : Config) (walk : Walk) (address : ℕ) (filled : Option ℕ) → SaysNone (after_words c walk address filled) → ⊥
-none_first c walk address (Some words) end = none_object c walk (address + words) end
-none_first c walk address None end = cc
+none_first : (config : Config) (walk : Walk) (address : ℕ) (filled : Option ℕ) → SaysNone (after_words config walk address filled) → ⊥
+none_first config walk address (Some words) end = none_object config walk (address + words) end
+none_first config walk address None end = cc
 
-none_field : (c : Config) (at : Visit) (field : ℕ) → SaysNone (next_field c at field) → ⊥
-none_field c at field = by_test (nat_lt field (refs_in at.shape))
+none_field : (config : Config) (at : Visit) (field : ℕ) → SaysNone (next_field config at field) → ⊥
+none_field config at field = by_test (nat_lt field (refs_in at.shape))
   where
-    by_test : (b : Bool) → SaysNone (if b then LoadField at field else next_object c at.walk (visit_end at)) → ⊥
+    by_test : (holds : Bool) → SaysNone (if holds then LoadField at field else next_object config at.walk (visit_end at)) → ⊥
     by_test true end = cc
-    by_test false end = none_object c at.walk (visit_end at) end
+    by_test false end = none_object config at.walk (visit_end at) end
 
-none_shape : (c : Config) (at : Visit) → SaysNone (after_shape c at) → ⊥
-none_shape c at = by_tests (refs_in at.shape == 0) (nat_lt at.address (tams_of c at.walk))
+none_shape : (config : Config) (at : Visit) → SaysNone (after_shape config at) → ⊥
+none_shape config at = by_tests (refs_in at.shape == 0) (nat_lt at.address (tams_of config at.walk))
   where
-    by_tests : (b d : Bool) → SaysNone (if b then next_object c at.walk (visit_end at) else (if d then LoadBlack at else LoadField at 0)) → ⊥
-    by_tests true d end = none_object c at.walk (visit_end at) end
+    by_tests : (holds other_holds : Bool) → SaysNone (if holds then next_object config at.walk (visit_end at) else (if other_holds then LoadBlack at else LoadField at 0)) → ⊥
+    by_tests true other_holds end = none_object config at.walk (visit_end at) end
     by_tests false true end = cc
     by_tests false false end = cc
 
-none_claim : (unit : ℕ) (b d : Bool) → SaysNone (if b then (if d then Ended Worked else LoadLimit unit) else LoadClaim) → ⊥
+none_claim : (unit : ℕ) (holds other_holds : Bool) → SaysNone (if holds then (if other_holds then Ended Worked else LoadLimit unit) else LoadClaim) → ⊥
 none_claim unit true true end = cc
 none_claim unit true false end = cc
-none_claim unit false d end = cc
+none_claim unit false other_holds end = cc
 
-none_limit : (region got : ℕ) (b : Bool) → SaysNone (if b then Ended Worked else LoadTams region got) → ⊥
+none_limit : (region got : ℕ) (holds : Bool) → SaysNone (if holds then Ended Worked else LoadTams region got) → ⊥
 none_limit region got true end = cc
 none_limit region got false end = cc
 
-none_black : (c : Config) (at : Visit) (b : Bool) → SaysNone (if b then LoadField at 0 else next_object c at.walk (visit_end at)) → ⊥
-none_black c at true end = cc
-none_black c at false end = none_object c at.walk (visit_end at) end
+none_black : (config : Config) (at : Visit) (holds : Bool) → SaysNone (if holds then LoadField at 0 else next_object config at.walk (visit_end at)) → ⊥
+none_black config at true end = cc
+none_black config at false end = none_object config at.walk (visit_end at) end
 
-none_else : (c : Config) (at : Visit) (field : ℕ) (spot : UpdateSpot) → (SaysNone spot → ⊥) → (b : Bool) → SaysNone (if b then spot else next_field c at field) → ⊥
-none_else c at field spot never true end = never end
-none_else c at field spot never false end = none_field c at field end
+none_else : (config : Config) (at : Visit) (field : ℕ) (spot : UpdateSpot) → (SaysNone spot → ⊥) → (holds : Bool) → SaysNone (if holds then spot else next_field config at field) → ⊥
+none_else config at field spot never true end = never end
+none_else config at field spot never false end = none_field config at field end
 
-claim_none : (c : Config) (got : ℕ) (b : Bool) → has_unit c got ≡ b → SaysNone (if b then ClaimUnit got else Ended NoneLeft) ↔ (c.regions ≤ got)
-claim_none c got true is = ((λ end. absurd (let differ = end in cc)), (λ most. absurd (let less = ltb-true got c.regions is in omega (arith, less, most))))
-claim_none c got false is = ((λ end. ltb-false got c.regions is), (λ most. refl))
+claim_none : (config : Config) (got : ℕ) (holds : Bool) → has_unit config got ≡ holds → SaysNone (if holds then ClaimUnit got else Ended NoneLeft) ↔ (config.regions ≤ got)
+claim_none config got true is = ((λ end. absurd (let differ = end in cc)), (λ most. absurd (let less = ltb-true got config.regions is in omega (arith, less, most))))
+claim_none config got false is = ((λ end. ltb-false got config.regions is), (λ most. refl))
 
 -- no unit is left exactly by these words
-pub none_is : (c : Config) (cset : ℕ) (spot : UpdateSpot) (got : ℕ) → is_ended spot ≡ false → (next_at c cset spot got ≡ Ended NoneLeft) ↔ HasNoneLeft c spot got
-none_is c cset LoadClaim got going = claim_none c got (has_unit c got) refl
-none_is c cset (ClaimUnit unit) got going = ((λ end. none_claim unit (got == unit) (bit_at cset unit == 1) end), (λ never. absurd never))
-none_is c cset (LoadLimit region) got going = ((λ end. none_limit region got (got == 0) end), (λ never. absurd never))
-none_is c cset (LoadTams region limit) got going = ((λ end. cc), (λ never. absurd never))
-none_is c cset (LoadFirst walk address) got going = ((λ end. none_first c walk address (filler_words_in got) end), (λ never. absurd never))
-none_is c cset (LoadShape walk address) got going = ((λ end. none_shape c (record { walk = walk; address = address; shape = got }) end), (λ never. absurd never))
-none_is c cset (LoadBlack at) got going = ((λ end. none_black c at (bit_at got (mark_bit c at.address) == 1) end), (λ never. absurd never))
-none_is c cset (LoadField at field) got going = ((λ end. none_else c at (field + 1) (LoadHeader at field got) (λ is. (let differ = is in cc)) (names_set c cset got) end), (λ never. absurd never))
-none_is c cset (LoadHeader at field found) got going =
-    ((λ end. none_else c at (field + 1) (ExchangeField at field found (forwardee_in got)) (λ is. (let differ = is in cc)) (is_forwarded got) end), (λ never. absurd never))
-none_is c cset (ExchangeField at field found copy) got going = ((λ end. none_field c at (field + 1) end), (λ never. absurd never))
-none_is c cset (Ended unit) got going = absurd cc
+pub none_is : (config : Config) (cset : ℕ) (spot : UpdateSpot) (got : ℕ) → is_ended spot ≡ false → (next_at config cset spot got ≡ Ended NoneLeft) ↔ HasNoneLeft config spot got
+none_is config cset LoadClaim got going = claim_none config got (has_unit config got) refl
+none_is config cset (ClaimUnit unit) got going = ((λ end. none_claim unit (got == unit) (bit_at cset unit == 1) end), (λ never. absurd never))
+none_is config cset (LoadLimit region) got going = ((λ end. none_limit region got (got == 0) end), (λ never. absurd never))
+none_is config cset (LoadTams region limit) got going = ((λ end. cc), (λ never. absurd never))
+none_is config cset (LoadFirst walk address) got going = ((λ end. none_first config walk address (filler_words_in got) end), (λ never. absurd never))
+none_is config cset (LoadShape walk address) got going = ((λ end. none_shape config (record { walk = walk; address = address; shape = got }) end), (λ never. absurd never))
+none_is config cset (LoadBlack at) got going = ((λ end. none_black config at (bit_at got (mark_bit config at.address) == 1) end), (λ never. absurd never))
+none_is config cset (LoadField at field) got going = ((λ end. none_else config at (field + 1) (LoadHeader at field got) (λ is. (let differ = is in cc)) (names_set config cset got) end), (λ never. absurd never))
+none_is config cset (LoadHeader at field found) got going =
+    ((λ end. none_else config at (field + 1) (ExchangeField at field found (forwardee_in got)) (λ is. (let differ = is in cc)) (is_forwarded got) end), (λ never. absurd never))
+none_is config cset (ExchangeField at field found copy) got going = ((λ end. none_field config at (field + 1) end), (λ never. absurd never))
+none_is config cset (Ended unit) got going = absurd cc

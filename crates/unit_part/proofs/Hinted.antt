@@ -16,27 +16,27 @@ use Rattle.unit_part.specs.declared.spot.UnitSpot.TheVariants as unit
 use Rattle.unit_part.specs.Rows.{hinted_by, takes_hint, is_ended}
 use Rattle.unit_part.specs.Ready.{is_ready}
 
-module _ (c : Config) where
+module _ (config : Config) where
   -- of a scan
-  scan_ready : (address : ℕ) → scans.is_ready c (scans.hinted c address) ≡ true
-  scan_ready address = by_test (is_word c (Heap address)) refl
+  scan_ready : (address : ℕ) → scans.is_ready config (scans.hinted config address) ≡ true
+  scan_ready address = by_test (is_word config (Heap address)) refl
     where
-      by_test : (b : Bool) → is_word c (Heap address) ≡ b → scans.is_ready c (if b then LoadGrey (mark_word c address) else LoadClaim) ≡ true
-      by_test true there = lt-ltb (mark_word c address) (bit_words c) (word_inside c address (is_word_true c (Heap address) there))
+      by_test : (holds : Bool) → is_word config (Heap address) ≡ holds → scans.is_ready config (if holds then LoadGrey (mark_word config address) else LoadClaim) ≡ true
+      by_test true there = lt-ltb (mark_word config address) (bit_words config) (word_inside config address (is_word_true config (Heap address) there))
       by_test false outside = refl
 
-  scan_goes : (address : ℕ) → scans.is_ended (scans.hinted c address) ≡ false
-  scan_goes address = by_test (is_word c (Heap address))
+  scan_goes : (address : ℕ) → scans.is_ended (scans.hinted config address) ≡ false
+  scan_goes address = by_test (is_word config (Heap address))
     where
-      by_test : (b : Bool) → scans.is_ended (if b then LoadGrey (mark_word c address) else LoadClaim) ≡ false
+      by_test : (holds : Bool) → scans.is_ended (if holds then LoadGrey (mark_word config address) else LoadClaim) ≡ false
       by_test true = refl
       by_test false = refl
 
-  scan_works : (seat address : ℕ) → is_ready c seat (Scanning (scans.hinted c address)) ≡ true
+  scan_works : (seat address : ℕ) → is_ready config seat (Scanning (scans.hinted config address)) ≡ true
   scan_works seat address = and_from _ _ (scan_ready address) (ap (λ b. if b then false else true) (scan_goes address))
 
   -- of a unit
-  pub hinted_ready : (hint : Option ℕ) (seat : ℕ) (at : UnitSpot) → is_ready c seat at ≡ true → is_ready c seat (hinted_by c hint at) ≡ true
+  pub hinted_ready : (hint : Option ℕ) (seat : ℕ) (at : UnitSpot) → is_ready config seat at ≡ true → is_ready config seat (hinted_by config hint at) ≡ true
   hinted_ready None seat at ready = ready
   hinted_ready (Some address) seat (Scanning LoadClaim) ready = scan_works seat address
   hinted_ready (Some address) seat (Scanning (ClaimUnit k)) ready = ready
@@ -52,7 +52,7 @@ module _ (c : Config) where
   hinted_ready (Some address) seat (unit.Ended which) ready = ready
 
   -- who takes no hints goes on as it is
-  pub hinted_not : (hint : Option ℕ) (at : UnitSpot) → takes_hint at ≡ false → hinted_by c hint at ≡ at
+  pub hinted_not : (hint : Option ℕ) (at : UnitSpot) → takes_hint at ≡ false → hinted_by config hint at ≡ at
   hinted_not None at none = refl
   hinted_not (Some address) (Scanning LoadClaim) none = absurd (cc (none))
   hinted_not (Some address) (Scanning (ClaimUnit k)) none = refl
@@ -68,10 +68,10 @@ module _ (c : Config) where
   hinted_not (Some address) (unit.Ended which) none = refl
 
   -- a unit that goes on has not ended behind the hint
-  ended_same : (hint : Option ℕ) (at : UnitSpot) → is_ended (hinted_by c hint at) ≡ is_ended at
+  ended_same : (hint : Option ℕ) (at : UnitSpot) → is_ended (hinted_by config hint at) ≡ is_ended at
   ended_same hint at = by_test (takes_hint at) refl
     where
-      claims : (address : ℕ) (at : UnitSpot) → takes_hint at ≡ true → is_ended (hinted_by c (Some address) at) ≡ is_ended at
+      claims : (address : ℕ) (at : UnitSpot) → takes_hint at ≡ true → is_ended (hinted_by config (Some address) at) ≡ is_ended at
       claims address (Scanning LoadClaim) takes = refl
       claims address (Scanning (ClaimUnit k)) takes = absurd (cc (takes))
       claims address (Scanning (LoadGrey word)) takes = absurd (cc (takes))
@@ -85,17 +85,17 @@ module _ (c : Config) where
       claims address (Updating cset updates) takes = absurd (cc (takes))
       claims address (unit.Ended which) takes = absurd (cc (takes))
 
-      of_hint : (hint : Option ℕ) → takes_hint at ≡ true → is_ended (hinted_by c hint at) ≡ is_ended at
+      of_hint : (hint : Option ℕ) → takes_hint at ≡ true → is_ended (hinted_by config hint at) ≡ is_ended at
       of_hint None takes = refl
       of_hint (Some address) takes = claims address at takes
 
-      by_test : (b : Bool) → takes_hint at ≡ b → is_ended (hinted_by c hint at) ≡ is_ended at
+      by_test : (holds : Bool) → takes_hint at ≡ holds → is_ended (hinted_by config hint at) ≡ is_ended at
       by_test true takes = of_hint hint takes
       by_test false none = ap is_ended (hinted_not hint at none)
 
   -- so it is of who works on one
-  pub working : (hint : Option ℕ) (seat : ℕ) (at : UnitSpot) → (is_ready c seat at && (if is_ended at then false else true)) ≡ true
-      → (is_ready c seat (hinted_by c hint at) && (if is_ended (hinted_by c hint at) then false else true)) ≡ true
+  pub working : (hint : Option ℕ) (seat : ℕ) (at : UnitSpot) → (is_ready config seat at && (if is_ended at then false else true)) ≡ true
+      → (is_ready config seat (hinted_by config hint at) && (if is_ended (hinted_by config hint at) then false else true)) ≡ true
   working hint seat at works =
       let both = and_parts _ _ works in
       and_from _ _ (hinted_ready hint seat at both.0) (ap (λ b. if b then false else true) (ended_same hint at) ∙ both.1)

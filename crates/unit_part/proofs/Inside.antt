@@ -31,35 +31,35 @@ not_ended true goes = absurd (false≢true goes)
 not_ended false goes = refl
 
 -- each access of a unit is of a word of the table
-pub unit_inside : (c : Config) (seat : ℕ) (at : UnitSpot) → seat < seat_count c.mutators c.helpers → is_ready c seat at ≡ true → IsWord c (touch_at c seat at).word
-unit_inside c seat (Scanning at) seated ready = scan_inside c at (and_parts _ _ ready).0
-unit_inside c seat (Evacuating cset at) seated ready = evacuation_inside c seat at seated (and_parts _ _ ready).0
-unit_inside c seat (Updating cset at) seated ready = updating_inside c at (and_parts _ _ ready).0
-unit_inside c seat (Ended unit) seated ready = tt
+pub unit_inside : (config : Config) (seat : ℕ) (at : UnitSpot) → seat < seat_count config.mutators config.helpers → is_ready config seat at ≡ true → IsWord config (touch_at config seat at).word
+unit_inside config seat (Scanning at) seated ready = scan_inside config at (and_parts _ _ ready).0
+unit_inside config seat (Evacuating cset at) seated ready = evacuation_inside config seat at seated (and_parts _ _ ready).0
+unit_inside config seat (Updating cset at) seated ready = updating_inside config at (and_parts _ _ ready).0
+unit_inside config seat (Ended unit) seated ready = tt
 
 pub accesses_inside : AccessesAreInside
 accesses_inside c seat at seated ready = let t = touch_at c seat at in
     subst (λ k. k < table_words c) (sym (table_index-access_at (word_at c t.word) t.form)) (word_inside c t.word (unit_inside c seat at seated ready))
 
 -- and of words of the image alone
-pub unit_image : (c : Config) (seat : ℕ) (at : UnitSpot) → is_image (touch_at c seat at).word ≡ true
-unit_image c seat (Scanning at) = scan_image c at
-unit_image c seat (Evacuating cset at) = evacuation_image c seat at
-unit_image c seat (Updating cset at) = updating_image c at
-unit_image c seat (Ended unit) = refl
+pub unit_image : (config : Config) (seat : ℕ) (at : UnitSpot) → is_image (touch_at config seat at).word ≡ true
+unit_image config seat (Scanning at) = scan_image config at
+unit_image config seat (Evacuating cset at) = evacuation_image config seat at
+unit_image config seat (Updating cset at) = updating_image config at
+unit_image config seat (Ended unit) = refl
 
 -- where the parts go on
-scans_on : (c : Config) (seat : ℕ) (at : ScanSpot) → scans.is_ready c at ≡ true → is_ready c seat (scanned at) ≡ true
-scans_on c seat (scan.Ended unit) ready = refl
-scans_on c seat _ ready = and_from _ _ ready refl
+scans_on : (config : Config) (seat : ℕ) (at : ScanSpot) → scans.is_ready config at ≡ true → is_ready config seat (scanned at) ≡ true
+scans_on config seat (scan.Ended unit) ready = refl
+scans_on config seat _ ready = and_from _ _ ready refl
 
-evacuates_on : (c : Config) (seat cset : ℕ) (at : EvacSpot) → evac_fit.is_ready c seat at ≡ true → is_ready c seat (evacuated cset at) ≡ true
-evacuates_on c seat cset (evac.Ended unit) ready = refl
-evacuates_on c seat cset _ ready = and_from _ _ ready refl
+evacuates_on : (config : Config) (seat cset : ℕ) (at : EvacSpot) → evac_fit.is_ready config seat at ≡ true → is_ready config seat (evacuated cset at) ≡ true
+evacuates_on config seat cset (evac.Ended unit) ready = refl
+evacuates_on config seat cset _ ready = and_from _ _ ready refl
 
-updates_on : (c : Config) (seat cset : ℕ) (at : UpdateSpot) → updates.is_ready c at ≡ true → is_ready c seat (updated cset at) ≡ true
-updates_on c seat cset (update.Ended unit) ready = refl
-updates_on c seat cset _ ready = and_from _ _ ready refl
+updates_on : (config : Config) (seat cset : ℕ) (at : UpdateSpot) → updates.is_ready config at ≡ true → is_ready config seat (updated cset at) ≡ true
+updates_on config seat cset (update.Ended unit) ready = refl
+updates_on config seat cset _ ready = and_from _ _ ready refl
 
 pub stays_ready : StaysReady
 stays_ready c seat (Scanning at) got ready fit = scans_on c seat (scans.next_at c at got) fit

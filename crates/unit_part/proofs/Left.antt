@@ -31,7 +31,7 @@ use Rattle.unit_part.specs.Ends.{HasNoneLeft}
 use Rattle.unit_part.proofs.Inside.{not_ended}
 
 -- a choice by a test
-pub by_test : {A : Type 0} (P : A → Type 0) (b : Bool) (x y : A) → (b ≡ true → P x) → (b ≡ false → P y) → P (if b then x else y)
+pub by_test : {A : Type 0} (P : A → Type 0) (holds : Bool) (x y : A) → (holds ≡ true → P x) → (holds ≡ false → P y) → P (if holds then x else y)
 by_test P true x y one other = one refl
 by_test P false x y one other = other refl
 
@@ -43,8 +43,8 @@ by_phase P phase cset marks copies updates =
     (λ other. by_test P (phase == 2) (Evacuating cset evac.LoadClaim) (Updating cset update.LoadClaim) (copies other) (updates other))
 
 -- a unit that begins has not ended, and its access can be made
-pub begins_ready : (c : Config) (seat phase cset : ℕ) → is_ready c seat (begins phase cset) ≡ true
-begins_ready c seat phase cset = by_phase (λ at. is_ready c seat at ≡ true) phase cset (λ one. refl) (λ no two. refl) (λ no other. refl)
+pub begins_ready : (config : Config) (seat phase cset : ℕ) → is_ready config seat (begins phase cset) ≡ true
+begins_ready config seat phase cset = by_phase (λ at. is_ready config seat at ≡ true) phase cset (λ one. refl) (λ no two. refl) (λ no other. refl)
 
 -- none is left there, for the three parts
 abbrev IsScanLeft : ScanSpot → Type 0
@@ -61,28 +61,28 @@ never : {A : Type 0} {x y : A} → (x ≡ y → ⊥) → (x ≡ y) ↔ ⊥
 never not = (not, λ no. absurd no)
 
 -- it is so where a test fails, and only there
-where_fails : {A : Type 0} (b : Bool) (x y : A) (P : Type 0) → (b ≡ false → P) → (P → b ≡ false) → (x ≡ y → ⊥) → ((if b then x else y) ≡ y) ↔ P
+where_fails : {A : Type 0} (holds : Bool) (x y : A) (P : Type 0) → (holds ≡ false → P) → (P → holds ≡ false) → (x ≡ y → ⊥) → ((if holds then x else y) ≡ y) ↔ P
 where_fails true x y P to back not = (λ is. absurd (not is), λ p. absurd (let no = back p in cc))
 where_fails false x y P to back not = (λ is. to refl, λ p. refl)
 
-module _ (c : Config) where
+module _ (config : Config) where
   -- of a scan
-  not_bits : (word unscanned : ℕ) → IsScanLeft (scans.after_bits c word unscanned) → ⊥
-  not_bits word unscanned = by_test (λ at. IsScanLeft at → ⊥) (unscanned == 0) (scan.Ended Worked) (scan.SetBlack (lowest_address c word unscanned)) (λ on is. cc) (λ off is. cc)
+  not_bits : (word unscanned : ℕ) → IsScanLeft (scans.after_bits config word unscanned) → ⊥
+  not_bits word unscanned = by_test (λ at. IsScanLeft at → ⊥) (unscanned == 0) (scan.Ended Worked) (scan.SetBlack (lowest_address config word unscanned)) (λ on is. cc) (λ off is. cc)
 
-  not_reference : (address field refs : ℕ) → IsScanLeft (scans.next_reference c address field refs) → ⊥
-  not_reference address field refs = by_test (λ at. IsScanLeft at → ⊥) (nat_lt field refs) (scan.LoadField address field refs) (scan.LoadGrey (mark_word c address)) (λ on is. cc) (λ off is. cc)
+  not_reference : (address field refs : ℕ) → IsScanLeft (scans.next_reference config address field refs) → ⊥
+  not_reference address field refs = by_test (λ at. IsScanLeft at → ⊥) (nat_lt field refs) (scan.LoadField address field refs) (scan.LoadGrey (mark_word config address)) (λ on is. cc) (λ off is. cc)
 
-  scan_left : (at : ScanSpot) (got : ℕ) → scans.is_ended at ≡ false → IsScanLeft (scans.next_at c at got) ↔ scan_ends.HasNoneLeft c at got
-  scan_left scan.LoadClaim got going = where_fails (scans.has_unit c got) (scan.ClaimUnit got) (scan.Ended NoneLeft) _ (ltb-false got (scans.unit_limit c)) (le-ltb _ _) (λ is. cc)
+  scan_left : (at : ScanSpot) (got : ℕ) → scans.is_ended at ≡ false → IsScanLeft (scans.next_at config at got) ↔ scan_ends.HasNoneLeft config at got
+  scan_left scan.LoadClaim got going = where_fails (scans.has_unit config got) (scan.ClaimUnit got) (scan.Ended NoneLeft) _ (ltb-false got (scans.unit_limit config)) (le-ltb _ _) (λ is. cc)
   scan_left (scan.ClaimUnit unit) got going = never (by_test (λ at. IsScanLeft at → ⊥) (got == unit) _ scan.LoadClaim (λ on is. cc) (λ off is. cc))
   scan_left (scan.LoadGrey word) got going = never (λ is. cc)
   scan_left (scan.LoadBlack word grey) got going = never (not_bits word (scans.unscanned_in grey got))
   scan_left (scan.SetBlack address) got going =
-      never (by_test (λ at. IsScanLeft at → ⊥) (bit_at got (mark_bit c address) == 1) (scan.LoadGrey (mark_word c address)) (scan.LoadShape address) (λ on is. cc) (λ off is. cc))
+      never (by_test (λ at. IsScanLeft at → ⊥) (bit_at got (mark_bit config address) == 1) (scan.LoadGrey (mark_word config address)) (scan.LoadShape address) (λ on is. cc) (λ off is. cc))
   scan_left (scan.LoadShape address) got going = never (not_reference address 0 (refs_in got))
   scan_left (scan.LoadField address field refs) got going =
-      never (by_test (λ at. IsScanLeft at → ⊥) (got == 0) (scans.next_reference c address (field + 1) refs) (scan.SetGrey address field refs got) (λ on. not_reference address (field + 1) refs) (λ off is. cc))
+      never (by_test (λ at. IsScanLeft at → ⊥) (got == 0) (scans.next_reference config address (field + 1) refs) (scan.SetGrey address field refs got) (λ on. not_reference address (field + 1) refs) (λ off is. cc))
   scan_left (scan.SetGrey address field refs found) got going = never (not_reference address (field + 1) refs)
   scan_left (scan.Ended unit) got going = absurd (cc (going))
 
@@ -94,48 +94,48 @@ module _ (c : Config) where
   not_words address end (Some words) = not_walk (address + words) end
   not_words address end None = λ is. cc
 
-  not_resolved : (cset address end next : ℕ) (at : ResolveSpot) → IsEvacLeft (evacs.after_resolve c cset address end next at) → ⊥
+  not_resolved : (cset address end next : ℕ) (at : ResolveSpot) → IsEvacLeft (evacs.after_resolve config cset address end next at) → ⊥
   not_resolved cset address end next (resolve.Resolved answer) =
-      by_test (λ at. IsEvacLeft at → ⊥) (evacs.lies_in_set c cset answer) (evac.Ended Worked) (evacs.walk_on next end) (λ on is. cc) (λ off. not_walk next end)
+      by_test (λ at. IsEvacLeft at → ⊥) (evacs.lies_in_set config cset answer) (evac.Ended Worked) (evacs.walk_on next end) (λ on is. cc) (λ off. not_walk next end)
   not_resolved cset address end next _ = λ is. cc
 
   not_claimed : (cset unit : ℕ) → IsEvacLeft (evacs.after_claim cset unit) → ⊥
   not_claimed cset unit = by_test (λ at. IsEvacLeft at → ⊥) (evacs.is_in_set cset unit) (evac.LoadTop unit) (evac.Ended Worked) (λ on is. cc) (λ off is. cc)
 
-  pub evac_left : (cset : ℕ) (at : EvacSpot) (got : ℕ) → evacs.is_ended at ≡ false → IsEvacLeft (evacs.next_at c cset at got) ↔ evac_ends.HasNoneLeft c at got
-  evac_left cset evac.LoadClaim got going = where_fails (nat_lt got c.regions) (evac.ClaimUnit got) (evac.Ended NoneLeft) _ (ltb-false got c.regions) (le-ltb _ _) (λ is. cc)
+  pub evac_left : (cset : ℕ) (at : EvacSpot) (got : ℕ) → evacs.is_ended at ≡ false → IsEvacLeft (evacs.next_at config cset at got) ↔ evac_ends.HasNoneLeft config at got
+  evac_left cset evac.LoadClaim got going = where_fails (nat_lt got config.regions) (evac.ClaimUnit got) (evac.Ended NoneLeft) _ (ltb-false got config.regions) (le-ltb _ _) (λ is. cc)
   evac_left cset (evac.ClaimUnit unit) got going = never (by_test (λ at. IsEvacLeft at → ⊥) (got == unit) (evacs.after_claim cset unit) evac.LoadClaim (λ on. not_claimed cset unit) (λ off is. cc))
   evac_left cset (evac.LoadTop region) got going = never (not_walk _ _)
   evac_left cset (evac.LoadFirst address end) got going = never (not_words address end (filler_words_in got))
   evac_left cset (evac.LoadShape address end) got going = never (λ is. cc)
   evac_left cset (evac.LoadMark address end next) got going =
-      never (by_test (λ at. IsEvacLeft at → ⊥) (bit_at got (mark_bit c address) == 1) (evac.Resolving address end next resolve.LoadHeader) (evacs.walk_on next end) (λ on is. cc) (λ off. not_walk next end))
+      never (by_test (λ at. IsEvacLeft at → ⊥) (bit_at got (mark_bit config address) == 1) (evac.Resolving address end next resolve.LoadHeader) (evacs.walk_on next end) (λ on is. cc) (λ off. not_walk next end))
   evac_left cset (evac.Resolving address end next at) got going = never (not_resolved cset address end next _)
   evac_left cset (evac.Ended unit) got going = absurd (cc (going))
 
   -- of an updating
-  not_object : (walk : Walk) (address : ℕ) → IsUpdateLeft (updates.next_object c walk address) → ⊥
-  not_object walk address = by_test (λ at. IsUpdateLeft at → ⊥) (nat_lt address (updates.limit_of c walk)) (update.LoadFirst walk address) (update.Ended Worked) (λ on is. cc) (λ off is. cc)
+  not_object : (walk : Walk) (address : ℕ) → IsUpdateLeft (updates.next_object config walk address) → ⊥
+  not_object walk address = by_test (λ at. IsUpdateLeft at → ⊥) (nat_lt address (updates.limit_of config walk)) (update.LoadFirst walk address) (update.Ended Worked) (λ on is. cc) (λ off is. cc)
 
-  not_filled : (walk : Walk) (address : ℕ) (words : Option ℕ) → IsUpdateLeft (updates.after_words c walk address words) → ⊥
+  not_filled : (walk : Walk) (address : ℕ) (words : Option ℕ) → IsUpdateLeft (updates.after_words config walk address words) → ⊥
   not_filled walk address (Some words) = not_object walk (address + words)
   not_filled walk address None = λ is. cc
 
-  not_field : (at : Visit) (field : ℕ) → IsUpdateLeft (updates.next_field c at field) → ⊥
+  not_field : (at : Visit) (field : ℕ) → IsUpdateLeft (updates.next_field config at field) → ⊥
   not_field at field =
-      by_test (λ spot. IsUpdateLeft spot → ⊥) (nat_lt field (refs_in at.shape)) (update.LoadField at field) (updates.next_object c at.walk (updates.visit_end at)) (λ on is. cc) (λ off. not_object at.walk (updates.visit_end at))
+      by_test (λ spot. IsUpdateLeft spot → ⊥) (nat_lt field (refs_in at.shape)) (update.LoadField at field) (updates.next_object config at.walk (updates.visit_end at)) (λ on is. cc) (λ off. not_object at.walk (updates.visit_end at))
 
-  not_shape : (at : Visit) → IsUpdateLeft (updates.after_shape c at) → ⊥
+  not_shape : (at : Visit) → IsUpdateLeft (updates.after_shape config at) → ⊥
   not_shape at =
-      by_test (λ spot. IsUpdateLeft spot → ⊥) (refs_in at.shape == 0) (updates.next_object c at.walk (updates.visit_end at)) (if nat_lt at.address (updates.tams_of c at.walk) then update.LoadBlack at else update.LoadField at 0)
+      by_test (λ spot. IsUpdateLeft spot → ⊥) (refs_in at.shape == 0) (updates.next_object config at.walk (updates.visit_end at)) (if nat_lt at.address (updates.tams_of config at.walk) then update.LoadBlack at else update.LoadField at 0)
       (λ on. not_object at.walk (updates.visit_end at))
-      (λ off. by_test (λ spot. IsUpdateLeft spot → ⊥) (nat_lt at.address (updates.tams_of c at.walk)) (update.LoadBlack at) (update.LoadField at 0) (λ low is. cc) (λ high is. cc))
+      (λ off. by_test (λ spot. IsUpdateLeft spot → ⊥) (nat_lt at.address (updates.tams_of config at.walk)) (update.LoadBlack at) (update.LoadField at 0) (λ low is. cc) (λ high is. cc))
 
   not_in_set : (cset unit : ℕ) → IsUpdateLeft (if bit_at cset unit == 1 then update.Ended Worked else update.LoadLimit unit) → ⊥
   not_in_set cset unit = by_test (λ at. IsUpdateLeft at → ⊥) (bit_at cset unit == 1) (update.Ended Worked) (update.LoadLimit unit) (λ on is. cc) (λ off is. cc)
 
-  pub update_left : (cset : ℕ) (at : UpdateSpot) (got : ℕ) → updates.is_ended at ≡ false → IsUpdateLeft (updates.next_at c cset at got) ↔ update_ends.HasNoneLeft c at got
-  update_left cset update.LoadClaim got going = where_fails (updates.has_unit c got) (update.ClaimUnit got) (update.Ended NoneLeft) _ (ltb-false got c.regions) (le-ltb _ _) (λ is. cc)
+  pub update_left : (cset : ℕ) (at : UpdateSpot) (got : ℕ) → updates.is_ended at ≡ false → IsUpdateLeft (updates.next_at config cset at got) ↔ update_ends.HasNoneLeft config at got
+  update_left cset update.LoadClaim got going = where_fails (updates.has_unit config got) (update.ClaimUnit got) (update.Ended NoneLeft) _ (ltb-false got config.regions) (le-ltb _ _) (λ is. cc)
   update_left cset (update.ClaimUnit unit) got going =
       never (by_test (λ at. IsUpdateLeft at → ⊥) (got == unit) (if bit_at cset unit == 1 then update.Ended Worked else update.LoadLimit unit) update.LoadClaim (λ on. not_in_set cset unit) (λ off is. cc))
   update_left cset (update.LoadLimit region) got going = never (by_test (λ at. IsUpdateLeft at → ⊥) (got == 0) (update.Ended Worked) (update.LoadTams region got) (λ on is. cc) (λ off is. cc))
@@ -143,11 +143,11 @@ module _ (c : Config) where
   update_left cset (update.LoadFirst walk address) got going = never (not_filled walk address (filler_words_in got))
   update_left cset (update.LoadShape walk address) got going = never (not_shape _)
   update_left cset (update.LoadBlack at) got going =
-      never (by_test (λ spot. IsUpdateLeft spot → ⊥) (bit_at got (mark_bit c at.address) == 1) (update.LoadField at 0) (updates.next_object c at.walk (updates.visit_end at)) (λ on is. cc) (λ off. not_object at.walk (updates.visit_end at)))
+      never (by_test (λ spot. IsUpdateLeft spot → ⊥) (bit_at got (mark_bit config at.address) == 1) (update.LoadField at 0) (updates.next_object config at.walk (updates.visit_end at)) (λ on is. cc) (λ off. not_object at.walk (updates.visit_end at)))
   update_left cset (update.LoadField at field) got going =
-      never (by_test (λ spot. IsUpdateLeft spot → ⊥) (updates.names_set c cset got) (update.LoadHeader at field got) (updates.next_field c at (field + 1)) (λ on is. cc) (λ off. not_field at (field + 1)))
+      never (by_test (λ spot. IsUpdateLeft spot → ⊥) (updates.names_set config cset got) (update.LoadHeader at field got) (updates.next_field config at (field + 1)) (λ on is. cc) (λ off. not_field at (field + 1)))
   update_left cset (update.LoadHeader at field found) got going =
-      never (by_test (λ spot. IsUpdateLeft spot → ⊥) (is_forwarded got) (update.ExchangeField at field found (forwardee_in got)) (updates.next_field c at (field + 1)) (λ on is. cc) (λ off. not_field at (field + 1)))
+      never (by_test (λ spot. IsUpdateLeft spot → ⊥) (is_forwarded got) (update.ExchangeField at field found (forwardee_in got)) (updates.next_field config at (field + 1)) (λ on is. cc) (λ off. not_field at (field + 1)))
   update_left cset (update.ExchangeField at field found copy) got going = never (not_field at (field + 1))
   update_left cset (update.Ended unit) got going = absurd (cc (going))
 
@@ -171,8 +171,8 @@ chain : {A B C : Type 0} → (A ↔ B) → (B ↔ C) → A ↔ C
 chain first second = (λ a. second.0 (first.0 a), λ x. first.1 (second.1 x))
 
 -- a unit says that none was left exactly by these words
-pub none_left : (c : Config) (seat : ℕ) (at : UnitSpot) (got : ℕ) → is_ready c seat at ≡ true → (at ≡ Ended NoneLeft → ⊥) → (next_at c at got ≡ Ended NoneLeft) ↔ HasNoneLeft c at got
-none_left c seat (Scanning at) got ready going = chain (scan_same _) (scan_left c at got (not_ended (scans.is_ended at) (and_parts _ _ ready).1))
-none_left c seat (Evacuating cset at) got ready going = chain (evac_same cset _) (evac_left c cset at got (not_ended (evacs.is_ended at) (and_parts _ _ ready).1))
-none_left c seat (Updating cset at) got ready going = chain (update_same cset _) (update_left c cset at got (not_ended (updates.is_ended at) (and_parts _ _ ready).1))
-none_left c seat (Ended unit) got ready going = (λ is. absurd (going is), λ no. absurd no)
+pub none_left : (config : Config) (seat : ℕ) (at : UnitSpot) (got : ℕ) → is_ready config seat at ≡ true → (at ≡ Ended NoneLeft → ⊥) → (next_at config at got ≡ Ended NoneLeft) ↔ HasNoneLeft config at got
+none_left config seat (Scanning at) got ready going = chain (scan_same _) (scan_left config at got (not_ended (scans.is_ended at) (and_parts _ _ ready).1))
+none_left config seat (Evacuating cset at) got ready going = chain (evac_same cset _) (evac_left config cset at got (not_ended (evacs.is_ended at) (and_parts _ _ ready).1))
+none_left config seat (Updating cset at) got ready going = chain (update_same cset _) (update_left config cset at got (not_ended (updates.is_ended at) (and_parts _ _ ready).1))
+none_left config seat (Ended unit) got ready going = (λ is. absurd (going is), λ no. absurd no)

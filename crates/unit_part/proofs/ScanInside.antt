@@ -10,25 +10,25 @@ use Rattle.unit_part.specs.declared.scan_spot.ScanSpot.TheVariants.{LoadClaim, C
 use Rattle.unit_part.specs.ScanRows.{touch_at, is_ready}
 
 -- each access of a scan is of a word of the table
-pub scan_inside : (c : Config) (at : ScanSpot) → is_ready c at ≡ true → IsWord c (touch_at c at).word
-scan_inside c LoadClaim ready = tt
-scan_inside c (ClaimUnit unit) ready = tt
-scan_inside c (LoadGrey word) ready = ltb-true _ _ ready
-scan_inside c (LoadBlack word grey) ready = ltb-true _ _ ready
-scan_inside c (SetBlack address) ready = let heap : IsWord c (Heap address) = grind (arith, nat_tests, ready) in word_inside c address heap
-scan_inside c (LoadShape address) ready = let there = (and_parts (is_word c (Heap address)) (is_word c (Heap (address + 1))) ready).1 in grind (arith, nat_tests, there)
-scan_inside c (LoadField address field refs) ready = grind (arith, nat_tests, ready)
-scan_inside c (SetGrey address field refs found) ready = let heap : IsWord c (Heap found) = grind (arith, nat_tests, ready) in word_inside c found heap
-scan_inside c (Ended unit) ready = tt
+pub scan_inside : (config : Config) (at : ScanSpot) → is_ready config at ≡ true → IsWord config (touch_at config at).word
+scan_inside config LoadClaim ready = tt
+scan_inside config (ClaimUnit unit) ready = tt
+scan_inside config (LoadGrey word) ready = ltb-true _ _ ready
+scan_inside config (LoadBlack word grey) ready = ltb-true _ _ ready
+scan_inside config (SetBlack address) ready = let heap : IsWord config (Heap address) = grind (arith, nat_tests, ready) in word_inside config address heap
+scan_inside config (LoadShape address) ready = let there = (and_parts (is_word config (Heap address)) (is_word config (Heap (address + 1))) ready).1 in grind (arith, nat_tests, there)
+scan_inside config (LoadField address field refs) ready = grind (arith, nat_tests, ready)
+scan_inside config (SetGrey address field refs found) ready = let heap : IsWord config (Heap found) = grind (arith, nat_tests, ready) in word_inside config found heap
+scan_inside config (Ended unit) ready = tt
 
 -- and of words of the image alone
-pub scan_image : (c : Config) (at : ScanSpot) → is_image (touch_at c at).word ≡ true
-scan_image c LoadClaim = refl
-scan_image c (ClaimUnit unit) = refl
-scan_image c (LoadGrey word) = refl
-scan_image c (LoadBlack word grey) = refl
-scan_image c (SetBlack address) = refl
-scan_image c (LoadShape address) = refl
-scan_image c (LoadField address field refs) = refl
-scan_image c (SetGrey address field refs found) = refl
-scan_image c (Ended unit) = refl
+pub scan_image : (config : Config) (at : ScanSpot) → is_image (touch_at config at).word ≡ true
+scan_image config LoadClaim = refl
+scan_image config (ClaimUnit unit) = refl
+scan_image config (LoadGrey word) = refl
+scan_image config (LoadBlack word grey) = refl
+scan_image config (SetBlack address) = refl
+scan_image config (LoadShape address) = refl
+scan_image config (LoadField address field refs) = refl
+scan_image config (SetGrey address field refs found) = refl
+scan_image config (Ended unit) = refl

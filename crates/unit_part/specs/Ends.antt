@@ -17,7 +17,7 @@ WaitsAt _ got = ⊥
 
 -- At MC, EC and UC no unit is left: the claim word is at or past the number of units.
 abbrev pub HasNoneLeft : Config → UnitSpot → ℕ → Type 0
-HasNoneLeft c (Scanning at) got = scans.HasNoneLeft c at got
-HasNoneLeft c (Evacuating cset at) got = evacs.HasNoneLeft c at got
-HasNoneLeft c (Updating cset at) got = updates.HasNoneLeft c at got
-HasNoneLeft c _ got = ⊥
+HasNoneLeft config (Scanning at) got = scans.HasNoneLeft config at got
+HasNoneLeft config (Evacuating cset at) got = evacs.HasNoneLeft config at got
+HasNoneLeft config (Updating cset at) got = updates.HasNoneLeft config at got
+HasNoneLeft config _ got = ⊥

@@ -18,22 +18,22 @@ use Rattle.unit_part.specs.Rows.{touch_at, next_at}
 -- whether the numbers of a spot are in range, for the machine of a seat: the work on the unit has not ended, and its next access can be
 -- made
 abbrev pub is_ready : Config → ℕ → UnitSpot → Bool
-is_ready c seat (Scanning at) = scans.is_ready c at && (if scans.is_ended at then false else true)
-is_ready c seat (Evacuating cset at) = evac.is_ready c seat at && (if evacs.is_ended at then false else true)
-is_ready c seat (Updating cset at) = updates.is_ready c at && (if updates.is_ended at then false else true)
-is_ready c seat _ = true
+is_ready config seat (Scanning at) = scans.is_ready config at && (if scans.is_ended at then false else true)
+is_ready config seat (Evacuating cset at) = evac.is_ready config seat at && (if evacs.is_ended at then false else true)
+is_ready config seat (Updating cset at) = updates.is_ready config at && (if updates.is_ended at then false else true)
+is_ready config seat _ = true
 
 -- the word is fit: the work on the unit can go on from it
 abbrev pub IsFit : Config → ℕ → UnitSpot → ℕ → Type 0
-IsFit c seat (Scanning at) got = scan.IsFit c at got
-IsFit c seat (Evacuating cset at) got = evac.IsFit c seat cset at got
-IsFit c seat (Updating cset at) got = update.IsFit c cset at got
-IsFit c seat _ got = ⊤
+IsFit config seat (Scanning at) got = scan.IsFit config at got
+IsFit config seat (Evacuating cset at) got = evac.IsFit config seat cset at got
+IsFit config seat (Updating cset at) got = update.IsFit config cset at got
+IsFit config seat _ got = ⊤
 
 -- a machine of a seat that can make its access makes it to a word of the table
 abbrev pub AccessesAreInside : Type 0
-AccessesAreInside = (c : Config) (seat : ℕ) (at : UnitSpot) → seat < seat_count c.mutators c.helpers → is_ready c seat at ≡ true → table_index (placed c (touch_at c seat at)) < table_words c
+AccessesAreInside = (config : Config) (seat : ℕ) (at : UnitSpot) → seat < seat_count config.mutators config.helpers → is_ready config seat at ≡ true → table_index (placed config (touch_at config seat at)) < table_words config
 
 -- and where it goes on with a word that is fit it can make the next one
 abbrev pub StaysReady : Type 0
-StaysReady = (c : Config) (seat : ℕ) (at : UnitSpot) (got : ℕ) → is_ready c seat at ≡ true → IsFit c seat at got → is_ready c seat (next_at c at got) ≡ true
+StaysReady = (config : Config) (seat : ℕ) (at : UnitSpot) (got : ℕ) → is_ready config seat at ≡ true → IsFit config seat at got → is_ready config seat (next_at config at got) ≡ true

@@ -33,9 +33,9 @@ takes_hint _ = false
 
 -- from where it goes on with a hint, if it has one: who takes hints scans the word of the hint's address, and claims no unit
 abbrev pub hinted_by : Config → Option ℕ → UnitSpot → UnitSpot
-hinted_by c None at = at
-hinted_by c (Some address) (Scanning scan.LoadClaim) = Scanning (scans.hinted c address)
-hinted_by c (Some address) at = at
+hinted_by config None at = at
+hinted_by config (Some address) (Scanning scan.LoadClaim) = Scanning (scans.hinted config address)
+hinted_by config (Some address) at = at
 
 -- the address that the next access makes grey, if it does so
 abbrev pub greys_at : UnitSpot → Option ℕ
@@ -51,10 +51,10 @@ place_at (Ended unit) = KX
 
 -- the next access, of the machine of a seat
 abbrev pub touch_at : Config → ℕ → UnitSpot → Touch
-touch_at c seat (Scanning at) = scans.touch_at c at
-touch_at c seat (Evacuating cset at) = evacs.touch_at c seat at
-touch_at c seat (Updating cset at) = updates.touch_at c at
-touch_at c seat (Ended unit) = touch Claim loads
+touch_at config seat (Scanning at) = scans.touch_at config at
+touch_at config seat (Evacuating cset at) = evacs.touch_at config seat at
+touch_at config seat (Updating cset at) = updates.touch_at config at
+touch_at config seat (Ended unit) = touch Claim loads
 
 -- where it stands that scans: the unit ends with the scan
 abbrev pub scanned : ScanSpot → UnitSpot
@@ -73,10 +73,10 @@ updated cset at = Updating cset at
 
 -- what follows, by the word that was found
 abbrev pub next_at : Config → UnitSpot → ℕ → UnitSpot
-next_at c (Scanning at) got = scanned (scans.next_at c at got)
-next_at c (Evacuating cset at) got = evacuated cset (evacs.next_at c cset at got)
-next_at c (Updating cset at) got = updated cset (updates.next_at c cset at got)
-next_at c (Ended unit) got = Ended unit
+next_at config (Scanning at) got = scanned (scans.next_at config at got)
+next_at config (Evacuating cset at) got = evacuated cset (evacs.next_at config cset at got)
+next_at config (Updating cset at) got = updated cset (updates.next_at config cset at got)
+next_at config (Ended unit) got = Ended unit
 
 -- whether the unit is done, or none was left
 abbrev pub is_ended : UnitSpot → Bool
@@ -85,7 +85,7 @@ is_ended _ = false
 
 -- what the step says: again where another machine was faster or it waits, and done at the end
 abbrev pub says_at : Config → UnitSpot → ℕ → Took
-says_at c (Scanning at) got = scans.says_at c at got
-says_at c (Evacuating cset at) got = evacs.says_at c cset at got
-says_at c (Updating cset at) got = updates.says_at c cset at got
-says_at c (Ended unit) got = Done
+says_at config (Scanning at) got = scans.says_at config at got
+says_at config (Evacuating cset at) got = evacs.says_at config cset at got
+says_at config (Updating cset at) got = updates.says_at config cset at got
+says_at config (Ended unit) got = Done

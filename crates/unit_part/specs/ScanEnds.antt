@@ -12,8 +12,8 @@ WaitsAt _ got = ⊥
 
 -- At MC no unit is left: the claim word is at or past their number.
 abbrev pub HasNoneLeft : Config → ScanSpot → ℕ → Type 0
-HasNoneLeft c LoadClaim got = unit_limit c ≤ got
-HasNoneLeft c _ got = ⊥
+HasNoneLeft config LoadClaim got = unit_limit config ≤ got
+HasNoneLeft config _ got = ⊥
 
 -- At MB the unit is done: none of the grey bits that were loaded is not black.
 abbrev pub IsDoneAt : ScanSpot → ℕ → Type 0

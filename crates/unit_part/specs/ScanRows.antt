@@ -19,11 +19,11 @@ use Rattle.unit_part.specs.declared.scan_spot.ScanSpot.TheVariants.{LoadClaim, C
 
 -- the units of marking
 abbrev pub unit_limit : Config → ℕ
-unit_limit c = bit_words c
+unit_limit config = bit_words config
 
 -- whether there is a unit of this number
 abbrev pub has_unit : Config → ℕ → Bool
-has_unit c unit = nat_lt unit (unit_limit c)
+has_unit config unit = nat_lt unit (unit_limit config)
 
 -- the bits that are grey and not black
 abbrev pub unscanned_in : ℕ → ℕ → ℕ
@@ -44,40 +44,40 @@ place_at (Ended NoneLeft) = place.MC
 
 -- the next access
 abbrev pub touch_at : Config → ScanSpot → Touch
-touch_at c LoadClaim = touch Claim loads
-touch_at c (ClaimUnit unit) = touch Claim (exchanges unit (unit + 1))
-touch_at c (LoadGrey word) = touch (Grey word) loads
-touch_at c (LoadBlack word grey) = touch (Black word) loads
-touch_at c (SetBlack address) = black_touch c address
-touch_at c (LoadShape address) = touch (Heap (address + 1)) loads
-touch_at c (LoadField address field refs) = touch (Heap (address + 3 + field)) loads
-touch_at c (SetGrey address field refs found) = grey_touch c found
-touch_at c (Ended unit) = touch Claim loads
+touch_at config LoadClaim = touch Claim loads
+touch_at config (ClaimUnit unit) = touch Claim (exchanges unit (unit + 1))
+touch_at config (LoadGrey word) = touch (Grey word) loads
+touch_at config (LoadBlack word grey) = touch (Black word) loads
+touch_at config (SetBlack address) = black_touch config address
+touch_at config (LoadShape address) = touch (Heap (address + 1)) loads
+touch_at config (LoadField address field refs) = touch (Heap (address + 3 + field)) loads
+touch_at config (SetGrey address field refs found) = grey_touch config found
+touch_at config (Ended unit) = touch Claim loads
 
 -- what follows once a word's bits are loaded, by those that are grey and not black: the lowest of their addresses, if there is one
 abbrev pub after_bits : Config → ℕ → ℕ → ScanSpot
-after_bits c word unscanned = if unscanned == 0 then Ended Worked else SetBlack (lowest_address c word unscanned)
+after_bits config word unscanned = if unscanned == 0 then Ended Worked else SetBlack (lowest_address config word unscanned)
 
 -- what follows once so many of an object's references are dealt with: the next one, or the word of its bit again
 abbrev pub next_reference : Config → ℕ → ℕ → ℕ → ScanSpot
-next_reference c address field refs = if nat_lt field refs then LoadField address field refs else LoadGrey (mark_word c address)
+next_reference config address field refs = if nat_lt field refs then LoadField address field refs else LoadGrey (mark_word config address)
 
 -- Where a machine stands that has claimed no unit and takes the hint of an address of the heap: as behind the claim of the word that
 -- has the address's mark. A number that is no such address is no hint.
 abbrev pub hinted : Config → ℕ → ScanSpot
-hinted c address = if is_word c (Heap address) then LoadGrey (mark_word c address) else LoadClaim
+hinted config address = if is_word config (Heap address) then LoadGrey (mark_word config address) else LoadClaim
 
 -- what follows, by the word that was found
 abbrev pub next_at : Config → ScanSpot → ℕ → ScanSpot
-next_at c LoadClaim got = if has_unit c got then ClaimUnit got else Ended NoneLeft
-next_at c (ClaimUnit unit) got = if got == unit then LoadGrey unit else LoadClaim
-next_at c (LoadGrey word) got = LoadBlack word got
-next_at c (LoadBlack word grey) got = after_bits c word (unscanned_in grey got)
-next_at c (SetBlack address) got = if bit_at got (mark_bit c address) == 1 then LoadGrey (mark_word c address) else LoadShape address
-next_at c (LoadShape address) got = next_reference c address 0 (refs_in got)
-next_at c (LoadField address field refs) got = if got == 0 then next_reference c address (field + 1) refs else SetGrey address field refs got
-next_at c (SetGrey address field refs found) got = next_reference c address (field + 1) refs
-next_at c (Ended unit) got = Ended unit
+next_at config LoadClaim got = if has_unit config got then ClaimUnit got else Ended NoneLeft
+next_at config (ClaimUnit unit) got = if got == unit then LoadGrey unit else LoadClaim
+next_at config (LoadGrey word) got = LoadBlack word got
+next_at config (LoadBlack word grey) got = after_bits config word (unscanned_in grey got)
+next_at config (SetBlack address) got = if bit_at got (mark_bit config address) == 1 then LoadGrey (mark_word config address) else LoadShape address
+next_at config (LoadShape address) got = next_reference config address 0 (refs_in got)
+next_at config (LoadField address field refs) got = if got == 0 then next_reference config address (field + 1) refs else SetGrey address field refs got
+next_at config (SetGrey address field refs found) got = next_reference config address (field + 1) refs
+next_at config (Ended unit) got = Ended unit
 
 -- whether the unit is done, or none was left
 abbrev pub is_ended : ScanSpot → Bool
@@ -86,11 +86,11 @@ is_ended _ = false
 
 -- what the step says: again where another machine has claimed the unit, and done at the end
 abbrev pub says_at : Config → ScanSpot → ℕ → Took
-says_at c LoadClaim got = if has_unit c got then More else Done
-says_at c (ClaimUnit unit) got = if got == unit then More else Again
-says_at c (LoadBlack word grey) got = if unscanned_in grey got == 0 then Done else More
-says_at c (Ended unit) got = Done
-says_at c _ got = More
+says_at config LoadClaim got = if has_unit config got then More else Done
+says_at config (ClaimUnit unit) got = if got == unit then More else Again
+says_at config (LoadBlack word grey) got = if unscanned_in grey got == 0 then Done else More
+says_at config (Ended unit) got = Done
+says_at config _ got = More
 
 -- whether a unit is claimed, or a hint taken: from there on it is done, and never was none left
 abbrev pub has_claimed : ScanSpot → Bool
@@ -106,16 +106,16 @@ greys_at _ = None
 
 -- whether an object with so many references lies in the heap, up to its last reference
 abbrev pub has_fields : Config → ℕ → ℕ → Bool
-has_fields c address refs = is_word c (Heap address) && is_word c (Heap (address + 2 + refs))
+has_fields config address refs = is_word config (Heap address) && is_word config (Heap (address + 2 + refs))
 
 -- whether the numbers of a spot are in range: the next access can be made
 abbrev pub is_ready : Config → ScanSpot → Bool
-is_ready c LoadClaim = true
-is_ready c (ClaimUnit unit) = has_unit c unit
-is_ready c (LoadGrey word) = is_word c (Grey word)
-is_ready c (LoadBlack word grey) = is_word c (Grey word)
-is_ready c (SetBlack address) = is_word c (Heap address)
-is_ready c (LoadShape address) = is_word c (Heap address) && is_word c (Heap (address + 1))
-is_ready c (LoadField address field refs) = has_fields c address refs && nat_lt field refs
-is_ready c (SetGrey address field refs found) = has_fields c address refs && (nat_lt field refs && is_word c (Heap found))
-is_ready c (Ended unit) = true
+is_ready config LoadClaim = true
+is_ready config (ClaimUnit unit) = has_unit config unit
+is_ready config (LoadGrey word) = is_word config (Grey word)
+is_ready config (LoadBlack word grey) = is_word config (Grey word)
+is_ready config (SetBlack address) = is_word config (Heap address)
+is_ready config (LoadShape address) = is_word config (Heap address) && is_word config (Heap (address + 1))
+is_ready config (LoadField address field refs) = has_fields config address refs && nat_lt field refs
+is_ready config (SetGrey address field refs found) = has_fields config address refs && (nat_lt field refs && is_word config (Heap found))
+is_ready config (Ended unit) = true

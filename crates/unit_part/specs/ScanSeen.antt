@@ -14,4 +14,4 @@ spot_of s = s.spot
 
 -- the word is fit: the access that follows can be made
 abbrev pub IsFit : Config → ScanSpot → ℕ → Type 0
-IsFit c spot got = is_ready c (next_at c spot got) ≡ true
+IsFit config spot got = is_ready config (next_at config spot got) ≡ true

@@ -11,13 +11,13 @@ pub record IsUnscanned (grey black bit : ℕ) : Type 0 where
   pub not_black : bit_at black bit ≡ 0
 
 -- an address is the lowest of a word whose bit is grey and not black
-pub record IsNextUnscanned (c : Config) (word grey black address : ℕ) : Type 0 where
-  pub in_word : mark_word c address ≡ word
-  pub unscanned : IsUnscanned grey black (mark_bit c address)
-  pub none_lower : (bit : ℕ) → bit < mark_bit c address → IsUnscanned grey black bit → ⊥
+pub record IsNextUnscanned (config : Config) (word grey black address : ℕ) : Type 0 where
+  pub in_word : mark_word config address ≡ word
+  pub unscanned : IsUnscanned grey black (mark_bit config address)
+  pub none_lower : (bit : ℕ) → bit < mark_bit config address → IsUnscanned grey black bit → ⊥
 
 -- the address that is scanned next is that one; and where there is none no bit of the word is grey and not black
 pub record UnscannedIsFound : Type 0 where
-  pub next : (c : Config) (word grey black : ℕ) → grey < 2 ^ 64 → black < 2 ^ 64 → unscanned_in grey black ≢ 0
-      → IsNextUnscanned c word grey black (lowest_address c word (unscanned_in grey black))
+  pub next : (config : Config) (word grey black : ℕ) → grey < 2 ^ 64 → black < 2 ^ 64 → unscanned_in grey black ≢ 0
+      → IsNextUnscanned config word grey black (lowest_address config word (unscanned_in grey black))
   pub none : (grey black bit : ℕ) → black < 2 ^ 64 → unscanned_in grey black ≡ 0 → bit < 64 → IsUnscanned grey black bit → ⊥

@@ -17,28 +17,28 @@ WaitsAt _ got = ⊥
 
 -- At UC no unit is left: the claim word is at or past the number of regions.
 abbrev pub HasNoneLeft : Config → UpdateSpot → ℕ → Type 0
-HasNoneLeft c LoadClaim got = c.regions ≤ got
-HasNoneLeft c _ got = ⊥
+HasNoneLeft config LoadClaim got = config.regions ≤ got
+HasNoneLeft config _ got = ⊥
 
 -- an object is the last one below its region's limit
 abbrev pub IsLast : Config → Visit → Type 0
-IsLast c at = limit_of c at.walk ≤ visit_end at
+IsLast config at = limit_of config at.walk ≤ visit_end at
 
 -- a reference is the last one of the last object
 abbrev pub IsLastField : Config → Visit → ℕ → Type 0
-IsLastField c at field = (refs_in at.shape ≤ field + 1) × IsLast c at
+IsLastField config at field = (refs_in at.shape ≤ field + 1) × IsLast config at
 
 -- The unit is done: at KX its region is in the collection set, at UL its limit is 0, and at UG words that only fill are
 -- the last ones below the limit. Elsewhere the object is the last one: at US it
 -- has no reference, at UB it is not marked, at UF the last reference does not name the set, at UH what it names is not
 -- forwarded, and at UX it is the last reference.
 abbrev pub IsDoneAt : Config → ℕ → UpdateSpot → ℕ → Type 0
-IsDoneAt c cset (ClaimUnit unit) got = (got ≡ unit) × IsIn cset unit
-IsDoneAt c cset (LoadLimit region) got = got ≡ 0
-IsDoneAt c cset (LoadFirst walk address) got = (words : ℕ) × (filler_words_in got ≡ Some words) × (limit_of c walk ≤ address + words)
-IsDoneAt c cset (LoadShape walk address) got = (refs_in got ≡ 0) × IsLast c (record { walk = walk; address = address; shape = got })
-IsDoneAt c cset (LoadBlack at) got = (bit_at got (mark_bit c at.address) ≢ 1) × IsLast c at
-IsDoneAt c cset (LoadField at field) got = (names_set c cset got ≡ false) × IsLastField c at field
-IsDoneAt c cset (LoadHeader at field found) got = (is_forwarded got ≡ false) × IsLastField c at field
-IsDoneAt c cset (ExchangeField at field found copy) got = IsLastField c at field
-IsDoneAt c cset _ got = ⊥
+IsDoneAt config cset (ClaimUnit unit) got = (got ≡ unit) × IsIn cset unit
+IsDoneAt config cset (LoadLimit region) got = got ≡ 0
+IsDoneAt config cset (LoadFirst walk address) got = (words : ℕ) × (filler_words_in got ≡ Some words) × (limit_of config walk ≤ address + words)
+IsDoneAt config cset (LoadShape walk address) got = (refs_in got ≡ 0) × IsLast config (record { walk = walk; address = address; shape = got })
+IsDoneAt config cset (LoadBlack at) got = (bit_at got (mark_bit config at.address) ≢ 1) × IsLast config at
+IsDoneAt config cset (LoadField at field) got = (names_set config cset got ≡ false) × IsLastField config at field
+IsDoneAt config cset (LoadHeader at field found) got = (is_forwarded got ≡ false) × IsLastField config at field
+IsDoneAt config cset (ExchangeField at field found copy) got = IsLastField config at field
+IsDoneAt config cset _ got = ⊥

@@ -21,19 +21,19 @@ use Rattle.unit_part.specs.declared.update_spot.UpdateSpot.TheVariants.{LoadClai
 
 -- whether there is a unit of this number
 abbrev pub has_unit : Config → ℕ → Bool
-has_unit c unit = nat_lt unit c.regions
+has_unit config unit = nat_lt unit config.regions
 
 -- whether a word is an address of a region in the collection set
 abbrev pub names_set : Config → ℕ → ℕ → Bool
-names_set c cset word = is_word c (Heap word) && (bit_at cset (region_with c word) == 1)
+names_set config cset word = is_word config (Heap word) && (bit_at cset (region_with config word) == 1)
 
 -- the address of the region's limit: objects from there on were made after updating began
 abbrev pub limit_of : Config → Walk → ℕ
-limit_of c walk = base_of c walk.region + walk.limit
+limit_of config walk = base_of config walk.region + walk.limit
 
 -- the address up to which an object is kept where it is marked; from there on each object is kept
 abbrev pub tams_of : Config → Walk → ℕ
-tams_of c walk = base_of c walk.region + walk.tams
+tams_of config walk = base_of config walk.region + walk.tams
 
 -- the address behind an object
 abbrev pub visit_end : Visit → ℕ
@@ -56,53 +56,53 @@ place_at (Ended NoneLeft) = place.UC
 
 -- the next access
 abbrev pub touch_at : Config → UpdateSpot → Touch
-touch_at c LoadClaim = touch Claim loads
-touch_at c (ClaimUnit unit) = touch Claim (exchanges unit (unit + 1))
-touch_at c (LoadLimit region) = touch (Limit region) loads
-touch_at c (LoadTams region limit) = touch (Tams region) loads
-touch_at c (LoadFirst walk address) = touch (Heap address) loads
-touch_at c (LoadShape walk address) = touch (Heap (address + 1)) loads
-touch_at c (LoadBlack at) = touch (Black (mark_word c at.address)) loads
-touch_at c (LoadField at field) = touch (Heap (at.address + 3 + field)) loads
-touch_at c (LoadHeader at field found) = touch (Heap found) loads
-touch_at c (ExchangeField at field found copy) = touch (Heap (at.address + 3 + field)) (exchanges found copy)
-touch_at c (Ended unit) = touch Claim loads
+touch_at config LoadClaim = touch Claim loads
+touch_at config (ClaimUnit unit) = touch Claim (exchanges unit (unit + 1))
+touch_at config (LoadLimit region) = touch (Limit region) loads
+touch_at config (LoadTams region limit) = touch (Tams region) loads
+touch_at config (LoadFirst walk address) = touch (Heap address) loads
+touch_at config (LoadShape walk address) = touch (Heap (address + 1)) loads
+touch_at config (LoadBlack at) = touch (Black (mark_word config at.address)) loads
+touch_at config (LoadField at field) = touch (Heap (at.address + 3 + field)) loads
+touch_at config (LoadHeader at field found) = touch (Heap found) loads
+touch_at config (ExchangeField at field found copy) = touch (Heap (at.address + 3 + field)) (exchanges found copy)
+touch_at config (Ended unit) = touch Claim loads
 
 -- what follows once all objects below an address are dealt with: the header there, an object's or a filler's, if the limit is not reached
 abbrev pub next_object : Config → Walk → ℕ → UpdateSpot
-next_object c walk address = if nat_lt address (limit_of c walk) then LoadFirst walk address else Ended Worked
+next_object config walk address = if nat_lt address (limit_of config walk) then LoadFirst walk address else Ended Worked
 
 -- what follows the load of a header by the words that only fill there: the walk steps over them, and looks at an object
 abbrev pub after_words : Config → Walk → ℕ → Option ℕ → UpdateSpot
-after_words c walk address (Some words) = next_object c walk (address + words)
-after_words c walk address None = LoadShape walk address
+after_words config walk address (Some words) = next_object config walk (address + words)
+after_words config walk address None = LoadShape walk address
 
 abbrev pub after_first : Config → Walk → ℕ → ℕ → UpdateSpot
-after_first c walk address got = after_words c walk address (filler_words_in got)
+after_first config walk address got = after_words config walk address (filler_words_in got)
 
 -- what follows once so many of an object's references are dealt with: the next one, or the next object
 abbrev pub next_field : Config → Visit → ℕ → UpdateSpot
-next_field c at field = if nat_lt field (refs_in at.shape) then LoadField at field else next_object c at.walk (visit_end at)
+next_field config at field = if nat_lt field (refs_in at.shape) then LoadField at field else next_object config at.walk (visit_end at)
 
 -- what follows once an object's shape is loaded: its mark counts below tams alone, and nothing does where it has no reference
 abbrev pub after_shape : Config → Visit → UpdateSpot
-after_shape c at =
-    if refs_in at.shape == 0 then next_object c at.walk (visit_end at)
-    else (if nat_lt at.address (tams_of c at.walk) then LoadBlack at else LoadField at 0)
+after_shape config at =
+    if refs_in at.shape == 0 then next_object config at.walk (visit_end at)
+    else (if nat_lt at.address (tams_of config at.walk) then LoadBlack at else LoadField at 0)
 
 -- what follows, by the collection set and the word that was found
 abbrev pub next_at : Config → ℕ → UpdateSpot → ℕ → UpdateSpot
-next_at c cset LoadClaim got = if has_unit c got then ClaimUnit got else Ended NoneLeft
-next_at c cset (ClaimUnit unit) got = if got == unit then (if bit_at cset unit == 1 then Ended Worked else LoadLimit unit) else LoadClaim
-next_at c cset (LoadLimit region) got = if got == 0 then Ended Worked else LoadTams region got
-next_at c cset (LoadTams region limit) got = LoadFirst (record { region = region; limit = limit; tams = got }) (base_of c region)
-next_at c cset (LoadFirst walk address) got = after_first c walk address got
-next_at c cset (LoadShape walk address) got = after_shape c (record { walk = walk; address = address; shape = got })
-next_at c cset (LoadBlack at) got = if bit_at got (mark_bit c at.address) == 1 then LoadField at 0 else next_object c at.walk (visit_end at)
-next_at c cset (LoadField at field) got = if names_set c cset got then LoadHeader at field got else next_field c at (field + 1)
-next_at c cset (LoadHeader at field found) got = if is_forwarded got then ExchangeField at field found (forwardee_in got) else next_field c at (field + 1)
-next_at c cset (ExchangeField at field found copy) got = next_field c at (field + 1)
-next_at c cset (Ended unit) got = Ended unit
+next_at config cset LoadClaim got = if has_unit config got then ClaimUnit got else Ended NoneLeft
+next_at config cset (ClaimUnit unit) got = if got == unit then (if bit_at cset unit == 1 then Ended Worked else LoadLimit unit) else LoadClaim
+next_at config cset (LoadLimit region) got = if got == 0 then Ended Worked else LoadTams region got
+next_at config cset (LoadTams region limit) got = LoadFirst (record { region = region; limit = limit; tams = got }) (base_of config region)
+next_at config cset (LoadFirst walk address) got = after_first config walk address got
+next_at config cset (LoadShape walk address) got = after_shape config (record { walk = walk; address = address; shape = got })
+next_at config cset (LoadBlack at) got = if bit_at got (mark_bit config at.address) == 1 then LoadField at 0 else next_object config at.walk (visit_end at)
+next_at config cset (LoadField at field) got = if names_set config cset got then LoadHeader at field got else next_field config at (field + 1)
+next_at config cset (LoadHeader at field found) got = if is_forwarded got then ExchangeField at field found (forwardee_in got) else next_field config at (field + 1)
+next_at config cset (ExchangeField at field found copy) got = next_field config at (field + 1)
+next_at config cset (Ended unit) got = Ended unit
 
 -- whether the unit is done, or none was left
 abbrev pub is_ended : UpdateSpot → Bool
@@ -115,31 +115,31 @@ says_of spot = if is_ended spot then Done else More
 
 -- what the step says: again where another machine has claimed the unit, and done at the end
 abbrev pub says_at : Config → ℕ → UpdateSpot → ℕ → Took
-says_at c cset (ClaimUnit unit) got = if got == unit then says_of (next_at c cset (ClaimUnit unit) got) else Again
-says_at c cset spot got = says_of (next_at c cset spot got)
+says_at config cset (ClaimUnit unit) got = if got == unit then says_of (next_at config cset (ClaimUnit unit) got) else Again
+says_at config cset spot got = says_of (next_at config cset spot got)
 
 -- whether a region's numbers are in range: there is such a region, and neither its limit nor its tams is past its end
 abbrev pub walk_fits : Config → Walk → Bool
-walk_fits c walk = nat_lt walk.region c.regions && (nat_le walk.limit c.region_words && nat_le walk.tams c.region_words)
+walk_fits config walk = nat_lt walk.region config.regions && (nat_le walk.limit config.region_words && nat_le walk.tams config.region_words)
 
 -- whether an object's are: it lies in the heap, up to its last reference
 abbrev pub visit_fits : Config → Visit → Bool
-visit_fits c at = walk_fits c at.walk && (is_word c (Heap at.address) && is_word c (Heap (at.address + 2 + refs_in at.shape)))
+visit_fits config at = walk_fits config at.walk && (is_word config (Heap at.address) && is_word config (Heap (at.address + 2 + refs_in at.shape)))
 
 -- whether it has a reference of this number
 abbrev pub has_field : Config → Visit → ℕ → Bool
-has_field c at field = visit_fits c at && nat_lt field (refs_in at.shape)
+has_field config at field = visit_fits config at && nat_lt field (refs_in at.shape)
 
 -- whether the numbers of a spot are in range: the next access can be made
 abbrev pub is_ready : Config → UpdateSpot → Bool
-is_ready c LoadClaim = true
-is_ready c (ClaimUnit unit) = has_unit c unit
-is_ready c (LoadLimit region) = nat_lt region c.regions
-is_ready c (LoadTams region limit) = nat_lt region c.regions && nat_le limit c.region_words
-is_ready c (LoadFirst walk address) = walk_fits c walk && is_word c (Heap address)
-is_ready c (LoadShape walk address) = walk_fits c walk && (is_word c (Heap address) && is_word c (Heap (address + 1)))
-is_ready c (LoadBlack at) = visit_fits c at
-is_ready c (LoadField at field) = has_field c at field
-is_ready c (LoadHeader at field found) = has_field c at field && is_word c (Heap found)
-is_ready c (ExchangeField at field found copy) = has_field c at field
-is_ready c (Ended unit) = true
+is_ready config LoadClaim = true
+is_ready config (ClaimUnit unit) = has_unit config unit
+is_ready config (LoadLimit region) = nat_lt region config.regions
+is_ready config (LoadTams region limit) = nat_lt region config.regions && nat_le limit config.region_words
+is_ready config (LoadFirst walk address) = walk_fits config walk && is_word config (Heap address)
+is_ready config (LoadShape walk address) = walk_fits config walk && (is_word config (Heap address) && is_word config (Heap (address + 1)))
+is_ready config (LoadBlack at) = visit_fits config at
+is_ready config (LoadField at field) = has_field config at field
+is_ready config (LoadHeader at field found) = has_field config at field && is_word config (Heap found)
+is_ready config (ExchangeField at field found copy) = has_field config at field
+is_ready config (Ended unit) = true

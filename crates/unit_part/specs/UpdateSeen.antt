@@ -18,4 +18,4 @@ spot_of u = u.spot
 
 -- the word is fit: the access that follows can be made
 abbrev pub IsFit : Config → ℕ → UpdateSpot → ℕ → Type 0
-IsFit c cset spot got = is_ready c (next_at c cset spot got) ≡ true
+IsFit config cset spot got = is_ready config (next_at config cset spot got) ≡ true

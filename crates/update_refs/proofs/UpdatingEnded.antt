@@ -4,11 +4,11 @@ use Rattle.std.proofs.Math.Path.{fun_ext}
 use Rattle.heap_words.specs.Words.{Word, Phase, Cset, Claim, write}
 use Rattle.cycle_words.specs.Updating.Changes.{cycle_ended}
 
-ended_at : (m : Word → ℕ) (w : Word) → write (write (write m Cset 0) Claim 0) Phase 0 w ≡ cycle_ended m w
-ended_at m Phase = refl
-ended_at m Cset = refl
-ended_at m Claim = refl
-ended_at m _ = refl
+ended_at : (memory : Word → ℕ) (word : Word) → write (write (write memory Cset 0) Claim 0) Phase 0 word ≡ cycle_ended memory word
+ended_at memory Phase = refl
+ended_at memory Cset = refl
+ended_at memory Claim = refl
+ended_at memory _ = refl
 
-pub ended : (m : Word → ℕ) → write (write (write m Cset 0) Claim 0) Phase 0 ≡ cycle_ended m
-ended m = fun_ext (ended_at m)
+pub ended : (memory : Word → ℕ) → write (write (write memory Cset 0) Claim 0) Phase 0 ≡ cycle_ended memory
+ended memory = fun_ext (ended_at memory)

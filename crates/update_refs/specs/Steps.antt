@@ -8,12 +8,12 @@ use Rattle.cycle_words.specs.Updating.Changes.{is_chosen}
 
 -- the limit of a region when updating begins
 abbrev pub limit_in : Config → (Word → ℕ) → ℕ → ℕ
-limit_in c memory r = if is_chosen memory r then 0 else edge c memory r
+limit_in config memory r = if is_chosen memory r then 0 else edge config memory r
 
 -- the limits of so many regions are noted
 abbrev pub limited : Config → ℕ → (Word → ℕ) → Word → ℕ
-limited c regions memory (Limit r) = if nat_lt r regions then limit_in c memory r else memory (Limit r)
-limited c regions memory word = memory word
+limited config regions memory (Limit r) = if nat_lt r regions then limit_in config memory r else memory (Limit r)
+limited config regions memory word = memory word
 
 -- updating runs: no copier is counted, and no unit is claimed
 abbrev pub update_started : (Word → ℕ) → Word → ℕ

@@ -25,166 +25,166 @@ use Rattle.cycle_pauses.proofs.Brief.Indices.{off_heap_at, ahead_at, image_reads
 use Rattle.cycle_pauses.proofs.Brief.Collected.{begins, updates}
 
 -- one image is a part of another
-module _ (c : Config) (extent : Extent) (inside : Word → Bool) (places : (w : Word) → IsWord c w → is_image w ≡ true → is_of_extent c extent (word_at c w - image_start c) ≡ inside w)
+module _ (config : Config) (extent : Extent) (inside : Word → Bool) (places : (w : Word) → IsWord config w → is_image w ≡ true → is_of_extent config extent (word_at config w - image_start config) ≡ inside w)
     (others : (w : Word) → is_image w ≡ false → inside w ≡ true)
-    (whole part : List ℕ) (is_part : IsImagePart c extent whole part) where
-  below : (w : Word) → IsWord c w → is_image w ≡ true → word_at c w - image_start c < image_words c
-  below w is image =
-      let from : image_start c ≤ word_at c w = leb-true (image_start c) (word_at c w) (sym (is_image-word_at c w is) ∙ image) in
-      let to : word_at c w < table_words c = word_inside c w is in
+    (whole part : List ℕ) (is_part : IsImagePart config extent whole part) where
+  below : (word : Word) → IsWord config word → is_image word ≡ true → word_at config word - image_start config < image_words config
+  below word is image =
+      let from : image_start config ≤ word_at config word = leb-true (image_start config) (word_at config word) (sym (is_image-word_at config word is) ∙ image) in
+      let to : word_at config word < table_words config = word_inside config word is in
       omega (arith, from, to)
 
   -- outside the image both read 0
-  both_none : (w : Word) → is_image w ≡ false → image_view c whole w ≡ image_view c part w
+  both_none : (w : Word) → is_image w ≡ false → image_view config whole w ≡ image_view config part w
   both_none w outside = ⊎_elim
-      (λ (is : is_word c w ≡ true).
-      let word : IsWord c w = is_word_true c w is in
-      let first : word_at c w < image_start c = leb-false (image_start c) (word_at c w) (sym (is_image-word_at c w word) ∙ outside) in
-      view_word c (replicate (image_start c) 0 ++ whole) w word ∙ before_word c whole (word_at c w) first
-      ∙ sym (view_word c (replicate (image_start c) 0 ++ part) w word ∙ before_word c part (word_at c w) first))
-      (λ (no : is_word c w ≡ false). view_none c (replicate (image_start c) 0 ++ whole) w no ∙ sym (view_none c (replicate (image_start c) 0 ++ part) w no))
-      (cases_Bool (is_word c w))
+      (λ (is : is_word config w ≡ true).
+      let word : IsWord config w = is_word_true config w is in
+      let first : word_at config w < image_start config = leb-false (image_start config) (word_at config w) (sym (is_image-word_at config w word) ∙ outside) in
+      view_word config (replicate (image_start config) 0 ++ whole) w word ∙ before_word config whole (word_at config w) first
+      ∙ sym (view_word config (replicate (image_start config) 0 ++ part) w word ∙ before_word config part (word_at config w) first))
+      (λ (no : is_word config w ≡ false). view_none config (replicate (image_start config) 0 ++ whole) w no ∙ sym (view_none config (replicate (image_start config) 0 ++ part) w no))
+      (cases_Bool (is_word config w))
 
   -- what the part reads
-  part_reads : (w : Word) → IsWord c w → is_image w ≡ true → image_view c part w ≡ (if inside w then image_view c whole w else 0)
-  part_reads w is image =
-      image_reads c part w is image ∙ is_part (word_at c w - image_start c) (below w is image)
-      ∙ ap (λ b. if b then slice_index whole (word_at c w - image_start c) else 0) (places w is image)
-      ∙ ap (λ k. if inside w then k else 0) (sym (image_reads c whole w is image))
+  part_reads : (word : Word) → IsWord config word → is_image word ≡ true → image_view config part word ≡ (if inside word then image_view config whole word else 0)
+  part_reads word is image =
+      image_reads config part word is image ∙ is_part (word_at config word - image_start config) (below word is image)
+      ∙ ap (λ b. if b then slice_index whole (word_at config word - image_start config) else 0) (places word is image)
+      ∙ ap (λ index. if inside word then index else 0) (sym (image_reads config whole word is image))
 
-  pub part_of : IsPartOf inside (image_view c whole) (image_view c part)
+  pub part_of : IsPartOf inside (image_view config whole) (image_view config part)
   part_of = record {
     same = λ w within. ⊎_elim
         (λ (image : is_image w ≡ true). ⊎_elim
-        (λ (is : is_word c w ≡ true). sym (part_reads w (is_word_true c w is) image ∙ cond-true (inside w) _ _ within))
-        (λ (no : is_word c w ≡ false). view_none c (replicate (image_start c) 0 ++ whole) w no ∙ sym (view_none c (replicate (image_start c) 0 ++ part) w no))
-        (cases_Bool (is_word c w)))
+        (λ (is : is_word config w ≡ true). sym (part_reads w (is_word_true config w is) image ∙ cond-true (inside w) _ _ within))
+        (λ (no : is_word config w ≡ false). view_none config (replicate (image_start config) 0 ++ whole) w no ∙ sym (view_none config (replicate (image_start config) 0 ++ part) w no))
+        (cases_Bool (is_word config w)))
         (λ (outside : is_image w ≡ false). both_none w outside)
         (cases_Bool (is_image w));
     nothing = λ w without. ⊎_elim
-        (λ (is : is_word c w ≡ true).
+        (λ (is : is_word config w ≡ true).
         let image : is_image w ≡ true = ⊎_elim (λ (yes : is_image w ≡ true). yes) (λ (outside : is_image w ≡ false). absurd (true≢false (sym (others w outside) ∙ without))) (cases_Bool (is_image w)) in
-        part_reads w (is_word_true c w is) image ∙ cond-false (inside w) _ _ without)
-        (λ (no : is_word c w ≡ false). view_none c (replicate (image_start c) 0 ++ part) w no)
-        (cases_Bool (is_word c w));
+        part_reads w (is_word_true config w is) image ∙ cond-false (inside w) _ _ without)
+        (λ (no : is_word config w ≡ false). view_none config (replicate (image_start config) 0 ++ part) w no)
+        (cases_Bool (is_word config w));
   }
 
   -- What is made of the words is made of the images that have them.
-  module _ (made part_made : List ℕ) (m n : Word → ℕ) (made_is : (w : Word) → IsWord c w → image_view c made w ≡ m w) (part_is : (w : Word) → IsWord c w → image_view c part_made w ≡ n w)
-      (by_names : IsMadeOfPart inside (image_view c whole) m n) (k : ℕ) (less : k < image_words c) where
+  module _ (made part_made : List ℕ) (memory other_memory : Word → ℕ) (made_is : (w : Word) → IsWord config w → image_view config made w ≡ memory w) (part_is : (w : Word) → IsWord config w → image_view config part_made w ≡ other_memory w)
+      (by_names : IsMadeOfPart inside (image_view config whole) memory other_memory) (index : ℕ) (less : index < image_words config) where
     abbrev word : Word
-    word = word_here c k less
+    word = word_here config index less
 
-    is : IsWord c word
-    is = here_is c k less
+    is : IsWord config word
+    is = here_is config index less
 
     in_image : is_image word ≡ true
-    in_image = here_image c k less
+    in_image = here_image config index less
 
-    reads : (xs : List ℕ) → image_view c xs word ≡ slice_index xs k
-    reads = here_reads c k less
+    reads : (xs : List ℕ) → image_view config xs word ≡ slice_index xs index
+    reads = here_reads config index less
 
-    of_whole : slice_index made k ≡ m word
+    of_whole : slice_index made index ≡ memory word
     of_whole = sym (reads made) ∙ made_is word is
 
-    of_part : slice_index part_made k ≡ n word
+    of_part : slice_index part_made index ≡ other_memory word
     of_part = sym (reads part_made) ∙ part_is word is
 
-    test : is_of_extent c extent k ≡ inside word
-    test = ap (is_of_extent c extent) (sym (here_at c k less)) ∙ places word is in_image
+    test : is_of_extent config extent index ≡ inside word
+    test = ap (is_of_extent config extent) (sym (here_at config index less)) ∙ places word is in_image
 
-    counts_as : (b : Bool) → inside word ≡ b → counts c extent part_made k ≡ (b || not (slice_index part_made k == 0))
-    counts_as b is_b = ap (λ t. t || not (slice_index part_made k == 0)) (test ∙ is_b)
+    counts_as : (holds : Bool) → inside word ≡ holds → counts config extent part_made index ≡ (holds || not (slice_index part_made index == 0))
+    counts_as holds is_b = ap (λ t. t || not (slice_index part_made index == 0)) (test ∙ is_b)
 
-    turned : (b : Bool) (x y : ℕ) → (if b then x else y) ≡ (if false || not b then y else x)
+    turned : (holds : Bool) (x y : ℕ) → (if holds then x else y) ≡ (if false || not holds then y else x)
     turned true x y = refl
     turned false x y = refl
 
-    made_at : (b : Bool) → inside word ≡ b → slice_index made k ≡ (if b || not (slice_index part_made k == 0) then slice_index part_made k else slice_index whole k)
+    made_at : (holds : Bool) → inside word ≡ holds → slice_index made index ≡ (if holds || not (slice_index part_made index == 0) then slice_index part_made index else slice_index whole index)
     made_at true within = of_whole ∙ by_names.within word within ∙ sym of_part
     made_at false without =
         of_whole ∙ by_names.outside word without
-        ∙ ap (λ x. if x == 0 then image_view c whole word else x) (sym of_part)
-        ∙ ap (λ x. if slice_index part_made k == 0 then x else slice_index part_made k) (reads whole)
-        ∙ turned (slice_index part_made k == 0) (slice_index whole k) (slice_index part_made k)
+        ∙ ap (λ x. if x == 0 then image_view config whole word else x) (sym of_part)
+        ∙ ap (λ x. if slice_index part_made index == 0 then x else slice_index part_made index) (reads whole)
+        ∙ turned (slice_index part_made index == 0) (slice_index whole index) (slice_index part_made index)
 
-    pub made_of_part : slice_index made k ≡ (if counts c extent part_made k then slice_index part_made k else slice_index whole k)
-    made_of_part = made_at (inside word) refl ∙ ap (λ t. if t then slice_index part_made k else slice_index whole k) (sym (counts_as (inside word) refl))
+    pub made_of_part : slice_index made index ≡ (if counts config extent part_made index then slice_index part_made index else slice_index whole index)
+    made_of_part = made_at (inside word) refl ∙ ap (λ t. if t then slice_index part_made index else slice_index whole index) (sym (counts_as (inside word) refl))
 
   -- So it is of what a pause makes.
-  pub made_of : IsMadeOfPart inside (image_view c whole) (collected c (image_view c whole)) (collected c (image_view c part)) → IsMadeOf c extent whole (collect_image c whole) (collect_image c part)
-  made_of by_names k less = made_of_part (collect_image c whole) (collect_image c part) (collected c (image_view c whole)) (collected c (image_view c part)) (collected_by_name c whole) (collected_by_name c part) by_names k less
+  pub made_of : IsMadeOfPart inside (image_view config whole) (collected config (image_view config whole)) (collected config (image_view config part)) → IsMadeOf config extent whole (collect_image config whole) (collect_image config part)
+  made_of by_names index less = made_of_part (collect_image config whole) (collect_image config part) (collected config (image_view config whole)) (collected config (image_view config part)) (collected_by_name config whole) (collected_by_name config part) by_names index less
 
 -- An extent that is not all of the image tells the phase, and that no room is needed.
-module _ (c : Config) (phase : ℕ) (part : List ℕ) where
+module _ (config : Config) (phase : ℕ) (part : List ℕ) where
   silent_by : (index got : ℕ) (extent : Extent) → (extent_after phase index extent got ≡ Whole → ⊥) → says_room phase index got ≡ false
   silent_by index got extent other = ⊎_elim
       (λ (says : says_room phase index got ≡ true). absurd (other (cond-true (says_room phase index got) Whole extent says)))
       (λ (no : says_room phase index got ≡ false). no)
       (cases_Bool (says_room phase index got))
 
-  first_by : (extent_by c phase part ≡ Whole → ⊥) → extent_by c phase part ≡ first_extent c phase
+  first_by : (extent_by config phase part ≡ Whole → ⊥) → extent_by config phase part ≡ first_extent config phase
   first_by other =
-      let asks : says_room phase 5 (slice_index part 5) ≡ false = silent_by 5 (slice_index part 5) (extent_after phase 3 (first_extent c phase) (slice_index part 3)) other in
-      let before : extent_by c phase part ≡ extent_after phase 3 (first_extent c phase) (slice_index part 3) = cond-false (says_room phase 5 (slice_index part 5)) Whole _ asks in
-      before ∙ cond-false (says_room phase 3 (slice_index part 3)) Whole _ (silent_by 3 (slice_index part 3) (first_extent c phase) (λ e. other (before ∙ e)))
+      let asks : says_room phase 5 (slice_index part 5) ≡ false = silent_by 5 (slice_index part 5) (extent_after phase 3 (first_extent config phase) (slice_index part 3)) other in
+      let before : extent_by config phase part ≡ extent_after phase 3 (first_extent config phase) (slice_index part 3) = cond-false (says_room phase 5 (slice_index part 5)) Whole _ asks in
+      before ∙ cond-false (says_room phase 3 (slice_index part 3)) Whole _ (silent_by 3 (slice_index part 3) (first_extent config phase) (λ e. other (before ∙ e)))
 
-  pub no_room : (extent_by c phase part ≡ Whole → ⊥) → ((bit_at (slice_index part 5) 1 == 1) || ((phase == 2) && is_out_of_room (slice_index part 3))) ≡ false
+  pub no_room : (extent_by config phase part ≡ Whole → ⊥) → ((bit_at (slice_index part 5) 1 == 1) || ((phase == 2) && is_out_of_room (slice_index part 3))) ≡ false
   no_room other =
-      let asks : says_room phase 5 (slice_index part 5) ≡ false = silent_by 5 (slice_index part 5) (extent_after phase 3 (first_extent c phase) (slice_index part 3)) other in
-      let before : extent_by c phase part ≡ extent_after phase 3 (first_extent c phase) (slice_index part 3) = cond-false (says_room phase 5 (slice_index part 5)) Whole _ asks in
-      let copies : says_room phase 3 (slice_index part 3) ≡ false = silent_by 3 (slice_index part 3) (first_extent c phase) (λ e. other (before ∙ e)) in
-      ap (λ b. b || ((phase == 2) && is_out_of_room (slice_index part 3))) asks ∙ either_none ((phase == 2) && is_out_of_room (slice_index part 3)) copies
+      let asks : says_room phase 5 (slice_index part 5) ≡ false = silent_by 5 (slice_index part 5) (extent_after phase 3 (first_extent config phase) (slice_index part 3)) other in
+      let before : extent_by config phase part ≡ extent_after phase 3 (first_extent config phase) (slice_index part 3) = cond-false (says_room phase 5 (slice_index part 5)) Whole _ asks in
+      let copies : says_room phase 3 (slice_index part 3) ≡ false = silent_by 3 (slice_index part 3) (first_extent config phase) (λ e. other (before ∙ e)) in
+      ap (λ holds. holds || ((phase == 2) && is_out_of_room (slice_index part 3))) asks ∙ either_none ((phase == 2) && is_out_of_room (slice_index part 3)) copies
     where
-      either_none : (b : Bool) → (b || false) ≡ false → (false || b) ≡ false
+      either_none : (holds : Bool) → (holds || false) ≡ false → (false || holds) ≡ false
       either_none true is = is
       either_none false is = refl
 
   -- the phase by the first extent
-  first_is : (e : Extent) → first_extent c phase ≡ e → (e ≡ OffHeap → phase ≡ 0) × (e ≡ Ahead → (phase ≢ 0) × (phase ≢ 1))
-  first_is e is = by_wide (is_wide c) (phase == 0) (phase == 1) refl refl (sym is)
+  first_is : (extent : Extent) → first_extent config phase ≡ extent → (extent ≡ OffHeap → phase ≡ 0) × (extent ≡ Ahead → (phase ≢ 0) × (phase ≢ 1))
+  first_is extent is = by_wide (is_wide config) (phase == 0) (phase == 1) refl refl (sym is)
     where
-      by_wide : (w z o : Bool) → (phase == 0) ≡ z → (phase == 1) ≡ o → e ≡ (if w then (if z then OffHeap else (if o then Whole else Ahead)) else Whole) → (e ≡ OffHeap → phase ≡ 0) × (e ≡ Ahead → (phase ≢ 0) × (phase ≢ 1))
+      by_wide : (w z o : Bool) → (phase == 0) ≡ z → (phase == 1) ≡ o → extent ≡ (if w then (if z then OffHeap else (if o then Whole else Ahead)) else Whole) → (extent ≡ OffHeap → phase ≡ 0) × (extent ≡ Ahead → (phase ≢ 0) × (phase ≢ 1))
       by_wide true true o zero_test one_test at = (λ off. eqb-true phase 0 zero_test, λ ahead. absurd (let both = sym at ∙ ahead in cc))
       by_wide true false true zero_test one_test at = (λ off. absurd (let both = sym at ∙ off in cc), λ ahead. absurd (let both = sym at ∙ ahead in cc))
       by_wide true false false zero_test one_test at = (λ off. absurd (let both = sym at ∙ off in cc), λ ahead. (eqb-false phase 0 zero_test, eqb-false phase 1 one_test))
       by_wide false z o zero_test one_test at = (λ off. absurd (let both = sym at ∙ off in cc), λ ahead. absurd (let both = sym at ∙ ahead in cc))
 
 -- the words that tell it
-module _ (c : Config) (part : List ℕ) where
-  phase_at : image_view c part Phase ≡ slice_index part 0
-  phase_at = image_reads c part Phase tt refl ∙ ap (λ k. slice_index part k) (omega arith)
+module _ (config : Config) (part : List ℕ) where
+  phase_at : image_view config part Phase ≡ slice_index part 0
+  phase_at = image_reads config part Phase tt refl ∙ ap (λ k. slice_index part k) (omega arith)
 
-  evac_at : image_view c part Evac ≡ slice_index part 3
-  evac_at = image_reads c part Evac tt refl ∙ ap (λ k. slice_index part k) (omega arith)
+  evac_at : image_view config part Evac ≡ slice_index part 3
+  evac_at = image_reads config part Evac tt refl ∙ ap (λ k. slice_index part k) (omega arith)
 
-  ask_at : image_view c part Ask ≡ slice_index part 5
-  ask_at = image_reads c part Ask tt refl ∙ ap (λ k. slice_index part k) (omega arith)
+  ask_at : image_view config part Ask ≡ slice_index part 5
+  ask_at = image_reads config part Ask tt refl ∙ ap (λ k. slice_index part k) (omega arith)
 
-  pub calm_part : (extent_by c (slice_index part 0) part ≡ Whole → ⊥) → is_room_needed (image_view c part) ≡ false
+  pub calm_part : (extent_by config (slice_index part 0) part ≡ Whole → ⊥) → is_room_needed (image_view config part) ≡ false
   calm_part other =
-      ap (λ k. (bit_at k 1 == 1) || ((image_view c part Phase == 2) && is_out_of_room (image_view c part Evac))) ask_at
-      ∙ ap (λ k. (bit_at (slice_index part 5) 1 == 1) || ((k == 2) && is_out_of_room (image_view c part Evac))) phase_at
+      ap (λ k. (bit_at k 1 == 1) || ((image_view config part Phase == 2) && is_out_of_room (image_view config part Evac))) ask_at
+      ∙ ap (λ k. (bit_at (slice_index part 5) 1 == 1) || ((k == 2) && is_out_of_room (image_view config part Evac))) phase_at
       ∙ ap (λ k. (bit_at (slice_index part 5) 1 == 1) || ((slice_index part 0 == 2) && is_out_of_room k)) evac_at
-      ∙ no_room c (slice_index part 0) part other
+      ∙ no_room config (slice_index part 0) part other
 
   -- the phase, by the extent
-  pub idle_by : (extent_by c (slice_index part 0) part ≡ Whole → ⊥) → extent_by c (slice_index part 0) part ≡ OffHeap → image_view c part Phase ≡ 0
-  idle_by other is = phase_at ∙ (first_is c (slice_index part 0) part OffHeap (sym (first_by c (slice_index part 0) part other) ∙ is)).0 refl
+  pub idle_by : (extent_by config (slice_index part 0) part ≡ Whole → ⊥) → extent_by config (slice_index part 0) part ≡ OffHeap → image_view config part Phase ≡ 0
+  idle_by other is = phase_at ∙ (first_is config (slice_index part 0) part OffHeap (sym (first_by config (slice_index part 0) part other) ∙ is)).0 refl
 
-  pub late_by : (extent_by c (slice_index part 0) part ≡ Whole → ⊥) → extent_by c (slice_index part 0) part ≡ Ahead → (image_view c part Phase ≢ 0) × (image_view c part Phase ≢ 1)
+  pub late_by : (extent_by config (slice_index part 0) part ≡ Whole → ⊥) → extent_by config (slice_index part 0) part ≡ Ahead → (image_view config part Phase ≢ 0) × (image_view config part Phase ≢ 1)
   late_by other is =
-      let late = (first_is c (slice_index part 0) part Ahead (sym (first_by c (slice_index part 0) part other) ∙ is)).1 refl in
+      let late = (first_is config (slice_index part 0) part Ahead (sym (first_by config (slice_index part 0) part other) ∙ is)).1 refl in
       (λ e. late.0 (sym phase_at ∙ e), λ e. late.1 (sym phase_at ∙ e))
 
-pub off_heap_others : (w : Word) → is_image w ≡ false → is_off_heap w ≡ true
+pub off_heap_others : (word : Word) → is_image word ≡ false → is_off_heap word ≡ true
 off_heap_others Pause out = refl
 off_heap_others Left out = refl
 off_heap_others End out = refl
 off_heap_others (State seat) out = refl
 off_heap_others _ out = absurd (true≢false out)
 
-pub ahead_others : (w : Word) → is_image w ≡ false → is_ahead w ≡ true
+pub ahead_others : (word : Word) → is_image word ≡ false → is_ahead word ≡ true
 ahead_others Pause out = refl
 ahead_others Left out = refl
 ahead_others End out = refl
@@ -192,31 +192,31 @@ ahead_others (State seat) out = refl
 ahead_others _ out = absurd (true≢false out)
 
 -- What a pause makes of an image is so what it makes of a part, where it begins marking, ..
-pub off_heap_made : (c : Config) (whole part : List ℕ) → IsImagePart c OffHeap whole part → is_room_needed (image_view c part) ≡ false → image_view c part Phase ≡ 0
-    → IsMadeOf c OffHeap whole (collect_image c whole) (collect_image c part)
-off_heap_made c whole part is_part calm idle =
-    made_of c OffHeap is_off_heap (off_heap_at c) off_heap_others whole part is_part
-    (begins c (image_view c whole) (image_view c part) (part_of c OffHeap is_off_heap (off_heap_at c) off_heap_others whole part is_part) calm idle)
+pub off_heap_made : (config : Config) (whole part : List ℕ) → IsImagePart config OffHeap whole part → is_room_needed (image_view config part) ≡ false → image_view config part Phase ≡ 0
+    → IsMadeOf config OffHeap whole (collect_image config whole) (collect_image config part)
+off_heap_made config whole part is_part calm idle =
+    made_of config OffHeap is_off_heap (off_heap_at config) off_heap_others whole part is_part
+    (begins config (image_view config whole) (image_view config part) (part_of config OffHeap is_off_heap (off_heap_at config) off_heap_others whole part is_part) calm idle)
 
 -- .. and where it begins updating or ends it.
-pub ahead_made : (c : Config) (whole part : List ℕ) → IsImagePart c Ahead whole part → is_room_needed (image_view c part) ≡ false → image_view c part Phase ≢ 0 → image_view c part Phase ≢ 1
-    → IsMadeOf c Ahead whole (collect_image c whole) (collect_image c part)
-ahead_made c whole part is_part calm not_0 not_1 =
-    made_of c Ahead is_ahead (ahead_at c) ahead_others whole part is_part
-    (updates c (image_view c whole) (image_view c part) (part_of c Ahead is_ahead (ahead_at c) ahead_others whole part is_part) calm not_0 not_1)
+pub ahead_made : (config : Config) (whole part : List ℕ) → IsImagePart config Ahead whole part → is_room_needed (image_view config part) ≡ false → image_view config part Phase ≢ 0 → image_view config part Phase ≢ 1
+    → IsMadeOf config Ahead whole (collect_image config whole) (collect_image config part)
+ahead_made config whole part is_part calm not_0 not_1 =
+    made_of config Ahead is_ahead (ahead_at config) ahead_others whole part is_part
+    (updates config (image_view config whole) (image_view config part) (part_of config Ahead is_ahead (ahead_at config) ahead_others whole part is_part) calm not_0 not_1)
 
-by_extent : (c : Config) (whole part : List ℕ) → length whole ≡ image_words c → length part ≡ image_words c → (e : Extent) → extent_by c (slice_index part 0) part ≡ e → IsImagePart c e whole part
-    → IsMadeOf c e whole (collect_image c whole) (collect_image c part)
-by_extent c whole part whole_long part_long Whole is is_part = λ k less.
+by_extent : (config : Config) (whole part : List ℕ) → length whole ≡ image_words config → length part ≡ image_words config → (extent : Extent) → extent_by config (slice_index part 0) part ≡ extent → IsImagePart config extent whole part
+    → IsMadeOf config extent whole (collect_image config whole) (collect_image config part)
+by_extent config whole part whole_long part_long Whole is is_part = λ k less.
     let same : part ≡ whole = same_number_lists part whole (part_long ∙ sym whole_long) (λ i below. is_part i (omega (arith, below, part_long))) in
-    ap (λ xs. slice_index (collect_image c xs) k) (sym same)
-by_extent c whole part whole_long part_long OffHeap is is_part =
-    let other : extent_by c (slice_index part 0) part ≡ Whole → ⊥ = λ e. let both = sym is ∙ e in cc in
-    off_heap_made c whole part is_part (calm_part c part other) (idle_by c part other is)
-by_extent c whole part whole_long part_long Ahead is is_part =
-    let other : extent_by c (slice_index part 0) part ≡ Whole → ⊥ = λ e. let both = sym is ∙ e in cc in
-    let late = late_by c part other is in
-    ahead_made c whole part is_part (calm_part c part other) late.0 late.1
+    ap (λ xs. slice_index (collect_image config xs) k) (sym same)
+by_extent config whole part whole_long part_long OffHeap is is_part =
+    let other : extent_by config (slice_index part 0) part ≡ Whole → ⊥ = λ extent. let both = sym is ∙ extent in cc in
+    off_heap_made config whole part is_part (calm_part config part other) (idle_by config part other is)
+by_extent config whole part whole_long part_long Ahead is is_part =
+    let other : extent_by config (slice_index part 0) part ≡ Whole → ⊥ = λ extent. let both = sym is ∙ extent in cc in
+    let late = late_by config part other is in
+    ahead_made config whole part is_part (calm_part config part other) late.0 late.1
 
 pub collect_goes_by_parts : GoesByParts collect_image
 collect_goes_by_parts = record { made = λ c whole part whole_long part_long is_part. by_extent c whole part whole_long part_long (extent_by c (slice_index part 0) part) refl is_part }

@@ -22,60 +22,60 @@ BeginsAt address word = (next_in word < end_in word) × (next_in word ≡ addres
 
 -- no seat's do
 abbrev pub NoneBeginsAt : Config → (Word → ℕ) → ℕ → Type 0
-NoneBeginsAt c memory address = (seat : ℕ) → seat < seat_count c.mutators c.helpers → BeginsAt address (memory (Current seat)) → ⊥
+NoneBeginsAt config memory address = (seat : ℕ) → seat < seat_count config.mutators config.helpers → BeginsAt address (memory (Current seat)) → ⊥
 
 -- a word of the heap where the free words of no buffer begin, or another word
 abbrev pub IsNoFirst : Config → (Word → ℕ) → Word → Type 0
-IsNoFirst c memory (Heap address) = NoneBeginsAt c memory address
-IsNoFirst c memory _ = ⊤
+IsNoFirst config memory (Heap address) = NoneBeginsAt config memory address
+IsNoFirst config memory _ = ⊤
 
-module _ (c : Config) (address : ℕ) where
-  filled_stays : (m : Word → ℕ) (word : ℕ) → (BeginsAt address word → ⊥) → filled_over m word (Heap address) ≡ m (Heap address)
-  filled_stays m word none = by_test (nat_lt (next_in word) (end_in word)) refl
+module _ (config : Config) (address : ℕ) where
+  filled_stays : (memory : Word → ℕ) (word : ℕ) → (BeginsAt address word → ⊥) → filled_over memory word (Heap address) ≡ memory (Heap address)
+  filled_stays memory word none = by_test (nat_lt (next_in word) (end_in word)) refl
     where
-      by_test : (b : Bool) → nat_lt (next_in word) (end_in word) ≡ b → (if b then write m (Heap (next_in word)) (filler_header (end_in word - next_in word)) else m) (Heap address) ≡ m (Heap address)
+      by_test : (holds : Bool) → nat_lt (next_in word) (end_in word) ≡ holds → (if holds then write memory (Heap (next_in word)) (filler_header (end_in word - next_in word)) else memory) (Heap address) ≡ memory (Heap address)
       by_test true is =
-          cond-false (next_in word == address) (filler_header (end_in word - next_in word)) (m (Heap address))
+          cond-false (next_in word == address) (filler_header (end_in word - next_in word)) (memory (Heap address))
           (ne_eqb (next_in word) address (λ at. none (ltb-true (next_in word) (end_in word) is, at)))
       by_test false is = refl
 
-  turn_stays : (m : Word → ℕ) (seat : ℕ) → (BeginsAt address (m (Current seat)) → ⊥) → settled_at c m seat (Heap address) ≡ m (Heap address)
-  turn_stays m seat none =
-      if_at ((m (Current seat) == 0) || is_last c m (m (Current seat))) m (write (filled_over m (m (Current seat))) (Current seat) 0) (Heap address) (m (Heap address)) refl
-      (filled_stays m (m (Current seat)) none)
+  turn_stays : (memory : Word → ℕ) (seat : ℕ) → (BeginsAt address (memory (Current seat)) → ⊥) → settled_at config memory seat (Heap address) ≡ memory (Heap address)
+  turn_stays memory seat none =
+      if_at ((memory (Current seat) == 0) || is_last config memory (memory (Current seat))) memory (write (filled_over memory (memory (Current seat))) (Current seat) 0) (Heap address) (memory (Heap address)) refl
+      (filled_stays memory (memory (Current seat)) none)
 
   -- before its turn a seat has its buffer
-  before_turn : (m : Word → ℕ) (n seat : ℕ) → n ≤ seat → settled_below c m n (Current seat) ≡ m (Current seat)
+  before_turn : (memory : Word → ℕ) (n seat : ℕ) → n ≤ seat → settled_below config memory n (Current seat) ≡ memory (Current seat)
   unfolding settled_below
-  before_turn m zero seat from = refl
-  before_turn m (suc n) seat from = turn_other c (settled_below c m n) n seat (λ same. omega (arith, same, from)) ∙ before_turn m n seat (omega (arith, from))
+  before_turn memory zero seat from = refl
+  before_turn memory (suc n) seat from = turn_other config (settled_below config memory n) n seat (λ same. omega (arith, same, from)) ∙ before_turn memory n seat (omega (arith, from))
 
-  turns_stay : (m : Word → ℕ) (n : ℕ) → ((seat : ℕ) → seat < n → BeginsAt address (m (Current seat)) → ⊥) → settled_below c m n (Heap address) ≡ m (Heap address)
+  turns_stay : (memory : Word → ℕ) (n : ℕ) → ((seat : ℕ) → seat < n → BeginsAt address (memory (Current seat)) → ⊥) → settled_below config memory n (Heap address) ≡ memory (Heap address)
   unfolding settled_below
-  turns_stay m zero none = refl
-  turns_stay m (suc n) none =
-      turn_stays (settled_below c m n) n (subst (λ word. BeginsAt address word → ⊥) (sym (before_turn m n n (omega arith))) (none n (omega arith)))
-      ∙ turns_stay m n (λ seat below. none seat (omega (arith, below)))
+  turns_stay memory zero none = refl
+  turns_stay memory (suc n) none =
+      turn_stays (settled_below config memory n) n (subst (λ word. BeginsAt address word → ⊥) (sym (before_turn memory n n (omega arith))) (none n (omega arith)))
+      ∙ turns_stay memory n (λ seat below. none seat (omega (arith, below)))
 
-  settled_stays : (m : Word → ℕ) → NoneBeginsAt c m address → buffers_settled c m (Heap address) ≡ m (Heap address)
-  settled_stays m none = turns_stay m (seat_count c.mutators c.helpers) none
+  settled_stays : (memory : Word → ℕ) → NoneBeginsAt config memory address → buffers_settled config memory (Heap address) ≡ memory (Heap address)
+  settled_stays memory none = turns_stay memory (seat_count config.mutators config.helpers) none
 
 -- the beginning of updating leaves words that do not stand before those of the mutators, and so does its end
-module _ (c : Config) (m : Word → ℕ) where
-  begun_stays : (word : Word) → is_ahead word ≡ false → IsNoFirst c m word → init_updated c m word ≡ m word
-  begun_stays (Heap address) out none = settled_stays c address m none
-  begun_stays (Root t i) out none = settled_same (Root t i) (λ other. other) c m (seat_count c.mutators c.helpers)
-  begun_stays (Count t) out none = settled_same (Count t) (λ other. other) c m (seat_count c.mutators c.helpers)
-  begun_stays (Buffer t i) out none = settled_same (Buffer t i) (λ other. other) c m (seat_count c.mutators c.helpers)
-  begun_stays (Wait t) out none = settled_same (Wait t) (λ other. other) c m (seat_count c.mutators c.helpers)
-  begun_stays (Answer t) out none = settled_same (Answer t) (λ other. other) c m (seat_count c.mutators c.helpers)
-  begun_stays (Grey n) out none = settled_same (Grey n) (λ other. other) c m (seat_count c.mutators c.helpers)
-  begun_stays (Black n) out none = settled_same (Black n) (λ other. other) c m (seat_count c.mutators c.helpers)
-  begun_stays Share out none = settled_same Share (λ other. other) c m (seat_count c.mutators c.helpers)
-  begun_stays (Pin t i) out none = settled_same (Pin t i) (λ other. other) c m (seat_count c.mutators c.helpers)
+module _ (config : Config) (memory : Word → ℕ) where
+  begun_stays : (word : Word) → is_ahead word ≡ false → IsNoFirst config memory word → init_updated config memory word ≡ memory word
+  begun_stays (Heap address) out none = settled_stays config address memory none
+  begun_stays (Root t i) out none = settled_same (Root t i) (λ other. other) config memory (seat_count config.mutators config.helpers)
+  begun_stays (Count t) out none = settled_same (Count t) (λ other. other) config memory (seat_count config.mutators config.helpers)
+  begun_stays (Buffer t i) out none = settled_same (Buffer t i) (λ other. other) config memory (seat_count config.mutators config.helpers)
+  begun_stays (Wait t) out none = settled_same (Wait t) (λ other. other) config memory (seat_count config.mutators config.helpers)
+  begun_stays (Answer t) out none = settled_same (Answer t) (λ other. other) config memory (seat_count config.mutators config.helpers)
+  begun_stays (Grey n) out none = settled_same (Grey n) (λ other. other) config memory (seat_count config.mutators config.helpers)
+  begun_stays (Black n) out none = settled_same (Black n) (λ other. other) config memory (seat_count config.mutators config.helpers)
+  begun_stays Share out none = settled_same Share (λ other. other) config memory (seat_count config.mutators config.helpers)
+  begun_stays (Pin t i) out none = settled_same (Pin t i) (λ other. other) config memory (seat_count config.mutators config.helpers)
   begun_stays _ out none = absurd (true≢false out)
 
-  ended_stays : (word : Word) → is_ahead word ≡ false → final_updated c m word ≡ m word
+  ended_stays : (word : Word) → is_ahead word ≡ false → final_updated config memory word ≡ memory word
   ended_stays (Heap address) out = refl
   ended_stays (Root t i) out = refl
   ended_stays (Count t) out = refl
@@ -88,15 +88,15 @@ module _ (c : Config) (m : Word → ℕ) where
   ended_stays (Pin t i) out = refl
   ended_stays _ out = absurd (true≢false out)
 
-  module _ (calm : is_room_needed m ≡ false) where
+  module _ (calm : is_room_needed memory ≡ false) where
     -- So a pause leaves the words that it leaves out, but for the first free words of buffers: where marking begins, ..
-    pub heap_left : m Phase ≡ 0 → (word : Word) → is_off_heap word ≡ false → IsNoFirst c m word → collected c m word ≡ m word
-    heap_left idle (Heap address) out none = ap (λ (made : Word → ℕ). made (Heap address)) (marks c m calm idle) ∙ settled_stays c address m none
+    pub heap_left : memory Phase ≡ 0 → (word : Word) → is_off_heap word ≡ false → IsNoFirst config memory word → collected config memory word ≡ memory word
+    heap_left idle (Heap address) out none = ap (λ (made : Word → ℕ). made (Heap address)) (marks config memory calm idle) ∙ settled_stays config address memory none
     heap_left idle _ out none = absurd (true≢false out)
 
     -- .. and where updating begins or ends
-    pub behind_left : m Phase ≢ 0 → m Phase ≢ 1 → (word : Word) → is_ahead word ≡ false → IsNoFirst c m word → collected c m word ≡ m word
+    pub behind_left : memory Phase ≢ 0 → memory Phase ≢ 1 → (word : Word) → is_ahead word ≡ false → IsNoFirst config memory word → collected config memory word ≡ memory word
     behind_left not_0 not_1 word out none = ⊎_elim
-        (λ (two : (m Phase == 2) ≡ true). ap (λ (made : Word → ℕ). made word) (begins_updating c m calm not_0 not_1 two) ∙ begun_stays word out none)
-        (λ (three : (m Phase == 2) ≡ false). ap (λ (made : Word → ℕ). made word) (ends_updating c m calm not_0 not_1 three) ∙ ended_stays word out)
-        (cases_Bool (m Phase == 2))
+        (λ (two : (memory Phase == 2) ≡ true). ap (λ (made : Word → ℕ). made word) (begins_updating config memory calm not_0 not_1 two) ∙ begun_stays word out none)
+        (λ (three : (memory Phase == 2) ≡ false). ap (λ (made : Word → ℕ). made word) (ends_updating config memory calm not_0 not_1 three) ∙ ended_stays word out)
+        (cases_Bool (memory Phase == 2))

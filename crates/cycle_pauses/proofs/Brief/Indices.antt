@@ -15,55 +15,55 @@ use Rattle.collector_rows.proofs.Extents.{off_before, off_behind, off_within}
 use Rattle.cycle_pauses.specs.Brief.{is_off_heap, is_ahead}
 use Rattle.cycle_pauses.proofs.Full.Images.{inside_word}
 
-pub off_heap_at : (c : Config) (w : Word) → IsWord c w → is_image w ≡ true → is_of_extent c OffHeap (word_at c w - image_start c) ≡ is_off_heap w
-off_heap_at c (Heap a) h image = off_within (heap_index c) (heap_size c) (word_at c (Heap a) - image_start c) (omega arith) (omega arith)
-off_heap_at c Share h image = off_behind (heap_index c) (heap_size c) (word_at c Share - image_start c) (omega arith)
-off_heap_at c (Pin t i) h image = off_behind (heap_index c) (heap_size c) (word_at c (Pin t i) - image_start c) (omega arith)
-off_heap_at c Pause h image = absurd (false≢true image)
-off_heap_at c Left h image = absurd (false≢true image)
-off_heap_at c End h image = absurd (false≢true image)
-off_heap_at c (State seat) h image = absurd (false≢true image)
-off_heap_at c w h image = off_before (heap_index c) (heap_size c) (word_at c w - image_start c) (omega arith)
+pub off_heap_at : (config : Config) (word : Word) → IsWord config word → is_image word ≡ true → is_of_extent config OffHeap (word_at config word - image_start config) ≡ is_off_heap word
+off_heap_at config (Heap a) h image = off_within (heap_index config) (heap_size config) (word_at config (Heap a) - image_start config) (omega arith) (omega arith)
+off_heap_at config Share h image = off_behind (heap_index config) (heap_size config) (word_at config Share - image_start config) (omega arith)
+off_heap_at config (Pin t i) h image = off_behind (heap_index config) (heap_size config) (word_at config (Pin t i) - image_start config) (omega arith)
+off_heap_at config Pause h image = absurd (false≢true image)
+off_heap_at config Left h image = absurd (false≢true image)
+off_heap_at config End h image = absurd (false≢true image)
+off_heap_at config (State seat) h image = absurd (false≢true image)
+off_heap_at config word h image = off_before (heap_index config) (heap_size config) (word_at config word - image_start config) (omega arith)
 
-pub ahead_at : (c : Config) (w : Word) → IsWord c w → is_image w ≡ true → is_of_extent c Ahead (word_at c w - image_start c) ≡ is_ahead w
-ahead_at c Pause h image = absurd (false≢true image)
-ahead_at c Left h image = absurd (false≢true image)
-ahead_at c End h image = absurd (false≢true image)
-ahead_at c (State seat) h image = absurd (false≢true image)
-ahead_at c Phase h image = lt-ltb _ _ (omega arith)
-ahead_at c Cset h image = lt-ltb _ _ (omega arith)
-ahead_at c Free h image = lt-ltb _ _ (omega arith)
-ahead_at c Evac h image = lt-ltb _ _ (omega arith)
-ahead_at c Claim h image = lt-ltb _ _ (omega arith)
-ahead_at c Ask h image = lt-ltb _ _ (omega arith)
-ahead_at c (Top r) h image = lt-ltb _ _ (omega arith)
-ahead_at c (Tams r) h image = lt-ltb _ _ (omega arith)
-ahead_at c (Limit r) h image = lt-ltb _ _ (omega arith)
-ahead_at c (Current seat) h image = lt-ltb _ _ (omega arith)
-ahead_at c w h image = le-ltb _ _ (omega arith)
+pub ahead_at : (config : Config) (word : Word) → IsWord config word → is_image word ≡ true → is_of_extent config Ahead (word_at config word - image_start config) ≡ is_ahead word
+ahead_at config Pause h image = absurd (false≢true image)
+ahead_at config Left h image = absurd (false≢true image)
+ahead_at config End h image = absurd (false≢true image)
+ahead_at config (State seat) h image = absurd (false≢true image)
+ahead_at config Phase h image = lt-ltb _ _ (omega arith)
+ahead_at config Cset h image = lt-ltb _ _ (omega arith)
+ahead_at config Free h image = lt-ltb _ _ (omega arith)
+ahead_at config Evac h image = lt-ltb _ _ (omega arith)
+ahead_at config Claim h image = lt-ltb _ _ (omega arith)
+ahead_at config Ask h image = lt-ltb _ _ (omega arith)
+ahead_at config (Top r) h image = lt-ltb _ _ (omega arith)
+ahead_at config (Tams r) h image = lt-ltb _ _ (omega arith)
+ahead_at config (Limit r) h image = lt-ltb _ _ (omega arith)
+ahead_at config (Current seat) h image = lt-ltb _ _ (omega arith)
+ahead_at config word h image = le-ltb _ _ (omega arith)
 
 -- what a word of an image reads
-pub image_reads : (c : Config) (image : List ℕ) (w : Word) → IsWord c w → is_image w ≡ true → image_view c image w ≡ slice_index image (word_at c w - image_start c)
-image_reads c image w is in_image =
-    view_word c (replicate (image_start c) 0 ++ image) w is
-    ∙ inside_word c image (word_at c w) (leb-true (image_start c) (word_at c w) (sym (is_image-word_at c w is) ∙ in_image))
+pub image_reads : (config : Config) (image : List ℕ) (word : Word) → IsWord config word → is_image word ≡ true → image_view config image word ≡ slice_index image (word_at config word - image_start config)
+image_reads config image word is in_image =
+    view_word config (replicate (image_start config) 0 ++ image) word is
+    ∙ inside_word config image (word_at config word) (leb-true (image_start config) (word_at config word) (sym (is_image-word_at config word is) ∙ in_image))
 
 -- the word at an index of the image
-module _ (c : Config) (k : ℕ) (less : k < image_words c) where
+module _ (config : Config) (index : ℕ) (less : index < image_words config) where
   abbrev pub word_here : Word
-  word_here = name_of c (image_start c + k)
+  word_here = name_of config (image_start config + index)
 
-  in_table : image_start c + k < table_words c
+  in_table : image_start config + index < table_words config
   in_table = omega (arith, less)
 
-  pub here_is : IsWord c word_here
-  here_is = are_named.is_word c (image_start c + k) in_table
+  pub here_is : IsWord config word_here
+  here_is = are_named.is_word config (image_start config + index) in_table
 
-  pub here_at : word_at c word_here - image_start c ≡ k
-  here_at = (let at = are_named.there c (image_start c + k) in_table in omega (arith, at))
+  pub here_at : word_at config word_here - image_start config ≡ index
+  here_at = (let at = are_named.there config (image_start config + index) in_table in omega (arith, at))
 
   pub here_image : is_image word_here ≡ true
-  here_image = is_image-word_at c word_here here_is ∙ le-leb (image_start c) (word_at c word_here) (let at = are_named.there c (image_start c + k) in_table in omega (arith, at))
+  here_image = is_image-word_at config word_here here_is ∙ le-leb (image_start config) (word_at config word_here) (let at = are_named.there config (image_start config + index) in_table in omega (arith, at))
 
-  pub here_reads : (xs : List ℕ) → image_view c xs word_here ≡ slice_index xs k
-  here_reads xs = image_reads c xs word_here here_is here_image ∙ ap (λ i. slice_index xs i) here_at
+  pub here_reads : (xs : List ℕ) → image_view config xs word_here ≡ slice_index xs index
+  here_reads xs = image_reads config xs word_here here_is here_image ∙ ap (λ i. slice_index xs i) here_at

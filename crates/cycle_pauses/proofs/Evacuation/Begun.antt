@@ -28,42 +28,42 @@ use Rattle.cycle_pauses.proofs.Evacuation.ClearingInTurn.{IsClearing, all_cleare
 use Rattle.cycle_pauses.proofs.Evacuation.Started.{clearing_begins, evacuation_starts, cycle_ends}
 
 -- what is chosen is a candidate
-chosen_candidates : (c : Config) (m : Word → ℕ) (r : ℕ) → IsIn (chosen c m) r → (r < c.regions) × IsCandidate c m r
-chosen_candidates c m r is =
-    let front = member_is c.regions (copy_limit c m) (live_words c m) (is_candidate c m) r is in
-    (front.0, (candidate_is_candidate c m r).0 front.1)
+chosen_candidates : (config : Config) (memory : Word → ℕ) (region : ℕ) → IsIn (chosen config memory) region → (region < config.regions) × IsCandidate config memory region
+chosen_candidates config memory region is =
+    let front = member_is config.regions (copy_limit config memory) (live_words config memory) (is_candidate config memory) region is in
+    (front.0, (candidate_is_candidate config memory region).0 front.1)
 
 -- Where marking is over, evacuation begins of what is chosen.
-module _ (c : Config) (m : Word → ℕ) (block : Plot) (ghost : Ghost) (g : Graph) (asking : ℕ → Asking) (out : IsMarkedOut c m block ghost g asking) (can : CanBegin c m) where
+module _ (config : Config) (memory : Word → ℕ) (block : Plot) (ghost : Ghost) (graph : Graph) (asking : ℕ → Asking) (out : IsMarkedOut config memory block ghost graph asking) (can : CanBegin config memory) where
   abbrev set : ℕ
-  set = chosen c m
+  set = chosen config memory
 
-  ended : (plot : Plot) × IsClearing c (with_set m set) (roots_cleared c m set) plot ghost.owner g asking
+  ended : (plot : Plot) × IsClearing config (with_set memory set) (roots_cleared config memory set) plot ghost.owner graph asking
   ended =
-      all_cleared c (with_set m set) ghost.owner g asking (naming_places c) (with_set m set) block (are_places c)
-      (clearing_begins c m block ghost g asking out set (chosen_candidates c m)) (can_clear_in_turn c m can)
+      all_cleared config (with_set memory set) ghost.owner graph asking (naming_places config) (with_set memory set) block (are_places config)
+      (clearing_begins config memory block ghost graph asking out set (chosen_candidates config memory)) (can_clear_in_turn config memory can)
 
-  cleared : (place : Word) → IsPlace c place → is_collected c (with_set m set) (roots_cleared c m set place) ≡ false
-  cleared place at = (roots_are_cleared c m can).1.cleared place (places_have c place at)
+  cleared : (place : Word) → IsPlace config place → is_collected config (with_set memory set) (roots_cleared config memory set place) ≡ false
+  cleared place at = (roots_are_cleared config memory can).1.cleared place (places_have config place at)
 
-  pub begun : Represents c (evac_begun c m set) g asking
+  pub begun : Represents config (evac_begun config memory set) graph asking
   begun = ⊎_elim
       (λ (none : (set == 0) ≡ true).
-      subst (λ n. Represents c n g asking) (sym (fun_ext (λ word. cond-true (set == 0) (evac_spared m word) (evac_started (roots_cleared c m set) word) none)))
-      (cycle_ends c m block ghost g asking out))
+      subst (λ n. Represents config n graph asking) (sym (fun_ext (λ word. cond-true (set == 0) (evac_spared memory word) (evac_started (roots_cleared config memory set) word) none)))
+      (cycle_ends config memory block ghost graph asking out))
       (λ (some : (set == 0) ≡ false).
-      subst (λ n. Represents c n g asking) (sym (fun_ext (λ word. cond-false (set == 0) (evac_spared m word) (evac_started (roots_cleared c m set) word) some)))
-      (evacuation_starts c m block ghost g asking out set (roots_cleared c m set) ended.0 ended.1 cleared))
+      subst (λ n. Represents config n graph asking) (sym (fun_ext (λ word. cond-false (set == 0) (evac_spared memory word) (evac_started (roots_cleared config memory set) word) some)))
+      (evacuation_starts config memory block ghost graph asking out set (roots_cleared config memory set) ended.0 ended.1 cleared))
       (cases_Bool (set == 0))
 
 pub evacuation_alone_represents : EvacuationAloneRepresents
 evacuation_alone_represents = begun
 
 -- evacuation can begin where marking is ended
-pub can_begin : (c : Config) (m : Word → ℕ) (g : Graph) (asking : ℕ → Asking) → Represents c m g asking → m Phase ≡ 1 → HasNoMoreSeats c m → CanBegin c (final_marked c m)
-can_begin c m g asking r on seats =
-    let stands = marking_stands c m g asking r on in
-    evacuation_can_begin c m stands.0 stands.1 stands.2 g stands.3 stands.4 seats
+pub can_begin : (config : Config) (memory : Word → ℕ) (graph : Graph) (asking : ℕ → Asking) → Represents config memory graph asking → memory Phase ≡ 1 → HasNoMoreSeats config memory → CanBegin config (final_marked config memory)
+can_begin config memory graph asking r on seats =
+    let stands = marking_stands config memory graph asking r on in
+    evacuation_can_begin config memory stands.0 stands.1 stands.2 graph stands.3 stands.4 seats
 
 pub evacuation_represents : EvacuationRepresents
 evacuation_represents c m g asking r on seats =
@@ -71,20 +71,20 @@ evacuation_represents c m g asking r on seats =
     begun c (final_marked c m) gives.0 gives.1 g asking gives.2 (can_begin c m g asking r on seats)
 
 -- who does not ask keeps what it has
-same_answer : (x : Asking) → ((refs nums : ℕ) → x ≡ asks refs nums → ⊥) → Answers x x
+same_answer : (asking : Asking) → ((refs nums : ℕ) → asking ≡ asks refs nums → ⊥) → Answers asking asking
 same_answer nothing idle = tt
 same_answer (asks refs nums) idle = absurd (idle refs nums refl)
 same_answer refused idle = tt
 same_answer (given refs nums) idle = (refl, refl)
 
 -- where nobody asks, a pause owes that the words represent the same graph
-pub idle_pause : (c : Config) (before after : Word → ℕ) (g : Graph) (asking : ℕ → Asking) → ((t refs nums : ℕ) → t < c.mutators → asking t ≡ asks refs nums → ⊥) → Represents c after g asking
-    → IsPaused c before after g asking
-idle_pause c before after g asking idle stands = record {
+pub idle_pause : (config : Config) (before after : Word → ℕ) (graph : Graph) (asking : ℕ → Asking) → ((mutator refs nums : ℕ) → mutator < config.mutators → asking mutator ≡ asks refs nums → ⊥) → Represents config after graph asking
+    → IsPaused config before after graph asking
+idle_pause config before after graph asking idle stands = record {
   asked_then = asking;
   stands = stands;
-  answers = λ t inside. same_answer (asking t) (λ refs nums is. idle t refs nums inside is);
-  crowded = λ t refs nums inside is refused_one. absurd (idle t refs nums inside is);
+  answers = λ mutator inside. same_answer (asking mutator) (λ refs nums is. idle mutator refs nums inside is);
+  crowded = λ mutator refs nums inside is refused_one. absurd (idle mutator refs nums inside is);
 }
 
 pub evacuation_begins : EvacuationBegins

@@ -9,31 +9,31 @@ use Rattle.regions.specs.Marks.{HasMark}
 use Rattle.heap_world.specs.World.{Block, thing, moved, spent, hand, promised, dead, filler, carved, words_of, room_of, Plot, name_at, IsCollected, IsParsable, HasContents, AreOwned, AreUnwritten, HaveMoved, IsMarkable, IsYoung, AreYoungRooms, AreRoomsOutside, HasCopy, body_at}
 
 -- As in any pause of evacuation, but that objects which are promised may still lie in the collection set.
-pub record IsBetween (c : Config) (share cset free : ℕ) (top tams heap black current : ℕ → ℕ) (block : Plot) (owner : ℕ → Option ℕ) (g : Graph) : Type 0 where
-  pub parsable : IsParsable c top block
-  pub contents : HasContents c heap block g.object g.count
-  pub owned : AreOwned c top share free cset current block owner
+pub record IsBetween (config : Config) (share cset free : ℕ) (top tams heap black current : ℕ → ℕ) (block : Plot) (owner : ℕ → Option ℕ) (graph : Graph) : Type 0 where
+  pub parsable : IsParsable config top block
+  pub contents : HasContents config heap block graph.object graph.count
+  pub owned : AreOwned config top share free cset current block owner
   pub unwritten : AreUnwritten heap block
-  pub moves : HaveMoved c cset heap block
-  pub unheld : (a seat words : ℕ) → block a ≡ Some (hand seat words) → ⊥
-  pub uncarved : (a seat words : ℕ) → block a ≡ Some (carved seat words) → ⊥
-  pub no_rooms : AreRoomsOutside c cset block
-  pub promised_to : (a seat words : ℕ) → block a ≡ Some (promised seat words) → seat < c.mutators
-  pub in_heap : (r : ℕ) → IsIn cset r → r < c.regions
-  pub used : (r : ℕ) → IsIn free r → IsIn cset r → ⊥
-  pub nobodys : (r seat : ℕ) → owner r ≡ Some seat → IsIn cset r → ⊥
-  pub no_new : (r : ℕ) → IsIn cset r → top r ≡ tams r
-  pub marked : (a : ℕ) → IsMarkable block a → HasMark c black a ⊎ IsYoung c tams a
-  pub young : AreYoungRooms c tams block
-  pub floors : (r : ℕ) → r < c.regions → tams r ≤ top r
-  pub unmarked : (a words : ℕ) → block a ≡ Some (dead words) → HasMark c black a → ⊥
-  pub deads : (a words : ℕ) → block a ≡ Some (dead words) → IsYoung c tams a → ⊥
-  pub only : (a : ℕ) → c.region_words ≤ a → HasMark c black a → IsCollected c cset a → IsMarkable block a ⊎ HasCopy block a
+  pub moves : HaveMoved config cset heap block
+  pub unheld : (address seat words : ℕ) → block address ≡ Some (hand seat words) → ⊥
+  pub uncarved : (address seat words : ℕ) → block address ≡ Some (carved seat words) → ⊥
+  pub no_rooms : AreRoomsOutside config cset block
+  pub promised_to : (address seat words : ℕ) → block address ≡ Some (promised seat words) → seat < config.mutators
+  pub in_heap : (region : ℕ) → IsIn cset region → region < config.regions
+  pub used : (region : ℕ) → IsIn free region → IsIn cset region → ⊥
+  pub nobodys : (region seat : ℕ) → owner region ≡ Some seat → IsIn cset region → ⊥
+  pub no_new : (region : ℕ) → IsIn cset region → top region ≡ tams region
+  pub marked : (address : ℕ) → IsMarkable block address → HasMark config black address ⊎ IsYoung config tams address
+  pub young : AreYoungRooms config tams block
+  pub floors : (region : ℕ) → region < config.regions → tams region ≤ top region
+  pub unmarked : (address words : ℕ) → block address ≡ Some (dead words) → HasMark config black address → ⊥
+  pub deads : (address words : ℕ) → block address ≡ Some (dead words) → IsYoung config tams address → ⊥
+  pub only : (address : ℕ) → config.region_words ≤ address → HasMark config black address → IsCollected config cset address → IsMarkable block address ⊎ HasCopy block address
 
 -- so it is of words
 abbrev pub AreBetween : Config → (Word → ℕ) → Plot → (ℕ → Option ℕ) → Graph → Type 0
-AreBetween c m block owner g =
-    IsBetween c (m Share) (m Cset) (m Free) (λ r. m (Top r)) (λ r. m (Tams r)) (λ a. m (Heap a)) (λ n. m (Black n)) (λ s. m (Current s)) block owner g
+AreBetween config memory block owner graph =
+    IsBetween config (memory Share) (memory Cset) (memory Free) (λ r. memory (Top r)) (λ r. memory (Tams r)) (λ a. memory (Heap a)) (λ n. memory (Black n)) (λ s. memory (Current s)) block owner graph
 
 -- a piece that is copied: an object of the graph, or one that is promised
 abbrev pub IsLive : Block → Type 0
@@ -45,50 +45,50 @@ IsLive _ = ⊥
 abbrev pub old_of : Block → ℕ → Block
 old_of (thing name refs nums) to = moved name refs nums to
 old_of (moved name refs nums at) to = moved name refs nums to
-old_of x to = spent (words_of x) to
+old_of piece to = spent (words_of piece) to
 
-pub old_words : (x : Block) (to : ℕ) → words_of (old_of x to) ≡ words_of x
+pub old_words : (piece : Block) (to : ℕ) → words_of (old_of piece to) ≡ words_of piece
 old_words (thing name refs nums) to = refl
 old_words (moved name refs nums at) to = refl
 old_words _ to = refl
 
-pub old_name : (x : Block) (to : ℕ) → IsLive x → name_at (Some (old_of x to)) ≡ name_at (Some x)
+pub old_name : (piece : Block) (to : ℕ) → IsLive piece → name_at (Some (old_of piece to)) ≡ name_at (Some piece)
 old_name (thing name refs nums) to live = refl
 old_name (promised seat words) to live = refl
 old_name _ to live = absurd live
 
 -- an old copy is none of these
-pub old_is_old : (x : Block) (to : ℕ) → ((name : Name) (refs nums : ℕ) → old_of x to ≡ thing name refs nums → ⊥) × ((seat words : ℕ) → old_of x to ≡ promised seat words → ⊥)
-    × (room_of (old_of x to) ≡ None) × ((words : ℕ) → old_of x to ≡ dead words → ⊥) × ((words : ℕ) → old_of x to ≡ filler words → ⊥)
+pub old_is_old : (piece : Block) (to : ℕ) → ((name : Name) (refs nums : ℕ) → old_of piece to ≡ thing name refs nums → ⊥) × ((seat words : ℕ) → old_of piece to ≡ promised seat words → ⊥)
+    × (room_of (old_of piece to) ≡ None) × ((words : ℕ) → old_of piece to ≡ dead words → ⊥) × ((words : ℕ) → old_of piece to ≡ filler words → ⊥)
 old_is_old (thing n r s) to = (λ name refs nums is. cc, λ seat words is. cc, refl, λ words is. cc, λ words is. cc)
 old_is_old (moved n r s at) to = (λ name refs nums is. cc, λ seat words is. cc, refl, λ words is. cc, λ words is. cc)
 old_is_old _ to = (λ name refs nums is. cc, λ seat words is. cc, refl, λ words is. cc, λ words is. cc)
 
 -- where it is one of an object, the object was there; where it is one of an object that was promised, that was
-pub was_thing : (x : Block) (to : ℕ) → IsLive x → (name : Name) (refs nums at : ℕ) → old_of x to ≡ moved name refs nums at → (x ≡ thing name refs nums) × (at ≡ to)
+pub was_thing : (piece : Block) (to : ℕ) → IsLive piece → (name : Name) (refs nums at : ℕ) → old_of piece to ≡ moved name refs nums at → (piece ≡ thing name refs nums) × (at ≡ to)
 was_thing (thing n r s) to live name refs nums at is = (cc, cc)
 was_thing (promised s w) to live name refs nums at is = cc
 was_thing _ to live name refs nums at is = absurd live
 
-pub was_promised : (x : Block) (to : ℕ) → IsLive x → (words at : ℕ) → old_of x to ≡ spent words at → (seat : ℕ) × (x ≡ promised seat words) × (at ≡ to)
+pub was_promised : (piece : Block) (to : ℕ) → IsLive piece → (words at : ℕ) → old_of piece to ≡ spent words at → (seat : ℕ) × (piece ≡ promised seat words) × (at ≡ to)
 was_promised (thing n r s) to live words at is = cc
 was_promised (promised s w) to live words at is = (s, cc, cc)
 was_promised _ to live words at is = absurd live
 
 -- a live piece is none of these
-pub live_is_live : (x : Block) → IsLive x → ((name : Name) (refs nums to : ℕ) → x ≡ moved name refs nums to → ⊥) × ((words to : ℕ) → x ≡ spent words to → ⊥)
-    × (room_of x ≡ None) × ((words : ℕ) → x ≡ dead words → ⊥) × ((words : ℕ) → x ≡ filler words → ⊥)
+pub live_is_live : (piece : Block) → IsLive piece → ((name : Name) (refs nums to : ℕ) → piece ≡ moved name refs nums to → ⊥) × ((words to : ℕ) → piece ≡ spent words to → ⊥)
+    × (room_of piece ≡ None) × ((words : ℕ) → piece ≡ dead words → ⊥) × ((words : ℕ) → piece ≡ filler words → ⊥)
 live_is_live (thing n r s) live = (λ name refs nums to is. cc, λ words to is. cc, refl, λ words is. cc, λ words is. cc)
 live_is_live (promised s w) live = (λ name refs nums to is. cc, λ words to is. cc, refl, λ words is. cc, λ words is. cc)
 live_is_live _ live = absurd live
 
 -- it may be marked, and what is left of it is a copy
-pub live_markable : (block : Plot) (a : ℕ) (x : Block) → IsLive x → block a ≡ Some x → IsMarkable block a
-live_markable block a (thing n r s) live is = IsMarkable.object n r s is
-live_markable block a (promised s w) live is = IsMarkable.to_come s w is
-live_markable block a _ live is = absurd live
+pub live_markable : (block : Plot) (address : ℕ) (piece : Block) → IsLive piece → block address ≡ Some piece → IsMarkable block address
+live_markable block address (thing n r s) live is = IsMarkable.object n r s is
+live_markable block address (promised s w) live is = IsMarkable.to_come s w is
+live_markable block address _ live is = absurd live
 
-pub old_has_copy : (block : Plot) (a to : ℕ) (x : Block) → IsLive x → block a ≡ Some (old_of x to) → HasCopy block a
-old_has_copy block a to (thing n r s) live is = HasCopy.copy (record { name = n; refs = r; nums = s }) (ap body_at is)
-old_has_copy block a to (promised s w) live is = HasCopy.spent_copy w to is
-old_has_copy block a to _ live is = absurd live
+pub old_has_copy : (block : Plot) (address to : ℕ) (piece : Block) → IsLive piece → block address ≡ Some (old_of piece to) → HasCopy block address
+old_has_copy block address to (thing n r s) live is = HasCopy.copy (record { name = n; refs = r; nums = s }) (ap body_at is)
+old_has_copy block address to (promised s w) live is = HasCopy.spent_copy w to is
+old_has_copy block address to _ live is = absurd live

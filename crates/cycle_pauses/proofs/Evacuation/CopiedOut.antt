@@ -33,214 +33,214 @@ use Rattle.cycle_pauses.proofs.Evacuation.Copied.{object_copied, blank_copied}
 use Rattle.cycle_pauses.proofs.Evacuation.Between.{AreBetween, IsLive, old_of, old_words, old_name, old_is_old, was_thing, was_promised, live_is_live, live_markable, old_has_copy}
 
 -- What holds once a piece was copied from an address to another one: what held between two turns, and what of it is where.
-pub record HasCopied (c : Config) (m n : Word → ℕ) (block plot : Plot) (owner : ℕ → Option ℕ) (g : Graph) (a to : ℕ) (x : Block) : Type 0 where
-  pub between : AreBetween c n plot owner g
-  pub header : n (Heap a) ≡ header_word to
-  pub there : plot to ≡ Some x
-  pub outside : IsCollected c (n Cset) to → ⊥
-  pub copied : (k : ℕ) → k < words_of x → n (Heap (to + k)) ≡ m (Heap (a + k))
-  pub stays : (p : ℕ) (z : Block) → p ≢ a → block p ≡ Some z → plot p ≡ Some z
-  pub kept : (p k : ℕ) (z : Block) → p ≢ a → block p ≡ Some z → k < words_of z → n (Heap (p + k)) ≡ m (Heap (p + k))
-  pub names : (p : ℕ) (name : Name) → name_at (block p) ≡ Some name → name_at (plot p) ≡ Some name
-  pub promises : (p seat words : ℕ) → plot p ≡ Some (promised seat words) → ((p ≡ to) × (x ≡ promised seat words)) ⊎ ((p ≢ a) × (block p ≡ Some (promised seat words)))
-  pub same : (word : Word) → (MayChange word → ⊥) → n word ≡ m word
+pub record HasCopied (config : Config) (memory other_memory : Word → ℕ) (block plot : Plot) (owner : ℕ → Option ℕ) (graph : Graph) (address to : ℕ) (piece : Block) : Type 0 where
+  pub between : AreBetween config other_memory plot owner graph
+  pub header : other_memory (Heap address) ≡ header_word to
+  pub there : plot to ≡ Some piece
+  pub outside : IsCollected config (other_memory Cset) to → ⊥
+  pub copied : (k : ℕ) → k < words_of piece → other_memory (Heap (to + k)) ≡ memory (Heap (address + k))
+  pub stays : (other_address : ℕ) (other_piece : Block) → other_address ≢ address → block other_address ≡ Some other_piece → plot other_address ≡ Some other_piece
+  pub kept : (other_address k : ℕ) (other_piece : Block) → other_address ≢ address → block other_address ≡ Some other_piece → k < words_of other_piece → other_memory (Heap (other_address + k)) ≡ memory (Heap (other_address + k))
+  pub names : (other_address : ℕ) (name : Name) → name_at (block other_address) ≡ Some name → name_at (plot other_address) ≡ Some name
+  pub promises : (other_address seat words : ℕ) → plot other_address ≡ Some (promised seat words) → ((other_address ≡ to) × (piece ≡ promised seat words)) ⊎ ((other_address ≢ address) × (block other_address ≡ Some (promised seat words)))
+  pub same : (word : Word) → (MayChange word → ⊥) → other_memory word ≡ memory word
 
-module _ (c : Config) (m : Word → ℕ) (block : Plot) (owner : ℕ → Option ℕ) (g : Graph) (b : AreBetween c m block owner g)
-    (a : ℕ) (x : Block) (here : block a ≡ Some x) (live : IsLive x) (inside : IsCollected c (m Cset) a) (plain : m (Heap a) ≡ plain_header) (words_are : words_at m a ≡ words_of x)
-    (out : IsCopiedOut c m (copied_out c m a) a) where
+module _ (config : Config) (memory : Word → ℕ) (block : Plot) (owner : ℕ → Option ℕ) (graph : Graph) (b : AreBetween config memory block owner graph)
+    (address : ℕ) (other_piece : Block) (here : block address ≡ Some other_piece) (live : IsLive other_piece) (inside : IsCollected config (memory Cset) address) (plain : memory (Heap address) ≡ plain_header) (words_are : words_at memory address ≡ words_of other_piece)
+    (out : IsCopiedOut config memory (copied_out config memory address) address) where
   abbrev n : Word → ℕ
-  n = copied_out c m a
+  n = copied_out config memory address
 
   abbrev r : ℕ
   r = out.region
 
   -- where the copy lies
   abbrev to : ℕ
-  to = top_address c m out.region
+  to = top_address config memory out.region
 
   abbrev old : Block
-  old = old_of x to
+  old = old_of other_piece to
 
   abbrev top : ℕ → ℕ
-  top q = m (Top q)
+  top region = memory (Top region)
 
   abbrev heap : ℕ → ℕ
-  heap y = m (Heap y)
+  heap address = memory (Heap address)
 
   abbrev after : ℕ → ℕ
-  after y = n (Heap y)
+  after address = n (Heap address)
 
   -- a piece has a word at least
-  long : (p : ℕ) (z : Block) → block p ≡ Some z → 1 ≤ words_of z
-  long p z is = some_words c top block b.parsable b.owned.rooms p z is
+  long : (address : ℕ) (piece : Block) → block address ≡ Some piece → 1 ≤ words_of piece
+  long address piece is = some_words config top block b.parsable b.owned.rooms address piece is
 
-  joins : CanJoin c top block r (m (Top r)) x
+  joins : CanJoin config top block r (memory (Top r)) other_piece
   joins = record {
     plotted = b.parsable.plotted;
     long = long;
     within = out.below;
     top_is = refl;
     room = (let room = out.room in omega (arith, room, words_are));
-    some = long a x here;
+    some = long address other_piece here;
   }
 
   -- nothing stood where the copy lies
-  none_there : (z : Block) → block to ≡ Some z → ⊥
-  none_there z is =
-      let some = long to z is in
-      let where_is = beside c top block b.parsable.plotted r to z is in
-      let small = long a x here in
+  none_there : (piece : Block) → block to ≡ Some piece → ⊥
+  none_there piece is =
+      let some = long to piece is in
+      let where_is = beside config top block b.parsable.plotted r to piece is in
+      let small = long address other_piece here in
       let room = out.room in
       omega (arith, some, where_is, small, room, words_are)
 
-  elsewhere : to ≢ a
-  elsewhere same = none_there x (ap block same ∙ here)
+  elsewhere : to ≢ address
+  elsewhere same = none_there other_piece (ap block same ∙ here)
 
   abbrev mid : Plot
-  mid = updated block to (Some x)
+  mid = updated block to (Some other_piece)
 
   abbrev plot : Plot
-  plot = updated mid a (Some old)
+  plot = updated mid address (Some old)
 
-  mid_stays : (p : ℕ) (z : Block) → block p ≡ Some z → mid p ≡ Some z
-  mid_stays = joined.stays c top block r (m (Top r)) x joins
+  mid_stays : (address : ℕ) (piece : Block) → block address ≡ Some piece → mid address ≡ Some piece
+  mid_stays = joined.stays config top block r (memory (Top r)) other_piece joins
 
   -- what stood somewhere else stands there
-  stays : (p : ℕ) (z : Block) → p ≢ a → block p ≡ Some z → plot p ≡ Some z
-  stays p z other is = updated_else mid a (Some old) p (λ e. other (sym e)) ∙ mid_stays p z is
+  stays : (p : ℕ) (piece : Block) → p ≢ address → block p ≡ Some piece → plot p ≡ Some piece
+  stays p piece other is = updated_else mid address (Some old) p (λ e. other (sym e)) ∙ mid_stays p piece is
 
-  new_there : plot to ≡ Some x
-  new_there = updated_else mid a (Some old) to (λ e. elsewhere (sym e)) ∙ updated_there block to (Some x)
+  new_there : plot to ≡ Some other_piece
+  new_there = updated_else mid address (Some old) to (λ e. elsewhere (sym e)) ∙ updated_there block to (Some other_piece)
 
-  old_there : plot a ≡ Some old
-  old_there = updated_there mid a (Some old)
+  old_there : plot address ≡ Some old
+  old_there = updated_there mid address (Some old)
 
-  same_plot : (p : ℕ) → p ≢ a → p ≢ to → plot p ≡ block p
-  same_plot p other differs = updated_else mid a (Some old) p (λ e. other (sym e)) ∙ updated_else block to (Some x) p (λ e. differs (sym e))
+  same_plot : (p : ℕ) → p ≢ address → p ≢ to → plot p ≡ block p
+  same_plot p other differs = updated_else mid address (Some old) p (λ e. other (sym e)) ∙ updated_else block to (Some other_piece) p (λ e. differs (sym e))
 
   -- a piece is the old copy, or the new one, or stood there
-  plot_cases : (p : ℕ) (z : Block) → plot p ≡ Some z → ((p ≡ a) × (old ≡ z)) ⊎ (((p ≡ to) × (x ≡ z)) ⊎ ((p ≢ a) × (block p ≡ Some z)))
-  plot_cases p z is = ⊎_elim
-      (λ (gone : (p ≡ a) × (old ≡ z)). inl gone)
-      (λ (rest : (p ≢ a) × (mid p ≡ Some z)). ⊎_elim
-      (λ (new : (p ≡ to) × (x ≡ z)). inr (inl new))
-      (λ (stood : (p ≢ to) × (block p ≡ Some z)). inr (inr (rest.0, stood.1)))
-      (piece_cases block to x p z rest.1))
-      (piece_cases mid a old p z is)
+  plot_cases : (p : ℕ) (piece : Block) → plot p ≡ Some piece → ((p ≡ address) × (old ≡ piece)) ⊎ (((p ≡ to) × (other_piece ≡ piece)) ⊎ ((p ≢ address) × (block p ≡ Some piece)))
+  plot_cases p piece is = ⊎_elim
+      (λ (gone : (p ≡ address) × (old ≡ piece)). inl gone)
+      (λ (rest : (p ≢ address) × (mid p ≡ Some piece)). ⊎_elim
+      (λ (new : (p ≡ to) × (other_piece ≡ piece)). inr (inl new))
+      (λ (stood : (p ≢ to) × (block p ≡ Some piece)). inr (inr (rest.0, stood.1)))
+      (piece_cases block to other_piece p piece rest.1))
+      (piece_cases mid address old p piece is)
 
   -- what stood for an object does so still
   names_stay : (p : ℕ) (name : Name) → name_at (block p) ≡ Some name → name_at (plot p) ≡ Some name
   names_stay p name is = ⊎_elim
-      (λ (same : p ≡ a). ap name_at (ap plot same ∙ old_there) ∙ old_name x to live ∙ sym (ap name_at (ap block same ∙ here)) ∙ is)
-      (λ (other : p ≢ a). let piece = named_piece (block p) name is in ap name_at (stays p piece.0 other piece.1) ∙ piece.2)
-      (cases_eq p a)
+      (λ (same : p ≡ address). ap name_at (ap plot same ∙ old_there) ∙ old_name other_piece to live ∙ sym (ap name_at (ap block same ∙ here)) ∙ is)
+      (λ (other : p ≢ address). let piece = named_piece (block p) name is in ap name_at (stays p piece.0 other piece.1) ∙ piece.2)
+      (cases_eq p address)
 
   -- words of pieces stay, but for the header
-  word_stays : (p k : ℕ) (z : Block) → block p ≡ Some z → k < words_of z → p + k ≢ a → n (Heap (p + k)) ≡ m (Heap (p + k))
-  word_stays p k z is below other =
+  word_stays : (p k : ℕ) (piece : Block) → block p ≡ Some piece → k < words_of piece → p + k ≢ address → n (Heap (p + k)) ≡ memory (Heap (p + k))
+  word_stays p k piece is below other =
       let room = out.room in
       out.copied.elsewhere (p + k) other
       (⊎_elim
-      (λ (before : p + words_of z ≤ base_of c r). inl (omega (arith, before, below)))
-      (λ (rest : ((base_of c r ≤ p) × (p + words_of z ≤ base_of c r + top r)) ⊎ (base_of c r + c.region_words ≤ p)). ⊎_elim
-      (λ (within : (base_of c r ≤ p) × (p + words_of z ≤ base_of c r + top r)). inl (omega (arith, within.1, below)))
-      (λ (behind : base_of c r + c.region_words ≤ p). inr (omega (arith, behind, room)))
+      (λ (before : p + words_of piece ≤ base_of config r). inl (omega (arith, before, below)))
+      (λ (rest : ((base_of config r ≤ p) × (p + words_of piece ≤ base_of config r + top r)) ⊎ (base_of config r + config.region_words ≤ p)). ⊎_elim
+      (λ (within : (base_of config r ≤ p) × (p + words_of piece ≤ base_of config r + top r)). inl (omega (arith, within.1, below)))
+      (λ (behind : base_of config r + config.region_words ≤ p). inr (omega (arith, behind, room)))
       rest)
-      (beside c top block b.parsable.plotted r p z is))
+      (beside config top block b.parsable.plotted r p piece is))
 
-  kept : (p k : ℕ) (z : Block) → p ≢ a → block p ≡ Some z → k < words_of z → n (Heap (p + k)) ≡ m (Heap (p + k))
-  kept p k z other is below =
-      let apart : p + k ≢ a + 0 = far c top block b.parsable.plotted p a k 0 z x is here other below (let some = long a x here in omega (arith, some)) in
-      word_stays p k z is below (λ same. apart (omega (arith, same)))
+  kept : (p k : ℕ) (piece : Block) → p ≢ address → block p ≡ Some piece → k < words_of piece → n (Heap (p + k)) ≡ memory (Heap (p + k))
+  kept p k piece other is below =
+      let apart : p + k ≢ address + 0 = far config top block b.parsable.plotted p address k 0 piece other_piece is here other below (let some = long address other_piece here in omega (arith, some)) in
+      word_stays p k piece is below (λ same. apart (omega (arith, same)))
 
-  left : (k : ℕ) → 1 ≤ k → k < words_of x → n (Heap (a + k)) ≡ m (Heap (a + k))
-  left k some below = word_stays a k x here below (λ same. omega (arith, same, some))
+  left : (k : ℕ) → 1 ≤ k → k < words_of other_piece → n (Heap (address + k)) ≡ memory (Heap (address + k))
+  left k some below = word_stays address k other_piece here below (λ same. omega (arith, same, some))
 
   -- the copy has the object's words
-  copied : (k : ℕ) → k < words_of x → n (Heap (to + k)) ≡ m (Heap (a + k))
+  copied : (k : ℕ) → k < words_of other_piece → n (Heap (to + k)) ≡ memory (Heap (address + k))
   copied k below = ⊎_elim
       (λ (none : k ≡ 0).
       let new : to + k ≡ to = omega (arith, none) in
-      let was : a ≡ a + k = omega (arith, none) in
+      let was : address ≡ address + k = omega (arith, none) in
       ap after new ∙ out.copied.header ∙ sym plain ∙ ap heap was)
       (λ (some : k ≢ 0). out.copied.words k (omega (arith, some)) (omega (arith, below, words_are)))
       (cases_eq k 0)
 
   -- other words stay
-  word_same : (word : Word) → (MayChange word → ⊥) → n word ≡ m word
+  word_same : (word : Word) → (MayChange word → ⊥) → n word ≡ memory word
   word_same word = out.copied.others word
 
-  set_same : n Cset ≡ m Cset
+  set_same : n Cset ≡ memory Cset
   set_same = word_same Cset (λ never. never)
 
-  top_same : (q : ℕ) → q ≢ r → n (Top q) ≡ m (Top q)
+  top_same : (region : ℕ) → region ≢ r → n (Top region) ≡ memory (Top region)
   top_same = out.copied.other_tops
 
-  tops_are : (λ q. n (Top q)) ≡ updated top r (m (Top r) + words_of x)
+  tops_are : (λ q. n (Top q)) ≡ updated top r (memory (Top r) + words_of other_piece)
   tops_are = fun_ext (λ q. ⊎_elim
       (λ (same : r ≡ q).
-      ap (λ k. n (Top k)) (sym same) ∙ out.copied.top ∙ ap (λ w. m (Top r) + w) words_are ∙ sym (updated_same top r (m (Top r) + words_of x) q same))
-      (λ (other : r ≢ q). top_same q (λ e. other (sym e)) ∙ sym (updated_else top r (m (Top r) + words_of x) q other))
+      ap (λ k. n (Top k)) (sym same) ∙ out.copied.top ∙ ap (λ w. memory (Top r) + w) words_are ∙ sym (updated_same top r (memory (Top r) + words_of other_piece) q same))
+      (λ (other : r ≢ q). top_same q (λ e. other (sym e)) ∙ sym (updated_else top r (memory (Top r) + words_of other_piece) q other))
       (cases_eq r q))
 
   -- the copy lies outside the set
-  region_is : region_with c to ≡ r
+  region_is : region_with config to ≡ r
   region_is =
-      let some = long a x here in
+      let some = long address other_piece here in
       let room = out.room in
-      regions_tile.of_no_other c r to (record { from = omega arith; before = omega (arith, some, room, words_are) })
+      regions_tile.of_no_other config r to (record { from = omega arith; before = omega (arith, some, room, words_are) })
 
-  outside : IsCollected c (m Cset) to → ⊥
+  outside : IsCollected config (memory Cset) to → ⊥
   outside is =
-      let member : bit_at (m Cset) r ≡ 1 = subst (IsIn (m Cset)) region_is is in
+      let member : bit_at (memory Cset) r ≡ 1 = subst (IsIn (memory Cset)) region_is is in
       let not_in = out.outside in
       omega (arith, member, not_in)
 
-  inside_now : IsCollected c (n Cset) a
-  inside_now = subst (λ s. IsCollected c s a) (sym set_same) inside
+  inside_now : IsCollected config (n Cset) address
+  inside_now = subst (λ s. IsCollected config s address) (sym set_same) inside
 
-  outside_now : IsCollected c (n Cset) to → ⊥
-  outside_now is = outside (subst (λ s. IsCollected c s to) set_same is)
+  outside_now : IsCollected config (n Cset) to → ⊥
+  outside_now is = outside (subst (λ s. IsCollected config s to) set_same is)
 
   -- so nothing outside is the old copy
-  not_old : (p : ℕ) → (IsCollected c (m Cset) p → ⊥) → p ≢ a
-  not_old p away same = away (subst (IsCollected c (m Cset)) (sym same) inside)
+  not_old : (p : ℕ) → (IsCollected config (memory Cset) p → ⊥) → p ≢ address
+  not_old p away same = away (subst (IsCollected config (memory Cset)) (sym same) inside)
 
   -- a dead object was there, and so were words that only fill
-  dead_from : (p words : ℕ) → plot p ≡ Some (dead words) → (p ≢ a) × (block p ≡ Some (dead words))
+  dead_from : (p words : ℕ) → plot p ≡ Some (dead words) → (p ≢ address) × (block p ≡ Some (dead words))
   dead_from p words is = ⊎_elim
-      (λ (gone : (p ≡ a) × (old ≡ dead words)). absurd ((old_is_old x to).3 words gone.1))
+      (λ (gone : (p ≡ address) × (old ≡ dead words)). absurd ((old_is_old other_piece to).3 words gone.1))
       (λ rest. ⊎_elim
-      (λ (new : (p ≡ to) × (x ≡ dead words)). absurd ((live_is_live x live).3 words new.1))
-      (λ (stood : (p ≢ a) × (block p ≡ Some (dead words))). stood)
+      (λ (new : (p ≡ to) × (other_piece ≡ dead words)). absurd ((live_is_live other_piece live).3 words new.1))
+      (λ (stood : (p ≢ address) × (block p ≡ Some (dead words))). stood)
       rest)
       (plot_cases p (dead words) is)
 
-  filler_from : (p words : ℕ) → plot p ≡ Some (filler words) → (p ≢ a) × (block p ≡ Some (filler words))
+  filler_from : (p words : ℕ) → plot p ≡ Some (filler words) → (p ≢ address) × (block p ≡ Some (filler words))
   filler_from p words is = ⊎_elim
-      (λ (gone : (p ≡ a) × (old ≡ filler words)). absurd ((old_is_old x to).4 words gone.1))
+      (λ (gone : (p ≡ address) × (old ≡ filler words)). absurd ((old_is_old other_piece to).4 words gone.1))
       (λ rest. ⊎_elim
-      (λ (new : (p ≡ to) × (x ≡ filler words)). absurd ((live_is_live x live).4 words new.1))
-      (λ (stood : (p ≢ a) × (block p ≡ Some (filler words))). stood)
+      (λ (new : (p ≡ to) × (other_piece ≡ filler words)). absurd ((live_is_live other_piece live).4 words new.1))
+      (λ (stood : (p ≢ address) × (block p ≡ Some (filler words))). stood)
       rest)
       (plot_cases p (filler words) is)
 
-  parsable_again : IsParsable c (λ q. n (Top q)) plot
+  parsable_again : IsParsable config (λ q. n (Top q)) plot
   parsable_again = record {
-    plotted = subst (λ t. IsPlotted c t plot) (sym tops_are)
-        (plotted_still c (updated top r (m (Top r) + words_of x)) mid a x old (mid_stays a x here) (old_words x to) (joined.plotted_more c top block r (m (Top r)) x joins));
-    filled = subst (λ t. IsFilled c t plot) (sym tops_are)
-        (filled_still c (updated top r (m (Top r) + words_of x)) mid a x old (mid_stays a x here) (old_words x to)
-        (joined.filled_more c top block r (m (Top r)) x joins b.parsable.filled));
+    plotted = subst (λ t. IsPlotted config t plot) (sym tops_are)
+        (plotted_still config (updated top r (memory (Top r) + words_of other_piece)) mid address other_piece old (mid_stays address other_piece here) (old_words other_piece to) (joined.plotted_more config top block r (memory (Top r)) other_piece joins));
+    filled = subst (λ t. IsFilled config t plot) (sym tops_are)
+        (filled_still config (updated top r (memory (Top r) + words_of other_piece)) mid address other_piece old (mid_stays address other_piece here) (old_words other_piece to)
+        (joined.filled_more config top block r (memory (Top r)) other_piece joins b.parsable.filled));
     promises = λ p seat words is. let at = was_promise p seat words is in b.parsable.promises at.0 seat words at.1;
     deads = λ p words is. b.parsable.deads p words (dead_from p words is).1;
     spents = λ p words at is. ⊎_elim
-        (λ (gone : (p ≡ a) × (old ≡ spent words at)).
-        let was = was_promised x to live words at gone.1 in
-        b.parsable.promises a was.0 words (here ∙ ap Some was.1))
+        (λ (gone : (p ≡ address) × (old ≡ spent words at)).
+        let was = was_promised other_piece to live words at gone.1 in
+        b.parsable.promises address was.0 words (here ∙ ap Some was.1))
         (λ rest. ⊎_elim
-        (λ (new : (p ≡ to) × (x ≡ spent words at)). absurd ((live_is_live x live).1 words at new.1))
-        (λ (stood : (p ≢ a) × (block p ≡ Some (spent words at))). b.parsable.spents p words at stood.1)
+        (λ (new : (p ≡ to) × (other_piece ≡ spent words at)). absurd ((live_is_live other_piece live).1 words at new.1))
+        (λ (stood : (p ≢ address) × (block p ≡ Some (spent words at))). b.parsable.spents p words at stood.1)
         rest)
         (plot_cases p (spent words at) is);
     fillers = λ p words is. b.parsable.fillers p words (filler_from p words is).1;
@@ -248,125 +248,125 @@ module _ (c : Config) (m : Word → ℕ) (block : Plot) (owner : ℕ → Option 
     where
       was_promise : (p seat words : ℕ) → plot p ≡ Some (promised seat words) → (q : ℕ) × (block q ≡ Some (promised seat words))
       was_promise p seat words is = ⊎_elim
-          (λ (gone : (p ≡ a) × (old ≡ promised seat words)). absurd ((old_is_old x to).1 seat words gone.1))
+          (λ (gone : (p ≡ address) × (old ≡ promised seat words)). absurd ((old_is_old other_piece to).1 seat words gone.1))
           (λ rest. ⊎_elim
-          (λ (new : (p ≡ to) × (x ≡ promised seat words)). (a, here ∙ ap Some new.1))
-          (λ (stood : (p ≢ a) × (block p ≡ Some (promised seat words))). (p, stood.1))
+          (λ (new : (p ≡ to) × (other_piece ≡ promised seat words)). (address, here ∙ ap Some new.1))
+          (λ (stood : (p ≢ address) × (block p ≡ Some (promised seat words))). (p, stood.1))
           rest)
           (plot_cases p (promised seat words) is)
 
   -- an object stood there, or where it was copied from
   thing_from : (p refs nums : ℕ) (name : Name) → plot p ≡ Some (thing name refs nums)
-      → ((p ≡ to) × (x ≡ thing name refs nums)) ⊎ ((p ≢ a) × (block p ≡ Some (thing name refs nums)))
+      → ((p ≡ to) × (other_piece ≡ thing name refs nums)) ⊎ ((p ≢ address) × (block p ≡ Some (thing name refs nums)))
   thing_from p refs nums name is = ⊎_elim
-      (λ (gone : (p ≡ a) × (old ≡ thing name refs nums)). absurd ((old_is_old x to).0 name refs nums gone.1))
+      (λ (gone : (p ≡ address) × (old ≡ thing name refs nums)). absurd ((old_is_old other_piece to).0 name refs nums gone.1))
       (λ rest. rest)
       (plot_cases p (thing name refs nums) is)
 
   promised_from : (p seat words : ℕ) → plot p ≡ Some (promised seat words)
-      → ((p ≡ to) × (x ≡ promised seat words)) ⊎ ((p ≢ a) × (block p ≡ Some (promised seat words)))
+      → ((p ≡ to) × (other_piece ≡ promised seat words)) ⊎ ((p ≢ address) × (block p ≡ Some (promised seat words)))
   promised_from p seat words is = ⊎_elim
-      (λ (gone : (p ≡ a) × (old ≡ promised seat words)). absurd ((old_is_old x to).1 seat words gone.1))
+      (λ (gone : (p ≡ address) × (old ≡ promised seat words)). absurd ((old_is_old other_piece to).1 seat words gone.1))
       (λ rest. rest)
       (plot_cases p (promised seat words) is)
 
   -- room is the same
   same_room : SameRoom block plot
   same_room = record {
-    stays = λ p seat y of is. stays p y (λ same. none-some seat (sym (live_is_live x live).2 ∙ ap room_of (same_Some x y (sym here ∙ ap block (sym same) ∙ is)) ∙ of)) is;
+    stays = λ p seat y of is. stays p y (λ same. none-some seat (sym (live_is_live other_piece live).2 ∙ ap room_of (same_Some other_piece y (sym here ∙ ap block (sym same) ∙ is)) ∙ of)) is;
     came = λ p seat y of is. ⊎_elim
-        (λ (gone : (p ≡ a) × (old ≡ y)). absurd (none-some seat (sym (old_is_old x to).2 ∙ ap room_of gone.1 ∙ of)))
+        (λ (gone : (p ≡ address) × (old ≡ y)). absurd (none-some seat (sym (old_is_old other_piece to).2 ∙ ap room_of gone.1 ∙ of)))
         (λ rest. ⊎_elim
-        (λ (new : (p ≡ to) × (x ≡ y)). absurd (none-some seat (sym (live_is_live x live).2 ∙ ap room_of new.1 ∙ of)))
-        (λ (stood : (p ≢ a) × (block p ≡ Some y)). stood.1)
+        (λ (new : (p ≡ to) × (other_piece ≡ y)). absurd (none-some seat (sym (live_is_live other_piece live).2 ∙ ap room_of new.1 ∙ of)))
+        (λ (stood : (p ≢ address) × (block p ≡ Some y)). stood.1)
         rest)
         (plot_cases p y is);
   }
 
-  objects_again : AreObjects after plot g.object
+  objects_again : AreObjects after plot graph.object
   objects_again = record {
     each = λ p refs nums name is. ⊎_elim
-        (λ (new : (p ≡ to) × (x ≡ thing name refs nums)).
-        let o = b.contents.objects.each a refs nums name (here ∙ ap Some new.1) in
-        let size : words_of x ≡ 3 + refs + nums = ap words_of new.1 in
-        let copy = object_copied heap after block plot a to refs nums name o.0 (λ k below. copied k (omega (arith, below, size))) names_stay o.2 in
+        (λ (new : (p ≡ to) × (other_piece ≡ thing name refs nums)).
+        let o = b.contents.objects.each address refs nums name (here ∙ ap Some new.1) in
+        let size : words_of other_piece ≡ 3 + refs + nums = ap words_of new.1 in
+        let copy = object_copied heap after block plot address to refs nums name o.0 (λ k below. copied k (omega (arith, below, size))) names_stay o.2 in
         (o.0, o.1, subst (λ q. IsThing after plot q refs nums name o.0) (sym new.0) copy))
-        (λ (stood : (p ≢ a) × (block p ≡ Some (thing name refs nums))).
+        (λ (stood : (p ≢ address) × (block p ≡ Some (thing name refs nums))).
         let o = b.contents.objects.each p refs nums name stood.1 in
         (o.0, o.1, object_reads heap after block plot p refs nums name o.0 (λ k below. kept p k (thing name refs nums) stood.0 stood.1 below) names_stay o.2))
         (thing_from p refs nums name is);
     once = λ p q refs nums more_refs more_nums name is_p is_q. ⊎_elim
-        (λ (new_p : (p ≡ to) × (x ≡ thing name refs nums)). ⊎_elim
-        (λ (new_q : (q ≡ to) × (x ≡ thing name more_refs more_nums)). new_p.0 ∙ sym new_q.0)
-        (λ (stood_q : (q ≢ a) × (block q ≡ Some (thing name more_refs more_nums))).
-        absurd (stood_q.0 (sym (b.contents.objects.once a q refs nums more_refs more_nums name (here ∙ ap Some new_p.1) stood_q.1))))
+        (λ (new_p : (p ≡ to) × (other_piece ≡ thing name refs nums)). ⊎_elim
+        (λ (new_q : (q ≡ to) × (other_piece ≡ thing name more_refs more_nums)). new_p.0 ∙ sym new_q.0)
+        (λ (stood_q : (q ≢ address) × (block q ≡ Some (thing name more_refs more_nums))).
+        absurd (stood_q.0 (sym (b.contents.objects.once address q refs nums more_refs more_nums name (here ∙ ap Some new_p.1) stood_q.1))))
         (thing_from q more_refs more_nums name is_q))
-        (λ (stood_p : (p ≢ a) × (block p ≡ Some (thing name refs nums))). ⊎_elim
-        (λ (new_q : (q ≡ to) × (x ≡ thing name more_refs more_nums)).
-        absurd (stood_p.0 (b.contents.objects.once p a refs nums more_refs more_nums name stood_p.1 (here ∙ ap Some new_q.1))))
-        (λ (stood_q : (q ≢ a) × (block q ≡ Some (thing name more_refs more_nums))).
+        (λ (stood_p : (p ≢ address) × (block p ≡ Some (thing name refs nums))). ⊎_elim
+        (λ (new_q : (q ≡ to) × (other_piece ≡ thing name more_refs more_nums)).
+        absurd (stood_p.0 (b.contents.objects.once p address refs nums more_refs more_nums name stood_p.1 (here ∙ ap Some new_q.1))))
+        (λ (stood_q : (q ≢ address) × (block q ≡ Some (thing name more_refs more_nums))).
         b.contents.objects.once p q refs nums more_refs more_nums name stood_p.1 stood_q.1)
         (thing_from q more_refs more_nums name is_q))
         (thing_from p refs nums name is_p);
   }
 
   -- a region that is free was, and is another
-  free_was : (q : ℕ) → q < c.regions → IsIn (n Free) q → (q ≢ r) × IsIn (m Free) q
-  free_was q below is =
-      let differs : q ≢ r = λ same. (let member : bit_at (n Free) r ≡ 1 = subst (IsIn (n Free)) same is in let used = out.copied.in_use in omega (arith, member, used)) in
-      (differs, sym (out.copied.others_free q below differs) ∙ is)
+  free_was : (region : ℕ) → region < config.regions → IsIn (n Free) region → (region ≢ r) × IsIn (memory Free) region
+  free_was region below is =
+      let differs : region ≢ r = λ same. (let member : bit_at (n Free) r ≡ 1 = subst (IsIn (n Free)) same is in let used = out.copied.in_use in omega (arith, member, used)) in
+      (differs, sym (out.copied.others_free region below differs) ∙ is)
 
-  free_is : n Free ≡ bit_and (m Free) (all_but r)
+  free_is : n Free ≡ bit_and (memory Free) (all_but r)
   unfolding copied_to
-  free_is = ap (λ (f : Word → ℕ). f Free) (copied_as c m a r out.found)
+  free_is = ap (λ (memory : Word → ℕ). memory Free) (copied_as config memory address r out.found)
 
-  free_again : IsFreeWord c (n Free) (λ q. n (Top q)) owner
+  free_again : IsFreeWord config (n Free) (λ q. n (Top q)) owner
   free_again = record {
-    no_more = (let was = b.owned.free_word.no_more in let less = and_le_l (m Free) (all_but r) in let is = free_is in omega (arith, was, less, is));
+    no_more = (let was = b.owned.free_word.no_more in let less = and_le_l (memory Free) (all_but r) in let is = free_is in omega (arith, was, less, is));
     empty = λ q below is. let was = free_was q below is in top_same q was.0 ∙ b.owned.free_word.empty q below was.1;
     nobodys = λ q below is. b.owned.free_word.nobodys q below (free_was q below is).1;
   }
 
   -- no top falls
-  rises : (q : ℕ) → m (Top q) ≤ n (Top q)
-  rises q = ⊎_elim
-      (λ (same : q ≡ r). (let grown = out.copied.top in let own : n (Top q) ≡ n (Top r) = ap (λ k. n (Top k)) same in let was : m (Top q) ≡ m (Top r) = ap (λ k. m (Top k)) same in omega (arith, grown, own, was)))
-      (λ (other : q ≢ r). (let same = top_same q other in omega (arith, same)))
-      (cases_eq q r)
+  rises : (region : ℕ) → memory (Top region) ≤ n (Top region)
+  rises region = ⊎_elim
+      (λ (same : region ≡ r). (let grown = out.copied.top in let own : n (Top region) ≡ n (Top r) = ap (λ k. n (Top k)) same in let was : memory (Top region) ≡ memory (Top r) = ap (λ k. memory (Top k)) same in omega (arith, grown, own, was)))
+      (λ (other : region ≢ r). (let same = top_same region other in omega (arith, same)))
+      (cases_eq region r)
 
   -- so regions and buffers are owned as before
   abbrev currents : ℕ → ℕ
-  currents s = n (Current s)
+  currents seat = n (Current seat)
 
   abbrev currents_were : ℕ → ℕ
-  currents_were s = m (Current s)
+  currents_were seat = memory (Current seat)
 
   currents_same : currents ≡ currents_were
   currents_same = fun_ext (λ s. word_same (Current s) (λ never. never))
 
-  buffers_again : AreBuffers c (λ q. n (Top q)) currents plot
-  buffers_again = subst (λ k. AreBuffers c (λ q. n (Top q)) k plot) (sym currents_same)
-      (buffers_stay c top (λ q. n (Top q)) currents_were block plot same_room b.owned.buffers (λ seat some. rises (b.owned.buffers.each seat some).region))
+  buffers_again : AreBuffers config (λ q. n (Top q)) currents plot
+  buffers_again = subst (λ k. AreBuffers config (λ q. n (Top q)) k plot) (sym currents_same)
+      (buffers_stay config top (λ q. n (Top q)) currents_were block plot same_room b.owned.buffers (λ seat some. rises (b.owned.buffers.each seat some).region))
 
-  outside_again : AreBuffersOutside c (n Cset) currents
-  outside_again = subst (λ k. AreBuffersOutside c (n Cset) k) (sym currents_same) (subst (λ set. AreBuffersOutside c set currents_were) (sym set_same) b.owned.outside)
+  outside_again : AreBuffersOutside config (n Cset) currents
+  outside_again = subst (λ k. AreBuffersOutside config (n Cset) k) (sym currents_same) (subst (λ set. AreBuffersOutside config set currents_were) (sym set_same) b.owned.outside)
 
-  share_again : ShareIsOpen c (n Share) (n Free) (n Cset) owner
-  share_again = subst (λ share. ShareIsOpen c share (n Free) (n Cset) owner) (sym (word_same Share (λ never. never)))
-      (subst (λ free. ShareIsOpen c (m Share) free (n Cset) owner) (sym free_is)
-      (subst (λ set. ShareIsOpen c (m Share) (bit_and (m Free) (all_but r)) set owner) (sym set_same) (share_stays c (m Share) (m Free) (m Cset) r owner out.below b.owned.shared_one)))
+  share_again : ShareIsOpen config (n Share) (n Free) (n Cset) owner
+  share_again = subst (λ share. ShareIsOpen config share (n Free) (n Cset) owner) (sym (word_same Share (λ never. never)))
+      (subst (λ free. ShareIsOpen config (memory Share) free (n Cset) owner) (sym free_is)
+      (subst (λ set. ShareIsOpen config (memory Share) (bit_and (memory Free) (all_but r)) set owner) (sym set_same) (share_stays config (memory Share) (memory Free) (memory Cset) r owner out.below b.owned.shared_one)))
 
-  owned_again : AreOwned c (λ q. n (Top q)) (n Share) (n Free) (n Cset) currents plot owner
-  owned_again = record { free_word = free_again; shared_one = share_again; rooms = rooms_stay c block plot same_room b.owned.rooms; buffers = buffers_again; outside = outside_again }
+  owned_again : AreOwned config (λ q. n (Top q)) (n Share) (n Free) (n Cset) currents plot owner
+  owned_again = record { free_word = free_again; shared_one = share_again; rooms = rooms_stay config block plot same_room b.owned.rooms; buffers = buffers_again; outside = outside_again }
 
   unwritten_again : AreUnwritten after plot
   unwritten_again = record {
     blanks = λ p seat words is. ⊎_elim
-        (λ (new : (p ≡ to) × (x ≡ promised seat words)).
-        let size : words_of x ≡ words = ap words_of new.1 in
+        (λ (new : (p ≡ to) × (other_piece ≡ promised seat words)).
+        let size : words_of other_piece ≡ words = ap words_of new.1 in
         subst (λ q. IsBlank after q words) (sym new.0)
-        (blank_copied heap after a to words (λ k below. copied k (omega (arith, below, size))) (b.unwritten.blanks a seat words (here ∙ ap Some new.1))))
-        (λ (stood : (p ≢ a) × (block p ≡ Some (promised seat words))).
+        (blank_copied heap after address to words (λ k below. copied k (omega (arith, below, size))) (b.unwritten.blanks address seat words (here ∙ ap Some new.1))))
+        (λ (stood : (p ≢ address) × (block p ≡ Some (promised seat words))).
         blank_copied heap after p p words (λ k below. kept p k (promised seat words) stood.0 stood.1 below) (b.unwritten.blanks p seat words stood.1))
         (promised_from p seat words is);
     headers = λ p words is.
@@ -386,7 +386,7 @@ module _ (c : Config) (m : Word → ℕ) (block : Plot) (owner : ℕ → Option 
   }
 
   -- an object that is not the one that is copied is where it was
-  markable_stays : (p : ℕ) → p ≢ a → IsMarkable block p → IsMarkable plot p
+  markable_stays : (p : ℕ) → p ≢ address → IsMarkable block p → IsMarkable plot p
   markable_stays p other (IsMarkable.object name refs nums is) = IsMarkable.object name refs nums (stays p (thing name refs nums) other is)
   markable_stays p other (IsMarkable.to_come seat words is) = IsMarkable.to_come seat words (stays p (promised seat words) other is)
 
@@ -394,14 +394,14 @@ module _ (c : Config) (m : Word → ℕ) (block : Plot) (owner : ℕ → Option 
   refers_still : (at : ℕ) (reference : Reference) → after at ≡ heap at → Points block (heap at) reference → Points plot (after at) reference
   refers_still at reference same points = subst (λ v. Points plot v reference) (sym same) (points_stay block plot names_stay (heap at) reference points)
 
-  moved_again : (p refs nums at : ℕ) (name : Name) → plot p ≡ Some (moved name refs nums at) → IsMoved c (n Cset) after plot p refs nums at name
+  moved_again : (p refs nums at : ℕ) (name : Name) → plot p ≡ Some (moved name refs nums at) → IsMoved config (n Cset) after plot p refs nums at name
   moved_again p refs nums at name is = ⊎_elim
-      (λ (gone : (p ≡ a) × (old ≡ moved name refs nums at)).
-      let was = was_thing x to live name refs nums at gone.1 in
-      let o = b.contents.objects.each a refs nums name (here ∙ ap Some was.0) in
-      let size : words_of x ≡ 3 + refs + nums = ap words_of was.0 in
-      subst (λ q. IsMoved c (n Cset) after plot q refs nums at name) (sym gone.0)
-      (subst (λ k. IsMoved c (n Cset) after plot a refs nums k name) (sym was.1)
+      (λ (gone : (p ≡ address) × (old ≡ moved name refs nums at)).
+      let was = was_thing other_piece to live name refs nums at gone.1 in
+      let o = b.contents.objects.each address refs nums name (here ∙ ap Some was.0) in
+      let size : words_of other_piece ≡ 3 + refs + nums = ap words_of was.0 in
+      subst (λ q. IsMoved config (n Cset) after plot q refs nums at name) (sym gone.0)
+      (subst (λ k. IsMoved config (n Cset) after plot address refs nums k name) (sym was.1)
       (record {
         header = out.copied.forwarded;
         shape = left 1 (omega arith) (omega (arith, size)) ∙ o.2.shape;
@@ -414,12 +414,12 @@ module _ (c : Config) (m : Word → ℕ) (block : Plot) (owner : ℕ → Option 
         references = λ k below.
             let null : Reference = None in
             let there = slice_get-get_or o.0.refs k null (let few = o.2.refs_are in omega (arith, below, few)) in
-            let place : a + (3 + k) ≡ a + 3 + k = omega arith in
-            (get_or o.0.refs k null, refers_still (a + 3 + k) (get_or o.0.refs k null) (subst (λ d. after d ≡ heap d) place (left (3 + k) (omega arith) (omega (arith, size, below)))) (o.2.references k (get_or o.0.refs k null) there));
+            let place : address + (3 + k) ≡ address + 3 + k = omega arith in
+            (get_or o.0.refs k null, refers_still (address + 3 + k) (get_or o.0.refs k null) (subst (λ d. after d ≡ heap d) place (left (3 + k) (omega arith) (omega (arith, size, below)))) (o.2.references k (get_or o.0.refs k null) there));
       })))
       (λ rest. ⊎_elim
-      (λ (new : (p ≡ to) × (x ≡ moved name refs nums at)). absurd ((live_is_live x live).0 name refs nums at new.1))
-      (λ (stood : (p ≢ a) × (block p ≡ Some (moved name refs nums at))).
+      (λ (new : (p ≡ to) × (other_piece ≡ moved name refs nums at)). absurd ((live_is_live other_piece live).0 name refs nums at new.1))
+      (λ (stood : (p ≢ address) × (block p ≡ Some (moved name refs nums at))).
       let was = b.moves.moveds p refs nums at name stood.1 in
       let first : p + 0 ≡ p = omega arith in
       record {
@@ -428,9 +428,9 @@ module _ (c : Config) (m : Word → ℕ) (block : Plot) (owner : ℕ → Option 
         name_word = kept p 2 (moved name refs nums at) stood.0 stood.1 (omega arith) ∙ was.name_word;
         few_refs = was.few_refs;
         few_nums = was.few_nums;
-        inside = subst (λ s. IsCollected c s p) (sym set_same) was.inside;
+        inside = subst (λ s. IsCollected config s p) (sym set_same) was.inside;
         copy = stays at (thing name refs nums) (not_old at was.outside) was.copy;
-        outside = λ member. was.outside (subst (λ s. IsCollected c s at) set_same member);
+        outside = λ member. was.outside (subst (λ s. IsCollected config s at) set_same member);
         references = λ k below.
             let there = was.references k below in
             let place : p + (3 + k) ≡ p + 3 + k = omega arith in
@@ -439,30 +439,30 @@ module _ (c : Config) (m : Word → ℕ) (block : Plot) (owner : ℕ → Option 
       rest)
       (plot_cases p (moved name refs nums at) is)
 
-  spent_again : (p words at : ℕ) → plot p ≡ Some (spent words at) → IsSpent c (n Cset) after plot p words at
+  spent_again : (p words at : ℕ) → plot p ≡ Some (spent words at) → IsSpent config (n Cset) after plot p words at
   spent_again p words at is = ⊎_elim
-      (λ (gone : (p ≡ a) × (old ≡ spent words at)).
-      let was = was_promised x to live words at gone.1 in
-      let blank = b.unwritten.blanks a was.0 words (here ∙ ap Some was.1) in
-      let size : words_of x ≡ words = ap words_of was.1 in
+      (λ (gone : (p ≡ address) × (old ≡ spent words at)).
+      let was = was_promised other_piece to live words at gone.1 in
+      let blank = b.unwritten.blanks address was.0 words (here ∙ ap Some was.1) in
+      let size : words_of other_piece ≡ words = ap words_of was.1 in
       let three = blank.long in
       let refs = blank.few_refs in
       let nums = blank.few_nums in
-      subst (λ q. IsSpent c (n Cset) after plot q words at) (sym gone.0)
-      (subst (λ k. IsSpent c (n Cset) after plot a words k) (sym was.2)
+      subst (λ q. IsSpent config (n Cset) after plot q words at) (sym gone.0)
+      (subst (λ k. IsSpent config (n Cset) after plot address words k) (sym was.2)
       (record {
         header = out.copied.forwarded;
         shape = ap object_words (left 1 (omega arith) (omega (arith, size, three)) ∙ blank.shape) ∙ shape_words blank.refs blank.nums refs nums ∙ sym three;
         inside = inside_now;
-        copy = live_markable plot to x live new_there;
-        piece = x;
+        copy = live_markable plot to other_piece live new_there;
+        piece = other_piece;
         there = new_there;
         long = size;
         outside = outside_now;
       })))
       (λ rest. ⊎_elim
-      (λ (new : (p ≡ to) × (x ≡ spent words at)). absurd ((live_is_live x live).1 words at new.1))
-      (λ (stood : (p ≢ a) × (block p ≡ Some (spent words at))).
+      (λ (new : (p ≡ to) × (other_piece ≡ spent words at)). absurd ((live_is_live other_piece live).1 words at new.1))
+      (λ (stood : (p ≢ address) × (block p ≡ Some (spent words at))).
       let was = b.moves.spents p words at stood.1 in
       let some = b.parsable.spents p words at stood.1 in
       let first : p + 0 ≡ p = omega arith in
@@ -470,12 +470,12 @@ module _ (c : Config) (m : Word → ℕ) (block : Plot) (owner : ℕ → Option 
       record {
         header = sym (ap after first) ∙ kept p 0 (spent words at) stood.0 stood.1 (omega (arith, some)) ∙ ap heap first ∙ was.header;
         shape = ap object_words (kept p 1 (spent words at) stood.0 stood.1 (omega (arith, some))) ∙ was.shape;
-        inside = subst (λ s. IsCollected c s p) (sym set_same) was.inside;
+        inside = subst (λ s. IsCollected config s p) (sym set_same) was.inside;
         copy = markable_stays at away was.copy;
         piece = was.piece;
         there = stays at was.piece away was.there;
         long = was.long;
-        outside = λ member. was.outside (subst (λ s. IsCollected c s at) set_same member);
+        outside = λ member. was.outside (subst (λ s. IsCollected config s at) set_same member);
       })
       rest)
       (plot_cases p (spent words at) is)
@@ -487,20 +487,20 @@ module _ (c : Config) (m : Word → ℕ) (block : Plot) (owner : ℕ → Option 
   marks k = n (Black k)
 
   abbrev marks_were : ℕ → ℕ
-  marks_were k = m (Black k)
+  marks_were k = memory (Black k)
 
   abbrev tams : ℕ → ℕ
-  tams q = n (Tams q)
+  tams region = n (Tams region)
 
   abbrev tams_were : ℕ → ℕ
-  tams_were q = m (Tams q)
+  tams_were region = memory (Tams region)
 
   -- the copy is young
-  young_there : IsYoung c tams to
+  young_there : IsYoung config tams to
   young_there =
       let floor = b.floors r out.below in
-      let same : n (Tams r) ≡ m (Tams r) = word_same (Tams r) (λ never. never) in
-      subst (λ q. base_of c q + n (Tams q) ≤ to) (sym region_is) (omega (arith, floor, same))
+      let same : n (Tams r) ≡ memory (Tams r) = word_same (Tams r) (λ never. never) in
+      subst (λ q. base_of config q + n (Tams q) ≤ to) (sym region_is) (omega (arith, floor, same))
 
   marks_same : marks ≡ marks_were
   marks_same = fun_ext (λ k. word_same (Black k) (λ never. never))
@@ -509,48 +509,48 @@ module _ (c : Config) (m : Word → ℕ) (block : Plot) (owner : ℕ → Option 
   tams_same = fun_ext (λ q. word_same (Tams q) (λ never. never))
 
   -- so what stood and is marked or young is so still
-  marked_still : (p : ℕ) → HasMark c marks_were p ⊎ IsYoung c tams_were p → HasMark c marks p ⊎ IsYoung c tams p
-  marked_still p is = subst (λ bits. HasMark c bits p ⊎ IsYoung c tams p) (sym marks_same) (subst (λ floor. HasMark c marks_were p ⊎ IsYoung c floor p) (sym tams_same) is)
+  marked_still : (address : ℕ) → HasMark config marks_were address ⊎ IsYoung config tams_were address → HasMark config marks address ⊎ IsYoung config tams address
+  marked_still address is = subst (λ bits. HasMark config bits address ⊎ IsYoung config tams address) (sym marks_same) (subst (λ floor. HasMark config marks_were address ⊎ IsYoung config floor address) (sym tams_same) is)
 
-  marked_again : (p : ℕ) → IsMarkable plot p → HasMark c marks p ⊎ IsYoung c tams p
+  marked_again : (p : ℕ) → IsMarkable plot p → HasMark config marks p ⊎ IsYoung config tams p
   marked_again p (IsMarkable.object name refs nums is) = ⊎_elim
-      (λ (new : (p ≡ to) × (x ≡ thing name refs nums)). inr (subst (IsYoung c tams) (sym new.0) young_there))
-      (λ (stood : (p ≢ a) × (block p ≡ Some (thing name refs nums))). marked_still p (b.marked p (IsMarkable.object name refs nums stood.1)))
+      (λ (new : (p ≡ to) × (other_piece ≡ thing name refs nums)). inr (subst (IsYoung config tams) (sym new.0) young_there))
+      (λ (stood : (p ≢ address) × (block p ≡ Some (thing name refs nums))). marked_still p (b.marked p (IsMarkable.object name refs nums stood.1)))
       (thing_from p refs nums name is)
   marked_again p (IsMarkable.to_come seat words is) = ⊎_elim
-      (λ (new : (p ≡ to) × (x ≡ promised seat words)). inr (subst (IsYoung c tams) (sym new.0) young_there))
-      (λ (stood : (p ≢ a) × (block p ≡ Some (promised seat words))). marked_still p (b.marked p (IsMarkable.to_come seat words stood.1)))
+      (λ (new : (p ≡ to) × (other_piece ≡ promised seat words)). inr (subst (IsYoung config tams) (sym new.0) young_there))
+      (λ (stood : (p ≢ address) × (block p ≡ Some (promised seat words))). marked_still p (b.marked p (IsMarkable.to_come seat words stood.1)))
       (promised_from p seat words is)
 
   -- what has a copy in the set has one still
-  copy_stays : (p : ℕ) → p ≢ a → p ≢ to → HasCopy block p → HasCopy plot p
+  copy_stays : (p : ℕ) → p ≢ address → p ≢ to → HasCopy block p → HasCopy plot p
   copy_stays p other differs (HasCopy.copy body is) = HasCopy.copy body (ap body_at (same_plot p other differs) ∙ is)
   copy_stays p other differs (HasCopy.spent_copy words at is) = HasCopy.spent_copy words at (same_plot p other differs ∙ is)
 
-  only_again : (p : ℕ) → c.region_words ≤ p → HasMark c marks p → IsCollected c (n Cset) p → IsMarkable plot p ⊎ HasCopy plot p
+  only_again : (p : ℕ) → config.region_words ≤ p → HasMark config marks p → IsCollected config (n Cset) p → IsMarkable plot p ⊎ HasCopy plot p
   only_again p above mark member = ⊎_elim
-      (λ (same : p ≡ a). inr (subst (HasCopy plot) (sym same) (old_has_copy plot a to x live old_there)))
-      (λ (other : p ≢ a).
-      let was_in : IsCollected c (m Cset) p = subst (λ s. IsCollected c s p) set_same member in
-      let differs : p ≢ to = λ same. outside (subst (IsCollected c (m Cset)) same was_in) in
+      (λ (same : p ≡ address). inr (subst (HasCopy plot) (sym same) (old_has_copy plot address to other_piece live old_there)))
+      (λ (other : p ≢ address).
+      let was_in : IsCollected config (memory Cset) p = subst (λ s. IsCollected config s p) set_same member in
+      let differs : p ≢ to = λ same. outside (subst (IsCollected config (memory Cset)) same was_in) in
       ⊎_elim
       (λ (markable : IsMarkable block p). inl (markable_stays p other markable))
       (λ (copy : HasCopy block p). inr (copy_stays p other differs copy))
-      (b.only p above (subst (λ bits. HasMark c bits p) marks_same mark) was_in))
-      (cases_eq p a)
+      (b.only p above (subst (λ bits. HasMark config bits p) marks_same mark) was_in))
+      (cases_eq p address)
 
-  in_set_was : (q : ℕ) → IsIn (n Cset) q → IsIn (m Cset) q
-  in_set_was q is = subst (λ s. IsIn s q) set_same is
+  in_set_was : (region : ℕ) → IsIn (n Cset) region → IsIn (memory Cset) region
+  in_set_was region is = subst (λ s. IsIn s region) set_same is
 
   -- a region of the set is not the one that has grown
-  not_grown : (q : ℕ) → IsIn (m Cset) q → q ≢ r
-  not_grown q member same =
-      let there : bit_at (m Cset) r ≡ 1 = subst (IsIn (m Cset)) same member in
+  not_grown : (region : ℕ) → IsIn (memory Cset) region → region ≢ r
+  not_grown region member same =
+      let there : bit_at (memory Cset) r ≡ 1 = subst (IsIn (memory Cset)) same member in
       let not_in = out.outside in
       omega (arith, there, not_in)
 
   -- all of it holds again
-  copied_between : AreBetween c n plot owner g
+  copied_between : AreBetween config n plot owner graph
   copied_between = record {
     parsable = parsable_again;
     contents = record { objects = objects_again; given = b.contents.given };
@@ -559,36 +559,36 @@ module _ (c : Config) (m : Word → ℕ) (block : Plot) (owner : ℕ → Option 
     moves = record { moveds = moved_again; spents = spent_again };
     unheld = λ p seat words is. b.unheld p seat words (same_room.came p seat (hand seat words) refl is);
     uncarved = λ p seat words is. b.uncarved p seat words (same_room.came p seat (carved seat words) refl is);
-    no_rooms = λ p seat y is room member. b.no_rooms p seat y (same_room.came p seat y room is) room (subst (λ set. IsCollected c set p) set_same member);
+    no_rooms = λ p seat y is room member. b.no_rooms p seat y (same_room.came p seat y room is) room (subst (λ set. IsCollected config set p) set_same member);
     promised_to = λ p seat words is. ⊎_elim
-        (λ (new : (p ≡ to) × (x ≡ promised seat words)). b.promised_to a seat words (here ∙ ap Some new.1))
-        (λ (stood : (p ≢ a) × (block p ≡ Some (promised seat words))). b.promised_to p seat words stood.1)
+        (λ (new : (p ≡ to) × (other_piece ≡ promised seat words)). b.promised_to address seat words (here ∙ ap Some new.1))
+        (λ (stood : (p ≢ address) × (block p ≡ Some (promised seat words))). b.promised_to p seat words stood.1)
         (promised_from p seat words is);
     in_heap = λ q is. b.in_heap q (in_set_was q is);
     used = λ q free is. let was = in_set_was q is in b.used q (free_was q (b.in_heap q was) free).1 was;
     nobodys = λ q seat own is. b.nobodys q seat own (in_set_was q is);
     no_new = λ q is. let was = in_set_was q is in top_same q (not_grown q was) ∙ b.no_new q was ∙ sym (word_same (Tams q) (λ never. never));
     marked = marked_again;
-    young = λ p seat y is room. subst (λ floor. IsYoung c floor p) (sym tams_same) (b.young p seat y (same_room.came p seat y room is) room);
+    young = λ p seat y is room. subst (λ floor. IsYoung config floor p) (sym tams_same) (b.young p seat y (same_room.came p seat y room is) room);
     floors = λ q below. ⊎_elim
         (λ (same : q ≡ r).
         let floor = b.floors r out.below in
         let grown = out.copied.top in
-        let tams : n (Tams r) ≡ m (Tams r) = word_same (Tams r) (λ never. never) in
+        let tams : n (Tams r) ≡ memory (Tams r) = word_same (Tams r) (λ never. never) in
         subst (λ k. n (Tams k) ≤ n (Top k)) (sym same) (omega (arith, floor, grown, tams)))
         (λ (other : q ≢ r).
         let floor = b.floors q below in
         let same = top_same q other in
-        let tams : n (Tams q) ≡ m (Tams q) = word_same (Tams q) (λ never. never) in
+        let tams : n (Tams q) ≡ memory (Tams q) = word_same (Tams q) (λ never. never) in
         omega (arith, floor, same, tams))
         (cases_eq q r);
-    unmarked = λ p words is mark. let stood = dead_from p words is in b.unmarked p words stood.1 (subst (λ bits. HasMark c bits p) marks_same mark);
-    deads = λ p words is young. let stood = dead_from p words is in b.deads p words stood.1 (subst (λ floor. IsYoung c floor p) tams_same young);
+    unmarked = λ p words is mark. let stood = dead_from p words is in b.unmarked p words stood.1 (subst (λ bits. HasMark config bits p) marks_same mark);
+    deads = λ p words is young. let stood = dead_from p words is in b.deads p words stood.1 (subst (λ floor. IsYoung config floor p) tams_same young);
     only = only_again;
   }
 
   -- and that is where the copy is
-  pub copied_out_of : (copy_address : ℕ) × (new_plot : Plot) × HasCopied c m (copied_out c m a) block new_plot owner g a copy_address x
+  pub copied_out_of : (copy_address : ℕ) × (new_plot : Plot) × HasCopied config memory (copied_out config memory address) block new_plot owner graph address copy_address other_piece
   copied_out_of = (
     to,
     plot,

@@ -32,18 +32,18 @@ use Rattle.cycle_pauses.proofs.Evacuation.PinsKept.{pin_same}
 use Rattle.cycle_pauses.proofs.Evacuation.ClearingInTurn.{IsClearing}
 
 -- whoever is promised an object was given it, and its answer says where it is
-promise_is_answer : (m : Word → ℕ) (block : Plot) (count : ℕ → ℕ) (t : ℕ) (x : Asking) → IsAsked m block count t x → (a words : ℕ) → block a ≡ Some (promised t words) → a ≡ m (Answer t)
-promise_is_answer m block count t nothing asked a words is = absurd (asked.2 a words is)
-promise_is_answer m block count t (asks refs nums) asked a words is = absurd (asked.2 a words is)
-promise_is_answer m block count t refused asked a words is = absurd (asked.2 a words is)
-promise_is_answer m block count t (given refs nums) asked a words is = asked.2.only a words is
+promise_is_answer : (memory : Word → ℕ) (block : Plot) (count : ℕ → ℕ) (t : ℕ) (asking : Asking) → IsAsked memory block count t asking → (address words : ℕ) → block address ≡ Some (promised t words) → address ≡ memory (Answer t)
+promise_is_answer memory block count t nothing asked address words is = absurd (asked.2 address words is)
+promise_is_answer memory block count t (asks refs nums) asked address words is = absurd (asked.2 address words is)
+promise_is_answer memory block count t refused asked address words is = absurd (asked.2 address words is)
+promise_is_answer memory block count t (given refs nums) asked address words is = asked.2.only address words is
 
 -- a dead object is nothing that is marked
-no_dead : (block : Plot) (a words : ℕ) → block a ≡ Some (dead words) → IsMarkable block a → ⊥
-no_dead block a words is (IsMarkable.object name refs nums here) = let differ = sym is ∙ here in cc
-no_dead block a words is (IsMarkable.to_come seat more here) = let differ = sym is ∙ here in cc
+no_dead : (block : Plot) (address words : ℕ) → block address ≡ Some (dead words) → IsMarkable block address → ⊥
+no_dead block address words is (IsMarkable.object name refs nums here) = let differ = sym is ∙ here in cc
+no_dead block address words is (IsMarkable.to_come seat more here) = let differ = sym is ∙ here in cc
 
-module _ (c : Config) (memory : Word → ℕ) (block : Plot) (ghost : Ghost) (g : Graph) (asking : ℕ → Asking) (out : IsMarkedOut c memory block ghost g asking) where
+module _ (config : Config) (memory : Word → ℕ) (block : Plot) (ghost : Ghost) (graph : Graph) (asking : ℕ → Asking) (out : IsMarkedOut config memory block ghost graph asking) where
   -- the ghost state, without a snapshot
   abbrev bare : Ghost
   bare = record {
@@ -56,42 +56,42 @@ module _ (c : Config) (memory : Word → ℕ) (block : Plot) (ghost : Ghost) (g 
   }
 
   -- A region where a buffer ends is some seat's.
-  ends_somewhere : (seat : ℕ) → memory (Current seat) ≢ 0 → IsSomeSeats c memory (region_with c (end_in (memory (Current seat)) - 1))
+  ends_somewhere : (seat : ℕ) → memory (Current seat) ≢ 0 → IsSomeSeats config memory (region_with config (end_in (memory (Current seat)) - 1))
   ends_somewhere seat some =
       let b = out.owned.buffers.each seat some in
       let most = out.parsable.plotted.tops b.region b.within in
-      let is = buffer_region_is c (λ q. memory (Top q)) block seat (memory (Current seat)) b most in
+      let is = buffer_region_is config (λ q. memory (Top q)) block seat (memory (Current seat)) b most in
       inr (
         seat,
-        ⊎_elim (λ (below : seat < seat_count c.mutators c.helpers). below) (λ (past : seat_count c.mutators c.helpers ≤ seat). absurd (some (out.seated seat past))) (cases_lt seat (seat_count c.mutators c.helpers)),
-        (some, subst (λ q. IsOf c q (end_in (memory (Current seat)) - 1)) (sym is) (buffer_ends c (λ q. memory (Top q)) block seat (memory (Current seat)) b most)),
+        ⊎_elim (λ (below : seat < seat_count config.mutators config.helpers). below) (λ (past : seat_count config.mutators config.helpers ≤ seat). absurd (some (out.seated seat past))) (cases_lt seat (seat_count config.mutators config.helpers)),
+        (some, subst (λ q. IsOf config q (end_in (memory (Current seat)) - 1)) (sym is) (buffer_ends config (λ q. memory (Top q)) block seat (memory (Current seat)) b most)),
       )
 
   -- the free words of a buffer lie where it ends
-  spare_region : (a seat words : ℕ) → block a ≡ Some (spare seat words) → (memory (Current seat) ≢ 0) × (region_with c a ≡ region_with c (end_in (memory (Current seat)) - 1))
-  spare_region a seat words is =
-      let own = out.owned.buffers.spares a seat words is in
-      let long = out.owned.rooms.spares a seat words is in
-      let used = out.parsable.plotted.in_use a (spare seat words) is in
+  spare_region : (address seat words : ℕ) → block address ≡ Some (spare seat words) → (memory (Current seat) ≢ 0) × (region_with config address ≡ region_with config (end_in (memory (Current seat)) - 1))
+  spare_region address seat words is =
+      let own = out.owned.buffers.spares address seat words is in
+      let long = out.owned.rooms.spares address seat words is in
+      let used = out.parsable.plotted.in_use address (spare seat words) is in
       let most = out.parsable.plotted.tops used.region used.within in
       let low = used.from_base in
       let high = used.to_top in
       let end = own.1 in (
         λ none. (let zero_end : end_in (memory (Current seat)) ≡ 0 = ap end_in none in omega (arith, zero_end, end, long)),
-        regions_tile.of_no_other c used.region a (record { from = low; before = omega (arith, high, most, long) })
-            ∙ sym (regions_tile.of_no_other c used.region (end_in (memory (Current seat)) - 1) (record { from = omega (arith, low, end, long); before = omega (arith, high, most, end, long) })),
+        regions_tile.of_no_other config used.region address (record { from = low; before = omega (arith, high, most, long) })
+            ∙ sym (regions_tile.of_no_other config used.region (end_in (memory (Current seat)) - 1) (record { from = omega (arith, low, end, long); before = omega (arith, high, most, end, long) })),
       )
 
   -- So neither lies in a set of candidates, ..
-  rooms_away : (set : ℕ) → ((r : ℕ) → IsIn set r → (r < c.regions) × IsCandidate c memory r) → AreRoomsOutside c set block
+  rooms_away : (set : ℕ) → ((region : ℕ) → IsIn set region → (region < config.regions) × IsCandidate config memory region) → AreRoomsOutside config set block
   rooms_away set candidates a seat x is room member =
       let one = only_spares block out.unmoved.no_hand out.unmoved.no_carved a seat x is room in
       let at = spare_region a seat one.0 (is ∙ ap Some one.1) in
-      (candidates (region_with c a) member).1.nobodys (subst (IsSomeSeats c memory) (sym at.1) (ends_somewhere seat at.0))
+      (candidates (region_with config a) member).1.nobodys (subst (IsSomeSeats config memory) (sym at.1) (ends_somewhere seat at.0))
 
   -- .. nor does the region that is shared.
-  owned_away : (set : ℕ) → ((r : ℕ) → IsIn set r → (r < c.regions) × IsCandidate c memory r)
-      → AreOwned c (λ q. memory (Top q)) (memory Share) (memory Free) set (λ s. memory (Current s)) block ghost.owner
+  owned_away : (set : ℕ) → ((region : ℕ) → IsIn set region → (region < config.regions) × IsCandidate config memory region)
+      → AreOwned config (λ q. memory (Top q)) (memory Share) (memory Free) set (λ s. memory (Current s)) block ghost.owner
   owned_away set candidates = record {
     free_word = out.owned.free_word;
     shared_one = λ q is.
@@ -99,32 +99,32 @@ module _ (c : Config) (memory : Word → ℕ) (block : Plot) (ghost : Ghost) (g 
         record { within = was.within; in_use = was.in_use; nobodys = was.nobodys; outside = λ member. (candidates q member).1.nobodys (inl is) };
     rooms = out.owned.rooms;
     buffers = out.owned.buffers;
-    outside = λ seat some member. (candidates (region_with c (end_in (memory (Current seat)) - 1)) member).1.nobodys (ends_somewhere seat some);
+    outside = λ seat some member. (candidates (region_with config (end_in (memory (Current seat)) - 1)) member).1.nobodys (ends_somewhere seat some);
   }
 
   -- Nor does what a slot holds, since a candidate is not pinned.
-  pins_away : (set : ℕ) → ((r : ℕ) → IsIn set r → (r < c.regions) × IsCandidate c memory r) → PinsOutside c (with_set memory set)
+  pins_away : (set : ℕ) → ((region : ℕ) → IsIn set region → (region < config.regions) × IsCandidate config memory region) → PinsOutside config (with_set memory set)
   pins_away set candidates =
-      pins_outside c (with_set memory set) (λ r is. same_pinned c memory (with_set memory set) (λ t i. refl) r ∙ (candidates r is).1.unpinned)
+      pins_outside config (with_set memory set) (λ region is. same_pinned config memory (with_set memory set) (λ t i. refl) region ∙ (candidates region is).1.unpinned)
 
   -- it may be used, for nothing has been copied yet
-  pin_before : (set word : ℕ) (held : Option Pinned) → is_collected c (with_set memory set) word ≡ false → PinStands c (memory Cset) (memory Evac) block word held → PinStands c set 0 block word held
+  pin_before : (set word : ℕ) (held : Option Pinned) → is_collected config (with_set memory set) word ≡ false → PinStands config (memory Cset) (memory Evac) block word held → PinStands config set 0 block word held
   pin_before set word None outside is = is
   pin_before set word (Some x) outside is =
-      let above = piece_inside c (λ r. memory (Top r)) block out.parsable.plotted word (thing x.name is.1 is.2) is.3.piece in (
+      let above = piece_inside config (λ r. memory (Top r)) block out.parsable.plotted word (thing x.name is.1 is.2) is.3.piece in (
         is.0,
         is.1,
         is.2,
         record {
           piece = is.3.piece;
           safe = λ member. absurd (true≢false
-              (sym (and_from (nat_le c.region_words word) (bit_at set (region_with c word) == 1) (le-leb c.region_words word above.0) (eq-eqb (bit_at set (region_with c word)) 1 member)) ∙ outside));
+              (sym (and_from (nat_le config.region_words word) (bit_at set (region_with config word) == 1) (le-leb config.region_words word above.0) (eq-eqb (bit_at set (region_with config word)) 1 member)) ∙ outside));
         },
       )
 
   -- Before the first turn, with a set of candidates.
-  pub clearing_begins : (set : ℕ) → ((r : ℕ) → IsIn set r → (r < c.regions) × IsCandidate c memory r)
-      → IsClearing c (with_set memory set) (with_set memory set) block ghost.owner g asking
+  pub clearing_begins : (set : ℕ) → ((region : ℕ) → IsIn set region → (region < config.regions) × IsCandidate config memory region)
+      → IsClearing config (with_set memory set) (with_set memory set) block ghost.owner graph asking
   clearing_begins set candidates = record {
     between = record {
       parsable = out.parsable;
@@ -139,74 +139,74 @@ module _ (c : Config) (memory : Word → ℕ) (block : Plot) (ghost : Ghost) (g 
       uncarved = out.unmoved.no_carved;
       no_rooms = rooms_away set candidates;
       promised_to = out.promised_to;
-      in_heap = λ r is. (candidates r is).0;
-      used = λ r free is. let in_use = (candidates r is).1.in_use in omega (arith, free, in_use);
-      nobodys = λ r seat own is. none-some seat (sym (out.nobodys r) ∙ own);
-      no_new = λ r is. (candidates r is).1.no_new;
+      in_heap = λ region is. (candidates region is).0;
+      used = λ region free is. let in_use = (candidates region is).1.in_use in omega (arith, free, in_use);
+      nobodys = λ region seat own is. none-some seat (sym (out.nobodys region) ∙ own);
+      no_new = λ region is. (candidates region is).1.no_new;
       marked = out.marked.objects;
       young = out.marked.young;
       floors = out.marked.floors;
       unmarked = λ a words is mark.
-          let above = piece_inside c (λ r. memory (Top r)) block out.parsable.plotted a (dead words) is in
+          let above = piece_inside config (λ region. memory (Top region)) block out.parsable.plotted a (dead words) is in
           no_dead block a words is (out.marked.only a above.0 mark);
       deads = out.marked.deads;
       only = λ a above mark inside. inl (out.marked.only a above mark);
     };
     roots = out.roots;
-    asked = λ t inside. asked_stays memory (with_set memory set) block block g.count t refl refl (λ a words k is below. refl) (λ a words is. is) (λ a words is. is) (asking t) (out.asked t inside);
+    asked = λ t inside. asked_stays memory (with_set memory set) block block graph.count t refl refl (λ a words k is below. refl) (λ a words is. is) (λ a words is. is) (asking t) (out.asked t inside);
     same = λ word fixed other. refl;
-    pinned = λ t i inside few. pin_before set (memory (Pin t i)) (g.pin (t + 1) i) (pins_away set candidates t i inside few) (out.pinned t i inside few);
+    pinned = λ t i inside few. pin_before set (memory (Pin t i)) (graph.pin (t + 1) i) (pins_away set candidates t i inside few) (out.pinned t i inside few);
     apart = pins_away set candidates;
   }
 
   -- After the last one, where roots and answers name nothing in the set.
-  module _ (set : ℕ) (e : Word → ℕ) (plot : Plot) (s : IsClearing c (with_set memory set) e plot ghost.owner g asking)
-      (cleared : (place : Word) → IsPlace c place → is_collected c (with_set memory set) (e place) ≡ false) where
+  module _ (set : ℕ) (other_memory : Word → ℕ) (plot : Plot) (s : IsClearing config (with_set memory set) other_memory plot ghost.owner graph asking)
+      (cleared : (place : Word) → IsPlace config place → is_collected config (with_set memory set) (other_memory place) ≡ false) where
     abbrev n : Word → ℕ
-    n = evac_started e
+    n = evac_started other_memory
 
-    set_is : e Cset ≡ set
+    set_is : other_memory Cset ≡ set
     set_is = s.same Cset (λ never. never) (λ never. never)
 
     -- so no piece that one of them names lies there
-    away : (place : Word) → IsPlace c place → c.region_words ≤ e place → IsCollected c (e Cset) (e place) → ⊥
+    away : (place : Word) → IsPlace config place → config.region_words ≤ other_memory place → IsCollected config (other_memory Cset) (other_memory place) → ⊥
     away place at above inside =
-        let member : bit_at set (region_with c (e place)) ≡ 1 = subst (λ x. IsCollected c x (e place)) set_is inside in
+        let member : bit_at set (region_with config (other_memory place)) ≡ 1 = subst (λ x. IsCollected config x (other_memory place)) set_is inside in
         true≢false
-        (sym (and_from (nat_le c.region_words (e place)) (bit_at set (region_with c (e place)) == 1) (le-leb c.region_words (e place) above)
-        (eq-eqb (bit_at set (region_with c (e place))) 1 member))
+        (sym (and_from (nat_le config.region_words (other_memory place)) (bit_at set (region_with config (other_memory place)) == 1) (le-leb config.region_words (other_memory place) above)
+        (eq-eqb (bit_at set (region_with config (other_memory place))) 1 member))
         ∙ cleared place at)
 
-    no_promises : (a seat words : ℕ) → plot a ≡ Some (promised seat words) → IsCollected c (e Cset) a → ⊥
-    no_promises a seat words is inside =
-        let mutator = s.between.promised_to a seat words is in
-        let here : a ≡ e (Answer seat) = promise_is_answer e plot g.count seat (asking seat) (s.asked seat mutator) a words is in
-        let above = piece_inside c (λ r. e (Top r)) plot s.between.parsable.plotted a (promised seat words) is in
-        away (Answer seat) mutator (omega (arith, above.0, here)) (subst (IsCollected c (e Cset)) here inside)
+    no_promises : (address seat words : ℕ) → plot address ≡ Some (promised seat words) → IsCollected config (other_memory Cset) address → ⊥
+    no_promises address seat words is inside =
+        let mutator = s.between.promised_to address seat words is in
+        let here : address ≡ other_memory (Answer seat) = promise_is_answer other_memory plot graph.count seat (asking seat) (s.asked seat mutator) address words is in
+        let above = piece_inside config (λ r. other_memory (Top r)) plot s.between.parsable.plotted address (promised seat words) is in
+        away (Answer seat) mutator (omega (arith, above.0, here)) (subst (IsCollected config (other_memory Cset)) here inside)
 
-    usable : (t i : ℕ) → t < c.mutators → i < 16 → IsUsable c (e Cset) 0 plot (e (Root t i))
-    usable t i inside few = of_reference (g.root (t + 1) i) (s.roots t i inside few)
+    usable : (mutator index : ℕ) → mutator < config.mutators → index < 16 → IsUsable config (other_memory Cset) 0 plot (other_memory (Root mutator index))
+    usable mutator index inside few = of_reference (graph.root (mutator + 1) index) (s.roots mutator index inside few)
       where
-        outside : (b : Block) → plot (e (Root t i)) ≡ Some b → IsCollected c (e Cset) (e (Root t i)) → ⊥
-        outside b is = (let above = piece_inside c (λ r. e (Top r)) plot s.between.parsable.plotted (e (Root t i)) b is in away (Root t i) (inside, few) above.0)
+        outside : (piece : Block) → plot (other_memory (Root mutator index)) ≡ Some piece → IsCollected config (other_memory Cset) (other_memory (Root mutator index)) → ⊥
+        outside piece is = (let above = piece_inside config (λ r. other_memory (Top r)) plot s.between.parsable.plotted (other_memory (Root mutator index)) piece is in away (Root mutator index) (inside, few) above.0)
 
-        of_reference : (reference : Reference) → Points plot (e (Root t i)) reference → IsUsable c (e Cset) 0 plot (e (Root t i))
+        of_reference : (reference : Reference) → Points plot (other_memory (Root mutator index)) reference → IsUsable config (other_memory Cset) 0 plot (other_memory (Root mutator index))
         of_reference None none = inl none
         of_reference (Some name) points =
-            let body = named_body (plot (e (Root t i))) name points in
+            let body = named_body (plot (other_memory (Root mutator index))) name points in
             ⊎_elim
-            (λ (current : plot (e (Root t i)) ≡ Some (thing name body.0 body.1)).
+            (λ (current : plot (other_memory (Root mutator index)) ≡ Some (thing name body.0 body.1)).
             inr (name, body.0, body.1, record { piece = current; safe = λ collected. absurd (outside (thing name body.0 body.1) current collected) }))
-            (λ (old : (to : ℕ) × (plot (e (Root t i)) ≡ Some (moved name body.0 body.1 to))).
-            absurd (outside (moved name body.0 body.1 old.0) old.1 (s.between.moves.moveds (e (Root t i)) body.0 body.1 old.0 name old.1).inside))
-            (copy_cases (plot (e (Root t i))) (body_of name body.0 body.1) body.2)
+            (λ (old : (to : ℕ) × (plot (other_memory (Root mutator index)) ≡ Some (moved name body.0 body.1 to))).
+            absurd (outside (moved name body.0 body.1 old.0) old.1 (s.between.moves.moveds (other_memory (Root mutator index)) body.0 body.1 old.0 name old.1).inside))
+            (copy_cases (plot (other_memory (Root mutator index))) (body_of name body.0 body.1) body.2)
 
-    has_copy : (a : ℕ) → IsCollected c (e Cset) a → IsMarkable plot a ⊎ HasCopy plot a → HasCopy plot a
-    has_copy a inside (inl (IsMarkable.object name refs nums is)) = HasCopy.copy (body_of name refs nums) (ap body_at is)
-    has_copy a inside (inl (IsMarkable.to_come seat words is)) = absurd (no_promises a seat words is inside)
-    has_copy a inside (inr kept) = kept
+    has_copy : (address : ℕ) → IsCollected config (other_memory Cset) address → IsMarkable plot address ⊎ HasCopy plot address → HasCopy plot address
+    has_copy address inside (inl (IsMarkable.object name refs nums is)) = HasCopy.copy (body_of name refs nums) (ap body_at is)
+    has_copy address inside (inl (IsMarkable.to_come seat words is)) = absurd (no_promises address seat words is inside)
+    has_copy address inside (inr kept) = kept
 
-    pub evacuation_starts : Represents c n g asking
+    pub evacuation_starts : Represents config n graph asking
     evacuation_starts = record {
       block = plot;
       ghost = bare;
@@ -216,11 +216,11 @@ module _ (c : Config) (memory : Word → ℕ) (block : Plot) (ghost : Ghost) (g 
         owned = s.between.owned;
         phased = record { phase_is = omega arith; cset_is = λ low. absurd (omega (arith, low)); evac_is = λ other. refl };
         unwritten = s.between.unwritten;
-        marked = none_marked_in c 2 (λ q. n (Grey q)) (λ q. n (Black q)) (λ t. n (Count t)) (λ t k. n (Buffer t k)) (λ q. n (Top q)) (λ q. n (Tams q)) (λ a. n (Heap a)) plot
+        marked = none_marked_in config 2 (λ q. n (Grey q)) (λ q. n (Black q)) (λ t. n (Count t)) (λ t k. n (Buffer t k)) (λ q. n (Top q)) (λ q. n (Tams q)) (λ a. n (Heap a)) plot
             ghost.recording ghost.scanning (λ is. omega (arith, is));
         evacuated = record {
           moved = s.between.moves;
-          counted = counted_none c ghost.copying out.uncopying.copies_none;
+          counted = counted_none config ghost.copying out.uncopying.copies_none;
           aside = record {
             in_heap = s.between.in_heap;
             in_use = s.between.used;
@@ -241,13 +241,13 @@ module _ (c : Config) (memory : Word → ℕ) (block : Plot) (ghost : Ghost) (g 
         };
         updated = λ on. absurd (omega (arith, on));
         pinned = λ t i inside few.
-            pin_same c set 0 (e Cset) 0 plot (memory (Pin t i)) (e (Pin t i)) (g.pin (t + 1) i) (sym set_is) refl (sym (s.same (Pin t i) (λ never. never) (λ never. never))) (s.pinned t i inside few);
+            pin_same config set 0 (other_memory Cset) 0 plot (memory (Pin t i)) (other_memory (Pin t i)) (graph.pin (t + 1) i) (sym set_is) refl (sym (s.same (Pin t i) (λ never. never) (λ never. never))) (s.pinned t i inside few);
       };
       roots = s.roots;
       usable = usable;
       none = s.between.unheld;
       uncarved = s.between.uncarved;
-      asked = λ t inside. asked_stays e n plot plot g.count t refl refl (λ a words k is below. refl) (λ a words is. is) (λ a words is. is) (asking t) (s.asked t inside);
+      asked = λ t inside. asked_stays other_memory n plot plot graph.count t refl refl (λ a words k is below. refl) (λ a words is. is) (λ a words is. is) (asking t) (s.asked t inside);
       heard = λ t refs nums inside is. ap (λ k. bit_at k 1) (s.same Ask (λ never. never) (λ never. never)) ∙ out.heard t refs nums inside is;
       promised_to = s.between.promised_to;
       unmarking = record { records_none = out.unmarking.records_none; scans_none = out.unmarking.scans_none };
@@ -260,32 +260,32 @@ module _ (c : Config) (memory : Word → ℕ) (block : Plot) (ghost : Ghost) (g 
   abbrev idle : Word → ℕ
   idle = evac_spared memory
 
-  pub cycle_ends : Represents c idle g asking
+  pub cycle_ends : Represents config idle graph asking
   cycle_ends = record {
     block = block;
     ghost = bare;
     shared = record {
       parsable = out.parsable;
       contents = out.contents;
-      owned = subst (λ set. AreOwned c (λ q. memory (Top q)) (memory Share) (memory Free) set (λ s. memory (Current s)) block ghost.owner) out.cset_is out.owned;
+      owned = subst (λ set. AreOwned config (λ q. memory (Top q)) (memory Share) (memory Free) set (λ s. memory (Current s)) block ghost.owner) out.cset_is out.owned;
       phased = record { phase_is = omega arith; cset_is = λ other. refl; evac_is = λ other. out.evac_is };
       unwritten = out.unwritten;
-      marked = none_marked_in c 0 (λ q. idle (Grey q)) (λ q. idle (Black q)) (λ t. idle (Count t)) (λ t k. idle (Buffer t k)) (λ q. idle (Top q)) (λ q. idle (Tams q)) (λ a. idle (Heap a)) block
+      marked = none_marked_in config 0 (λ q. idle (Grey q)) (λ q. idle (Black q)) (λ t. idle (Count t)) (λ t k. idle (Buffer t k)) (λ q. idle (Top q)) (λ q. idle (Tams q)) (λ a. idle (Heap a)) block
           ghost.recording ghost.scanning (λ is. omega (arith, is));
       evacuated = subst
-          (λ evac. IsEvacuating c 0 0 evac 0 (idle Free) (λ q. idle (Top q)) (λ q. idle (Tams q)) (λ a. idle (Heap a)) (λ q. idle (Black q)) block ghost.owner ghost.copying ghost.working)
+          (λ evac. IsEvacuating config 0 0 evac 0 (idle Free) (λ q. idle (Top q)) (λ q. idle (Tams q)) (λ a. idle (Heap a)) (λ q. idle (Black q)) block ghost.owner ghost.copying ghost.working)
           (sym out.evac_is)
-          (none_evacuated c 0 0 (idle Free) (λ q. idle (Top q)) (λ q. idle (Tams q)) (λ a. idle (Heap a)) (λ q. idle (Black q)) block ghost.owner ghost.copying ghost.working (λ is. omega (arith, is))
+          (none_evacuated config 0 0 (idle Free) (λ q. idle (Top q)) (λ q. idle (Tams q)) (λ a. idle (Heap a)) (λ q. idle (Black q)) block ghost.owner ghost.copying ghost.working (λ is. omega (arith, is))
           out.unmoved.no_moved out.unmoved.no_spent out.uncopying.copies_none);
       updated = λ on. absurd (omega (arith, on));
       pinned = λ t i inside few.
-          pin_same c (memory Cset) (memory Evac) 0 (memory Evac) block (memory (Pin t i)) (memory (Pin t i)) (g.pin (t + 1) i) out.cset_is refl refl (out.pinned t i inside few);
+          pin_same config (memory Cset) (memory Evac) 0 (memory Evac) block (memory (Pin t i)) (memory (Pin t i)) (graph.pin (t + 1) i) out.cset_is refl refl (out.pinned t i inside few);
     };
     roots = out.roots;
-    usable = λ t i inside few. usable_now c (memory Evac) block (λ a refs nums to name. out.unmoved.no_moved a refs nums to name) (memory (Root t i)) (g.root (t + 1) i) (out.roots t i inside few);
+    usable = λ t i inside few. usable_now config (memory Evac) block (λ a refs nums to name. out.unmoved.no_moved a refs nums to name) (memory (Root t i)) (graph.root (t + 1) i) (out.roots t i inside few);
     none = out.unmoved.no_hand;
     uncarved = out.unmoved.no_carved;
-    asked = λ t inside. asked_stays memory idle block block g.count t refl refl (λ a words k is below. refl) (λ a words is. is) (λ a words is. is) (asking t) (out.asked t inside);
+    asked = λ t inside. asked_stays memory idle block block graph.count t refl refl (λ a words k is below. refl) (λ a words is. is) (λ a words is. is) (asking t) (out.asked t inside);
     heard = out.heard;
     promised_to = out.promised_to;
     unmarking = record { records_none = out.unmarking.records_none; scans_none = out.unmarking.scans_none };

@@ -50,43 +50,43 @@ few_bits x n each =
     (cases_lt i n)) in
     omega (arith, same, low)
 
-module _ (c : Config) (m : Word → ℕ) (g : Graph) (asking : ℕ → Asking) (r : RepresentsByCopies c m g asking) (bare : HasNoBuffers c m) where
-  some : (a : ℕ) (x : Block) → r.block a ≡ Some x → 1 ≤ words_of x
-  some = some_words c (λ q. m (Top q)) r.block r.shared.parsable r.shared.owned.rooms
+module _ (config : Config) (memory : Word → ℕ) (graph : Graph) (asking : ℕ → Asking) (r : RepresentsByCopies config memory graph asking) (bare : HasNoBuffers config memory) where
+  some : (address : ℕ) (piece : Block) → r.block address ≡ Some piece → 1 ≤ words_of piece
+  some = some_words config (λ q. memory (Top q)) r.block r.shared.parsable r.shared.owned.rooms
 
   -- a piece has as many words as its header or its shape word says
-  sized : AreSized m r.block
-  sized = pieces_sized c m r.block g.object r.shared.contents.objects r.shared.unwritten r.shared.evacuated.moved
+  sized : AreSized memory r.block
+  sized = pieces_sized config memory r.block graph.object r.shared.contents.objects r.shared.unwritten r.shared.evacuated.moved
 
-  small : m Cset < 2 ^ c.regions
-  small = few_bits (m Cset) c.regions r.shared.evacuated.aside.in_heap
+  small : memory Cset < 2 ^ config.regions
+  small = few_bits (memory Cset) config.regions r.shared.evacuated.aside.in_heap
 
-  can_update : CanUpdateAll c m
-  can_update = updates.can_update c m r.block r.shared.parsable.plotted r.shared.parsable.filled some (λ a x is stay. strides m r.block sized (none_have_room c m g asking r bare) a x is) small
+  can_update : CanUpdateAll config memory
+  can_update = updates.can_update config memory r.block r.shared.parsable.plotted r.shared.parsable.filled some (λ a x is stay. strides memory r.block sized (none_have_room config memory graph asking r bare) a x is) small
 
   -- then what has moved can be filled over, where objects of the set lie in pinned regions
-  module _ (pinned : (a refs nums : ℕ) (name : Name) → r.block a ≡ Some (thing name refs nums) → IsCollected c (m Cset) a → is_pinned c m (region_with c a) ≡ true) where
+  module _ (pinned : (a refs nums : ℕ) (name : Name) → r.block a ≡ Some (thing name refs nums) → IsCollected config (memory Cset) a → is_pinned config memory (region_with config a) ≡ true) where
     abbrev n : Word → ℕ
-    n = all_updated c m
+    n = all_updated config memory
 
-    filled_there : (q : ℕ) → q < c.regions → 2 ≤ m Phase → CanFill c n q
-    filled_there q inside two =
-        let no_room = none_have_room c m g asking r bare in
-        let again = sized_again c m m r.block r.ghost.owner g asking c.region_words (copying_begins c m g asking r two) pinned no_room in
+    filled_there : (region : ℕ) → region < config.regions → 2 ≤ memory Phase → CanFill config n region
+    filled_there region inside two =
+        let no_room = none_have_room config memory graph asking r bare in
+        let again = sized_again config memory memory r.block r.ghost.owner graph asking config.region_words (copying_begins config memory graph asking r two) pinned no_room in
         record {
-          within = r.shared.parsable.plotted.tops q inside;
-          ends = updates.end_inside c (all_updated c m) r.block r.shared.parsable.plotted r.shared.parsable.filled some (λ k. Unit {0}) (λ a x is any. strides (all_updated c m) r.block again no_room a x is) q inside tt;
+          within = r.shared.parsable.plotted.tops region inside;
+          ends = updates.end_inside config (all_updated config memory) r.block r.shared.parsable.plotted r.shared.parsable.filled some (λ k. Unit {0}) (λ a x is any. strides (all_updated config memory) r.block again no_room a x is) region inside tt;
         }
 
-    can_free : CanFree c n
+    can_free : CanFree config n
     can_free = record {
       set = small;
       fills = λ q inside stay.
-          let member : IsIn (m Cset) q = in_set m q (and_parts (is_chosen m q) (is_pinned c m q) stay).0 in
+          let member : IsIn (memory Cset) q = in_set memory q (and_parts (is_chosen memory q) (is_pinned config memory q) stay).0 in
           ⊎_elim
-          (λ (low : m Phase < 2). absurd (none_is_in q (subst (λ set. IsIn set q) (r.shared.phased.cset_is low) member)))
-          (λ (two : 2 ≤ m Phase). filled_there q inside two)
-          (cases_lt (m Phase) 2);
+          (λ (low : memory Phase < 2). absurd (none_is_in q (subst (λ set. IsIn set q) (r.shared.phased.cset_is low) member)))
+          (λ (two : 2 ≤ memory Phase). filled_there q inside two)
+          (cases_lt (memory Phase) 2);
     }
 
 pub representing_can_finish : RepresentingCanFinish

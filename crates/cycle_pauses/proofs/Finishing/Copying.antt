@@ -37,118 +37,118 @@ use Rattle.cycle_words.proofs.Finishing.Copies.{room_found, copied_none, copied_
 
 -- The words between two objects: they stand for the graph, but for pieces they are as at first, and no object is left at the addresses
 -- that were passed, but in pinned regions. While objects are evacuated, units that were claimed stay swept.
-pub record IsCopying (c : Config) (first m : Word → ℕ) (block : Plot) (owner : ℕ → Option ℕ) (g : Graph) (asking : ℕ → Asking) (passed : ℕ) : Type 0 where
-  pub between : AreBetween c m block owner g
-  pub roots : (t i : ℕ) → t < c.mutators → i < 16 → Points block (m (Root t i)) (g.root (t + 1) i)
-  pub asked : (t : ℕ) → t < c.mutators → IsAsked m block g.count t (asking t)
-  pub same : (word : Word) → (MayChange word → ⊥) → m word ≡ first word
-  pub no_promises : (a seat words : ℕ) → block a ≡ Some (promised seat words) → IsCollected c (m Cset) a → ⊥
-  pub pinned : (t i : ℕ) → t < c.mutators → i < 4 → PinStands c (first Cset) (first Evac) block (first (Pin t i)) (g.pin (t + 1) i)
-  pub swept : (a refs nums : ℕ) (name : Name) → block a ≡ Some (thing name refs nums) → IsCollected c (m Cset) a → is_pinned c first (region_with c a) ≡ false → passed ≤ a
-  pub units : m Phase ≡ 2 → (r : ℕ) → r < m Claim → IsIn (m Cset) r → IsSweptTo c (m Evac) block r (base_of c (r + 1))
+pub record IsCopying (config : Config) (first memory : Word → ℕ) (block : Plot) (owner : ℕ → Option ℕ) (graph : Graph) (asking : ℕ → Asking) (passed : ℕ) : Type 0 where
+  pub between : AreBetween config memory block owner graph
+  pub roots : (mutator index : ℕ) → mutator < config.mutators → index < 16 → Points block (memory (Root mutator index)) (graph.root (mutator + 1) index)
+  pub asked : (mutator : ℕ) → mutator < config.mutators → IsAsked memory block graph.count mutator (asking mutator)
+  pub same : (word : Word) → (MayChange word → ⊥) → memory word ≡ first word
+  pub no_promises : (address seat words : ℕ) → block address ≡ Some (promised seat words) → IsCollected config (memory Cset) address → ⊥
+  pub pinned : (mutator index : ℕ) → mutator < config.mutators → index < 4 → PinStands config (first Cset) (first Evac) block (first (Pin mutator index)) (graph.pin (mutator + 1) index)
+  pub swept : (address refs nums : ℕ) (name : Name) → block address ≡ Some (thing name refs nums) → IsCollected config (memory Cset) address → is_pinned config first (region_with config address) ≡ false → passed ≤ address
+  pub units : memory Phase ≡ 2 → (r : ℕ) → r < memory Claim → IsIn (memory Cset) r → IsSweptTo config (memory Evac) block r (base_of config (r + 1))
 
 -- what is left at an address
-record IsLeft (c : Config) (m : Word → ℕ) (a : ℕ) : Type 0 where
-  above : c.region_words ≤ a
-  inside : IsCollected c (m Cset) a
-  unpinned : is_pinned c m (region_with c a) ≡ false
-  mark : HasMark c (λ n. m (Black n)) a
-  plain : is_forwarded (m (Heap a)) ≡ false
+record IsLeft (config : Config) (memory : Word → ℕ) (address : ℕ) : Type 0 where
+  above : config.region_words ≤ address
+  inside : IsCollected config (memory Cset) address
+  unpinned : is_pinned config memory (region_with config address) ≡ false
+  mark : HasMark config (λ n. memory (Black n)) address
+  plain : is_forwarded (memory (Heap address)) ≡ false
 
-left_parts : (c : Config) (m : Word → ℕ) (a : ℕ) → is_left c m a ≡ true → IsLeft c m a
-left_parts c m a is =
-    let three = and_parts (is_collected c m a && not (is_pinned c m (region_with c a)) && is_black c m a) (not (is_forwarded (m (Heap a)))) is in
-    let two = and_parts (is_collected c m a && not (is_pinned c m (region_with c a))) (is_black c m a) three.0 in
-    let one = and_parts (is_collected c m a) (not (is_pinned c m (region_with c a))) two.0 in
-    let collected = and_parts (nat_le c.region_words a) (bit_at (m Cset) (region_with c a) == 1) one.0 in
-    let black = and_parts (nat_le c.region_words a) (bit_at (m (Black (mark_word c a))) (mark_bit c a) == 1) two.1 in
+left_parts : (config : Config) (memory : Word → ℕ) (address : ℕ) → is_left config memory address ≡ true → IsLeft config memory address
+left_parts config memory address is =
+    let three = and_parts (is_collected config memory address && not (is_pinned config memory (region_with config address)) && is_black config memory address) (not (is_forwarded (memory (Heap address)))) is in
+    let two = and_parts (is_collected config memory address && not (is_pinned config memory (region_with config address))) (is_black config memory address) three.0 in
+    let one = and_parts (is_collected config memory address) (not (is_pinned config memory (region_with config address))) two.0 in
+    let collected = and_parts (nat_le config.region_words address) (bit_at (memory Cset) (region_with config address) == 1) one.0 in
+    let black = and_parts (nat_le config.region_words address) (bit_at (memory (Black (mark_word config address))) (mark_bit config address) == 1) two.1 in
     record {
-      above = leb-true c.region_words a collected.0;
-      inside = eqb-true (bit_at (m Cset) (region_with c a)) 1 collected.1;
-      unpinned = not-true (is_pinned c m (region_with c a)) one.1;
-      mark = eqb-true (bit_at (m (Black (mark_word c a))) (mark_bit c a)) 1 black.1;
-      plain = not-true (is_forwarded (m (Heap a))) three.1;
+      above = leb-true config.region_words address collected.0;
+      inside = eqb-true (bit_at (memory Cset) (region_with config address)) 1 collected.1;
+      unpinned = not-true (is_pinned config memory (region_with config address)) one.1;
+      mark = eqb-true (bit_at (memory (Black (mark_word config address))) (mark_bit config address)) 1 black.1;
+      plain = not-true (is_forwarded (memory (Heap address))) three.1;
     }
 
-is_left_from : (c : Config) (m : Word → ℕ) (a : ℕ) → c.region_words ≤ a → IsCollected c (m Cset) a → is_pinned c m (region_with c a) ≡ false → HasMark c (λ n. m (Black n)) a
-    → is_forwarded (m (Heap a)) ≡ false → is_left c m a ≡ true
-is_left_from c m a above inside unpinned mark plain =
-    and_from (is_collected c m a && not (is_pinned c m (region_with c a)) && is_black c m a) (not (is_forwarded (m (Heap a))))
-    (and_from (is_collected c m a && not (is_pinned c m (region_with c a))) (is_black c m a)
-    (and_from (is_collected c m a) (not (is_pinned c m (region_with c a)))
-    (and_from (nat_le c.region_words a) (bit_at (m Cset) (region_with c a) == 1) (le-leb c.region_words a above) (eq-eqb (bit_at (m Cset) (region_with c a)) 1 inside))
-    (not_from_false (is_pinned c m (region_with c a)) unpinned))
-    (and_from (nat_le c.region_words a) (bit_at (m (Black (mark_word c a))) (mark_bit c a) == 1) (le-leb c.region_words a above) (eq-eqb (bit_at (m (Black (mark_word c a))) (mark_bit c a)) 1 mark)))
-    (not_from_false (is_forwarded (m (Heap a))) plain)
+is_left_from : (config : Config) (memory : Word → ℕ) (address : ℕ) → config.region_words ≤ address → IsCollected config (memory Cset) address → is_pinned config memory (region_with config address) ≡ false → HasMark config (λ n. memory (Black n)) address
+    → is_forwarded (memory (Heap address)) ≡ false → is_left config memory address ≡ true
+is_left_from config memory address above inside unpinned mark plain =
+    and_from (is_collected config memory address && not (is_pinned config memory (region_with config address)) && is_black config memory address) (not (is_forwarded (memory (Heap address))))
+    (and_from (is_collected config memory address && not (is_pinned config memory (region_with config address))) (is_black config memory address)
+    (and_from (is_collected config memory address) (not (is_pinned config memory (region_with config address)))
+    (and_from (nat_le config.region_words address) (bit_at (memory Cset) (region_with config address) == 1) (le-leb config.region_words address above) (eq-eqb (bit_at (memory Cset) (region_with config address)) 1 inside))
+    (not_from_false (is_pinned config memory (region_with config address)) unpinned))
+    (and_from (nat_le config.region_words address) (bit_at (memory (Black (mark_word config address))) (mark_bit config address) == 1) (le-leb config.region_words address above) (eq-eqb (bit_at (memory (Black (mark_word config address))) (mark_bit config address)) 1 mark)))
+    (not_from_false (is_forwarded (memory (Heap address))) plain)
 
-module _ (c : Config) (m : Word → ℕ) (block : Plot) (owner : ℕ → Option ℕ) (g : Graph) (b : AreBetween c m block owner g) where
+module _ (config : Config) (memory : Word → ℕ) (block : Plot) (owner : ℕ → Option ℕ) (graph : Graph) (b : AreBetween config memory block owner graph) where
   -- an object of the set is marked
-  pub thing_marked : (p refs nums : ℕ) (name : Name) → block p ≡ Some (thing name refs nums) → IsCollected c (m Cset) p → HasMark c (λ n. m (Black n)) p
-  thing_marked p refs nums name is inside = ⊎_elim
-      (λ (mark : HasMark c (λ n. m (Black n)) p). mark)
-      (λ (young : IsYoung c (λ q. m (Tams q)) p).
-      let at = below_top c (λ q. m (Top q)) block b.parsable.plotted p (thing name refs nums) is (omega arith) in
-      let old = b.no_new (region_with c p) inside in
+  pub thing_marked : (address refs nums : ℕ) (name : Name) → block address ≡ Some (thing name refs nums) → IsCollected config (memory Cset) address → HasMark config (λ n. memory (Black n)) address
+  thing_marked address refs nums name is inside = ⊎_elim
+      (λ (mark : HasMark config (λ n. memory (Black n)) address). mark)
+      (λ (young : IsYoung config (λ q. memory (Tams q)) address).
+      let at = below_top config (λ q. memory (Top q)) block b.parsable.plotted address (thing name refs nums) is (omega arith) in
+      let old = b.no_new (region_with config address) inside in
       absurd (omega (arith, young, at.2, old)))
-      (b.marked p (IsMarkable.object name refs nums is))
+      (b.marked address (IsMarkable.object name refs nums is))
 
   -- where something is marked in the set a piece is
-  pub piece_marked : (p : ℕ) → c.region_words ≤ p → HasMark c (λ n. m (Black n)) p → IsCollected c (m Cset) p → (z : Block) × (block p ≡ Some z)
-  piece_marked p above mark inside = ⊎_elim of_markable of_copy (b.only p above mark inside)
+  pub piece_marked : (address : ℕ) → config.region_words ≤ address → HasMark config (λ n. memory (Black n)) address → IsCollected config (memory Cset) address → (z : Block) × (block address ≡ Some z)
+  piece_marked address above mark inside = ⊎_elim of_markable of_copy (b.only address above mark inside)
     where
-      of_markable : IsMarkable block p → (z : Block) × (block p ≡ Some z)
+      of_markable : IsMarkable block address → (z : Block) × (block address ≡ Some z)
       of_markable (IsMarkable.object name refs nums is) = (thing name refs nums, is)
       of_markable (IsMarkable.to_come seat words is) = (promised seat words, is)
 
-      of_copy : HasCopy block p → (z : Block) × (block p ≡ Some z)
-      of_copy (HasCopy.copy body is) = let piece = body_piece (block p) body is in (piece.0, piece.1)
+      of_copy : HasCopy block address → (z : Block) × (block address ≡ Some z)
+      of_copy (HasCopy.copy body is) = let piece = body_piece (block address) body is in (piece.0, piece.1)
       of_copy (HasCopy.spent_copy words to is) = (spent words to, is)
 
   -- an object has a plain header, and as many words as its shape word says
-  pub thing_words : (p refs nums : ℕ) (name : Name) → block p ≡ Some (thing name refs nums) → (m (Heap p) ≡ plain_header) × (words_at m p ≡ 3 + refs + nums)
-  thing_words p refs nums name is =
-      let o = b.contents.objects.each p refs nums name is in
+  pub thing_words : (address refs nums : ℕ) (name : Name) → block address ≡ Some (thing name refs nums) → (memory (Heap address) ≡ plain_header) × (words_at memory address ≡ 3 + refs + nums)
+  thing_words address refs nums name is =
+      let o = b.contents.objects.each address refs nums name is in
       let few_refs = o.2.few_refs in
       let few_nums = o.2.few_nums in
       (o.2.header, ap object_words o.2.shape ∙ omega (arith, few_refs, few_nums))
 
-module _ (c : Config) (first m : Word → ℕ) (block : Plot) (owner : ℕ → Option ℕ) (g : Graph) (asking : ℕ → Asking) (a : ℕ) (s : IsCopying c first m block owner g asking a) where
-  pins_same : (t i : ℕ) → m (Pin t i) ≡ first (Pin t i)
-  pins_same t i = s.same (Pin t i) (λ never. never)
+module _ (config : Config) (first memory : Word → ℕ) (block : Plot) (owner : ℕ → Option ℕ) (graph : Graph) (asking : ℕ → Asking) (address : ℕ) (s : IsCopying config first memory block owner graph asking address) where
+  pins_same : (mutator index : ℕ) → memory (Pin mutator index) ≡ first (Pin mutator index)
+  pins_same mutator index = s.same (Pin mutator index) (λ never. never)
 
   -- What is left at the address is an object.
-  module _ (left : is_left c m a ≡ true) where
-    is : IsLeft c m a
-    is = left_parts c m a left
+  module _ (left : is_left config memory address ≡ true) where
+    is : IsLeft config memory address
+    is = left_parts config memory address left
 
-    here : (name : Name) × (refs : ℕ) × (nums : ℕ) × (block a ≡ Some (thing name refs nums))
-    here = ⊎_elim of_markable of_copy (s.between.only a is.above is.mark is.inside)
+    here : (name : Name) × (refs : ℕ) × (nums : ℕ) × (block address ≡ Some (thing name refs nums))
+    here = ⊎_elim of_markable of_copy (s.between.only address is.above is.mark is.inside)
       where
-        of_markable : IsMarkable block a → (name : Name) × (refs : ℕ) × (nums : ℕ) × (block a ≡ Some (thing name refs nums))
+        of_markable : IsMarkable block address → (name : Name) × (refs : ℕ) × (nums : ℕ) × (block address ≡ Some (thing name refs nums))
         of_markable (IsMarkable.object name refs nums there) = (name, refs, nums, there)
-        of_markable (IsMarkable.to_come seat words there) = absurd (s.no_promises a seat words there is.inside)
+        of_markable (IsMarkable.to_come seat words there) = absurd (s.no_promises address seat words there is.inside)
 
-        of_copy : HasCopy block a → (name : Name) × (refs : ℕ) × (nums : ℕ) × (block a ≡ Some (thing name refs nums))
+        of_copy : HasCopy block address → (name : Name) × (refs : ℕ) × (nums : ℕ) × (block address ≡ Some (thing name refs nums))
         of_copy (HasCopy.copy body there) = ⊎_elim
-            (λ (now : block a ≡ Some (thing body.name body.refs body.nums)). (body.name, body.refs, body.nums, now))
-            (λ (old : (to : ℕ) × (block a ≡ Some (moved body.name body.refs body.nums to))).
-            absurd (true≢false (sym (led_is_forwarded (m (Heap a)) old.0 (s.between.moves.moveds a body.refs body.nums old.0 body.name old.1).header) ∙ is.plain)))
-            (copy_cases (block a) body there)
+            (λ (now : block address ≡ Some (thing body.name body.refs body.nums)). (body.name, body.refs, body.nums, now))
+            (λ (old : (to : ℕ) × (block address ≡ Some (moved body.name body.refs body.nums to))).
+            absurd (true≢false (sym (led_is_forwarded (memory (Heap address)) old.0 (s.between.moves.moveds address body.refs body.nums old.0 body.name old.1).header) ∙ is.plain)))
+            (copy_cases (block address) body there)
         of_copy (HasCopy.spent_copy words to there) =
-            absurd (true≢false (sym (led_is_forwarded (m (Heap a)) to (s.between.moves.spents a words to there).header) ∙ is.plain))
+            absurd (true≢false (sym (led_is_forwarded (memory (Heap address)) to (s.between.moves.spents address words to there).header) ∙ is.plain))
 
     abbrev x : Block
     x = thing here.0 here.1 here.2
 
-    words_are : (m (Heap a) ≡ plain_header) × (words_at m a ≡ words_of x)
-    words_are = thing_words c m block owner g s.between a here.1 here.2 here.0 here.3
+    words_are : (memory (Heap address) ≡ plain_header) × (words_at memory address ≡ words_of x)
+    words_are = thing_words config memory block owner graph s.between address here.1 here.2 here.0 here.3
 
-    pub can_copy_out : CanCopyOut c m a
+    pub can_copy_out : CanCopyOut config memory address
     can_copy_out =
-        let at = below_top c (λ q. m (Top q)) block s.between.parsable.plotted a x here.3 (omega arith) in
-        let most = s.between.parsable.plotted.tops (region_with c a) at.0 in
-        let long = c.in_range.least_words in
-        let again = from_base c.region_words a (omega (arith, long)) is.above in
+        let at = below_top config (λ q. memory (Top q)) block s.between.parsable.plotted address x here.3 (omega arith) in
+        let most = s.between.parsable.plotted.tops (region_with config address) at.0 in
+        let long = config.in_range.least_words in
+        let again = from_base config.region_words address (omega (arith, long)) is.above in
         record {
           above = is.above;
           of_region = at.0;
@@ -157,88 +157,88 @@ module _ (c : Config) (first m : Word → ℕ) (block : Plot) (owner : ℕ → O
           tops = s.between.parsable.plotted.tops;
         }
 
-    module _ (room : has_copy_room c m a ≡ true) where
-      copies : IsCopiedOut c m (copied_out c m a) a
-      copies = copies_out c m a is.above is.inside (room_found c m a room)
+    module _ (room : has_copy_room config memory address ≡ true) where
+      copies : IsCopiedOut config memory (copied_out config memory address) address
+      copies = copies_out config memory address is.above is.inside (room_found config memory address room)
 
-      at : (to : ℕ) × (plot : Plot) × HasCopied c m (copied_out c m a) block plot owner g a to x
-      at = copied_out_of c m block owner g s.between a x here.3 tt is.inside words_are.0 words_are.1 copies
+      at : (to : ℕ) × (plot : Plot) × HasCopied config memory (copied_out config memory address) block plot owner graph address to x
+      at = copied_out_of config memory block owner graph s.between address x here.3 tt is.inside words_are.0 words_are.1 copies
 
       abbrev n : Word → ℕ
-      n = copied_out c m a
+      n = copied_out config memory address
 
       abbrev plot : Plot
       plot = at.1
 
-      no_promise : (u p words : ℕ) → block p ≡ Some (promised u words) → p ≢ a
-      no_promise u p words promise same =
-          let both : thing here.0 here.1 here.2 ≡ promised u words = same_Some x (promised u words) (sym here.3 ∙ ap block (sym same) ∙ promise) in cc
+      no_promise : (seat p words : ℕ) → block p ≡ Some (promised seat words) → p ≢ address
+      no_promise seat p words promise same =
+          let both : thing here.0 here.1 here.2 ≡ promised seat words = same_Some x (promised seat words) (sym here.3 ∙ ap block (sym same) ∙ promise) in cc
 
-      promise_was : (p u words : ℕ) → plot p ≡ Some (promised u words) → block p ≡ Some (promised u words)
-      promise_was p u words promise = ⊎_elim
-          (λ (new : (p ≡ at.0) × (x ≡ promised u words)). let differ = new.1 in cc)
-          (λ (stood : (p ≢ a) × (block p ≡ Some (promised u words))). stood.1)
-          (at.2.promises p u words promise)
+      promise_was : (p seat words : ℕ) → plot p ≡ Some (promised seat words) → block p ≡ Some (promised seat words)
+      promise_was p seat words promise = ⊎_elim
+          (λ (new : (p ≡ at.0) × (x ≡ promised seat words)). let differ = new.1 in cc)
+          (λ (stood : (p ≢ address) × (block p ≡ Some (promised seat words))). stood.1)
+          (at.2.promises p seat words promise)
 
-      set_same : n Cset ≡ m Cset
+      set_same : n Cset ≡ memory Cset
       set_same = at.2.same Cset (λ never. never)
 
       -- an object of the set stood there, and is another one
-      thing_was : (p refs nums : ℕ) (name : Name) → plot p ≡ Some (thing name refs nums) → IsCollected c (n Cset) p → (p ≢ a) × (block p ≡ Some (thing name refs nums))
+      thing_was : (p refs nums : ℕ) (name : Name) → plot p ≡ Some (thing name refs nums) → IsCollected config (n Cset) p → (p ≢ address) × (block p ≡ Some (thing name refs nums))
       thing_was p refs nums name there inside =
           let now = at.2.between in
-          let mark = thing_marked c n plot owner g now p refs nums name there inside in
-          let above = piece_inside c (λ q. n (Top q)) plot now.parsable.plotted p (thing name refs nums) there in
-          let was_mark : HasMark c (λ k. m (Black k)) p = sym (ap (λ k. bit_at k (mark_bit c p)) (at.2.same (Black (mark_word c p)) (λ never. never))) ∙ mark in
-          let piece = piece_marked c m block owner g s.between p above.0 was_mark (subst (λ set. IsCollected c set p) set_same inside) in
-          let other : p ≢ a = λ same. true≢false (sym (led_is_forwarded (n (Heap p)) at.0 (ap (λ k. n (Heap k)) same ∙ at.2.header))
-          ∙ plain_is_plain (n (Heap p)) (thing_words c n plot owner g now p refs nums name there).0) in
+          let mark = thing_marked config n plot owner graph now p refs nums name there inside in
+          let above = piece_inside config (λ q. n (Top q)) plot now.parsable.plotted p (thing name refs nums) there in
+          let was_mark : HasMark config (λ k. memory (Black k)) p = sym (ap (λ k. bit_at k (mark_bit config p)) (at.2.same (Black (mark_word config p)) (λ never. never))) ∙ mark in
+          let piece = piece_marked config memory block owner graph s.between p above.0 was_mark (subst (λ set. IsCollected config set p) set_same inside) in
+          let other : p ≢ address = λ same. true≢false (sym (led_is_forwarded (n (Heap p)) at.0 (ap (λ k. n (Heap k)) same ∙ at.2.header))
+          ∙ plain_is_plain (n (Heap p)) (thing_words config n plot owner graph now p refs nums name there).0) in
           (other, piece.1 ∙ sym (at.2.stays p piece.0 other piece.1) ∙ there)
 
       -- no slot holds what is left, so what slots hold stays
-      pins_stay_here : (t i : ℕ) → t < c.mutators → i < 4 → PinStands c (first Cset) (first Evac) plot (first (Pin t i)) (g.pin (t + 1) i)
-      pins_stay_here t i inside few =
-          let other : first (Pin t i) ≢ a = λ same. unpinned_there c m a is.above is.unpinned t i inside few (pins_same t i ∙ same) in
-          pin_kept c (first Cset) (first Evac) block plot (first (Pin t i)) (g.pin (t + 1) i) (λ z is_there. at.2.stays (first (Pin t i)) z other is_there) (s.pinned t i inside few)
+      pins_stay_here : (mutator index : ℕ) → mutator < config.mutators → index < 4 → PinStands config (first Cset) (first Evac) plot (first (Pin mutator index)) (graph.pin (mutator + 1) index)
+      pins_stay_here mutator index inside few =
+          let other : first (Pin mutator index) ≢ address = λ same. unpinned_there config memory address is.above is.unpinned mutator index inside few (pins_same mutator index ∙ same) in
+          pin_kept config (first Cset) (first Evac) block plot (first (Pin mutator index)) (graph.pin (mutator + 1) index) (λ z is_there. at.2.stays (first (Pin mutator index)) z other is_there) (s.pinned mutator index inside few)
 
       -- so a unit that was swept is swept still
-      swept_still : (r : ℕ) → IsIn (m Cset) r → IsSweptTo c (m Evac) block r (base_of c (r + 1)) → IsSweptTo c (n Evac) plot r (base_of c (r + 1))
+      swept_still : (r : ℕ) → IsIn (memory Cset) r → IsSweptTo config (memory Evac) block r (base_of config (r + 1)) → IsSweptTo config (n Evac) plot r (base_of config (r + 1))
       swept_still r member (inl full) = inl (ap is_out_of_room (at.2.same Evac (λ never. never)) ∙ full)
       swept_still r member (inr none) = inr (λ p refs nums name from before there.
-          let region : region_with c p ≡ r = regions_tile.of_no_other c r p (record { from = from; before = omega (arith, before) }) in
+          let region : region_with config p ≡ r = regions_tile.of_no_other config r p (record { from = from; before = omega (arith, before) }) in
           let inside : IsIn (n Cset) r = subst (λ set. IsIn set r) (sym set_same) member in
           none p refs nums name from before (thing_was p refs nums name there (subst (IsIn (n Cset)) (sym region) inside)).1)
 
-      pub one_copied : (new_plot : Plot) × IsCopying c first (copied_out c m a) new_plot owner g asking (a + 1)
+      pub one_copied : (new_plot : Plot) × IsCopying config first (copied_out config memory address) new_plot owner graph asking (address + 1)
       one_copied = (
         plot,
         record {
           between = at.2.between;
           roots = λ t i inside few.
-              subst (λ v. Points plot v (g.root (t + 1) i)) (sym (at.2.same (Root t i) (λ never. never)))
-              (points_stay block plot at.2.names (m (Root t i)) (g.root (t + 1) i) (s.roots t i inside few));
+              subst (λ v. Points plot v (graph.root (t + 1) i)) (sym (at.2.same (Root t i) (λ never. never)))
+              (points_stay block plot at.2.names (memory (Root t i)) (graph.root (t + 1) i) (s.roots t i inside few));
           asked = λ t inside.
-              asked_stays m n block plot g.count t (at.2.same (Wait t) (λ never. never)) (at.2.same (Answer t) (λ never. never))
+              asked_stays memory n block plot graph.count t (at.2.same (Wait t) (λ never. never)) (at.2.same (Answer t) (λ never. never))
               (λ p words k promise below. at.2.kept p k (promised t words) (no_promise t p words promise) promise below)
               (λ p words promise. at.2.stays p (promised t words) (no_promise t p words promise) promise)
               (λ p words promise. promise_was p t words promise)
               (asking t) (s.asked t inside);
           same = λ word fixed. at.2.same word fixed ∙ s.same word fixed;
-          no_promises = λ p seat words promise inside. s.no_promises p seat words (promise_was p seat words promise) (subst (λ set. IsCollected c set p) set_same inside);
+          no_promises = λ p seat words promise inside. s.no_promises p seat words (promise_was p seat words promise) (subst (λ set. IsCollected config set p) set_same inside);
           pinned = pins_stay_here;
           swept = λ p refs nums name there inside unpinned.
               let was = thing_was p refs nums name there inside in
-              let least = s.swept p refs nums name was.1 (subst (λ set. IsCollected c set p) set_same inside) unpinned in
+              let least = s.swept p refs nums name was.1 (subst (λ set. IsCollected config set p) set_same inside) unpinned in
               omega (arith, least, was.0);
           units = λ on r below member.
-              let was : IsIn (m Cset) r = subst (λ set. IsIn set r) set_same member in
+              let was : IsIn (memory Cset) r = subst (λ set. IsIn set r) set_same member in
               let claim = at.2.same Claim (λ never. never) in
               swept_still r was (s.units (sym (at.2.same Phase (λ never. never)) ∙ on) r (omega (arith, below, claim)) was);
         },
       )
 
   -- Where nothing is left at the address, it is passed.
-  pub one_passed : is_left c m a ≡ false → IsCopying c first m block owner g asking (a + 1)
+  pub one_passed : is_left config memory address ≡ false → IsCopying config first memory block owner graph asking (address + 1)
   one_passed none = record {
     between = s.between;
     roots = s.roots;
@@ -249,57 +249,57 @@ module _ (c : Config) (first m : Word → ℕ) (block : Plot) (owner : ℕ → O
     swept = λ p refs nums name there inside unpinned.
         let least = s.swept p refs nums name there inside unpinned in
         ⊎_elim
-        (λ (same : p ≡ a).
-        let above = piece_inside c (λ q. m (Top q)) block s.between.parsable.plotted p (thing name refs nums) there in
-        let left = is_left_from c m p above.0 inside (same_pinned c first m pins_same (region_with c p) ∙ unpinned) (thing_marked c m block owner g s.between p refs nums name there inside)
-        (plain_is_plain (m (Heap p)) (thing_words c m block owner g s.between p refs nums name there).0) in
-        absurd (true≢false (sym left ∙ ap (is_left c m) same ∙ none)))
-        (λ (other : p ≢ a). omega (arith, least, other))
-        (cases_eq p a);
+        (λ (same : p ≡ address).
+        let above = piece_inside config (λ q. memory (Top q)) block s.between.parsable.plotted p (thing name refs nums) there in
+        let left = is_left_from config memory p above.0 inside (same_pinned config first memory pins_same (region_with config p) ∙ unpinned) (thing_marked config memory block owner graph s.between p refs nums name there inside)
+        (plain_is_plain (memory (Heap p)) (thing_words config memory block owner graph s.between p refs nums name there).0) in
+        absurd (true≢false (sym left ∙ ap (is_left config memory) same ∙ none)))
+        (λ (other : p ≢ address). omega (arith, least, other))
+        (cases_eq p address);
     units = s.units;
   }
 
 -- After so many addresses, or up to the first object without room.
-pub all_passed : (c : Config) (first : Word → ℕ) (owner : ℕ → Option ℕ) (g : Graph) (asking : ℕ → Asking) (n : ℕ) (m : Word → ℕ) (block : Plot) (a : ℕ)
-    → IsCopying c first m block owner g asking a
-    → (plot : Plot) × (passed : ℕ) × IsCopying c first (copied_from c m a n) plot owner g asking passed × (is_room_from c m a n ≡ true → passed ≡ a + n)
-all_passed c first owner g asking zero m block a s =
-    (block, a, subst (λ w. IsCopying c first w block owner g asking a) (sym (copied_none c m a zero)) s, λ room. omega arith)
-all_passed c first owner g asking (suc n) m block a s = ⊎_elim
-    (λ (left : is_left c m a ≡ true). ⊎_elim
-    (λ (room : has_copy_room c m a ≡ true).
-    let one = one_copied c first m block owner g asking a s left room in
-    let rest = all_passed c first owner g asking n (copied_out c m a) one.0 (a + 1) one.1 in (
+pub all_passed : (config : Config) (first : Word → ℕ) (owner : ℕ → Option ℕ) (graph : Graph) (asking : ℕ → Asking) (n : ℕ) (memory : Word → ℕ) (block : Plot) (address : ℕ)
+    → IsCopying config first memory block owner graph asking address
+    → (plot : Plot) × (passed : ℕ) × IsCopying config first (copied_from config memory address n) plot owner graph asking passed × (is_room_from config memory address n ≡ true → passed ≡ address + n)
+all_passed config first owner graph asking zero memory block address s =
+    (block, address, subst (λ w. IsCopying config first w block owner graph asking address) (sym (copied_none config memory address zero)) s, λ room. omega arith)
+all_passed config first owner graph asking (suc n) memory block address s = ⊎_elim
+    (λ (left : is_left config memory address ≡ true). ⊎_elim
+    (λ (room : has_copy_room config memory address ≡ true).
+    let one = one_copied config first memory block owner graph asking address s left room in
+    let rest = all_passed config first owner graph asking n (copied_out config memory address) one.0 (address + 1) one.1 in (
       rest.0,
       rest.1,
-      subst (λ w. IsCopying c first w rest.0 owner g asking rest.1) (sym (copied_next c m a n left room)) rest.2,
-      λ all. let end = rest.3 (room_if c m a n left all).1 in omega (arith, end),
+      subst (λ w. IsCopying config first w rest.0 owner graph asking rest.1) (sym (copied_next config memory address n left room)) rest.2,
+      λ all. let end = rest.3 (room_if config memory address n left all).1 in omega (arith, end),
     ))
-    (λ (full : has_copy_room c m a ≡ false). (
+    (λ (full : has_copy_room config memory address ≡ false). (
       block,
-      a,
-      subst (λ w. IsCopying c first w block owner g asking a) (sym (copied_stuck c m a n left full)) s,
-      λ all. absurd (true≢false (sym (room_if c m a n left all).0 ∙ full)),
+      address,
+      subst (λ w. IsCopying config first w block owner graph asking address) (sym (copied_stuck config memory address n left full)) s,
+      λ all. absurd (true≢false (sym (room_if config memory address n left all).0 ∙ full)),
     ))
-    (cases_Bool (has_copy_room c m a)))
-    (λ (none : is_left c m a ≡ false).
-    let rest = all_passed c first owner g asking n m block (a + 1) (one_passed c first m block owner g asking a s none) in (
+    (cases_Bool (has_copy_room config memory address)))
+    (λ (none : is_left config memory address ≡ false).
+    let rest = all_passed config first owner graph asking n memory block (address + 1) (one_passed config first memory block owner graph asking address s none) in (
       rest.0,
       rest.1,
-      subst (λ w. IsCopying c first w rest.0 owner g asking rest.1) (sym (copied_skips c m a n none)) rest.2,
-      λ all. let end = rest.3 (room_skips c m a n none all) in omega (arith, end),
+      subst (λ w. IsCopying config first w rest.0 owner graph asking rest.1) (sym (copied_skips config memory address n none)) rest.2,
+      λ all. let end = rest.3 (room_skips config memory address n none all) in omega (arith, end),
     ))
-    (cases_Bool (is_left c m a))
+    (cases_Bool (is_left config memory address))
 
 -- and each of them can be copied out at its turn
-pub can_copy_from : (c : Config) (first : Word → ℕ) (owner : ℕ → Option ℕ) (g : Graph) (asking : ℕ → Asking) (n : ℕ) (m : Word → ℕ) (block : Plot) (a : ℕ)
-    → IsCopying c first m block owner g asking a → CanCopyFrom c m a n
+pub can_copy_from : (config : Config) (first : Word → ℕ) (owner : ℕ → Option ℕ) (graph : Graph) (asking : ℕ → Asking) (n : ℕ) (memory : Word → ℕ) (block : Plot) (address : ℕ)
+    → IsCopying config first memory block owner graph asking address → CanCopyFrom config memory address n
 unfolding CanCopyFrom
-can_copy_from c first owner g asking zero m block a s = tt
-can_copy_from c first owner g asking (suc n) m block a s = (
+can_copy_from config first owner graph asking zero memory block address s = tt
+can_copy_from config first owner graph asking (suc n) memory block address s = (
   λ left. (
-    can_copy_out c first m block owner g asking a s left,
-    λ room. let one = one_copied c first m block owner g asking a s left room in can_copy_from c first owner g asking n (copied_out c m a) one.0 (a + 1) one.1,
+    can_copy_out config first memory block owner graph asking address s left,
+    λ room. let one = one_copied config first memory block owner graph asking address s left room in can_copy_from config first owner graph asking n (copied_out config memory address) one.0 (address + 1) one.1,
   ),
-  λ none. can_copy_from c first owner g asking n m block (a + 1) (one_passed c first m block owner g asking a s none),
+  λ none. can_copy_from config first owner graph asking n memory block (address + 1) (one_passed config first memory block owner graph asking address s none),
 )

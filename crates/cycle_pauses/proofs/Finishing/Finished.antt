@@ -47,33 +47,33 @@ use Rattle.cycle_pauses.proofs.Finishing.Serving.{IsIdle, IsServedSo, turns_idle
 use Rattle.cycle_pauses.proofs.Finishing.Idle.{idle_represents, finished_idle}
 
 -- Words that serving leaves.
-phase_still : (c : Config) (m : Word → ℕ) (n : ℕ) → served c m n Phase ≡ m Phase
+phase_still : (config : Config) (memory : Word → ℕ) (n : ℕ) → served config memory n Phase ≡ memory Phase
 unfolding made_in
-phase_still c = served_still c Phase (λ w t r. refl)
+phase_still config = served_still config Phase (λ w t r. refl)
 
-cset_still : (c : Config) (m : Word → ℕ) (n : ℕ) → served c m n Cset ≡ m Cset
+cset_still : (config : Config) (memory : Word → ℕ) (n : ℕ) → served config memory n Cset ≡ memory Cset
 unfolding made_in
-cset_still c = served_still c Cset (λ w t r. refl)
+cset_still config = served_still config Cset (λ w t r. refl)
 
-evac_still : (c : Config) (m : Word → ℕ) (n : ℕ) → served c m n Evac ≡ m Evac
+evac_still : (config : Config) (memory : Word → ℕ) (n : ℕ) → served config memory n Evac ≡ memory Evac
 unfolding made_in
-evac_still c = served_still c Evac (λ w t r. refl)
+evac_still config = served_still config Evac (λ w t r. refl)
 
 -- words hold a graph by pieces each of which says how many words it has
 abbrev pub HoldsInSizes : Config → (Word → ℕ) → Graph → Type 0
-HoldsInSizes c m g = (block : Plot) × (owner : ℕ → Option ℕ) × (p : Promises) × HoldsBy c m block owner p g × AreSized m block
+HoldsInSizes config memory graph = (block : Plot) × (owner : ℕ → Option ℕ) × (promises : Promises) × HoldsBy config memory block owner promises graph × AreSized memory block
 
 -- What is left to a full collection: the words hold the graph, and what it makes of them is what the pause owes.
-pub record FallsShort (c : Config) (before after : Word → ℕ) (g : Graph) (asking : ℕ → Asking) : Type 0 where
-  pub holds : HoldsInSizes c after g
-  pub paused : IsPaused c before (full c after) g asking
+pub record FallsShort (config : Config) (before after : Word → ℕ) (graph : Graph) (asking : ℕ → Asking) : Type 0 where
+  pub holds : HoldsInSizes config after graph
+  pub paused : IsPaused config before (full config after) graph asking
 
 -- What mutators have been given.
 
 -- who asked asks still, or was given what it asked for
-served_so : (x y : Asking) → IsServedSo x y → (refs nums : ℕ) → x ≡ asks refs nums → (y ≡ asks refs nums) ⊎ (y ≡ given refs nums)
-served_so x y (IsServedSo.as_before v) refs nums is = inl is
-served_so x y (IsServedSo.with_object more less) refs nums is = inr cc
+served_so : (asking other_asking : Asking) → IsServedSo asking other_asking → (refs nums : ℕ) → asking ≡ asks refs nums → (other_asking ≡ asks refs nums) ⊎ (other_asking ≡ given refs nums)
+served_so asking other_asking (IsServedSo.as_before v) refs nums is = inl is
+served_so asking other_asking (IsServedSo.with_object more less) refs nums is = inr cc
 
 -- an asking is answered as it should be, where it asks no more
 answered_so : (x y : Asking) → IsServedSo x y → ((refs nums : ℕ) → y ≡ asks refs nums → ⊥) → Answers x y
@@ -97,42 +97,42 @@ answered_later x y z (IsServedSo.with_object refs nums) later = by_later z later
     by_later refused is = tt
     by_later (given more less) is = is
 
-not_refused : (refs nums : ℕ) (y z : Asking) → y ≡ given refs nums → z ≡ refused → Answers y z → ⊥
-not_refused refs nums y z is_y is_z is = subst (λ w. Answers (given refs nums) w) is_z (subst (λ w. Answers w z) is_y is)
+not_refused : (refs nums : ℕ) (asking other_asking : Asking) → asking ≡ given refs nums → other_asking ≡ refused → Answers asking other_asking → ⊥
+not_refused refs nums asking other_asking is_y is_z is = subst (λ w. Answers (given refs nums) w) is_z (subst (λ w. Answers w other_asking) is_y is)
 
 -- who asks waits
-asking_waits : (m : Word → ℕ) (block : Plot) (count : ℕ → ℕ) (t refs nums : ℕ) (x : Asking) → IsAsked m block count t x → x ≡ asks refs nums → m (Wait t) ≢ 0
-asking_waits m block count t refs nums x asked is = waits_for m count t refs nums (subst (IsAsked m block count t) is asked).0
+asking_waits : (memory : Word → ℕ) (block : Plot) (count : ℕ → ℕ) (mutator refs nums : ℕ) (asking : Asking) → IsAsked memory block count mutator asking → asking ≡ asks refs nums → memory (Wait mutator) ≢ 0
+asking_waits memory block count mutator refs nums asking asked is = waits_for memory count mutator refs nums (subst (IsAsked memory block count mutator) is asked).0
 
 -- Where nobody has a buffer, and all that was left found room.
-module _ (c : Config) (m : Word → ℕ) (g : Graph) (asking : ℕ → Asking) (r : Represents c m g asking) (bare : HasNoBuffers c m) (room : is_room_for_all c m ≡ true) where
+module _ (config : Config) (memory : Word → ℕ) (graph : Graph) (asking : ℕ → Asking) (r : Represents config memory graph asking) (bare : HasNoBuffers config memory) (room : is_room_for_all config memory ≡ true) where
   abbrev w : Word → ℕ
-  w = served c (cycle_finished c m) c.mutators
+  w = served config (cycle_finished config memory) config.mutators
 
-  finished_is : finished_from c m ≡ served c (cycle_finished c m) c.mutators
-  finished_is = fun_ext (λ word. cond-true (is_room_for_all c m) (served c (cycle_finished c m) c.mutators word) (all_copied c m word) room)
+  finished_is : finished_from config memory ≡ served config (cycle_finished config memory) config.mutators
+  finished_is = fun_ext (λ word. cond-true (is_room_for_all config memory) (served config (cycle_finished config memory) config.mutators word) (all_copied config memory word) room)
 
-  turns : (plot : Plot) × (owner : ℕ → Option ℕ) × (then : ℕ → Asking) × IsIdle c w plot owner g then × ((t : ℕ) → IsServedSo (asking t) (then t))
+  turns : (plot : Plot) × (owner : ℕ → Option ℕ) × (then : ℕ → Asking) × IsIdle config w plot owner graph then × ((t : ℕ) → IsServedSo (asking t) (then t))
   turns =
-      let idle = finished_idle c m g asking r bare room in
-      let served_all = turns_idle c (cycle_finished c m) idle.0 idle.1 g asking idle.2 c.mutators (omega arith) in
+      let idle = finished_idle config memory graph asking r bare room in
+      let served_all = turns_idle config (cycle_finished config memory) idle.0 idle.1 graph asking idle.2 config.mutators (omega arith) in
       (served_all.0, idle.1, served_all.1, served_all.2, served_all.3)
 
   abbrev then : ℕ → Asking
   then = turns.2
 
   -- each request was served
-  module _ (nobody : nobody_waits c (finished_from c m) ≡ true) where
-    nobody_asks : (t refs nums : ℕ) → t < c.mutators → then t ≡ asks refs nums → ⊥
-    nobody_asks t refs nums inside is =
-        asking_waits w turns.0 g.count t refs nums (then t) (turns.3.asked t inside) is (sym (ap (λ (f : Word → ℕ). f (Wait t)) finished_is) ∙ nobody_is c (finished_from c m) nobody t inside)
+  module _ (nobody : nobody_waits config (finished_from config memory) ≡ true) where
+    nobody_asks : (mutator refs nums : ℕ) → mutator < config.mutators → then mutator ≡ asks refs nums → ⊥
+    nobody_asks mutator refs nums inside is =
+        asking_waits w turns.0 graph.count mutator refs nums (then mutator) (turns.3.asked mutator inside) is (sym (ap (λ (memory : Word → ℕ). memory (Wait mutator)) finished_is) ∙ nobody_is config (finished_from config memory) nobody mutator inside)
 
-    whole_stands : Represents c w g then
+    whole_stands : Represents config w graph then
     whole_stands =
-        idle_represents c w turns.0 turns.1 g then turns.3 (phase_still c (cycle_finished c m) c.mutators) (cset_still c (cycle_finished c m) c.mutators) (evac_still c (cycle_finished c m) c.mutators)
+        idle_represents config w turns.0 turns.1 graph then turns.3 (phase_still config (cycle_finished config memory) config.mutators) (cset_still config (cycle_finished config memory) config.mutators) (evac_still config (cycle_finished config memory) config.mutators)
         (λ t refs nums inside is. absurd (nobody_asks t refs nums inside is)) r.no_more r.no_more_pins
 
-    whole_paused : IsWholePause c m w g asking
+    whole_paused : IsWholePause config memory w graph asking
     whole_paused = record {
       paused = record {
         asked_then = then;
@@ -149,15 +149,15 @@ module _ (c : Config) (m : Word → ℕ) (g : Graph) (asking : ℕ → Asking) (
           (served_so (asking t) (then t) (turns.4 t) refs nums is);
     }
 
-    pub whole_pause : IsWholePause c m (finished_from c m) g asking
-    whole_pause = subst (λ v. IsWholePause c m v g asking) (sym finished_is) whole_paused
+    pub whole_pause : IsWholePause config memory (finished_from config memory) graph asking
+    whole_pause = subst (λ v. IsWholePause config memory v graph asking) (sym finished_is) whole_paused
 
   -- Else some wait, as the word would say of what is asked that is cleared with the cycle.
   abbrev asked_word : Word → ℕ
   asked_word Ask = 2
   asked_word word = w word
 
-  asked_idle : IsIdle c asked_word turns.0 turns.1 g then
+  asked_idle : IsIdle config asked_word turns.0 turns.1 graph then
   asked_idle = record {
     parsable = turns.3.parsable;
     contents = turns.3.contents;
@@ -166,17 +166,17 @@ module _ (c : Config) (m : Word → ℕ) (g : Graph) (asking : ℕ → Asking) (
     unmoved = turns.3.unmoved;
     roots = turns.3.roots;
     pinned = turns.3.pinned;
-    asked = λ t inside. asked_stays w asked_word turns.0 turns.0 g.count t refl refl (λ a words k is below. refl) (λ a words is. is) (λ a words is. is) (then t) (turns.3.asked t inside);
+    asked = λ t inside. asked_stays w asked_word turns.0 turns.0 graph.count t refl refl (λ a words k is below. refl) (λ a words is. is) (λ a words is. is) (then t) (turns.3.asked t inside);
     promised_to = turns.3.promised_to;
   }
 
-  asked_stands : Represents c asked_word g then
+  asked_stands : Represents config asked_word graph then
   asked_stands =
-      idle_represents c asked_word turns.0 turns.1 g then asked_idle (phase_still c (cycle_finished c m) c.mutators) (cset_still c (cycle_finished c m) c.mutators) (evac_still c (cycle_finished c m) c.mutators)
+      idle_represents config asked_word turns.0 turns.1 graph then asked_idle (phase_still config (cycle_finished config memory) config.mutators) (cset_still config (cycle_finished config memory) config.mutators) (evac_still config (cycle_finished config memory) config.mutators)
       (λ t refs nums inside is. refl) r.no_more r.no_more_pins
 
   -- a full collection does not read that word
-  packed_same : (word : Word) → packed_in c asked_word word ≡ packed_in c w word
+  packed_same : (word : Word) → packed_in config asked_word word ≡ packed_in config w word
   unfolding packed image.moved_heap
   packed_same Ask = refl
   packed_same Phase = refl
@@ -204,22 +204,22 @@ module _ (c : Config) (m : Word → ℕ) (g : Graph) (asking : ℕ → Asking) (
   packed_same Share = refl
 
   -- nor is there a buffer to let go
-  still_bare : (seat : ℕ) → seat < seat_count c.mutators c.helpers → w (Current seat) ≡ 0
+  still_bare : (seat : ℕ) → seat < seat_count config.mutators config.helpers → w (Current seat) ≡ 0
   unfolding made_in
   still_bare seat below =
-      served_still c (Current seat) (λ v t q. refl) (cycle_finished c m) c.mutators
-      ∙ (copying_keeps c m g asking r).same (Current seat) (λ never. never) ∙ bare seat below
+      served_still config (Current seat) (λ v t q. refl) (cycle_finished config memory) config.mutators
+      ∙ (copying_keeps config memory graph asking r).same (Current seat) (λ never. never) ∙ bare seat below
 
-  full_same : full c asked_word ≡ full c w
+  full_same : full config asked_word ≡ full config w
   full_same =
-      ap (full_from c) (none_to_let_go c asked_word (seat_count c.mutators c.helpers) still_bare)
-      ∙ ap (λ (v : Word → ℕ). image.refused (served c v c.mutators)) (fun_ext packed_same)
-      ∙ sym (ap (full_from c) (none_to_let_go c w (seat_count c.mutators c.helpers) still_bare))
+      ap (full_from config) (none_to_let_go config asked_word (seat_count config.mutators config.helpers) still_bare)
+      ∙ ap (λ (memory : Word → ℕ). image.refused (served config memory config.mutators)) (fun_ext packed_same)
+      ∙ sym (ap (full_from config) (none_to_let_go config w (seat_count config.mutators config.helpers) still_bare))
 
-  asked_paused : IsPaused c asked_word (full c asked_word) g then
-  asked_paused = paused c asked_word g then (by_copies c asked_word g then asked_stands)
+  asked_paused : IsPaused config asked_word (full config asked_word) graph then
+  asked_paused = paused config asked_word graph then (by_copies config asked_word graph then asked_stands)
 
-  full_paused : IsPaused c m (full c asked_word) g asking
+  full_paused : IsPaused config memory (full config asked_word) graph asking
   full_paused = record {
     asked_then = asked_paused.asked_then;
     stands = asked_paused.stands;
@@ -230,62 +230,62 @@ module _ (c : Config) (m : Word → ℕ) (g : Graph) (asking : ℕ → Asking) (
         (served_so (asking t) (then t) (turns.4 t) refs nums is);
   }
 
-  served_holds : HoldsInSizes c w g
+  served_holds : HoldsInSizes config w graph
   served_holds =
-      let stands = by_copies c asked_word g then asked_stands in
-      let holds = holds_by c asked_word g then stands in (
-        live c asked_word g then stands,
+      let stands = by_copies config asked_word graph then asked_stands in
+      let holds = holds_by config asked_word graph then stands in (
+        live config asked_word graph then stands,
         stands.ghost.owner,
-        promises_of c g then,
+        promises_of config graph then,
         holds_alike asked_word w (record { heap = λ a. refl; top = λ q. refl; root = λ t i. refl; answer = λ t. refl; wait = λ t. refl; current = λ s. refl; free = refl; cset = refl; share = refl; pin = λ t i. refl })
-            c (live c asked_word g then stands) stands.ghost.owner (promises_of c g then) g holds,
-        sized_alike asked_word w (live c asked_word g then stands) (λ a. refl) (are_sized c asked_word g then stands),
+            config (live config asked_word graph then stands) stands.ghost.owner (promises_of config graph then) graph holds,
+        sized_alike asked_word w (live config asked_word graph then stands) (λ a. refl) (are_sized config asked_word graph then stands),
       )
 
-  pub served_short : FallsShort c m (finished_from c m) g asking
+  pub served_short : FallsShort config memory (finished_from config memory) graph asking
   served_short = record {
-    holds = subst (λ v. HoldsInSizes c v g) (sym finished_is) served_holds;
-    paused = subst (λ v. IsPaused c m (full c v) g asking) (sym finished_is) (subst (λ v. IsPaused c m v g asking) full_same full_paused);
+    holds = subst (λ v. HoldsInSizes config v graph) (sym finished_is) served_holds;
+    paused = subst (λ v. IsPaused config memory (full config v) graph asking) (sym finished_is) (subst (λ v. IsPaused config memory v graph asking) full_same full_paused);
   }
 
 -- Where something found no room.
-module _ (c : Config) (m : Word → ℕ) (g : Graph) (asking : ℕ → Asking) (r : Represents c m g asking) (no_room : is_room_for_all c m ≡ false) where
-  finished_early : finished_from c m ≡ all_copied c m
-  finished_early = fun_ext (λ word. cond-false (is_room_for_all c m) (served c (cycle_finished c m) c.mutators word) (all_copied c m word) no_room)
+module _ (config : Config) (memory : Word → ℕ) (graph : Graph) (asking : ℕ → Asking) (r : Represents config memory graph asking) (no_room : is_room_for_all config memory ≡ false) where
+  finished_early : finished_from config memory ≡ all_copied config memory
+  finished_early = fun_ext (λ word. cond-false (is_room_for_all config memory) (served config (cycle_finished config memory) config.mutators word) (all_copied config memory word) no_room)
 
-  pub copied_short : FallsShort c m (finished_from c m) g asking
+  pub copied_short : FallsShort config memory (finished_from config memory) graph asking
   copied_short =
-      let stands = (copying_keeps c m g asking r).stands in
-      let paused_then = paused c (all_copied c m) g asking stands in
+      let stands = (copying_keeps config memory graph asking r).stands in
+      let paused_then = paused config (all_copied config memory) graph asking stands in
       record {
-        holds = subst (λ v. HoldsInSizes c v g) (sym finished_early)
-            (live c (all_copied c m) g asking stands, stands.ghost.owner, promises_of c g asking, holds_by c (all_copied c m) g asking stands, are_sized c (all_copied c m) g asking stands);
-        paused = subst (λ v. IsPaused c m (full c v) g asking) (sym finished_early)
+        holds = subst (λ v. HoldsInSizes config v graph) (sym finished_early)
+            (live config (all_copied config memory) graph asking stands, stands.ghost.owner, promises_of config graph asking, holds_by config (all_copied config memory) graph asking stands, are_sized config (all_copied config memory) graph asking stands);
+        paused = subst (λ v. IsPaused config memory (full config v) graph asking) (sym finished_early)
             (record { asked_then = paused_then.asked_then; stands = paused_then.stands; answers = paused_then.answers; crowded = paused_then.crowded });
       }
 
 -- So it is once buffers were let go.
-module _ (c : Config) (m : Word → ℕ) (g : Graph) (asking : ℕ → Asking) (r : Represents c m g asking) (seats : HasNoMoreSeats c m) where
-  gone : Represents c (let_go c m) g asking
-  gone = (letting_go_keeps c m g asking seats).represents r
+module _ (config : Config) (memory : Word → ℕ) (graph : Graph) (asking : ℕ → Asking) (r : Represents config memory graph asking) (seats : HasNoMoreSeats config memory) where
+  gone : Represents config (let_go config memory) graph asking
+  gone = (letting_go_keeps config memory graph asking seats).represents r
 
-  whole : is_whole c m ≡ true → IsWholePause c m (finished c m) g asking
+  whole : is_whole config memory ≡ true → IsWholePause config memory (finished config memory) graph asking
   whole is =
-      let both = and_parts (is_room_for_all c (let_go c m)) (nobody_waits c (finished c m)) is in
-      let there = whole_pause c (let_go c m) g asking gone (letting_go_leaves c m) both.0 both.1 in
+      let both = and_parts (is_room_for_all config (let_go config memory)) (nobody_waits config (finished config memory)) is in
+      let there = whole_pause config (let_go config memory) graph asking gone (letting_go_leaves config memory) both.0 both.1 in
       record {
         paused = record { asked_then = there.paused.asked_then; stands = there.paused.stands; answers = there.paused.answers; crowded = there.paused.crowded };
         given_all = there.given_all;
       }
 
-  short_so : FallsShort c (let_go c m) (finished c m) g asking
+  short_so : FallsShort config (let_go config memory) (finished config memory) graph asking
   short_so = ⊎_elim
-      (λ (room : is_room_for_all c (let_go c m) ≡ true). served_short c (let_go c m) g asking gone (letting_go_leaves c m) room)
-      (λ (none : is_room_for_all c (let_go c m) ≡ false). copied_short c (let_go c m) g asking gone none)
-      (cases_Bool (is_room_for_all c (let_go c m)))
+      (λ (room : is_room_for_all config (let_go config memory) ≡ true). served_short config (let_go config memory) graph asking gone (letting_go_leaves config memory) room)
+      (λ (none : is_room_for_all config (let_go config memory) ≡ false). copied_short config (let_go config memory) graph asking gone none)
+      (cases_Bool (is_room_for_all config (let_go config memory)))
 
-  short : ShortHolds c m g asking
-  short = record { holds = short_so.holds; paused = paused_from c (let_go c m) m (full c (finished c m)) g asking short_so.paused }
+  short : ShortHolds config memory graph asking
+  short = record { holds = short_so.holds; paused = paused_from config (let_go config memory) memory (full config (finished config memory)) graph asking short_so.paused }
 
 pub whole_is_pause : WholeIsPause
 whole_is_pause c m g asking r seats is = whole c m g asking r seats is
@@ -294,13 +294,13 @@ pub short_is_pause : ShortIsPause
 short_is_pause c m g asking r seats is = short c m g asking r seats
 
 -- a region that is freed is free
-freed_there : (c : Config) (n : Word → ℕ) (q : ℕ) → q < c.regions → is_to_free c n q ≡ true → IsFreed (set_freed c n) q
-freed_there c n q inside gone =
+freed_there : (config : Config) (memory : Word → ℕ) (region : ℕ) → region < config.regions → is_to_free config memory region ≡ true → IsFreed (set_freed config memory) region
+freed_there config memory region inside gone =
     record {
-      is_free = free_is c (is_to_free c n) (filled_in c (is_to_stay c n) (has_moved n) n) q inside (inr gone);
-      top = top_out c (is_to_free c n) (filled_in c (is_to_stay c n) (has_moved n) n) q gone;
-      tams = tams_out c (is_to_free c n) (filled_in c (is_to_stay c n) (has_moved n) n) q gone;
-      limit = limit_out c (is_to_free c n) (filled_in c (is_to_stay c n) (has_moved n) n) q gone;
+      is_free = free_is config (is_to_free config memory) (filled_in config (is_to_stay config memory) (has_moved memory) memory) region inside (inr gone);
+      top = top_out config (is_to_free config memory) (filled_in config (is_to_stay config memory) (has_moved memory) memory) region gone;
+      tams = tams_out config (is_to_free config memory) (filled_in config (is_to_stay config memory) (has_moved memory) memory) region gone;
+      limit = limit_out config (is_to_free config memory) (filled_in config (is_to_stay config memory) (has_moved memory) memory) region gone;
     }
 
 pub set_is_free : SetIsFree

@@ -34,9 +34,9 @@ use Rattle.cycle_pauses.proofs.Finishing.Leaving as leaving
 use Rattle.cycle_pauses.proofs.Finishing.Serving.{IsIdle}
 
 -- Such words represent the graph.
-pub idle_represents : (c : Config) (m : Word → ℕ) (block : Plot) (owner : ℕ → Option ℕ) (g : Graph) (asking : ℕ → Asking) → IsIdle c m block owner g asking
-    → m Phase ≡ 0 → m Cset ≡ 0 → m Evac ≡ 0 → ((t refs nums : ℕ) → t < c.mutators → asking t ≡ asks refs nums → bit_at (m Ask) 1 ≡ 1) → HasNoMore c.mutators g → HasNoMorePins c.mutators g → Represents c m g asking
-idle_represents c m block owner g asking s no_phase no_cset no_evac heard no_more no_more_pins = record {
+pub idle_represents : (config : Config) (memory : Word → ℕ) (block : Plot) (owner : ℕ → Option ℕ) (graph : Graph) (asking : ℕ → Asking) → IsIdle config memory block owner graph asking
+    → memory Phase ≡ 0 → memory Cset ≡ 0 → memory Evac ≡ 0 → ((mutator refs nums : ℕ) → mutator < config.mutators → asking mutator ≡ asks refs nums → bit_at (memory Ask) 1 ≡ 1) → HasNoMore config.mutators graph → HasNoMorePins config.mutators graph → Represents config memory graph asking
+idle_represents config memory block owner graph asking s no_phase no_cset no_evac heard no_more no_more_pins = record {
   block = block;
   ghost = with_owner no_ghost owner;
   shared = record {
@@ -45,19 +45,19 @@ idle_represents c m block owner g asking s no_phase no_cset no_evac heard no_mor
     owned = s.owned;
     phased = record { phase_is = omega (arith, no_phase); cset_is = λ low. no_cset; evac_is = λ other. no_evac };
     unwritten = s.unwritten;
-    marked = none_marked_in c (m Phase) (λ q. m (Grey q)) (λ q. m (Black q)) (λ t. m (Count t)) (λ t k. m (Buffer t k)) (λ q. m (Top q)) (λ q. m (Tams q)) (λ a. m (Heap a)) block
+    marked = none_marked_in config (memory Phase) (λ q. memory (Grey q)) (λ q. memory (Black q)) (λ mutator. memory (Count mutator)) (λ mutator k. memory (Buffer mutator k)) (λ q. memory (Top q)) (λ q. memory (Tams q)) (λ a. memory (Heap a)) block
         no_ghost.recording no_ghost.scanning (λ is. omega (arith, is, no_phase));
     evacuated =
-        subst (λ set. IsEvacuating c (m Phase) set (m Evac) (m Claim) (m Free) (λ q. m (Top q)) (λ q. m (Tams q)) (λ a. m (Heap a)) (λ q. m (Black q)) block owner no_ghost.copying no_ghost.working) (sym no_cset)
-        (subst (λ evac. IsEvacuating c (m Phase) 0 evac (m Claim) (m Free) (λ q. m (Top q)) (λ q. m (Tams q)) (λ a. m (Heap a)) (λ q. m (Black q)) block owner no_ghost.copying no_ghost.working) (sym no_evac)
-        (none_evacuated c (m Phase) (m Claim) (m Free) (λ q. m (Top q)) (λ q. m (Tams q)) (λ a. m (Heap a)) (λ q. m (Black q)) block owner no_ghost.copying no_ghost.working
+        subst (λ set. IsEvacuating config (memory Phase) set (memory Evac) (memory Claim) (memory Free) (λ q. memory (Top q)) (λ q. memory (Tams q)) (λ a. memory (Heap a)) (λ q. memory (Black q)) block owner no_ghost.copying no_ghost.working) (sym no_cset)
+        (subst (λ evac. IsEvacuating config (memory Phase) 0 evac (memory Claim) (memory Free) (λ q. memory (Top q)) (λ q. memory (Tams q)) (λ a. memory (Heap a)) (λ q. memory (Black q)) block owner no_ghost.copying no_ghost.working) (sym no_evac)
+        (none_evacuated config (memory Phase) (memory Claim) (memory Free) (λ q. memory (Top q)) (λ q. memory (Tams q)) (λ a. memory (Heap a)) (λ q. memory (Black q)) block owner no_ghost.copying no_ghost.working
         (λ is. omega (arith, is, no_phase)) s.unmoved.no_moved s.unmoved.no_spent (λ seat seated. refl)));
     updated = λ on. absurd (omega (arith, on, no_phase));
     pinned = s.pinned;
   };
   roots = s.roots;
-  usable = λ t i inside few.
-      subst (λ set. IsUsable c set (m Evac) block (m (Root t i))) (sym no_cset) (usable_now c (m Evac) block s.unmoved.no_moved (m (Root t i)) (g.root (t + 1) i) (s.roots t i inside few));
+  usable = λ mutator i inside few.
+      subst (λ set. IsUsable config set (memory Evac) block (memory (Root mutator i))) (sym no_cset) (usable_now config (memory Evac) block s.unmoved.no_moved (memory (Root mutator i)) (graph.root (mutator + 1) i) (s.roots mutator i inside few));
   none = s.unmoved.no_hand;
   uncarved = s.unmoved.no_carved;
   asked = s.asked;
@@ -70,12 +70,12 @@ idle_represents c m block owner g asking s no_phase no_cset no_evac heard no_mor
 }
 
 -- one of two that are the same
-either_way : (b : Bool) (x y z : ℕ) → x ≡ z → y ≡ z → cond b x y ≡ z
+either_way : (holds : Bool) (x y z : ℕ) → x ≡ z → y ≡ z → cond holds x y ≡ z
 either_way true x y z one other = one
 either_way false x y z one other = other
 
 -- Where there is no collection set nothing is updated, and nothing freed.
-module _ (c : Config) (m : Word → ℕ) (none : m Cset ≡ 0) where
+module _ (config : Config) (memory : Word → ℕ) (none : memory Cset ≡ 0) where
   -- what is left of the cycle is taken away
   abbrev pub settled : Word → ℕ
   settled Phase = 0
@@ -83,57 +83,57 @@ module _ (c : Config) (m : Word → ℕ) (none : m Cset ≡ 0) where
   settled Claim = 0
   settled Evac = 0
   settled Ask = 0
-  settled word = m word
+  settled word = memory word
 
-  word_still : (v : ℕ) → updated_word c m v ≡ v
-  word_still v = word_spared c m v (collected_none c m v (λ inside. none_in_0 c v (subst (λ set. IsCollected c set v) none inside)))
+  word_still : (address : ℕ) → updated_word config memory address ≡ address
+  word_still address = word_spared config memory address (collected_none config memory address (λ inside. none_in_0 config address (subst (λ set. IsCollected config set address) none inside)))
 
   -- the words once references were updated
   abbrev n : Word → ℕ
-  n = all_updated c m
+  n = all_updated config memory
 
-  unchosen : (r : ℕ) → is_chosen m r ≡ false
-  unchosen r = ne_eqb (bit_at (m Cset) r) 1 (λ is. none_is_in r (subst (λ set. bit_at set r ≡ 1) none is))
+  unchosen : (r : ℕ) → is_chosen memory r ≡ false
+  unchosen r = ne_eqb (bit_at (memory Cset) r) 1 (λ is. none_is_in r (subst (λ set. bit_at set r ≡ 1) none is))
 
-  not_freed : (r : ℕ) → is_to_free c n r ≡ false
-  not_freed r = and_left (is_chosen m r) (not (is_pinned c m r)) (unchosen r)
+  not_freed : (r : ℕ) → is_to_free config n r ≡ false
+  not_freed r = and_left (is_chosen memory r) (not (is_pinned config memory r)) (unchosen r)
 
-  not_staying : (r : ℕ) → is_to_stay c n r ≡ false
-  not_staying r = and_left (is_chosen m r) (is_pinned c m r) (unchosen r)
+  not_staying : (r : ℕ) → is_to_stay config n r ≡ false
+  not_staying r = and_left (is_chosen memory r) (is_pinned config memory r) (unchosen r)
 
-  no_bits : (first k : ℕ) → bits_of (is_to_free c n) first k ≡ 0
+  no_bits : (first k : ℕ) → bits_of (is_to_free config n) first k ≡ 0
   unfolding bits_of
   no_bits first zero = refl
   no_bits first (suc k) =
       let rest = no_bits first k in
       rw (not_freed (first + k), rest) (omega arith)
 
-  free_still : bit_or (m Free) (bits_of (is_to_free c n) 0 c.regions) ≡ m Free
-  free_still = ap (bit_or (m Free)) (no_bits 0 c.regions) ∙ or_zero_r (m Free)
+  free_still : bit_or (memory Free) (bits_of (is_to_free config n) 0 config.regions) ≡ memory Free
+  free_still = ap (bit_or (memory Free)) (no_bits 0 config.regions) ∙ or_zero_r (memory Free)
 
-  kept_word : (r k : ℕ) → cond (is_to_free c n r) 0 k ≡ k
-  kept_word r k = cond-false (is_to_free c n r) 0 k (not_freed r)
+  kept_word : (r k : ℕ) → cond (is_to_free config n r) 0 k ≡ k
+  kept_word r k = cond-false (is_to_free config n r) 0 k (not_freed r)
 
-  heap_word : (x : ℕ) → n (Heap x) ≡ m (Heap x)
-  heap_word x = either_way (is_kept_field c m x) (updated_word c m (m (Heap x))) (m (Heap x)) (m (Heap x)) (word_still (m (Heap x))) refl
+  heap_word : (address : ℕ) → n (Heap address) ≡ memory (Heap address)
+  heap_word address = either_way (is_kept_field config memory address) (updated_word config memory (memory (Heap address))) (memory (Heap address)) (memory (Heap address)) (word_still (memory (Heap address))) refl
 
-  pub settled_is : (word : Word) → set_freed c (all_updated c m) word ≡ settled word
+  pub settled_is : (word : Word) → set_freed config (all_updated config memory) word ≡ settled word
   settled_is Phase = refl
   settled_is Cset = refl
   settled_is Claim = refl
   settled_is Evac = refl
   settled_is Ask = refl
   settled_is Free = free_still
-  settled_is (Top r) = kept_word r (m (Top r))
-  settled_is (Tams r) = kept_word r (m (Tams r))
-  settled_is (Limit r) = kept_word r (m (Limit r))
+  settled_is (Top r) = kept_word r (memory (Top r))
+  settled_is (Tams r) = kept_word r (memory (Tams r))
+  settled_is (Limit r) = kept_word r (memory (Limit r))
   settled_is (Heap x) =
-      cond-false (is_to_stay c n (region_with c x) && begins c n x && has_moved n x) (filler_header (object_words (n (Heap (x + 1))))) (n (Heap x))
-      (and_left (is_to_stay c n (region_with c x) && begins c n x) (has_moved n x) (and_left (is_to_stay c n (region_with c x)) (begins c n x) (not_staying (region_with c x))))
+      cond-false (is_to_stay config n (region_with config x) && begins config n x && has_moved n x) (filler_header (object_words (n (Heap (x + 1))))) (n (Heap x))
+      (and_left (is_to_stay config n (region_with config x) && begins config n x) (has_moved n x) (and_left (is_to_stay config n (region_with config x)) (begins config n x) (not_staying (region_with config x))))
       ∙ heap_word x
-  settled_is (Root t i) = word_still (m (Root t i))
+  settled_is (Root t i) = word_still (memory (Root t i))
   settled_is (Pin t i) = refl
-  settled_is (Answer t) = word_still (m (Answer t))
+  settled_is (Answer t) = word_still (memory (Answer t))
   settled_is Pause = refl
   settled_is Left = refl
   settled_is End = refl
@@ -146,66 +146,66 @@ module _ (c : Config) (m : Word → ℕ) (none : m Cset ≡ 0) where
   settled_is (Black n) = refl
   settled_is Share = refl
 
-  pub settled_idle : (g : Graph) (asking : ℕ → Asking) (r : Represents c m g asking) → m Phase ≢ 2 → IsIdle c (set_freed c (all_updated c m)) r.block r.ghost.owner g asking
-  settled_idle g asking r out = subst (λ w. IsIdle c w r.block r.ghost.owner g asking) (sym (fun_ext settled_is)) (record {
+  pub settled_idle : (graph : Graph) (asking : ℕ → Asking) (r : Represents config memory graph asking) → memory Phase ≢ 2 → IsIdle config (set_freed config (all_updated config memory)) r.block r.ghost.owner graph asking
+  settled_idle graph asking r out = subst (λ w. IsIdle config w r.block r.ghost.owner graph asking) (sym (fun_ext settled_is)) (record {
     parsable = r.shared.parsable;
     contents = r.shared.contents;
-    owned = subst (λ set. AreOwned c (λ q. m (Top q)) (m Share) (m Free) set (λ s. m (Current s)) r.block r.ghost.owner) none r.shared.owned;
+    owned = subst (λ set. AreOwned config (λ q. memory (Top q)) (memory Share) (memory Free) set (λ s. memory (Current s)) r.block r.ghost.owner) none r.shared.owned;
     unwritten = r.shared.unwritten;
     unmoved = record {
-      no_moved = λ a refs nums to name is. none_in_0 c a (subst (λ set. IsCollected c set a) none (r.shared.evacuated.moved.moveds a refs nums to name is).inside);
-      no_spent = λ a words to is. none_in_0 c a (subst (λ set. IsCollected c set a) none (r.shared.evacuated.moved.spents a words to is).inside);
+      no_moved = λ a refs nums to name is. none_in_0 config a (subst (λ set. IsCollected config set a) none (r.shared.evacuated.moved.moveds a refs nums to name is).inside);
+      no_spent = λ a words to is. none_in_0 config a (subst (λ set. IsCollected config set a) none (r.shared.evacuated.moved.spents a words to is).inside);
       no_hand = r.none;
       no_carved = r.uncarved;
     };
     roots = r.roots;
     pinned = λ t i inside few.
-        pin_same c (m Cset) (m Evac) 0 0 r.block (m (Pin t i)) (m (Pin t i)) (g.pin (t + 1) i) none (r.shared.phased.evac_is out) refl (r.shared.pinned t i inside few);
-    asked = λ t inside. asked_stays m settled r.block r.block g.count t refl refl (λ a words k is below. refl) (λ a words is. is) (λ a words is. is) (asking t) (r.asked t inside);
+        pin_same config (memory Cset) (memory Evac) 0 0 r.block (memory (Pin t i)) (memory (Pin t i)) (graph.pin (t + 1) i) none (r.shared.phased.evac_is out) refl (r.shared.pinned t i inside few);
+    asked = λ t inside. asked_stays memory settled r.block r.block graph.count t refl refl (λ a words k is below. refl) (λ a words is. is) (λ a words is. is) (asking t) (r.asked t inside);
     promised_to = r.promised_to;
   })
 
 -- Where nobody has a buffer and all that was left found room, the words stand for the graph while no cycle runs.
-module _ (c : Config) (m : Word → ℕ) (g : Graph) (asking : ℕ → Asking) (r : Represents c m g asking) (bare : HasNoBuffers c m) where
-  copied_all : IsCopiedAll c m g asking
-  copied_all = copying_keeps c m g asking r
+module _ (config : Config) (memory : Word → ℕ) (graph : Graph) (asking : ℕ → Asking) (r : Represents config memory graph asking) (bare : HasNoBuffers config memory) where
+  copied_all : IsCopiedAll config memory graph asking
+  copied_all = copying_keeps config memory graph asking r
 
   abbrev w : Word → ℕ
-  w = all_copied c m
+  w = all_copied config memory
 
   abbrev Idle : Type 0
-  Idle = (plot : Plot) × (owner : ℕ → Option ℕ) × IsIdle c (cycle_finished c m) plot owner g asking
+  Idle = (plot : Plot) × (owner : ℕ → Option ℕ) × IsIdle config (cycle_finished config memory) plot owner graph asking
 
   -- so no piece is room
   no_room : HasNoRoom copied_all.stands.block
-  no_room = none_have_room c (all_copied c m) g asking copied_all.stands (λ seat below. copied_all.same (Current seat) (λ never. never) ∙ bare seat below)
+  no_room = none_have_room config (all_copied config memory) graph asking copied_all.stands (λ seat below. copied_all.same (Current seat) (λ never. never) ∙ bare seat below)
 
   -- while objects are evacuated or references updated
-  in_cycle : 2 ≤ m Phase → is_room_for_all c m ≡ true → Idle
+  in_cycle : 2 ≤ memory Phase → is_room_for_all config memory ≡ true → Idle
   in_cycle on room =
       let phase = copied_all.same Phase (λ never. never) in
       let stands = copied_all.stands in
-      let copies = copying_begins c (all_copied c m) g asking stands (omega (arith, on, phase)) in
-      let pinned = left_pinned c m g asking copied_all room in (
-        leaving.plot c (all_copied c m) stands.block stands.ghost.owner g asking c.region_words copies pinned no_room,
+      let copies = copying_begins config (all_copied config memory) graph asking stands (omega (arith, on, phase)) in
+      let pinned = left_pinned config memory graph asking copied_all room in (
+        leaving.plot config (all_copied config memory) stands.block stands.ghost.owner graph asking config.region_words copies pinned no_room,
         stands.ghost.owner,
-        leaving.left_idle c (all_copied c m) stands.block stands.ghost.owner g asking c.region_words copies pinned no_room,
+        leaving.left_idle config (all_copied config memory) stands.block stands.ghost.owner graph asking config.region_words copies pinned no_room,
       )
 
   -- where there is no collection set
-  copied_else : m Phase ≢ 2 → all_copied c m ≡ m
-  copied_else other = fun_ext (λ word. cond-false (m Phase == 2) (copied_from c m c.region_words (c.regions * c.region_words) word) (m word) (ne_eqb (m Phase) 2 other))
+  copied_else : memory Phase ≢ 2 → all_copied config memory ≡ memory
+  copied_else other = fun_ext (λ word. cond-false (memory Phase == 2) (copied_from config memory config.region_words (config.regions * config.region_words) word) (memory word) (ne_eqb (memory Phase) 2 other))
 
-  out_of_cycle : m Phase < 2 → Idle
+  out_of_cycle : memory Phase < 2 → Idle
   out_of_cycle low =
       let none = r.shared.phased.cset_is low in (
         r.block,
         r.ghost.owner,
-        subst (λ v. IsIdle c (set_freed c (all_updated c v)) r.block r.ghost.owner g asking) (sym (copied_else (λ two. omega (arith, two, low)))) (settled_idle c m none g asking r (λ two. omega (arith, two, low))),
+        subst (λ v. IsIdle config (set_freed config (all_updated config v)) r.block r.ghost.owner graph asking) (sym (copied_else (λ two. omega (arith, two, low)))) (settled_idle config memory none graph asking r (λ two. omega (arith, two, low))),
       )
 
-  pub finished_idle : is_room_for_all c m ≡ true → (plot : Plot) × (owner : ℕ → Option ℕ) × IsIdle c (cycle_finished c m) plot owner g asking
+  pub finished_idle : is_room_for_all config memory ≡ true → (plot : Plot) × (owner : ℕ → Option ℕ) × IsIdle config (cycle_finished config memory) plot owner graph asking
   finished_idle room = ⊎_elim
-      (λ (low : m Phase < 2). out_of_cycle low)
-      (λ (on : 2 ≤ m Phase). in_cycle on room)
-      (cases_lt (m Phase) 2)
+      (λ (low : memory Phase < 2). out_of_cycle low)
+      (λ (on : 2 ≤ memory Phase). in_cycle on room)
+      (cases_lt (memory Phase) 2)

@@ -45,280 +45,280 @@ use Rattle.cycle_pauses.proofs.Finishing.Serving.{IsIdle}
 filler_plain : (words : ℕ) → is_forwarded (filler_header words) ≡ false
 filler_plain words = ne_eqb (filler_header words % 4) 3 (λ three. omega (arith, three))
 
-module _ (c : Config) (m : Word → ℕ) (block : Plot) (owner : ℕ → Option ℕ) (g : Graph) (asking : ℕ → Asking) (passed : ℕ) (s : IsCopying c m m block owner g asking passed)
-    (pinned : (a refs nums : ℕ) (name : Name) → block a ≡ Some (thing name refs nums) → IsCollected c (m Cset) a → is_pinned c m (region_with c a) ≡ true) (no_room : HasNoRoom block) where
+module _ (config : Config) (memory : Word → ℕ) (block : Plot) (owner : ℕ → Option ℕ) (graph : Graph) (asking : ℕ → Asking) (passed : ℕ) (s : IsCopying config memory memory block owner graph asking passed)
+    (pinned : (address refs nums : ℕ) (name : Name) → block address ≡ Some (thing name refs nums) → IsCollected config (memory Cset) address → is_pinned config memory (region_with config address) ≡ true) (no_room : HasNoRoom block) where
   abbrev n : Word → ℕ
-  n = all_updated c m
+  n = all_updated config memory
 
   abbrev w : Word → ℕ
-  w = set_freed c n
+  w = set_freed config n
 
   abbrev heap : ℕ → ℕ
-  heap a = n (Heap a)
+  heap address = n (Heap address)
 
   abbrev after : ℕ → ℕ
-  after a = w (Heap a)
+  after address = w (Heap address)
 
   abbrev out : ℕ → Bool
-  out = is_to_free c n
+  out = is_to_free config n
 
   abbrev gone : ℕ → Bool
-  gone a = is_to_stay c n (region_with c a) && has_moved n a
+  gone address = is_to_stay config n (region_with config address) && has_moved n address
 
   abbrev left : Plot
   left = plot_left gone block
 
   abbrev pub plot : Plot
-  plot = freed_block c out left
+  plot = freed_block config out left
 
   -- the words once what has moved only fills, before regions are freed
   abbrev filled : Word → ℕ
-  filled = filled_in c (is_to_stay c n) (has_moved n) n
+  filled = filled_in config (is_to_stay config n) (has_moved n) n
 
-  some : (a : ℕ) (x : Block) → block a ≡ Some x → 1 ≤ words_of x
-  some = some_words c (λ q. m (Top q)) block s.between.parsable s.between.owned.rooms
+  some : (address : ℕ) (piece : Block) → block address ≡ Some piece → 1 ≤ words_of piece
+  some = some_words config (λ q. memory (Top q)) block s.between.parsable s.between.owned.rooms
 
-  objects : AreObjects heap block g.object
-  objects = objects_again c m m block owner g asking passed s pinned no_room
+  objects : AreObjects heap block graph.object
+  objects = objects_again config memory memory block owner graph asking passed s pinned no_room
 
   unwritten : AreUnwritten heap block
-  unwritten = unwritten_again c m m block owner g asking passed s pinned no_room
+  unwritten = unwritten_again config memory memory block owner graph asking passed s pinned no_room
 
   sized : AreSized n block
-  sized = sized_again c m m block owner g asking passed s pinned no_room
+  sized = sized_again config memory memory block owner graph asking passed s pinned no_room
 
-  sizes : (a : ℕ) (x : Block) → block a ≡ Some x → Unit {0} → stride_at heap a ≡ words_of x
-  sizes a x is any = strides n block sized no_room a x is
+  sizes : (address : ℕ) (piece : Block) → block address ≡ Some piece → Unit {0} → stride_at heap address ≡ words_of piece
+  sizes address piece is any = strides n block sized no_room address piece is
 
   -- Regions: those that are freed are in the set, and not pinned.
-  freed_region : (r : ℕ) → out r ≡ true → IsIn (m Cset) r × (is_pinned c m r ≡ false)
-  freed_region r is = let both = and_parts (is_chosen m r) (not (is_pinned c m r)) is in (in_set m r both.0, not-true (is_pinned c m r) both.1)
+  freed_region : (region : ℕ) → out region ≡ true → IsIn (memory Cset) region × (is_pinned config memory region ≡ false)
+  freed_region region is = let both = and_parts (is_chosen memory region) (not (is_pinned config memory region)) is in (in_set memory region both.0, not-true (is_pinned config memory region) both.1)
 
-  spared_region : (r : ℕ) → (IsIn (m Cset) r → is_pinned c m r ≡ true) → out r ≡ false
-  spared_region r kept = false_from_ne_true (out r) (λ is. let parts = freed_region r is in true≢false (sym (kept parts.0) ∙ parts.1))
+  spared_region : (region : ℕ) → (IsIn (memory Cset) region → is_pinned config memory region ≡ true) → out region ≡ false
+  spared_region region kept = false_from_ne_true (out region) (λ is. let parts = freed_region region is in true≢false (sym (kept parts.0) ∙ parts.1))
 
-  outside_spared : (r : ℕ) → (IsIn (m Cset) r → ⊥) → out r ≡ false
-  outside_spared r away = spared_region r (λ member. absurd (away member))
+  outside_spared : (region : ℕ) → (IsIn (memory Cset) region → ⊥) → out region ≡ false
+  outside_spared region away = spared_region region (λ member. absurd (away member))
 
   -- and a region of the set that is not freed is one where objects stay
-  stays_there : (r : ℕ) → out r ≡ false → IsIn (m Cset) r → is_to_stay c n r ≡ true
-  stays_there r spared member = ⊎_elim
-      (λ (kept : is_pinned c m r ≡ true). and_from (is_chosen m r) (is_pinned c m r) (chosen_if m r member) kept)
-      (λ (loose : is_pinned c m r ≡ false).
-      absurd (true≢false (sym (and_from (is_chosen m r) (not (is_pinned c m r)) (chosen_if m r member) (not_from_false (is_pinned c m r) loose)) ∙ spared)))
-      (cases_Bool (is_pinned c m r))
+  stays_there : (region : ℕ) → out region ≡ false → IsIn (memory Cset) region → is_to_stay config n region ≡ true
+  stays_there region spared member = ⊎_elim
+      (λ (kept : is_pinned config memory region ≡ true). and_from (is_chosen memory region) (is_pinned config memory region) (chosen_if memory region member) kept)
+      (λ (loose : is_pinned config memory region ≡ false).
+      absurd (true≢false (sym (and_from (is_chosen memory region) (not (is_pinned config memory region)) (chosen_if memory region member) (not_from_false (is_pinned config memory region) loose)) ∙ spared)))
+      (cases_Bool (is_pinned config memory region))
 
   -- What has moved.
-  plain_stays : (a : ℕ) → is_forwarded (heap a) ≡ false → gone a ≡ false
-  plain_stays a plain = and_right (is_to_stay c n (region_with c a)) (has_moved n a) plain
+  plain_stays : (address : ℕ) → is_forwarded (heap address) ≡ false → gone address ≡ false
+  plain_stays address plain = and_right (is_to_stay config n (region_with config address)) (has_moved n address) plain
 
-  thing_unmoved : (a refs nums : ℕ) (name : Name) → block a ≡ Some (thing name refs nums) → gone a ≡ false
-  thing_unmoved a refs nums name is = plain_stays a (plain_is_plain (heap a) (objects.each a refs nums name is).2.header)
+  thing_unmoved : (address refs nums : ℕ) (name : Name) → block address ≡ Some (thing name refs nums) → gone address ≡ false
+  thing_unmoved address refs nums name is = plain_stays address (plain_is_plain (heap address) (objects.each address refs nums name is).2.header)
 
-  promised_unmoved : (a seat words : ℕ) → block a ≡ Some (promised seat words) → gone a ≡ false
-  promised_unmoved a seat words is = plain_stays a (plain_is_plain (heap a) (unwritten.blanks a seat words is).header)
+  promised_unmoved : (address seat words : ℕ) → block address ≡ Some (promised seat words) → gone address ≡ false
+  promised_unmoved address seat words is = plain_stays address (plain_is_plain (heap address) (unwritten.blanks address seat words is).header)
 
   -- it is an old copy
-  gone_fixed : (a : ℕ) (x : Block) → block a ≡ Some x → gone a ≡ true → is_loose x ≡ false
-  gone_fixed a x here goes = ⊎_elim
-      (λ (fixed : is_loose x ≡ false). fixed)
+  gone_fixed : (address : ℕ) (piece : Block) → block address ≡ Some piece → gone address ≡ true → is_loose piece ≡ false
+  gone_fixed address piece here goes = ⊎_elim
+      (λ (fixed : is_loose piece ≡ false). fixed)
       (λ loose. ⊎_elim
-      (λ (room : (seat : ℕ) × (room_of x ≡ Some seat)). absurd (no_room a room.0 x here room.1))
-      (λ (fills : (words : ℕ) × (x ≡ filler words)).
-      let header = unwritten.fillers a fills.0 (here ∙ ap Some fills.1) in
-      absurd (true≢false (sym (and_parts (is_to_stay c n (region_with c a)) (has_moved n a) goes).1 ∙ ap is_forwarded header ∙ filler_plain fills.0)))
+      (λ (room : (seat : ℕ) × (room_of piece ≡ Some seat)). absurd (no_room address room.0 piece here room.1))
+      (λ (fills : (words : ℕ) × (piece ≡ filler words)).
+      let header = unwritten.fillers address fills.0 (here ∙ ap Some fills.1) in
+      absurd (true≢false (sym (and_parts (is_to_stay config n (region_with config address)) (has_moved n address) goes).1 ∙ ap is_forwarded header ∙ filler_plain fills.0)))
       loose)
-      (kind_of x)
+      (kind_of piece)
 
   -- Words of the heap stay, but for the headers of what has moved.
-  module _ (a k : ℕ) (x : Block) (here : block a ≡ Some x) (below : k < words_of x) where
-    not_filled : (k ≡ 0 → gone a ≡ false) → (is_to_stay c n (region_with c (a + k)) && begins c n (a + k) && has_moved n (a + k)) ≡ false
+  module _ (address other_seat : ℕ) (piece : Block) (here : block address ≡ Some piece) (below : other_seat < words_of piece) where
+    not_filled : (other_seat ≡ 0 → gone address ≡ false) → (is_to_stay config n (region_with config (address + other_seat)) && begins config n (address + other_seat) && has_moved n (address + other_seat)) ≡ false
     not_filled unmoved = ⊎_elim
-        (λ (first : k ≡ 0).
-        let place : a ≡ a + k = omega (arith, first) in
-        let test : gone (a + k) ≡ false = ap gone (sym place) ∙ unmoved first in
+        (λ (first : other_seat ≡ 0).
+        let place : address ≡ address + other_seat = omega (arith, first) in
+        let test : gone (address + other_seat) ≡ false = ap gone (sym place) ∙ unmoved first in
         ⊎_elim
-        (λ (elsewhere : is_to_stay c n (region_with c (a + k)) ≡ false).
-        and_left (is_to_stay c n (region_with c (a + k)) && begins c n (a + k)) (has_moved n (a + k)) (and_left (is_to_stay c n (region_with c (a + k))) (begins c n (a + k)) elsewhere))
-        (λ (plain : has_moved n (a + k) ≡ false). and_right (is_to_stay c n (region_with c (a + k)) && begins c n (a + k)) (has_moved n (a + k)) plain)
-        (and_cases (is_to_stay c n (region_with c (a + k))) (has_moved n (a + k)) test))
-        (λ (later : k ≢ 0).
-        and_left (is_to_stay c n (region_with c (a + k)) && begins c n (a + k)) (has_moved n (a + k))
-        (and_right (is_to_stay c n (region_with c (a + k))) (begins c n (a + k))
-        (walking.begins_not c n block s.between.parsable.plotted s.between.parsable.filled some (λ r. Unit {0}) sizes a k x here below tt (omega (arith, later)))))
-        (cases_eq k 0)
+        (λ (elsewhere : is_to_stay config n (region_with config (address + other_seat)) ≡ false).
+        and_left (is_to_stay config n (region_with config (address + other_seat)) && begins config n (address + other_seat)) (has_moved n (address + other_seat)) (and_left (is_to_stay config n (region_with config (address + other_seat))) (begins config n (address + other_seat)) elsewhere))
+        (λ (plain : has_moved n (address + other_seat) ≡ false). and_right (is_to_stay config n (region_with config (address + other_seat)) && begins config n (address + other_seat)) (has_moved n (address + other_seat)) plain)
+        (and_cases (is_to_stay config n (region_with config (address + other_seat))) (has_moved n (address + other_seat)) test))
+        (λ (later : other_seat ≢ 0).
+        and_left (is_to_stay config n (region_with config (address + other_seat)) && begins config n (address + other_seat)) (has_moved n (address + other_seat))
+        (and_right (is_to_stay config n (region_with config (address + other_seat))) (begins config n (address + other_seat))
+        (walking.begins_not config n block s.between.parsable.plotted s.between.parsable.filled some (λ r. Unit {0}) sizes address other_seat piece here below tt (omega (arith, later)))))
+        (cases_eq other_seat 0)
 
-    word_stays : (k ≡ 0 → gone a ≡ false) → after (a + k) ≡ heap (a + k)
+    word_stays : (other_seat ≡ 0 → gone address ≡ false) → after (address + other_seat) ≡ heap (address + other_seat)
     word_stays unmoved =
-        cond-false (is_to_stay c n (region_with c (a + k)) && begins c n (a + k) && has_moved n (a + k)) (filler_header (object_words (heap (a + k + 1)))) (heap (a + k)) (not_filled unmoved)
+        cond-false (is_to_stay config n (region_with config (address + other_seat)) && begins config n (address + other_seat) && has_moved n (address + other_seat)) (filler_header (object_words (heap (address + other_seat + 1)))) (heap (address + other_seat)) (not_filled unmoved)
 
-  header_stays : (a : ℕ) (x : Block) → block a ≡ Some x → gone a ≡ false → after a ≡ heap a
-  header_stays a x here unmoved =
-      let first : a + 0 ≡ a = omega arith in
-      let long = some a x here in
-      sym (ap after first) ∙ word_stays a 0 x here (omega (arith, long)) (λ same. unmoved) ∙ ap heap first
+  header_stays : (address : ℕ) (piece : Block) → block address ≡ Some piece → gone address ≡ false → after address ≡ heap address
+  header_stays address piece here unmoved =
+      let first : address + 0 ≡ address = omega arith in
+      let long = some address piece here in
+      sym (ap after first) ∙ word_stays address 0 piece here (omega (arith, long)) (λ same. unmoved) ∙ ap heap first
 
   -- what has moved says how many words only fill
-  header_filled : (a : ℕ) (x : Block) → block a ≡ Some x → gone a ≡ true → after a ≡ filler_header (words_of x)
-  header_filled a x here goes =
-      let both = and_parts (is_to_stay c n (region_with c a)) (has_moved n a) goes in
-      let begun = walking.piece_begins c n block s.between.parsable.plotted s.between.parsable.filled some (λ r. Unit {0}) sizes a x here tt in
-      cond-true (is_to_stay c n (region_with c a) && begins c n a && has_moved n a) (filler_header (object_words (heap (a + 1)))) (heap a)
-      (and_from (is_to_stay c n (region_with c a) && begins c n a) (has_moved n a) (and_from (is_to_stay c n (region_with c a)) (begins c n a) both.0 begun) both.1)
-      ∙ ap filler_header (sized.objects a x here (gone_fixed a x here goes))
+  header_filled : (address : ℕ) (piece : Block) → block address ≡ Some piece → gone address ≡ true → after address ≡ filler_header (words_of piece)
+  header_filled address piece here goes =
+      let both = and_parts (is_to_stay config n (region_with config address)) (has_moved n address) goes in
+      let begun = walking.piece_begins config n block s.between.parsable.plotted s.between.parsable.filled some (λ r. Unit {0}) sizes address piece here tt in
+      cond-true (is_to_stay config n (region_with config address) && begins config n address && has_moved n address) (filler_header (object_words (heap (address + 1)))) (heap address)
+      (and_from (is_to_stay config n (region_with config address) && begins config n address) (has_moved n address) (and_from (is_to_stay config n (region_with config address)) (begins config n address) both.0 begun) both.1)
+      ∙ ap filler_header (sized.objects address piece here (gone_fixed address piece here goes))
 
   -- Pieces that are left.
-  left_was : (a : ℕ) (y : Block) → plot a ≡ Some y → (out (region_with c a) ≡ false) × (left a ≡ Some y)
-  left_was = freed.piece_was c out left
+  left_was : (address : ℕ) (piece : Block) → plot address ≡ Some piece → (out (region_with config address) ≡ false) × (left address ≡ Some piece)
+  left_was = freed.piece_was config out left
 
-  came : (a : ℕ) (y : Block) → is_loose y ≡ false → plot a ≡ Some y → (block a ≡ Some y) × (gone a ≡ false)
-  came a y fixed is = object_was gone block a y fixed (left_was a y is).1
+  came : (address : ℕ) (piece : Block) → is_loose piece ≡ false → plot address ≡ Some piece → (block address ≡ Some piece) × (gone address ≡ false)
+  came address piece fixed is = object_was gone block address piece fixed (left_was address piece is).1
 
-  stays : (a : ℕ) (x : Block) → out (region_with c a) ≡ false → gone a ≡ false → block a ≡ Some x → plot a ≡ Some x
-  stays a x spared unmoved is = freed.piece_stays c out left a spared ∙ same_there gone block a unmoved ∙ is
+  stays : (address : ℕ) (piece : Block) → out (region_with config address) ≡ false → gone address ≡ false → block address ≡ Some piece → plot address ≡ Some piece
+  stays address piece spared unmoved is = freed.piece_stays config out left address spared ∙ same_there gone block address unmoved ∙ is
 
-  thing_came : (a refs nums : ℕ) (name : Name) → plot a ≡ Some (thing name refs nums) → (block a ≡ Some (thing name refs nums)) × (gone a ≡ false)
-  thing_came a refs nums name = came a (thing name refs nums) refl
+  thing_came : (address refs nums : ℕ) (name : Name) → plot address ≡ Some (thing name refs nums) → (block address ≡ Some (thing name refs nums)) × (gone address ≡ false)
+  thing_came address refs nums name = came address (thing name refs nums) refl
 
-  thing_stays : (a refs nums : ℕ) (name : Name) → block a ≡ Some (thing name refs nums) → plot a ≡ Some (thing name refs nums)
-  thing_stays a refs nums name is = stays a (thing name refs nums) (spared_region (region_with c a) (pinned a refs nums name is)) (thing_unmoved a refs nums name is) is
+  thing_stays : (address refs nums : ℕ) (name : Name) → block address ≡ Some (thing name refs nums) → plot address ≡ Some (thing name refs nums)
+  thing_stays address refs nums name is = stays address (thing name refs nums) (spared_region (region_with config address) (pinned address refs nums name is)) (thing_unmoved address refs nums name is) is
 
-  promised_came : (a seat words : ℕ) → plot a ≡ Some (promised seat words) → (block a ≡ Some (promised seat words)) × (gone a ≡ false)
-  promised_came a seat words = came a (promised seat words) refl
+  promised_came : (address seat words : ℕ) → plot address ≡ Some (promised seat words) → (block address ≡ Some (promised seat words)) × (gone address ≡ false)
+  promised_came address seat words = came address (promised seat words) refl
 
-  promised_stays : (a seat words : ℕ) → block a ≡ Some (promised seat words) → plot a ≡ Some (promised seat words)
-  promised_stays a seat words is = stays a (promised seat words) (outside_spared (region_with c a) (s.no_promises a seat words is)) (promised_unmoved a seat words is) is
+  promised_stays : (address seat words : ℕ) → block address ≡ Some (promised seat words) → plot address ≡ Some (promised seat words)
+  promised_stays address seat words is = stays address (promised seat words) (outside_spared (region_with config address) (s.no_promises address seat words is)) (promised_unmoved address seat words is) is
 
-  dead_came : (a words : ℕ) → plot a ≡ Some (dead words) → (block a ≡ Some (dead words)) × (gone a ≡ false)
-  dead_came a words = came a (dead words) refl
+  dead_came : (address words : ℕ) → plot address ≡ Some (dead words) → (block address ≡ Some (dead words)) × (gone address ≡ false)
+  dead_came address words = came address (dead words) refl
 
   -- no old copy is
-  unmoved_there : (a : ℕ) (x : Block) → is_loose x ≡ false → plot a ≡ Some x → is_forwarded (heap a) ≡ true → IsCollected c (m Cset) a → ⊥
-  unmoved_there a x fixed is forwarded inside =
-      let spared = (left_was a x is).0 in
-      let was = came a x fixed is in
-      true≢false (sym (and_from (is_to_stay c n (region_with c a)) (has_moved n a) (stays_there (region_with c a) spared inside) forwarded) ∙ was.1)
+  unmoved_there : (address : ℕ) (piece : Block) → is_loose piece ≡ false → plot address ≡ Some piece → is_forwarded (heap address) ≡ true → IsCollected config (memory Cset) address → ⊥
+  unmoved_there address piece fixed is forwarded inside =
+      let spared = (left_was address piece is).0 in
+      let was = came address piece fixed is in
+      true≢false (sym (and_from (is_to_stay config n (region_with config address)) (has_moved n address) (stays_there (region_with config address) spared inside) forwarded) ∙ was.1)
 
-  no_moved : (a refs nums to : ℕ) (name : Name) → plot a ≡ Some (moved name refs nums to) → ⊥
-  no_moved a refs nums to name is =
-      let was = (moves_again c m m block owner g asking passed s pinned no_room).moveds a refs nums to name (came a (moved name refs nums to) refl is).0 in
-      unmoved_there a (moved name refs nums to) refl is (led_is_forwarded (heap a) to was.header) was.inside
+  no_moved : (address refs nums to : ℕ) (name : Name) → plot address ≡ Some (moved name refs nums to) → ⊥
+  no_moved address refs nums to name is =
+      let was = (moves_again config memory memory block owner graph asking passed s pinned no_room).moveds address refs nums to name (came address (moved name refs nums to) refl is).0 in
+      unmoved_there address (moved name refs nums to) refl is (led_is_forwarded (heap address) to was.header) was.inside
 
-  no_spent : (a words to : ℕ) → plot a ≡ Some (spent words to) → ⊥
-  no_spent a words to is =
-      let was = (moves_again c m m block owner g asking passed s pinned no_room).spents a words to (came a (spent words to) refl is).0 in
-      unmoved_there a (spent words to) refl is (led_is_forwarded (heap a) to was.header) was.inside
+  no_spent : (address words to : ℕ) → plot address ≡ Some (spent words to) → ⊥
+  no_spent address words to is =
+      let was = (moves_again config memory memory block owner graph asking passed s pinned no_room).spents address words to (came address (spent words to) refl is).0 in
+      unmoved_there address (spent words to) refl is (led_is_forwarded (heap address) to was.header) was.inside
 
   -- nor is there room
-  room_came : (a seat : ℕ) (x : Block) → room_of x ≡ Some seat → plot a ≡ Some x → block a ≡ Some x
-  room_came a seat x room is = room_was gone block a seat x room (left_was a x is).1
+  room_came : (address seat : ℕ) (piece : Block) → room_of piece ≡ Some seat → plot address ≡ Some piece → block address ≡ Some piece
+  room_came address seat piece room is = room_was gone block address seat piece room (left_was address piece is).1
 
   same_room : SameRoom block plot
-  same_room = record { stays = λ a seat x room is. absurd (no_room a seat x is room); came = room_came }
+  same_room = record { stays = λ address seat piece room is. absurd (no_room address seat piece is room); came = room_came }
 
   -- The heap is parsable.
-  left_some : (a : ℕ) (y : Block) → left a ≡ Some y → 1 ≤ words_of y
-  left_some a y is =
-      let was = (resized gone block).from a y is in
-      let long = some a was.0 was.1 in
+  left_some : (address : ℕ) (piece : Block) → left address ≡ Some piece → 1 ≤ words_of piece
+  left_some address piece is =
+      let was = (resized gone block).from address piece is in
+      let long = some address was.0 was.1 in
       let same = was.2 in
       omega (arith, long, same)
 
-  left_parsable : IsParsable c (λ q. filled (Top q)) left
+  left_parsable : IsParsable config (λ q. filled (Top q)) left
   left_parsable = record {
-    plotted = resized_plotted c (λ q. m (Top q)) block left (resized gone block) s.between.parsable.plotted;
-    filled = resized_filled c (λ q. m (Top q)) block left (resized gone block) s.between.parsable.filled;
-    promises = λ a seat words is. s.between.parsable.promises a seat words (object_was gone block a (promised seat words) refl is).0;
-    deads = λ a words is. s.between.parsable.deads a words (object_was gone block a (dead words) refl is).0;
-    spents = λ a words to is. s.between.parsable.spents a words to (object_was gone block a (spent words to) refl is).0;
-    fillers = λ a words is. left_some a (filler words) is;
+    plotted = resized_plotted config (λ q. memory (Top q)) block left (resized gone block) s.between.parsable.plotted;
+    filled = resized_filled config (λ q. memory (Top q)) block left (resized gone block) s.between.parsable.filled;
+    promises = λ address seat words is. s.between.parsable.promises address seat words (object_was gone block address (promised seat words) refl is).0;
+    deads = λ address words is. s.between.parsable.deads address words (object_was gone block address (dead words) refl is).0;
+    spents = λ address words to is. s.between.parsable.spents address words to (object_was gone block address (spent words to) refl is).0;
+    fillers = λ address words is. left_some address (filler words) is;
   }
 
-  parsable_again : IsParsable c (λ q. w (Top q)) plot
-  parsable_again = freed.parsable_again c out filled left left_parsable.plotted left_some left_parsable
+  parsable_again : IsParsable config (λ q. w (Top q)) plot
+  parsable_again = freed.parsable_again config out filled left left_parsable.plotted left_some left_parsable
 
   -- Objects stand as before.
   points_still : (word : ℕ) (reference : Reference) → IsCurrent block word → Points block word reference → Points plot word reference
   points_still word None current points = points
-  points_still word (Some f) (IsCurrent.null null) points = absurd (none_at_0 c (λ q. m (Top q)) block s.between.parsable.plotted word f points null)
+  points_still word (Some f) (IsCurrent.null null) points = absurd (none_at_0 config (λ q. memory (Top q)) block s.between.parsable.plotted word f points null)
   points_still word (Some f) (IsCurrent.names refs nums name is) points = ap name_at (thing_stays word refs nums name is ∙ sym is) ∙ points
 
-  thing_again : (a refs nums : ℕ) (name : Name) (o : Object) → block a ≡ Some (thing name refs nums) → IsThing heap block a refs nums name o → IsThing after plot a refs nums name o
-  thing_again a refs nums name o here is =
-      object_reads heap after plot plot a refs nums name o (λ k below. word_stays a k (thing name refs nums) here below (λ first. thing_unmoved a refs nums name here)) (λ b f named. named)
-      (object_stands heap block plot a refs nums name o
-      (λ i reference there few points. points_still (heap (a + 3 + i)) reference (field_current c m m block owner g asking passed s pinned no_room a refs nums i name here few) points) is)
+  thing_again : (address refs nums : ℕ) (name : Name) (object : Object) → block address ≡ Some (thing name refs nums) → IsThing heap block address refs nums name object → IsThing after plot address refs nums name object
+  thing_again address refs nums name object here is =
+      object_reads heap after plot plot address refs nums name object (λ other_seat below. word_stays address other_seat (thing name refs nums) here below (λ first. thing_unmoved address refs nums name here)) (λ b f named. named)
+      (object_stands heap block plot address refs nums name object
+      (λ i reference there few points. points_still (heap (address + 3 + i)) reference (field_current config memory memory block owner graph asking passed s pinned no_room address refs nums i name here few) points) is)
 
-  objects_left : AreObjects after plot g.object
+  objects_left : AreObjects after plot graph.object
   objects_left = record {
-    each = λ a refs nums name is.
-        let was = (thing_came a refs nums name is).0 in
-        let o = objects.each a refs nums name was in
-        (o.0, o.1, thing_again a refs nums name o.0 was o.2);
-    once = λ a b refs nums more less name is_a is_b. objects.once a b refs nums more less name (thing_came a refs nums name is_a).0 (thing_came b more less name is_b).0;
+    each = λ address refs nums name is.
+        let was = (thing_came address refs nums name is).0 in
+        let o = objects.each address refs nums name was in
+        (o.0, o.1, thing_again address refs nums name o.0 was o.2);
+    once = λ address b refs nums more less name is_a is_b. objects.once address b refs nums more less name (thing_came address refs nums name is_a).0 (thing_came b more less name is_b).0;
   }
 
-  promised_words : (a seat words k : ℕ) → block a ≡ Some (promised seat words) → k < words → after (a + k) ≡ heap (a + k)
-  promised_words a seat words k is below = word_stays a k (promised seat words) is below (λ first. promised_unmoved a seat words is)
+  promised_words : (address seat words other_seat : ℕ) → block address ≡ Some (promised seat words) → other_seat < words → after (address + other_seat) ≡ heap (address + other_seat)
+  promised_words address seat words other_seat is below = word_stays address other_seat (promised seat words) is below (λ first. promised_unmoved address seat words is)
 
-  filler_header_of : (a words : ℕ) (x : Block) → block a ≡ Some x → WasLeft (gone a) x (filler words) → after a ≡ filler_header words
-  filler_header_of a words x here (WasLeft.stays same unmoved) =
-      let was : block a ≡ Some (filler words) = here ∙ ap Some same in
-      header_stays a (filler words) was unmoved ∙ unwritten.fillers a words was
-  filler_header_of a words x here (WasLeft.fills fills goes) = header_filled a x here goes ∙ ap filler_header (sym (ap words_of fills))
+  filler_header_of : (address words : ℕ) (piece : Block) → block address ≡ Some piece → WasLeft (gone address) piece (filler words) → after address ≡ filler_header words
+  filler_header_of address words piece here (WasLeft.stays same unmoved) =
+      let was : block address ≡ Some (filler words) = here ∙ ap Some same in
+      header_stays address (filler words) was unmoved ∙ unwritten.fillers address words was
+  filler_header_of address words piece here (WasLeft.fills fills goes) = header_filled address piece here goes ∙ ap filler_header (sym (ap words_of fills))
 
   unwritten_left : AreUnwritten after plot
   unwritten_left = record {
-    blanks = λ a seat words is.
-        let was = (promised_came a seat words is).0 in
-        blank_stays heap after a words (λ k below. promised_words a seat words k was below) (unwritten.blanks a seat words was);
-    headers = λ a words is. let was = dead_came a words is in header_stays a (dead words) was.0 was.1 ∙ unwritten.headers a words was.0;
-    lengths = λ a words is.
-        let was = dead_came a words is in
-        let long = s.between.parsable.deads a words was.0 in
-        ap object_words (word_stays a 1 (dead words) was.0 (omega (arith, long)) (λ first. was.1)) ∙ unwritten.lengths a words was.0;
-    fillers = λ a words is. let was = piece_was gone block a (filler words) (left_was a (filler words) is).1 in filler_header_of a words was.0 was.1 was.2;
+    blanks = λ address seat words is.
+        let was = (promised_came address seat words is).0 in
+        blank_stays heap after address words (λ other_seat below. promised_words address seat words other_seat was below) (unwritten.blanks address seat words was);
+    headers = λ address words is. let was = dead_came address words is in header_stays address (dead words) was.0 was.1 ∙ unwritten.headers address words was.0;
+    lengths = λ address words is.
+        let was = dead_came address words is in
+        let long = s.between.parsable.deads address words was.0 in
+        ap object_words (word_stays address 1 (dead words) was.0 (omega (arith, long)) (λ first. was.1)) ∙ unwritten.lengths address words was.0;
+    fillers = λ address words is. let was = piece_was gone block address (filler words) (left_was address (filler words) is).1 in filler_header_of address words was.0 was.1 was.2;
   }
 
   -- Regions and buffers are owned as before.
-  set_nobodys : (q : ℕ) → out q ≡ true → owner q ≡ None
-  set_nobodys q goes = no_owner (owner q) (λ seat own. s.between.nobodys q seat own (freed_region q goes).0)
+  set_nobodys : (region : ℕ) → out region ≡ true → owner region ≡ None
+  set_nobodys region goes = no_owner (owner region) (λ seat own. s.between.nobodys region seat own (freed_region region goes).0)
 
-  top_at_buffer : (seat : ℕ) (some_buffer : m (Current seat) ≢ 0) → m (Top (s.between.owned.buffers.each seat some_buffer).region) ≤ w (Top (s.between.owned.buffers.each seat some_buffer).region)
+  top_at_buffer : (seat : ℕ) (some_buffer : memory (Current seat) ≢ 0) → memory (Top (s.between.owned.buffers.each seat some_buffer).region) ≤ w (Top (s.between.owned.buffers.each seat some_buffer).region)
   top_at_buffer seat some_buffer =
       let b = s.between.owned.buffers.each seat some_buffer in
-      let is = buffer_region_is c (λ q. m (Top q)) block seat (m (Current seat)) b (s.between.parsable.plotted.tops b.region b.within) in
-      let same = freed.top_stays c out filled b.region (outside_spared b.region (λ member. s.between.owned.outside seat some_buffer (subst (IsIn (m Cset)) (sym is) member))) in
+      let is = buffer_region_is config (λ q. memory (Top q)) block seat (memory (Current seat)) b (s.between.parsable.plotted.tops b.region b.within) in
+      let same = freed.top_stays config out filled b.region (outside_spared b.region (λ member. s.between.owned.outside seat some_buffer (subst (IsIn (memory Cset)) (sym is) member))) in
       omega (arith, same)
 
-  owned_left : AreOwned c (λ q. w (Top q)) (m Share) (w Free) 0 (λ k. m (Current k)) plot owner
+  owned_left : AreOwned config (λ q. w (Top q)) (memory Share) (w Free) 0 (λ other_seat. memory (Current other_seat)) plot owner
   owned_left = record {
-    free_word = freed.free_again c out filled left left_parsable.plotted left_some owner owner s.between.owned.free_word set_nobodys (λ q none. none);
+    free_word = freed.free_again config out filled left left_parsable.plotted left_some owner owner s.between.owned.free_word set_nobodys (λ q none. none);
     shared_one = λ q is.
         let was = s.between.owned.shared_one q is in
         record {
           within = was.within;
-          in_use = λ free. ⊎_elim was.in_use (λ (goes : out q ≡ true). was.outside (freed_region q goes).0) (freed.free_was c out filled q was.within free);
+          in_use = λ free. ⊎_elim was.in_use (λ (goes : out q ≡ true). was.outside (freed_region q goes).0) (freed.free_was config out filled q was.within free);
           nobodys = was.nobodys;
           outside = none_is_in q;
         };
-    rooms = rooms_stay c block plot same_room s.between.owned.rooms;
-    buffers = buffers_stay c (λ q. m (Top q)) (λ q. w (Top q)) (λ k. m (Current k)) block plot same_room s.between.owned.buffers top_at_buffer;
-    outside = λ seat some_buffer. none_in_0 c (end_in (m (Current seat)) - 1);
+    rooms = rooms_stay config block plot same_room s.between.owned.rooms;
+    buffers = buffers_stay config (λ q. memory (Top q)) (λ q. w (Top q)) (λ other_seat. memory (Current other_seat)) block plot same_room s.between.owned.buffers top_at_buffer;
+    outside = λ seat some_buffer. none_in_0 config (end_in (memory (Current seat)) - 1);
   }
 
   -- what slots hold stays
-  pin_left : (word : ℕ) (held : Option Pinned) → PinStands c (m Cset) (m Evac) block word held → PinStands c 0 0 plot word held
+  pin_left : (word : ℕ) (held : Option Pinned) → PinStands config (memory Cset) (memory Evac) block word held → PinStands config 0 0 plot word held
   pin_left word None is = is
-  pin_left word (Some p) is = (is.0, is.1, is.2, record { piece = thing_stays word is.1 is.2 p.name is.3.piece; safe = λ inside. absurd (none_in_0 c word inside) })
+  pin_left word (Some p) is = (is.0, is.1, is.2, record { piece = thing_stays word is.1 is.2 p.name is.3.piece; safe = λ inside. absurd (none_in_0 config word inside) })
 
-  roots_left : (t i : ℕ) → t < c.mutators → i < 16 → Points plot (updated_word c m (m (Root t i))) (g.root (t + 1) i)
-  roots_left t i inside few =
-      let again = updated_points c m m block owner g asking passed s pinned no_room (m (Root t i)) (g.root (t + 1) i) (s.roots t i inside few) in
-      points_still (updated_word c m (m (Root t i))) (g.root (t + 1) i) again.1 again.0
+  roots_left : (mutator index : ℕ) → mutator < config.mutators → index < 16 → Points plot (updated_word config memory (memory (Root mutator index))) (graph.root (mutator + 1) index)
+  roots_left mutator index inside few =
+      let again = updated_points config memory memory block owner graph asking passed s pinned no_room (memory (Root mutator index)) (graph.root (mutator + 1) index) (s.roots mutator index inside few) in
+      points_still (updated_word config memory (memory (Root mutator index))) (graph.root (mutator + 1) index) again.1 again.0
 
   -- so the words stand for the graph
-  pub left_idle : IsIdle c w plot owner g asking
+  pub left_idle : IsIdle config w plot owner graph asking
   left_idle = record {
     parsable = parsable_again;
     contents = record { objects = objects_left; given = s.between.contents.given };
@@ -327,14 +327,14 @@ module _ (c : Config) (m : Word → ℕ) (block : Plot) (owner : ℕ → Option 
     unmoved = record {
       no_moved = no_moved;
       no_spent = no_spent;
-      no_hand = λ a seat words is. s.between.unheld a seat words (room_came a seat (hand seat words) refl is);
-      no_carved = λ a seat words is. s.between.uncarved a seat words (room_came a seat (carved seat words) refl is);
+      no_hand = λ address seat words is. s.between.unheld address seat words (room_came address seat (hand seat words) refl is);
+      no_carved = λ address seat words is. s.between.uncarved address seat words (room_came address seat (carved seat words) refl is);
     };
     roots = roots_left;
-    pinned = λ t i inside few. pin_left (m (Pin t i)) (g.pin (t + 1) i) (s.pinned t i inside few);
+    pinned = λ t i inside few. pin_left (memory (Pin t i)) (graph.pin (t + 1) i) (s.pinned t i inside few);
     asked = λ t inside.
-        asked_stays m w block plot g.count t refl (answer_stays c m m block owner g asking passed s pinned no_room t (asking t) (s.asked t inside))
-        (λ a words k is below. promised_words a t words k is below ∙ promised_word c m m block owner g asking passed s pinned no_room a t words k is below)
-        (λ a words is. promised_stays a t words is) (λ a words is. (promised_came a t words is).0) (asking t) (s.asked t inside);
-    promised_to = λ a seat words is. s.between.promised_to a seat words (promised_came a seat words is).0;
+        asked_stays memory w block plot graph.count t refl (answer_stays config memory memory block owner graph asking passed s pinned no_room t (asking t) (s.asked t inside))
+        (λ address words other_seat is below. promised_words address t words other_seat is below ∙ promised_word config memory memory block owner graph asking passed s pinned no_room address t words other_seat is below)
+        (λ address words is. promised_stays address t words is) (λ address words is. (promised_came address t words is).0) (asking t) (s.asked t inside);
+    promised_to = λ address seat words is. s.between.promised_to address seat words (promised_came address seat words is).0;
   }

@@ -38,57 +38,57 @@ use Rattle.cycle_pauses.proofs.Evacuation.Asked.{asked_stays}
 use Rattle.cycle_pauses.proofs.Evacuation.PinsKept.{pin_kept}
 
 -- The words stand for a graph, with what mutators have asked for, while no cycle runs: nothing has moved, and nobody has room in hand, or carved words.
-pub record IsIdle (c : Config) (m : Word → ℕ) (block : Plot) (owner : ℕ → Option ℕ) (g : Graph) (asking : ℕ → Asking) : Type 0 where
-  pub parsable : IsParsable c (λ q. m (Top q)) block
-  pub contents : HasContents c (λ a. m (Heap a)) block g.object g.count
-  pub owned : AreOwned c (λ q. m (Top q)) (m Share) (m Free) (m Cset) (λ s. m (Current s)) block owner
-  pub unwritten : AreUnwritten (λ a. m (Heap a)) block
+pub record IsIdle (config : Config) (memory : Word → ℕ) (block : Plot) (owner : ℕ → Option ℕ) (graph : Graph) (asking : ℕ → Asking) : Type 0 where
+  pub parsable : IsParsable config (λ q. memory (Top q)) block
+  pub contents : HasContents config (λ address. memory (Heap address)) block graph.object graph.count
+  pub owned : AreOwned config (λ q. memory (Top q)) (memory Share) (memory Free) (memory Cset) (λ s. memory (Current s)) block owner
+  pub unwritten : AreUnwritten (λ address. memory (Heap address)) block
   pub unmoved : AreUnmoved block
-  pub roots : (t i : ℕ) → t < c.mutators → i < 16 → Points block (m (Root t i)) (g.root (t + 1) i)
-  pub pinned : (t i : ℕ) → t < c.mutators → i < 4 → PinStands c (m Cset) (m Evac) block (m (Pin t i)) (g.pin (t + 1) i)
-  pub asked : (t : ℕ) → t < c.mutators → IsAsked m block g.count t (asking t)
-  pub promised_to : (a seat words : ℕ) → block a ≡ Some (promised seat words) → seat < c.mutators
+  pub roots : (mutator index : ℕ) → mutator < config.mutators → index < 16 → Points block (memory (Root mutator index)) (graph.root (mutator + 1) index)
+  pub pinned : (mutator index : ℕ) → mutator < config.mutators → index < 4 → PinStands config (memory Cset) (memory Evac) block (memory (Pin mutator index)) (graph.pin (mutator + 1) index)
+  pub asked : (mutator : ℕ) → mutator < config.mutators → IsAsked memory block graph.count mutator (asking mutator)
+  pub promised_to : (address seat words : ℕ) → block address ≡ Some (promised seat words) → seat < config.mutators
 
 -- what a mutator has been given in place of what it asked for
 pub data IsServedSo : Asking → Asking → Type 0 where
-  as_before : (x : Asking) → IsServedSo x x
+  as_before : (asking : Asking) → IsServedSo asking asking
   with_object : (refs nums : ℕ) → IsServedSo (asks refs nums) (given refs nums)
 
 -- who waits has asked
-pub asked_for : (m : Word → ℕ) (block : Plot) (count : ℕ → ℕ) (t : ℕ) (x : Asking) → IsAsked m block count t x → m (Wait t) ≢ 0
-    → (refs : ℕ) × (nums : ℕ) × (x ≡ asks refs nums) × IsRequest m count t refs nums × ((a words : ℕ) → block a ≡ Some (promised t words) → ⊥)
-asked_for m block count t nothing asked waits = absurd (waits asked.0)
-asked_for m block count t (asks refs nums) asked waits = (refs, nums, refl, asked.0, asked.2)
-asked_for m block count t refused asked waits = absurd (waits asked.0)
-asked_for m block count t (given refs nums) asked waits = absurd (waits asked.0)
+pub asked_for : (memory : Word → ℕ) (block : Plot) (count : ℕ → ℕ) (t : ℕ) (asking : Asking) → IsAsked memory block count t asking → memory (Wait t) ≢ 0
+    → (refs : ℕ) × (nums : ℕ) × (asking ≡ asks refs nums) × IsRequest memory count t refs nums × ((address words : ℕ) → block address ≡ Some (promised t words) → ⊥)
+asked_for memory block count t nothing asked waits = absurd (waits asked.0)
+asked_for memory block count t (asks refs nums) asked waits = (refs, nums, refl, asked.0, asked.2)
+asked_for memory block count t refused asked waits = absurd (waits asked.0)
+asked_for memory block count t (given refs nums) asked waits = absurd (waits asked.0)
 
 -- the words of a new object, in order
 fresh_at : (a t made refs nums shape before k : ℕ) → shape ≡ shape_word refs nums → k < object_words shape → made_word a shape (name_code (t + 1) (made + 1)) before (a + k) ≡ encoding.fresh_word t made refs nums k
 fresh_at a t made refs nums shape before k is below = grind (arith, nat_tests)
 
-module _ (c : Config) (m : Word → ℕ) (block : Plot) (owner : ℕ → Option ℕ) (g : Graph) (asking : ℕ → Asking) (s : IsIdle c m block owner g asking) (t r : ℕ) (inside : t < c.mutators)
-    (waits : m (Wait t) ≢ 0) (lowest : IsLowestRoom c.region_words (λ q. m (Top q)) (object_words (request_shape_in (m (Wait t)))) c.regions r) where
+module _ (config : Config) (memory : Word → ℕ) (block : Plot) (owner : ℕ → Option ℕ) (graph : Graph) (asking : ℕ → Asking) (s : IsIdle config memory block owner graph asking) (t r : ℕ) (inside : t < config.mutators)
+    (waits : memory (Wait t) ≢ 0) (lowest : IsLowestRoom config.region_words (λ q. memory (Top q)) (object_words (request_shape_in (memory (Wait t)))) config.regions r) where
   abbrev n : Word → ℕ
-  n = made_in c m t r
+  n = made_in config memory t r
 
   abbrev top : ℕ → ℕ
-  top q = m (Top q)
+  top region = memory (Top region)
 
   abbrev heap : ℕ → ℕ
-  heap x = m (Heap x)
+  heap address = memory (Heap address)
 
   abbrev after : ℕ → ℕ
-  after x = n (Heap x)
+  after address = n (Heap address)
 
   abbrev to : ℕ
-  to = base_of c r + m (Top r)
+  to = base_of config r + memory (Top r)
 
   abbrev shape : ℕ
-  shape = request_shape_in (m (Wait t))
+  shape = request_shape_in (memory (Wait t))
 
   -- what it asks for
-  asked_so : (refs : ℕ) × (nums : ℕ) × (asking t ≡ asks refs nums) × IsRequest m g.count t refs nums × ((a words : ℕ) → block a ≡ Some (promised t words) → ⊥)
-  asked_so = asked_for m block g.count t (asking t) (s.asked t inside) waits
+  asked_so : (refs : ℕ) × (nums : ℕ) × (asking t ≡ asks refs nums) × IsRequest memory graph.count t refs nums × ((address words : ℕ) → block address ≡ Some (promised t words) → ⊥)
+  asked_so = asked_for memory block graph.count t (asking t) (s.asked t inside) waits
 
   abbrev refs : ℕ
   refs = asked_so.0
@@ -99,22 +99,22 @@ module _ (c : Config) (m : Word → ℕ) (block : Plot) (owner : ℕ → Option 
   abbrev x : Block
   x = promised t (3 + refs + nums)
 
-  request : IsRequest m g.count t refs nums
+  request : IsRequest memory graph.count t refs nums
   request = asked_so.3
 
   shape_is : shape ≡ shape_word refs nums
-  shape_is = (request_reads m g.count t refs nums request).shaped
+  shape_is = (request_reads memory graph.count t refs nums request).shaped
 
   words_are : object_words shape ≡ 3 + refs + nums
   words_are = let few_refs = request.few_refs in let few_nums = request.few_nums in ap object_words shape_is ∙ omega (arith, few_refs, few_nums)
 
-  count_is : request_count_in (m (Wait t)) ≡ g.count (t + 1) + 1
-  count_is = (request_reads m g.count t refs nums request).counted
+  count_is : request_count_in (memory (Wait t)) ≡ graph.count (t + 1) + 1
+  count_is = (request_reads memory graph.count t refs nums request).counted
 
-  long : (p : ℕ) (z : Block) → block p ≡ Some z → 1 ≤ words_of z
-  long p z is = some_words c top block s.parsable s.owned.rooms p z is
+  long : (address : ℕ) (piece : Block) → block address ≡ Some piece → 1 ≤ words_of piece
+  long address piece is = some_words config top block s.parsable s.owned.rooms address piece is
 
-  joins : CanJoin c top block r (m (Top r)) x
+  joins : CanJoin config top block r (memory (Top r)) x
   joins = record {
     plotted = s.parsable.plotted;
     long = long;
@@ -127,91 +127,91 @@ module _ (c : Config) (m : Word → ℕ) (block : Plot) (owner : ℕ → Option 
   abbrev plot : Plot
   plot = updated block to (Some x)
 
-  stays : (p : ℕ) (z : Block) → block p ≡ Some z → plot p ≡ Some z
-  stays = joined.stays c top block r (m (Top r)) x joins
+  stays : (address : ℕ) (piece : Block) → block address ≡ Some piece → plot address ≡ Some piece
+  stays = joined.stays config top block r (memory (Top r)) x joins
 
   new_there : plot to ≡ Some x
   new_there = updated_there block to (Some x)
 
-  names : (p : ℕ) (name : Name) → name_at (block p) ≡ Some name → name_at (plot p) ≡ Some name
-  names = joined.names_stay c top block r (m (Top r)) x joins
+  names : (address : ℕ) (name : Name) → name_at (block address) ≡ Some name → name_at (plot address) ≡ Some name
+  names = joined.names_stay config top block r (memory (Top r)) x joins
 
-  cases : (p : ℕ) (z : Block) → plot p ≡ Some z → ((p ≡ to) × (x ≡ z)) ⊎ ((p ≢ to) × (block p ≡ Some z))
-  cases p z is = piece_cases block to x p z is
+  cases : (address : ℕ) (piece : Block) → plot address ≡ Some piece → ((address ≡ to) × (x ≡ piece)) ⊎ ((address ≢ to) × (block address ≡ Some piece))
+  cases address piece is = piece_cases block to x address piece is
 
   -- an object of the graph stood there, and so did what is no promise
-  thing_was : (p rs ns : ℕ) (name : Name) → plot p ≡ Some (thing name rs ns) → block p ≡ Some (thing name rs ns)
-  thing_was p rs ns name is = ⊎_elim (λ (new : (p ≡ to) × (x ≡ thing name rs ns)). let differ = new.1 in cc) (λ old. old.1) (cases p (thing name rs ns) is)
+  thing_was : (address rs ns : ℕ) (name : Name) → plot address ≡ Some (thing name rs ns) → block address ≡ Some (thing name rs ns)
+  thing_was address rs ns name is = ⊎_elim (λ (new : (address ≡ to) × (x ≡ thing name rs ns)). let differ = new.1 in cc) (λ old. old.1) (cases address (thing name rs ns) is)
 
-  dead_was : (p words : ℕ) → plot p ≡ Some (dead words) → block p ≡ Some (dead words)
-  dead_was p words is = ⊎_elim (λ (new : (p ≡ to) × (x ≡ dead words)). let differ = new.1 in cc) (λ old. old.1) (cases p (dead words) is)
+  dead_was : (address words : ℕ) → plot address ≡ Some (dead words) → block address ≡ Some (dead words)
+  dead_was address words is = ⊎_elim (λ (new : (address ≡ to) × (x ≡ dead words)). let differ = new.1 in cc) (λ old. old.1) (cases address (dead words) is)
 
-  filler_was : (p words : ℕ) → plot p ≡ Some (filler words) → block p ≡ Some (filler words)
-  filler_was p words is = ⊎_elim (λ (new : (p ≡ to) × (x ≡ filler words)). let differ = new.1 in cc) (λ old. old.1) (cases p (filler words) is)
+  filler_was : (address words : ℕ) → plot address ≡ Some (filler words) → block address ≡ Some (filler words)
+  filler_was address words is = ⊎_elim (λ (new : (address ≡ to) × (x ≡ filler words)). let differ = new.1 in cc) (λ old. old.1) (cases address (filler words) is)
 
   -- the words of what stood there stay
-  kept : (p k : ℕ) (z : Block) → block p ≡ Some z → k < words_of z → after (p + k) ≡ heap (p + k)
+  kept : (address k : ℕ) (piece : Block) → block address ≡ Some piece → k < words_of piece → after (address + k) ≡ heap (address + k)
   unfolding made_in
-  kept p k z is below =
+  kept address k piece is below =
       let room = lowest.room in
-      outside_fresh to shape (name_code (t + 1) (request_count_in (m (Wait t)))) (heap (p + k)) (p + k)
+      outside_fresh to shape (name_code (t + 1) (request_count_in (memory (Wait t)))) (heap (address + k)) (address + k)
       (⊎_elim
-      (λ (before : p + words_of z ≤ base_of c r). inl (omega (arith, before, below)))
-      (λ (rest : ((base_of c r ≤ p) × (p + words_of z ≤ to)) ⊎ (base_of c r + c.region_words ≤ p)). ⊎_elim
-      (λ (within : (base_of c r ≤ p) × (p + words_of z ≤ to)). inl (omega (arith, within.1, below)))
-      (λ (behind : base_of c r + c.region_words ≤ p). inr (omega (arith, behind, room)))
+      (λ (before : address + words_of piece ≤ base_of config r). inl (omega (arith, before, below)))
+      (λ (rest : ((base_of config r ≤ address) × (address + words_of piece ≤ to)) ⊎ (base_of config r + config.region_words ≤ address)). ⊎_elim
+      (λ (within : (base_of config r ≤ address) × (address + words_of piece ≤ to)). inl (omega (arith, within.1, below)))
+      (λ (behind : base_of config r + config.region_words ≤ address). inr (omega (arith, behind, room)))
       rest)
-      (beside c top block s.parsable.plotted r p z is))
+      (beside config top block s.parsable.plotted r address piece is))
 
   -- the new ones are those of a new object
-  new_word : (k : ℕ) → k < 3 + refs + nums → after (to + k) ≡ encoding.fresh_word t (g.count (t + 1)) refs nums k
+  new_word : (k : ℕ) → k < 3 + refs + nums → after (to + k) ≡ encoding.fresh_word t (graph.count (t + 1)) refs nums k
   unfolding made_in
   new_word k below =
       ap (λ j. made_word to shape (name_code (t + 1) j) (heap (to + k)) (to + k)) count_is
-      ∙ fresh_at to t (g.count (t + 1)) refs nums shape (heap (to + k)) k shape_is (omega (arith, below, words_are))
+      ∙ fresh_at to t (graph.count (t + 1)) refs nums shape (heap (to + k)) k shape_is (omega (arith, below, words_are))
 
-  same_root : (u i : ℕ) → n (Root u i) ≡ m (Root u i)
+  same_root : (mutator index : ℕ) → n (Root mutator index) ≡ memory (Root mutator index)
   unfolding made_in
-  same_root u i = refl
+  same_root mutator index = refl
 
   own_wait : n (Wait t) ≡ 0
   unfolding made_in
-  own_wait = cond-true (t == t) 0 (m (Wait t)) (eq-eqb t t refl)
+  own_wait = cond-true (t == t) 0 (memory (Wait t)) (eq-eqb t t refl)
 
   own_answer : n (Answer t) ≡ to
   unfolding made_in
-  own_answer = cond-true (t == t) to (m (Answer t)) (eq-eqb t t refl)
+  own_answer = cond-true (t == t) to (memory (Answer t)) (eq-eqb t t refl)
 
-  other_wait : (u : ℕ) → t ≢ u → n (Wait u) ≡ m (Wait u)
+  other_wait : (mutator : ℕ) → t ≢ mutator → n (Wait mutator) ≡ memory (Wait mutator)
   unfolding made_in
-  other_wait u other = cond-false (t == u) 0 (m (Wait u)) (ne_eqb t u other)
+  other_wait mutator other = cond-false (t == mutator) 0 (memory (Wait mutator)) (ne_eqb t mutator other)
 
-  other_answer : (u : ℕ) → t ≢ u → n (Answer u) ≡ m (Answer u)
+  other_answer : (mutator : ℕ) → t ≢ mutator → n (Answer mutator) ≡ memory (Answer mutator)
   unfolding made_in
-  other_answer u other = cond-false (t == u) to (m (Answer u)) (ne_eqb t u other)
+  other_answer mutator other = cond-false (t == mutator) to (memory (Answer mutator)) (ne_eqb t mutator other)
 
-  free_is : n Free ≡ bit_and (m Free) (all_but r)
+  free_is : n Free ≡ bit_and (memory Free) (all_but r)
   unfolding made_in
   free_is = refl
 
-  tops_are : (λ q. n (Top q)) ≡ updated top r (m (Top r) + words_of x)
+  tops_are : (λ q. n (Top q)) ≡ updated top r (memory (Top r) + words_of x)
   unfolding made_in
-  tops_are = fun_ext (λ q. ap (λ w. updated top r (m (Top r) + w) q) words_are)
+  tops_are = fun_ext (λ q. ap (λ w. updated top r (memory (Top r) + w) q) words_are)
 
-  other_top : (q : ℕ) → q ≢ r → n (Top q) ≡ m (Top q)
-  other_top q other = ap (λ (f : ℕ → ℕ). f q) tops_are ∙ updated_else top r (m (Top r) + words_of x) q (λ same. other (sym same))
+  other_top : (region : ℕ) → region ≢ r → n (Top region) ≡ memory (Top region)
+  other_top region other = ap (λ (f : ℕ → ℕ). f region) tops_are ∙ updated_else top r (memory (Top r) + words_of x) region (λ same. other (sym same))
 
-  free_again : IsFreeWord c (n Free) (λ q. n (Top q)) owner
-  free_again = subst (λ f. IsFreeWord c f (λ q. n (Top q)) owner) (sym free_is) (record {
-    no_more = (let was = s.owned.free_word.no_more in let less = and_le_l (m Free) (all_but r) in omega (arith, was, less));
+  free_again : IsFreeWord config (n Free) (λ q. n (Top q)) owner
+  free_again = subst (λ f. IsFreeWord config f (λ q. n (Top q)) owner) (sym free_is) (record {
+    no_more = (let was = s.owned.free_word.no_more in let less = and_le_l (memory Free) (all_but r) in omega (arith, was, less));
     empty = λ q below is.
         let other : q ≢ r = λ same.
-        let gone = bit_at_clear_same w64 (m Free) r (let few = c.in_range.most_regions in let within = lowest.below in omega (arith, few, within)) in
-        let here : bit_at (bit_and (m Free) (all_but r)) r ≡ 1 = subst (λ k. bit_at (bit_and (m Free) (all_but r)) k ≡ 1) same is in
+        let gone = bit_at_clear_same w64 (memory Free) r (let few = config.in_range.most_regions in let within = lowest.below in omega (arith, few, within)) in
+        let here : bit_at (bit_and (memory Free) (all_but r)) r ≡ 1 = subst (λ k. bit_at (bit_and (memory Free) (all_but r)) k ≡ 1) same is in
         omega (arith, gone, here)
         in
-        other_top q other ∙ s.owned.free_word.empty q below (free_before c (m Free) r lowest.below q below is);
-    nobodys = λ q below is. s.owned.free_word.nobodys q below (free_before c (m Free) r lowest.below q below is);
+        other_top q other ∙ s.owned.free_word.empty q below (free_before config (memory Free) r lowest.below q below is);
+    nobodys = λ q below is. s.owned.free_word.nobodys q below (free_before config (memory Free) r lowest.below q below is);
   })
 
   -- room is the same, and no top falls
@@ -221,35 +221,35 @@ module _ (c : Config) (m : Word → ℕ) (block : Plot) (owner : ℕ → Option 
     came = λ p seat y of is. ⊎_elim (λ (new : (p ≡ to) × (x ≡ y)). absurd (none-some seat (ap room_of new.1 ∙ of))) (λ (old : (p ≢ to) × (block p ≡ Some y)). old.1) (cases p y is);
   }
 
-  rises : (q : ℕ) → m (Top q) ≤ n (Top q)
-  rises q = ⊎_elim
-      (λ (same : r ≡ q). (let now : n (Top q) ≡ m (Top r) + words_of x = ap (λ (f : ℕ → ℕ). f q) tops_are ∙ updated_same top r (m (Top r) + words_of x) q same in let was : m (Top q) ≡ m (Top r) = ap (λ k. m (Top k)) (sym same) in omega (arith, now, was)))
-      (λ (other : r ≢ q). (let same = other_top q (λ e. other (sym e)) in omega (arith, same)))
-      (cases_eq r q)
+  rises : (region : ℕ) → memory (Top region) ≤ n (Top region)
+  rises region = ⊎_elim
+      (λ (same : r ≡ region). (let now : n (Top region) ≡ memory (Top r) + words_of x = ap (λ (f : ℕ → ℕ). f region) tops_are ∙ updated_same top r (memory (Top r) + words_of x) region same in let was : memory (Top region) ≡ memory (Top r) = ap (λ k. memory (Top k)) (sym same) in omega (arith, now, was)))
+      (λ (other : r ≢ region). (let same = other_top region (λ e. other (sym e)) in omega (arith, same)))
+      (cases_eq r region)
 
   -- so regions and buffers are owned as before
-  share_again : ShareIsOpen c (n Share) (n Free) (n Cset) owner
+  share_again : ShareIsOpen config (n Share) (n Free) (n Cset) owner
   unfolding made_in
-  share_again = share_stays c (m Share) (m Free) (m Cset) r owner lowest.below s.owned.shared_one
+  share_again = share_stays config (memory Share) (memory Free) (memory Cset) r owner lowest.below s.owned.shared_one
 
-  buffers_again : AreBuffers c (λ q. n (Top q)) (λ q. n (Current q)) plot
+  buffers_again : AreBuffers config (λ q. n (Top q)) (λ q. n (Current q)) plot
   unfolding made_in
-  buffers_again = buffers_stay c top (λ q. n (Top q)) (λ q. m (Current q)) block plot same_room s.owned.buffers (λ seat some. rises (s.owned.buffers.each seat some).region)
+  buffers_again = buffers_stay config top (λ q. n (Top q)) (λ q. memory (Current q)) block plot same_room s.owned.buffers (λ seat some. rises (s.owned.buffers.each seat some).region)
 
-  outside_again : AreBuffersOutside c (n Cset) (λ q. n (Current q))
+  outside_again : AreBuffersOutside config (n Cset) (λ q. n (Current q))
   unfolding made_in
   outside_again = s.owned.outside
 
   abbrev asking_then : ℕ → Asking
   asking_then = updated asking t (given refs nums)
 
-  promised_here : IsAsked n plot g.count t (given refs nums)
+  promised_here : IsAsked n plot graph.count t (given refs nums)
   promised_here =
-      let low : 1 * c.region_words ≤ (r + 1) * c.region_words = mul-le-mul_right c.region_words (omega arith) in
-      let least = c.in_range.least_words in (
+      let low : 1 * config.region_words ≤ (r + 1) * config.region_words = mul-le-mul_right config.region_words (omega arith) in
+      let least = config.in_range.least_words in (
         own_wait,
         subst (λ k. 1 < k) (sym own_answer) (omega (arith, low, least)),
-        subst (IsPromise n plot g.count t refs nums) (sym own_answer)
+        subst (IsPromise n plot graph.count t refs nums) (sym own_answer)
             (record {
               here = new_there;
               words = new_word;
@@ -260,13 +260,13 @@ module _ (c : Config) (m : Word → ℕ) (block : Plot) (owner : ℕ → Option 
             }),
       )
 
-  asked_again : (u : ℕ) → u < c.mutators → IsAsked n plot g.count u (asking_then u)
+  asked_again : (u : ℕ) → u < config.mutators → IsAsked n plot graph.count u (asking_then u)
   asked_again u below = ⊎_elim
       (λ (own : t ≡ u).
-      subst (IsAsked n plot g.count u) (sym (updated_same asking t (given refs nums) u own)) (subst (λ k. IsAsked n plot g.count k (given refs nums)) own promised_here))
+      subst (IsAsked n plot graph.count u) (sym (updated_same asking t (given refs nums) u own)) (subst (λ k. IsAsked n plot graph.count k (given refs nums)) own promised_here))
       (λ (other : t ≢ u).
-      subst (IsAsked n plot g.count u) (sym (updated_else asking t (given refs nums) u other))
-      (asked_stays m n block plot g.count u (other_wait u other) (other_answer u other) (λ p words k is few. kept p k (promised u words) is few)
+      subst (IsAsked n plot graph.count u) (sym (updated_else asking t (given refs nums) u other))
+      (asked_stays memory n block plot graph.count u (other_wait u other) (other_answer u other) (λ p words k is few. kept p k (promised u words) is few)
       (λ p words is. stays p (promised u words) is)
       (λ p words is. ⊎_elim
       (λ (new : (p ≡ to) × (x ≡ promised u words)). let both = new.1 in let seats : t ≡ u = cc in absurd (other seats))
@@ -275,7 +275,7 @@ module _ (c : Config) (m : Word → ℕ) (block : Plot) (owner : ℕ → Option 
       (asking u) (s.asked u below)))
       (cases_eq t u)
 
-  objects_again : AreObjects after plot g.object
+  objects_again : AreObjects after plot graph.object
   objects_again = record {
     each = λ p rs ns name is.
         let was = thing_was p rs ns name is in
@@ -284,7 +284,7 @@ module _ (c : Config) (m : Word → ℕ) (block : Plot) (owner : ℕ → Option 
     once = λ p q rs ns more less name is_p is_q. s.contents.objects.once p q rs ns more less name (thing_was p rs ns name is_p) (thing_was q more less name is_q);
   }
 
-  null_word : (k : ℕ) → 3 ≤ k → encoding.fresh_word t (g.count (t + 1)) refs nums k ≡ 0
+  null_word : (k : ℕ) → 3 ≤ k → encoding.fresh_word t (graph.count (t + 1)) refs nums k ≡ 0
   null_word k past = grind (arith, nat_tests)
 
   unwritten_again : AreUnwritten after plot
@@ -326,15 +326,15 @@ module _ (c : Config) (m : Word → ℕ) (block : Plot) (owner : ℕ → Option 
     no_carved = λ p seat words is. s.unmoved.no_carved p seat words (same_room.came p seat (carved seat words) refl is);
   }
 
-  pinned_again : (u i : ℕ) → u < c.mutators → i < 4 → PinStands c (n Cset) (n Evac) plot (n (Pin u i)) (g.pin (u + 1) i)
+  pinned_again : (mutator index : ℕ) → mutator < config.mutators → index < 4 → PinStands config (n Cset) (n Evac) plot (n (Pin mutator index)) (graph.pin (mutator + 1) index)
   unfolding made_in
-  pinned_again u i below few = pin_kept c (m Cset) (m Evac) block plot (m (Pin u i)) (g.pin (u + 1) i) (λ z is. stays (m (Pin u i)) z is) (s.pinned u i below few)
+  pinned_again mutator index below few = pin_kept config (memory Cset) (memory Evac) block plot (memory (Pin mutator index)) (graph.pin (mutator + 1) index) (λ z is. stays (memory (Pin mutator index)) z is) (s.pinned mutator index below few)
 
-  one_made : IsIdle c (made_in c m t r) plot owner g asking_then
+  one_made : IsIdle config (made_in config memory t r) plot owner graph asking_then
   one_made = record {
     parsable = record {
-      plotted = subst (λ f. IsPlotted c f plot) (sym tops_are) (joined.plotted_more c top block r (m (Top r)) x joins);
-      filled = subst (λ f. IsFilled c f plot) (sym tops_are) (joined.filled_more c top block r (m (Top r)) x joins s.parsable.filled);
+      plotted = subst (λ f. IsPlotted config f plot) (sym tops_are) (joined.plotted_more config top block r (memory (Top r)) x joins);
+      filled = subst (λ f. IsFilled config f plot) (sym tops_are) (joined.filled_more config top block r (memory (Top r)) x joins s.parsable.filled);
       promises = λ p seat words is. ⊎_elim
           (λ (new : (p ≡ to) × (x ≡ promised seat words)). (let size = ap words_of new.1 in omega (arith, size)))
           (λ old. s.parsable.promises p seat words old.1)
@@ -347,17 +347,17 @@ module _ (c : Config) (m : Word → ℕ) (block : Plot) (owner : ℕ → Option 
     owned = record {
       free_word = free_again;
       shared_one = share_again;
-      rooms = rooms_stay c block plot same_room s.owned.rooms;
+      rooms = rooms_stay config block plot same_room s.owned.rooms;
       buffers = buffers_again;
       outside = outside_again;
     };
     unwritten = unwritten_again;
     unmoved = unmoved_again;
-    roots = λ u i below few. subst (λ v. Points plot v (g.root (u + 1) i)) (sym (same_root u i)) (points_stay block plot names (m (Root u i)) (g.root (u + 1) i) (s.roots u i below few));
+    roots = λ u i below few. subst (λ v. Points plot v (graph.root (u + 1) i)) (sym (same_root u i)) (points_stay block plot names (memory (Root u i)) (graph.root (u + 1) i) (s.roots u i below few));
     pinned = pinned_again;
     asked = asked_again;
     promised_to = λ p seat words is. ⊎_elim
-        (λ (new : (p ≡ to) × (x ≡ promised seat words)). let both = new.1 in let seats : t ≡ seat = cc in subst (λ k. k < c.mutators) seats inside)
+        (λ (new : (p ≡ to) × (x ≡ promised seat words)). let both = new.1 in let seats : t ≡ seat = cc in subst (λ k. k < config.mutators) seats inside)
         (λ old. s.promised_to p seat words old.1)
         (cases p (promised seat words) is);
   }
@@ -370,7 +370,7 @@ module _ (c : Config) (m : Word → ℕ) (block : Plot) (owner : ℕ → Option 
       (λ (other : t ≢ u). subst (IsServedSo (asking u)) (sym (updated_else asking t (given refs nums) u other)) (IsServedSo.as_before (asking u)))
       (cases_eq t u)
 
-  pub given_one : (new_plot : Plot) × (then : ℕ → Asking) × IsIdle c (made_in c m t r) new_plot owner g then × ((u : ℕ) → IsServedSo (asking u) (then u))
+  pub given_one : (new_plot : Plot) × (then : ℕ → Asking) × IsIdle config (made_in config memory t r) new_plot owner graph then × ((u : ℕ) → IsServedSo (asking u) (then u))
   given_one = (plot, asking_then, one_made, served_one)
 
 -- served again
@@ -382,33 +382,33 @@ served_twice x y z (IsServedSo.with_object refs nums) later = by_later z later
     by_later w (IsServedSo.as_before v) = IsServedSo.with_object refs nums
 
 -- After so many turns.
-pub turns_idle : (c : Config) (m : Word → ℕ) (block : Plot) (owner : ℕ → Option ℕ) (g : Graph) (asking : ℕ → Asking) → IsIdle c m block owner g asking → (n : ℕ) → n ≤ c.mutators
-    → (plot : Plot) × (then : ℕ → Asking) × IsIdle c (served c m n) plot owner g then × ((t : ℕ) → IsServedSo (asking t) (then t))
-turns_idle c m block owner g asking s zero few =
-    (block, asking, subst (λ w. IsIdle c w block owner g asking) (sym (fun_ext (served_first c m))) s, λ t. IsServedSo.as_before (asking t))
-turns_idle c m block owner g asking s (suc n) few =
-    let rest = turns_idle c m block owner g asking s n (omega (arith, few)) in
-    let w : Word → ℕ = served c m n in
+pub turns_idle : (config : Config) (memory : Word → ℕ) (block : Plot) (owner : ℕ → Option ℕ) (graph : Graph) (asking : ℕ → Asking) → IsIdle config memory block owner graph asking → (mutator : ℕ) → mutator ≤ config.mutators
+    → (plot : Plot) × (then : ℕ → Asking) × IsIdle config (served config memory mutator) plot owner graph then × ((t : ℕ) → IsServedSo (asking t) (then t))
+turns_idle config memory block owner graph asking s zero few =
+    (block, asking, subst (λ w. IsIdle config w block owner graph asking) (sym (fun_ext (served_first config memory))) s, λ t. IsServedSo.as_before (asking t))
+turns_idle config memory block owner graph asking s (suc mutator) few =
+    let rest = turns_idle config memory block owner graph asking s mutator (omega (arith, few)) in
+    let w : Word → ℕ = served config memory mutator in
     ⊎_elim
-    (λ (none : served c m n (Wait n) ≡ 0).
-    (rest.0, rest.1, subst (λ v. IsIdle c v rest.0 owner g rest.1) (sym (fun_ext (λ word. turn_idle c m n word none))) rest.2, rest.3))
-    (λ (waits : served c m n (Wait n) ≢ 0). by_room rest waits (room_for c (served c m n) n) refl)
-    (cases_eq (served c m n (Wait n)) 0)
+    (λ (none : served config memory mutator (Wait mutator) ≡ 0).
+    (rest.0, rest.1, subst (λ v. IsIdle config v rest.0 owner graph rest.1) (sym (fun_ext (λ word. turn_idle config memory mutator word none))) rest.2, rest.3))
+    (λ (waits : served config memory mutator (Wait mutator) ≢ 0). by_room rest waits (room_for config (served config memory mutator) mutator) refl)
+    (cases_eq (served config memory mutator (Wait mutator)) 0)
   where
-    by_room : ((plot : Plot) × (then : ℕ → Asking) × IsIdle c (served c m n) plot owner g then × ((t : ℕ) → IsServedSo (asking t) (then t))) → served c m n (Wait n) ≢ 0
-        → (o : Option ℕ) → room_for c (served c m n) n ≡ o
-        → (plot : Plot) × (then : ℕ → Asking) × IsIdle c (served c m (suc n)) plot owner g then × ((t : ℕ) → IsServedSo (asking t) (then t))
+    by_room : ((plot : Plot) × (then : ℕ → Asking) × IsIdle config (served config memory mutator) plot owner graph then × ((t : ℕ) → IsServedSo (asking t) (then t))) → served config memory mutator (Wait mutator) ≢ 0
+        → (o : Option ℕ) → room_for config (served config memory mutator) mutator ≡ o
+        → (plot : Plot) × (then : ℕ → Asking) × IsIdle config (served config memory (suc mutator)) plot owner graph then × ((t : ℕ) → IsServedSo (asking t) (then t))
     by_room rest waits None none = (
       rest.0,
       rest.1,
-      subst (λ v. IsIdle c v rest.0 owner g rest.1) (sym (fun_ext (λ word. turn_waits c m n word waits ∙ ap (λ o. served_in c (served c m n) n o word) none))) rest.2,
+      subst (λ v. IsIdle config v rest.0 owner graph rest.1) (sym (fun_ext (λ word. turn_waits config memory mutator word waits ∙ ap (λ o. served_in config (served config memory mutator) mutator o word) none))) rest.2,
       rest.3,
     )
     by_room rest waits (Some r) found =
-        let lowest = has_room c.region_words (λ q. served c m n (Top q)) (object_words (request_shape_in (served c m n (Wait n)))) c.regions r found in
-        let one = given_one c (served c m n) rest.0 owner g rest.1 rest.2 n r (omega (arith, few)) waits lowest in (
+        let lowest = has_room config.region_words (λ q. served config memory mutator (Top q)) (object_words (request_shape_in (served config memory mutator (Wait mutator)))) config.regions r found in
+        let one = given_one config (served config memory mutator) rest.0 owner graph rest.1 rest.2 mutator r (omega (arith, few)) waits lowest in (
           one.0,
           one.1,
-          subst (λ v. IsIdle c v one.0 owner g one.1) (sym (fun_ext (λ word. turn_waits c m n word waits ∙ ap (λ o. served_in c (served c m n) n o word) found))) one.2,
+          subst (λ v. IsIdle config v one.0 owner graph one.1) (sym (fun_ext (λ word. turn_waits config memory mutator word waits ∙ ap (λ o. served_in config (served config memory mutator) mutator o word) found))) one.2,
           λ t. served_twice (asking t) (rest.1 t) (one.1 t) (rest.3 t) (one.3 t),
         )

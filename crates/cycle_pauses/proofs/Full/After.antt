@@ -23,141 +23,141 @@ use Rattle.cycle_words.proofs.Marking.Trimmed.{object_stands}
 use Rattle.cycle_pauses.proofs.Full.Mapped.{mapped, mapped_at, mapped_from, plotted_alike, filled_alike}
 
 -- an element of a list of equal ones
-pub replicate_at : {A : Type 0} (n i : ℕ) (x : A) → i < n → slice_get (replicate n x) i ≡ Some x
-replicate_at zero i x below = absurd (omega (arith, below))
+pub replicate_at : {A : Type 0} (n index : ℕ) (x : A) → index < n → slice_get (replicate n x) index ≡ Some x
+replicate_at zero index x below = absurd (omega (arith, below))
 replicate_at (suc n) zero x below = refl
-replicate_at (suc n) (suc i) x below = replicate_at n i x (omega (arith, below))
+replicate_at (suc n) (suc index) x below = replicate_at n index x (omega (arith, below))
 
 -- whether a name is that of a promised object
 abbrev pub is_promised : Promises → Name → Bool
-is_promised p n = same_reference (p.ref n.thread) (Some n)
+is_promised promises name = same_reference (promises.ref name.thread) (Some name)
 
 -- an object of the larger graph as a piece: a promised one is of no graph
 abbrev pub as_promised : Promises → Block → Block
-as_promised p (thing name refs nums) = if is_promised p name then promised (name.thread - 1) (3 + refs + nums) else thing name refs nums
-as_promised p piece = piece
+as_promised promises (thing name refs nums) = if is_promised promises name then promised (name.thread - 1) (3 + refs + nums) else thing name refs nums
+as_promised promises piece = piece
 
 -- a name has an object
 abbrev pub IsKnown : Graph → Name → Type 0
-IsKnown g n = (o : Object) × (g.object n ≡ Some o)
+IsKnown graph name = (object : Object) × (graph.object name ≡ Some object)
 
 -- What is taken of such words: what is promised are next objects, names were given, and what roots and pieces lead to has an
 -- object.
-pub record IsAfter (c : Config) (m : Word → ℕ) (block : Plot) (g : Graph) (p : Promises) : Type 0 where
-  pub stands : ImageStands c m block g p
-  pub next : (t : ℕ) (n : Name) → p.ref t ≡ Some n → n ≡ fresh g t
-  pub given : (n : Name) (o : Object) → g.object n ≡ Some o → IsGiven c g.count n
-  pub fields : (a refs nums i : ℕ) (n f : Name) (o : Object) → block a ≡ Some (thing n refs nums) → g.object n ≡ Some o → slice_get o.refs i ≡ Some (Some f) → IsKnown g f
-  pub roots : (t i : ℕ) (n : Name) → g.root t i ≡ Some n → IsKnown g n
-  pub pins : (t i : ℕ) (held : Pinned) → g.pin t i ≡ Some held → IsKnown g held.name
+pub record IsAfter (config : Config) (memory : Word → ℕ) (block : Plot) (graph : Graph) (promises : Promises) : Type 0 where
+  pub stands : ImageStands config memory block graph promises
+  pub next : (thread : ℕ) (name : Name) → promises.ref thread ≡ Some name → name ≡ fresh graph thread
+  pub given : (name : Name) (object : Object) → graph.object name ≡ Some object → IsGiven config graph.count name
+  pub fields : (address refs nums i : ℕ) (name other_name : Name) (object : Object) → block address ≡ Some (thing name refs nums) → graph.object name ≡ Some object → slice_get object.refs i ≡ Some (Some other_name) → IsKnown graph other_name
+  pub roots : (thread i : ℕ) (name : Name) → graph.root thread i ≡ Some name → IsKnown graph name
+  pub pins : (thread i : ℕ) (held : Pinned) → graph.pin thread i ≡ Some held → IsKnown graph held.name
 
 -- an object at an address, that is no promised one
 abbrev pub IsOld : Plot → Promises → ℕ → ℕ → ℕ → Name → Type 0
-IsOld block p a refs nums n = (block a ≡ Some (thing n refs nums)) × (is_promised p n ≡ false)
+IsOld block promises address refs nums name = (block address ≡ Some (thing name refs nums)) × (is_promised promises name ≡ false)
 
 -- and a promised one
-pub record IsPromisedThing (block : Plot) (p : Promises) (a seat words : ℕ) : Type 0 where
+pub record IsPromisedThing (block : Plot) (promises : Promises) (address seat words : ℕ) : Type 0 where
   pub name : Name
   pub refs : ℕ
   pub nums : ℕ
-  pub here : block a ≡ Some (thing name refs nums)
-  pub named : p.ref name.thread ≡ Some name
+  pub here : block address ≡ Some (thing name refs nums)
+  pub named : promises.ref name.thread ≡ Some name
   pub seat_is : name.thread - 1 ≡ seat
   pub words_are : 3 + refs + nums ≡ words
 
-module _ (c : Config) (m : Word → ℕ) (block : Plot) (g : Graph) (p : Promises) (is_after : IsAfter c m block g p) where
+module _ (config : Config) (memory : Word → ℕ) (block : Plot) (graph : Graph) (promises : Promises) (is_after : IsAfter config memory block graph promises) where
   abbrev heap : ℕ → ℕ
-  heap a = m (Heap a)
+  heap address = memory (Heap address)
 
-  abbrev stands : ImageStands c m block g p
+  abbrev stands : ImageStands config memory block graph promises
   stands = is_after.stands
 
   abbrev pub taken : Plot
-  taken = mapped (as_promised p) block
+  taken = mapped (as_promised promises) block
 
   -- a piece keeps its words
-  same_words_of : (n : Name) (refs nums : ℕ) (b : Bool) → is_promised p n ≡ b → words_of (as_promised p (thing n refs nums)) ≡ 3 + refs + nums
-  same_words_of n refs nums true taken_one = ap words_of (cond-true (is_promised p n) (promised (n.thread - 1) (3 + refs + nums)) (thing n refs nums) taken_one)
-  same_words_of n refs nums false other = ap words_of (cond-false (is_promised p n) (promised (n.thread - 1) (3 + refs + nums)) (thing n refs nums) other)
+  same_words_of : (name : Name) (refs nums : ℕ) (holds : Bool) → is_promised promises name ≡ holds → words_of (as_promised promises (thing name refs nums)) ≡ 3 + refs + nums
+  same_words_of name refs nums true taken_one = ap words_of (cond-true (is_promised promises name) (promised (name.thread - 1) (3 + refs + nums)) (thing name refs nums) taken_one)
+  same_words_of name refs nums false other = ap words_of (cond-false (is_promised promises name) (promised (name.thread - 1) (3 + refs + nums)) (thing name refs nums) other)
 
-  pub same_words : (a : ℕ) (b : Block) → block a ≡ Some b → words_of (as_promised p b) ≡ words_of b
-  same_words a b is = ⊎_elim
-      (λ (t : (name : Name) × (refs : ℕ) × (nums : ℕ) × (b ≡ thing name refs nums)).
-      subst (λ x. words_of (as_promised p x) ≡ words_of x) (sym t.3) (same_words_of t.0 t.1 t.2 (is_promised p t.0) refl))
-      (λ (fills : (words : ℕ) × (1 ≤ words) × (b ≡ filler words)). subst (λ x. words_of (as_promised p x) ≡ words_of x) (sym fills.2) refl)
-      (stands.things a b is)
+  pub same_words : (address : ℕ) (piece : Block) → block address ≡ Some piece → words_of (as_promised promises piece) ≡ words_of piece
+  same_words address piece is = ⊎_elim
+      (λ (t : (name : Name) × (refs : ℕ) × (nums : ℕ) × (piece ≡ thing name refs nums)).
+      subst (λ x. words_of (as_promised promises x) ≡ words_of x) (sym t.3) (same_words_of t.0 t.1 t.2 (is_promised promises t.0) refl))
+      (λ (fills : (words : ℕ) × (1 ≤ words) × (piece ≡ filler words)). subst (λ x. words_of (as_promised promises x) ≡ words_of x) (sym fills.2) refl)
+      (stands.things address piece is)
 
   -- a name that has an object is no promised one
-  pub not_promised : (n : Name) → IsKnown g n → is_promised p n ≡ false
-  not_promised n known = ⊎_elim
-      (λ (yes : is_promised p n ≡ true).
-      let ref = same_reference-true (p.ref n.thread) n yes in
-      let count : n.count ≡ g.count n.thread + 1 = ap (λ (k : Name). k.count) (is_after.next n.thread n ref) in
-      let thread = stands.rooted.no_more_promised n.thread n ref in
-      absurd (let made = is_after.given n known.0 known.1 in omega (arith, made.by_thread (omega (arith, thread.2)), count)))
-      (λ (no : is_promised p n ≡ false). no)
-      (cases_Bool (is_promised p n))
+  pub not_promised : (name : Name) → IsKnown graph name → is_promised promises name ≡ false
+  not_promised name known = ⊎_elim
+      (λ (yes : is_promised promises name ≡ true).
+      let ref = same_reference-true (promises.ref name.thread) name yes in
+      let count : name.count ≡ graph.count name.thread + 1 = ap (λ (name : Name). name.count) (is_after.next name.thread name ref) in
+      let thread = stands.rooted.no_more_promised name.thread name ref in
+      absurd (let made = is_after.given name known.0 known.1 in omega (arith, made.by_thread (omega (arith, thread.2)), count)))
+      (λ (no : is_promised promises name ≡ false). no)
+      (cases_Bool (is_promised promises name))
 
   -- it stands where it stood
-  pub known_stays : (a : ℕ) (n : Name) → IsKnown g n → name_at (block a) ≡ Some n → name_at (taken a) ≡ Some n
-  known_stays a n known is =
-      let was = thing_at block stands.things a n is in
-      ap name_at (mapped_at (as_promised p) block a (thing n was.0 was.1) was.2)
-      ∙ ap (λ b. name_at (Some b)) (cond-false (is_promised p n) (promised (n.thread - 1) (3 + was.0 + was.1)) (thing n was.0 was.1) (not_promised n known))
+  pub known_stays : (address : ℕ) (name : Name) → IsKnown graph name → name_at (block address) ≡ Some name → name_at (taken address) ≡ Some name
+  known_stays address name known is =
+      let was = thing_at block stands.things address name is in
+      ap name_at (mapped_at (as_promised promises) block address (thing name was.0 was.1) was.2)
+      ∙ ap (λ b. name_at (Some b)) (cond-false (is_promised promises name) (promised (name.thread - 1) (3 + was.0 + was.1)) (thing name was.0 was.1) (not_promised name known))
 
   -- and so does what a word stands for
-  pub points_on : (word : ℕ) (r : Reference) → ((n : Name) → r ≡ Some n → IsKnown g n) → Points block word r → Points taken word r
+  pub points_on : (word : ℕ) (reference : Reference) → ((name : Name) → reference ≡ Some name → IsKnown graph name) → Points block word reference → Points taken word reference
   points_on word None known points = points
-  points_on word (Some n) known points = known_stays word n (known n refl) points
+  points_on word (Some name) known points = known_stays word name (known name refl) points
 
   -- Each piece is an old object that is left, or a promised one, or only fills.
-  data TakenPiece (a : ℕ) (x : Block) : Type 0 where
-    stays_old : (n : Name) (refs nums : ℕ) → block a ≡ Some (thing n refs nums) → is_promised p n ≡ false → x ≡ thing n refs nums → TakenPiece a x
-    is_taken : (n : Name) (refs nums : ℕ) → block a ≡ Some (thing n refs nums) → is_promised p n ≡ true → x ≡ promised (n.thread - 1) (3 + refs + nums) → TakenPiece a x
-    only_fills : (words : ℕ) → block a ≡ Some (filler words) → x ≡ filler words → TakenPiece a x
+  data TakenPiece (address : ℕ) (piece : Block) : Type 0 where
+    stays_old : (name : Name) (refs nums : ℕ) → block address ≡ Some (thing name refs nums) → is_promised promises name ≡ false → piece ≡ thing name refs nums → TakenPiece address piece
+    is_taken : (name : Name) (refs nums : ℕ) → block address ≡ Some (thing name refs nums) → is_promised promises name ≡ true → piece ≡ promised (name.thread - 1) (3 + refs + nums) → TakenPiece address piece
+    only_fills : (words : ℕ) → block address ≡ Some (filler words) → piece ≡ filler words → TakenPiece address piece
 
-  taken_of : (a : ℕ) (n : Name) (refs nums : ℕ) (x : Block) → block a ≡ Some (thing n refs nums) → as_promised p (thing n refs nums) ≡ x → TakenPiece a x
-  taken_of a n refs nums x is same = ⊎_elim
-      (λ (yes : is_promised p n ≡ true). is_taken n refs nums is yes (sym same ∙ cond-true (is_promised p n) (promised (n.thread - 1) (3 + refs + nums)) (thing n refs nums) yes))
-      (λ (no : is_promised p n ≡ false). stays_old n refs nums is no (sym same ∙ cond-false (is_promised p n) (promised (n.thread - 1) (3 + refs + nums)) (thing n refs nums) no))
-      (cases_Bool (is_promised p n))
+  taken_of : (address : ℕ) (name : Name) (refs nums : ℕ) (piece : Block) → block address ≡ Some (thing name refs nums) → as_promised promises (thing name refs nums) ≡ piece → TakenPiece address piece
+  taken_of address name refs nums piece is same = ⊎_elim
+      (λ (yes : is_promised promises name ≡ true). is_taken name refs nums is yes (sym same ∙ cond-true (is_promised promises name) (promised (name.thread - 1) (3 + refs + nums)) (thing name refs nums) yes))
+      (λ (no : is_promised promises name ≡ false). stays_old name refs nums is no (sym same ∙ cond-false (is_promised promises name) (promised (name.thread - 1) (3 + refs + nums)) (thing name refs nums) no))
+      (cases_Bool (is_promised promises name))
 
-  taken_at : (a : ℕ) (x : Block) → taken a ≡ Some x → TakenPiece a x
-  taken_at a x is =
-      let was = mapped_from (as_promised p) block a x is in
+  taken_at : (address : ℕ) (piece : Block) → taken address ≡ Some piece → TakenPiece address piece
+  taken_at address piece is =
+      let was = mapped_from (as_promised promises) block address piece is in
       ⊎_elim
       (λ (t : (name : Name) × (refs : ℕ) × (nums : ℕ) × (was.0 ≡ thing name refs nums)).
-      taken_of a t.0 t.1 t.2 x (was.1 ∙ ap Some t.3) (ap (as_promised p) (sym t.3) ∙ was.2))
+      taken_of address t.0 t.1 t.2 piece (was.1 ∙ ap Some t.3) (ap (as_promised promises) (sym t.3) ∙ was.2))
       (λ (fills : (words : ℕ) × (1 ≤ words) × (was.0 ≡ filler words)).
-      only_fills fills.0 (was.1 ∙ ap Some fills.2) (sym was.2 ∙ ap (as_promised p) fills.2))
-      (stands.things a was.0 was.1)
+      only_fills fills.0 (was.1 ∙ ap Some fills.2) (sym was.2 ∙ ap (as_promised promises) fills.2))
+      (stands.things address was.0 was.1)
 
-  left_of : (a refs nums : ℕ) (n : Name) → TakenPiece a (thing n refs nums) → IsOld block p a refs nums n
+  left_of : (a refs nums : ℕ) (n : Name) → TakenPiece a (thing n refs nums) → IsOld block promises a refs nums n
   left_of a refs nums n (stays_old name more less here other same) =
       let name_is : n ≡ name = same_Some n name (ap (λ b. name_at (Some b)) same) in
-      (here ∙ ap Some (sym same), ap (is_promised p) name_is ∙ other)
+      (here ∙ ap Some (sym same), ap (is_promised promises) name_is ∙ other)
   left_of a refs nums n (is_taken name more less here test wrong) = (let differ = wrong in cc)
   left_of a refs nums n (only_fills words here wrong) = (let differ = wrong in cc)
 
-  pub left : (a refs nums : ℕ) (n : Name) → taken a ≡ Some (thing n refs nums) → IsOld block p a refs nums n
-  left a refs nums n is = left_of a refs nums n (taken_at a (thing n refs nums) is)
+  pub left : (a refs nums : ℕ) (name : Name) → taken a ≡ Some (thing name refs nums) → IsOld block promises a refs nums name
+  left a refs nums name is = left_of a refs nums name (taken_at a (thing name refs nums) is)
 
   -- a promised piece is a promised object
-  gone_of : (a seat words : ℕ) → TakenPiece a (promised seat words) → IsPromisedThing block p a seat words
+  gone_of : (a seat words : ℕ) → TakenPiece a (promised seat words) → IsPromisedThing block promises a seat words
   gone_of a seat words (stays_old name refs nums here other wrong) = (let differ = wrong in cc)
   gone_of a seat words (only_fills more here wrong) = (let differ = wrong in cc)
   gone_of a seat words (is_taken name refs nums here test same) =
-      record { name = name; refs = refs; nums = nums; here = here; named = same_reference-true (p.ref name.thread) name test; seat_is = cc; words_are = cc }
+      record { name = name; refs = refs; nums = nums; here = here; named = same_reference-true (promises.ref name.thread) name test; seat_is = cc; words_are = cc }
 
-  pub gone : (a seat words : ℕ) → taken a ≡ Some (promised seat words) → IsPromisedThing block p a seat words
+  pub gone : (a seat words : ℕ) → taken a ≡ Some (promised seat words) → IsPromisedThing block promises a seat words
   gone a seat words is = gone_of a seat words (taken_at a (promised seat words) is)
 
   -- and of no other kind
-  no_other : (a : ℕ) (x : Block) → ((name : Name) (refs nums : ℕ) → x ≡ thing name refs nums → ⊥) → ((seat words : ℕ) → x ≡ promised seat words → ⊥)
-      → ((words : ℕ) → x ≡ filler words → ⊥) → taken a ≡ Some x → ⊥
-  no_other a x unlike unpromised unfilled is = by_kind (taken_at a x is)
+  no_other : (a : ℕ) (piece : Block) → ((name : Name) (refs nums : ℕ) → piece ≡ thing name refs nums → ⊥) → ((seat words : ℕ) → piece ≡ promised seat words → ⊥)
+      → ((words : ℕ) → piece ≡ filler words → ⊥) → taken a ≡ Some piece → ⊥
+  no_other a piece unlike unpromised unfilled is = by_kind (taken_at a piece is)
     where
-      by_kind : TakenPiece a x → ⊥
+      by_kind : TakenPiece a piece → ⊥
       by_kind (only_fills words here same) = unfilled words same
       by_kind (stays_old name refs nums here other same) = unlike name refs nums same
       by_kind (is_taken name refs nums here test same) = unpromised (name.thread - 1) (3 + refs + nums) same
@@ -167,13 +167,13 @@ module _ (c : Config) (m : Word → ℕ) (block : Plot) (g : Graph) (p : Promise
       (λ name refs nums same. none-some seat (ap room_of (sym same) ∙ room)) (λ other more same. none-some seat (ap room_of (sym same) ∙ room)) (λ words same. none-some seat (ap room_of (sym same) ∙ room)) is
 
   -- words that only fill were there
-  filler_of : (a words : ℕ) → TakenPiece a (filler words) → block a ≡ Some (filler words)
-  filler_of a words (stays_old name refs nums here other wrong) = (let differ = wrong in cc)
-  filler_of a words (is_taken name refs nums here test wrong) = (let differ = wrong in cc)
-  filler_of a words (only_fills more here same) = here ∙ ap Some (sym same)
+  filler_of : (address words : ℕ) → TakenPiece address (filler words) → block address ≡ Some (filler words)
+  filler_of address words (stays_old name refs nums here other wrong) = (let differ = wrong in cc)
+  filler_of address words (is_taken name refs nums here test wrong) = (let differ = wrong in cc)
+  filler_of address words (only_fills more here same) = here ∙ ap Some (sym same)
 
-  filler_was : (a words : ℕ) → taken a ≡ Some (filler words) → block a ≡ Some (filler words)
-  filler_was a words is = filler_of a words (taken_at a (filler words) is)
+  filler_was : (address words : ℕ) → taken address ≡ Some (filler words) → block address ≡ Some (filler words)
+  filler_was address words is = filler_of address words (taken_at address (filler words) is)
 
   filler_some : (a words : ℕ) → taken a ≡ Some (filler words) → 1 ≤ words
   filler_some a words is = ⊎_elim
@@ -191,16 +191,16 @@ module _ (c : Config) (m : Word → ℕ) (block : Plot) (g : Graph) (p : Promise
   no_spents a words to = no_other a (spent words to) (λ name refs nums wrong. (let differ = wrong in cc)) (λ other more wrong. (let differ = wrong in cc)) (λ more wrong. (let differ = wrong in cc))
 
   -- the object of an old name
-  old_object : (n : Name) (o : Object) → is_promised p n ≡ false → (with_promised g p).object n ≡ Some o → g.object n ≡ Some o
-  old_object n o other is = sym (cond-false (is_promised p n) (Some (blank (p.refs n.thread) (p.nums n.thread))) (g.object n) other) ∙ is
+  old_object : (name : Name) (object : Object) → is_promised promises name ≡ false → (with_promised graph promises).object name ≡ Some object → graph.object name ≡ Some object
+  old_object name object other is = sym (cond-false (is_promised promises name) (Some (blank (promises.refs name.thread) (promises.nums name.thread))) (graph.object name) other) ∙ is
 
   -- objects that are left are the graph's
-  objects_left : AreObjects heap taken g.object
+  objects_left : AreObjects heap taken graph.object
   objects_left = record {
     each = λ a refs nums n is.
         let old = left a refs nums n is in
         let o = stands.objects.each a refs nums n old.0 in
-        let object : g.object n ≡ Some o.0 = old_object n o.0 old.1 o.1 in (
+        let object : graph.object n ≡ Some o.0 = old_object n o.0 old.1 o.1 in (
           o.0,
           object,
           object_stands heap block taken a refs nums n o.0
@@ -212,10 +212,10 @@ module _ (c : Config) (m : Word → ℕ) (block : Plot) (g : Graph) (p : Promise
   }
 
   -- a promised piece is a new object
-  blank_of : (a refs nums more less : ℕ) (n : Name) (o : Object) → IsThing heap block a refs nums n o → o ≡ blank more less → IsBlank heap a (3 + refs + nums)
-  blank_of a refs nums more less n o is same =
+  blank_of : (address refs nums more less : ℕ) (name : Name) (object : Object) → IsThing heap block address refs nums name object → object ≡ blank more less → IsBlank heap address (3 + refs + nums)
+  blank_of address refs nums more less name object is same =
       let null : Reference = None in
-      let long : more ≡ refs = sym (length-replicate more null) ∙ ap (λ (x : Object). length x.refs) (sym same) ∙ is.refs_are in
+      let long : more ≡ refs = sym (length-replicate more null) ∙ ap (λ (object : Object). length object.refs) (sym same) ∙ is.refs_are in
       record {
         refs = refs;
         nums = nums;
@@ -225,21 +225,21 @@ module _ (c : Config) (m : Word → ℕ) (block : Plot) (g : Graph) (p : Promise
         header = is.header;
         shape = is.shape;
         nulls = λ i below.
-            is.references i null (ap (λ (x : Object). slice_get x.refs i) same ∙ replicate_at more i null (omega (arith, below, long)));
+            is.references i null (ap (λ (object : Object). slice_get object.refs i) same ∙ replicate_at more i null (omega (arith, below, long)));
       }
 
-  blank_at : (a seat words : ℕ) → taken a ≡ Some (promised seat words) → IsBlank heap a words
-  blank_at a seat words is =
-      let x = gone a seat words is in
-      let o = stands.objects.each a x.refs x.nums x.name x.here in
-      let test : is_promised p x.name ≡ true = ap (λ k. same_reference k (Some x.name)) x.named ∙ same_name-itself x.name in
-      let new : Some o.0 ≡ Some (blank (p.refs x.name.thread) (p.nums x.name.thread)) =
-      sym o.1 ∙ cond-true (is_promised p x.name) (Some (blank (p.refs x.name.thread) (p.nums x.name.thread))) (g.object x.name) test in
-      subst (IsBlank heap a) x.words_are
-      (blank_of a x.refs x.nums (p.refs x.name.thread) (p.nums x.name.thread) x.name o.0 o.2 (same_Some o.0 (blank (p.refs x.name.thread) (p.nums x.name.thread)) new))
+  blank_at : (address seat words : ℕ) → taken address ≡ Some (promised seat words) → IsBlank heap address words
+  blank_at address seat words is =
+      let x = gone address seat words is in
+      let o = stands.objects.each address x.refs x.nums x.name x.here in
+      let test : is_promised promises x.name ≡ true = ap (λ k. same_reference k (Some x.name)) x.named ∙ same_name-itself x.name in
+      let new : Some o.0 ≡ Some (blank (promises.refs x.name.thread) (promises.nums x.name.thread)) =
+      sym o.1 ∙ cond-true (is_promised promises x.name) (Some (blank (promises.refs x.name.thread) (promises.nums x.name.thread))) (graph.object x.name) test in
+      subst (IsBlank heap address) x.words_are
+      (blank_of address x.refs x.nums (promises.refs x.name.thread) (promises.nums x.name.thread) x.name o.0 o.2 (same_Some o.0 (blank (promises.refs x.name.thread) (promises.nums x.name.thread)) new))
 
   -- a pin word stands for what its slot holds, where nothing is collected
-  pin_left : (cset evac t i word : ℕ) (o : Option Pinned) → cset ≡ 0 → g.pin (t + 1) i ≡ o → PinWordStands m block word o → PinStands c cset evac taken word o
+  pin_left : (cset evac t i word : ℕ) (found : Option Pinned) → cset ≡ 0 → graph.pin (t + 1) i ≡ found → PinWordStands memory block word found → PinStands config cset evac taken word found
   pin_left cset evac t i word None none held is = is
   pin_left cset evac t i word (Some x) none held is =
       let copy = is.1 in (
@@ -248,23 +248,23 @@ module _ (c : Config) (m : Word → ℕ) (block : Plot) (g : Graph) (p : Promise
         copy.1,
         record {
           piece =
-              mapped_at (as_promised p) block word (thing x.name copy.0 copy.1) copy.2
-              ∙ ap Some (cond-false (is_promised p x.name) (promised (x.name.thread - 1) (3 + copy.0 + copy.1)) (thing x.name copy.0 copy.1) (not_promised x.name (is_after.pins (t + 1) i x held)));
-          safe = λ inside. absurd (none_in_0 c word (subst (λ set. IsCollected c set word) none inside));
+              mapped_at (as_promised promises) block word (thing x.name copy.0 copy.1) copy.2
+              ∙ ap Some (cond-false (is_promised promises x.name) (promised (x.name.thread - 1) (3 + copy.0 + copy.1)) (thing x.name copy.0 copy.1) (not_promised x.name (is_after.pins (t + 1) i x held)));
+          safe = λ inside. absurd (none_in_0 config word (subst (λ set. IsCollected config set word) none inside));
         },
       )
 
-  pub pins_left : (cset evac : ℕ) → cset ≡ 0 → ArePinned c cset evac taken (λ t i. m (Pin t i)) g.pin
-  pins_left cset evac none t i inside few = pin_left cset evac t i (m (Pin t i)) (g.pin (t + 1) i) none refl (stands.rooted.pins t i inside few)
+  pub pins_left : (cset evac : ℕ) → cset ≡ 0 → ArePinned config cset evac taken (λ t i. memory (Pin t i)) graph.pin
+  pins_left cset evac none t i inside few = pin_left cset evac t i (memory (Pin t i)) (graph.pin (t + 1) i) none refl (stands.rooted.pins t i inside few)
 
   -- what all machines share holds, where nothing is collected and no seat has a region
   pub shared_facts : (phase cset evac claim : ℕ) (current grey black entries : ℕ → ℕ) (buffer : ℕ → ℕ → ℕ) (tams limit : ℕ → ℕ) (share : ℕ)
       → phase ≡ 0 → cset ≡ 0 → evac ≡ 0 → ((seat : ℕ) → current seat ≡ 0) → share ≡ 0
-      → SharedFacts c (λ q. m (Top q)) heap taken no_ghost g.object g.count phase cset evac (m Free) current grey black entries buffer tams claim limit share (λ t i. m (Pin t i)) g.pin
+      → SharedFacts config (λ q. memory (Top q)) heap taken no_ghost graph.object graph.count phase cset evac (memory Free) current grey black entries buffer tams claim limit share (λ t i. memory (Pin t i)) graph.pin
   shared_facts phase cset evac claim current grey black entries buffer tams limit share no_phase no_cset no_evac none no_share = record {
     parsable = record {
-      plotted = plotted_alike c (λ q. m (Top q)) block (as_promised p) same_words stands.plotted;
-      filled = filled_alike c (λ q. m (Top q)) block (as_promised p) same_words stands.filled;
+      plotted = plotted_alike config (λ q. memory (Top q)) block (as_promised promises) same_words stands.plotted;
+      filled = filled_alike config (λ q. memory (Top q)) block (as_promised promises) same_words stands.filled;
       promises = λ a seat words is. (let at = gone a seat words is in omega (arith, at.words_are));
       deads = λ a words is. absurd (no_deads a words is);
       spents = λ a words to is. absurd (no_spents a words to is);
@@ -274,25 +274,25 @@ module _ (c : Config) (m : Word → ℕ) (block : Plot) (g : Graph) (p : Promise
     owned = record {
       free_word = stands.free_word;
       shared_one = λ q is. absurd (omega (arith, is, no_share));
-      rooms = rooms_none c taken no_room;
+      rooms = rooms_none config taken no_room;
       buffers = record { each = λ seat some. absurd (some (none seat)); spares = λ a seat words is. absurd (no_room a seat (spare seat words) is refl) };
       outside = λ seat some. absurd (some (none seat));
     };
     phased = record { phase_is = omega (arith, no_phase); cset_is = λ other. no_cset; evac_is = λ other. no_evac };
     unwritten = record { blanks = blank_at; headers = λ a words is. absurd (no_deads a words is); lengths = λ a words is. absurd (no_deads a words is); fillers = λ a words is. stands.fillers a words (filler_was a words is) };
-    marked = none_marked c phase grey black entries buffer (λ q. m (Top q)) tams heap taken no_ghost.recording no_ghost.scanning no_phase;
+    marked = none_marked config phase grey black entries buffer (λ q. memory (Top q)) tams heap taken no_ghost.recording no_ghost.scanning no_phase;
     evacuated =
-        subst (λ set. IsEvacuating c phase set evac claim (m Free) (λ q. m (Top q)) tams heap black taken no_ghost.owner no_ghost.copying no_ghost.working) (sym no_cset)
-        (subst (λ count. IsEvacuating c phase 0 count claim (m Free) (λ q. m (Top q)) tams heap black taken no_ghost.owner no_ghost.copying no_ghost.working) (sym no_evac)
-        (none_evacuated c phase claim (m Free) (λ q. m (Top q)) tams heap black taken no_ghost.owner no_ghost.copying no_ghost.working (λ on. omega (arith, on, no_phase)) no_moveds no_spents (λ seat inside. refl)));
+        subst (λ set. IsEvacuating config phase set evac claim (memory Free) (λ q. memory (Top q)) tams heap black taken no_ghost.owner no_ghost.copying no_ghost.working) (sym no_cset)
+        (subst (λ count. IsEvacuating config phase 0 count claim (memory Free) (λ q. memory (Top q)) tams heap black taken no_ghost.owner no_ghost.copying no_ghost.working) (sym no_evac)
+        (none_evacuated config phase claim (memory Free) (λ q. memory (Top q)) tams heap black taken no_ghost.owner no_ghost.copying no_ghost.working (λ on. omega (arith, on, no_phase)) no_moveds no_spents (λ seat inside. refl)));
     updated = λ on. absurd (omega (arith, on, no_phase));
     pinned = pins_left cset evac no_cset;
   }
 
-  pub roots_left : (t i : ℕ) → t < c.mutators → i < 16 → Points taken (m (Root t i)) (g.root (t + 1) i)
-  roots_left t i inside few = points_on (m (Root t i)) (g.root (t + 1) i) (is_after.roots (t + 1) i) (stands.rooted.roots t i inside few)
+  pub roots_left : (mutator index : ℕ) → mutator < config.mutators → index < 16 → Points taken (memory (Root mutator index)) (graph.root (mutator + 1) index)
+  roots_left mutator index inside few = points_on (memory (Root mutator index)) (graph.root (mutator + 1) index) (is_after.roots (mutator + 1) index) (stands.rooted.roots mutator index inside few)
 
   -- each root may be used
-  pub roots_usable : (cset evac : ℕ) → cset ≡ 0 → AreUsable c cset evac taken (λ t i. m (Root t i))
+  pub roots_usable : (cset evac : ℕ) → cset ≡ 0 → AreUsable config cset evac taken (λ t i. memory (Root t i))
   roots_usable cset evac no_cset t i inside few =
-      subst (λ set. IsUsable c set evac taken (m (Root t i))) (sym no_cset) (usable_now c evac taken no_moveds (m (Root t i)) (g.root (t + 1) i) (roots_left t i inside few))
+      subst (λ set. IsUsable config set evac taken (memory (Root t i))) (sym no_cset) (usable_now config evac taken no_moveds (memory (Root t i)) (graph.root (t + 1) i) (roots_left t i inside few))

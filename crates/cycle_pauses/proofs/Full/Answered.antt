@@ -23,7 +23,7 @@ use Rattle.image_graph.proofs.Still.{full_phase, full_cset, full_evac, full_curr
 use Rattle.cycle_pauses.proofs.Full.Paused.{then_of, packed_answer, asked_then, plot, is_after, plot_then, answer_left, answer_found}
 
 -- an asking is answered as it should be
-pub is_answer : (x : Asking) (answer : ℕ) → Answers x (then_of x answer)
+pub is_answer : (asking : Asking) (answer : ℕ) → Answers asking (then_of asking answer)
 is_answer nothing answer = tt
 is_answer (asks refs nums) answer = ⊎_elim
     (λ (one : answer ≡ 1). subst (Answers (asks refs nums)) (sym (cond-true (answer == 1) refused (given refs nums) (eq-eqb answer 1 one))) tt)
@@ -33,7 +33,7 @@ is_answer refused answer = tt
 is_answer (given refs nums) answer = (refl, refl)
 
 -- and asks no more
-nobody_asks : (x : Asking) (answer refs nums : ℕ) → then_of x answer ≡ asks refs nums → ⊥
+nobody_asks : (asking : Asking) (answer refs nums : ℕ) → then_of asking answer ≡ asks refs nums → ⊥
 nobody_asks nothing answer refs nums is = cc
 nobody_asks (asks more less) answer refs nums is = ⊎_elim
     (λ (one : answer ≡ 1). let answered : refused ≡ asks refs nums = sym (cond-true (answer == 1) refused (given more less) (eq-eqb answer 1 one)) ∙ is in cc)
@@ -42,97 +42,97 @@ nobody_asks (asks more less) answer refs nums is = ⊎_elim
 nobody_asks refused answer refs nums is = cc
 nobody_asks (given more less) answer refs nums is = cc
 
-module _ (c : Config) (m : Word → ℕ) (g : Graph) (asking : ℕ → Asking) (r : RepresentsByCopies c m g asking) (bare : HasNoBuffers c m) where
+module _ (config : Config) (memory : Word → ℕ) (graph : Graph) (asking : ℕ → Asking) (r : RepresentsByCopies config memory graph asking) (bare : HasNoBuffers config memory) where
   abbrev p : Promises
-  p = promises_of c g asking
+  p = promises_of config graph asking
 
   abbrev q : Promises
-  q = served_promises c (packed_in c m) p c.mutators
+  q = served_promises config (packed_in config memory) p config.mutators
 
   -- who keeps an answer that is no address
-  keeps_answer : (t : ℕ) → t < c.mutators → m (Wait t) ≡ 0 → m (Answer t) ≤ 1 → full_from c m (Answer t) ≡ m (Answer t)
-  keeps_answer t inside idle none = answer_left c m g asking r t inside idle ∙ packed_answer c m t none
+  keeps_answer : (mutator : ℕ) → mutator < config.mutators → memory (Wait mutator) ≡ 0 → memory (Answer mutator) ≤ 1 → full_from config memory (Answer mutator) ≡ memory (Answer mutator)
+  keeps_answer mutator inside idle none = answer_left config memory graph asking r mutator inside idle ∙ packed_answer config memory mutator none
 
   -- what is promised to who did not wait is what was
-  same_promise : (t : ℕ) → m (Wait t) ≡ 0 → SamePromise p q (t + 1)
-  same_promise t idle = ⊎_elim
-      (λ (same : SamePromise p q (t + 1)). same)
-      (λ (new : IsPromisedAsAsked (packed_in c m) q t). absurd (new.waits (packed_wait c m t ∙ idle)))
-      (promise_after c (packed_in c m) p t c.mutators)
+  same_promise : (mutator : ℕ) → memory (Wait mutator) ≡ 0 → SamePromise p q (mutator + 1)
+  same_promise mutator idle = ⊎_elim
+      (λ (same : SamePromise p q (mutator + 1)). same)
+      (λ (new : IsPromisedAsAsked (packed_in config memory) q mutator). absurd (new.waits (packed_wait config memory mutator ∙ idle)))
+      (promise_after config (packed_in config memory) p mutator config.mutators)
 
   -- and to who was given an object, what it asked for
-  new_promise : (t refs nums : ℕ) → t < c.mutators → asking t ≡ asks refs nums → 1 < full_from c m (Answer t) → IsPromisedAsAsked (packed_in c m) q t
-  new_promise t refs nums inside is some = ⊎_elim
-      (λ (same : SamePromise p q (t + 1)).
-      let none : q.ref (t + 1) ≡ None = same.ref ∙ ref_of c g asking t inside ∙ ap (promised_ref g (t + 1)) is in
-      let one = promised_if_some c (full_from c m) (plot c m g asking r) g q (is_after c m g asking r bare) t inside some in
+  new_promise : (mutator refs nums : ℕ) → mutator < config.mutators → asking mutator ≡ asks refs nums → 1 < full_from config memory (Answer mutator) → IsPromisedAsAsked (packed_in config memory) q mutator
+  new_promise mutator refs nums inside is some = ⊎_elim
+      (λ (same : SamePromise p q (mutator + 1)).
+      let none : q.ref (mutator + 1) ≡ None = same.ref ∙ ref_of config graph asking mutator inside ∙ ap (promised_ref graph (mutator + 1)) is in
+      let one = promised_if_some config (full_from config memory) (plot config memory graph asking r) graph q (is_after config memory graph asking r bare) mutator inside some in
       absurd (none-some one.0 (sym none ∙ one.1)))
-      (λ (new : IsPromisedAsAsked (packed_in c m) q t). new)
-      (promise_after c (packed_in c m) p t c.mutators)
+      (λ (new : IsPromisedAsAsked (packed_in config memory) q mutator). new)
+      (promise_after config (packed_in config memory) p mutator config.mutators)
 
   -- an object that was promised is promised still
-  still_given : (t refs nums : ℕ) → t < c.mutators → asking t ≡ given refs nums → m (Wait t) ≡ 0 → 1 < full_from c m (Answer t)
-  still_given t refs nums inside is idle =
-      some_if_promised c (full_from c m) (plot c m g asking r) g q (is_after c m g asking r bare) t (fresh g (t + 1)) inside
-      ((same_promise t idle).ref ∙ ref_of c g asking t inside ∙ ap (promised_ref g (t + 1)) is)
+  still_given : (mutator refs nums : ℕ) → mutator < config.mutators → asking mutator ≡ given refs nums → memory (Wait mutator) ≡ 0 → 1 < full_from config memory (Answer mutator)
+  still_given mutator refs nums inside is idle =
+      some_if_promised config (full_from config memory) (plot config memory graph asking r) graph q (is_after config memory graph asking r bare) mutator (fresh graph (mutator + 1)) inside
+      ((same_promise mutator idle).ref ∙ ref_of config graph asking mutator inside ∙ ap (promised_ref graph (mutator + 1)) is)
 
   -- what words, pieces and counts say of a mutator then
-  asked_by : (t : ℕ) (x : Asking) → t < c.mutators → asking t ≡ x → IsAsked m r.block g.count t x
-      → IsAsked (full_from c m) (plot_then c m g asking r bare) g.count t (then_of x (full_from c m (Answer t)))
-  asked_by t nothing inside is asked =
-      let answer = keeps_answer t inside asked.0 (omega (arith, asked.1)) ∙ asked.1 in
-      (full_wait c m t, answer, no_promise c (full_from c m) (plot c m g asking r) g q (is_after c m g asking r bare) t inside (omega (arith, answer)))
-  asked_by t refused inside is asked =
-      let answer = keeps_answer t inside asked.0 (omega (arith, asked.1)) ∙ asked.1 in
-      (full_wait c m t, answer, no_promise c (full_from c m) (plot c m g asking r) g q (is_after c m g asking r bare) t inside (omega (arith, answer)))
-  asked_by t (given refs nums) inside is asked =
-      let some = still_given t refs nums inside is asked.0 in
-      let same = same_promise t asked.0 in (
-        full_wait c m t,
+  asked_by : (mutator : ℕ) (x : Asking) → mutator < config.mutators → asking mutator ≡ x → IsAsked memory r.block graph.count mutator x
+      → IsAsked (full_from config memory) (plot_then config memory graph asking r bare) graph.count mutator (then_of x (full_from config memory (Answer mutator)))
+  asked_by mutator nothing inside is asked =
+      let answer = keeps_answer mutator inside asked.0 (omega (arith, asked.1)) ∙ asked.1 in
+      (full_wait config memory mutator, answer, no_promise config (full_from config memory) (plot config memory graph asking r) graph q (is_after config memory graph asking r bare) mutator inside (omega (arith, answer)))
+  asked_by mutator refused inside is asked =
+      let answer = keeps_answer mutator inside asked.0 (omega (arith, asked.1)) ∙ asked.1 in
+      (full_wait config memory mutator, answer, no_promise config (full_from config memory) (plot config memory graph asking r) graph q (is_after config memory graph asking r bare) mutator inside (omega (arith, answer)))
+  asked_by mutator (given refs nums) inside is asked =
+      let some = still_given mutator refs nums inside is asked.0 in
+      let same = same_promise mutator asked.0 in (
+        full_wait config memory mutator,
         some,
-        promise c (full_from c m) (plot c m g asking r) g q (is_after c m g asking r bare) t refs nums inside some
-            (same.refs ∙ refs_of c g asking t ∙ ap promised_refs is) (same.nums ∙ nums_of c g asking t ∙ ap promised_nums is)
+        promise config (full_from config memory) (plot config memory graph asking r) graph q (is_after config memory graph asking r bare) mutator refs nums inside some
+            (same.refs ∙ refs_of config graph asking mutator ∙ ap promised_refs is) (same.nums ∙ nums_of config graph asking mutator ∙ ap promised_nums is)
             asked.2.few_refs asked.2.few_nums asked.2.few,
       )
-  asked_by t (asks refs nums) inside is asked =
+  asked_by mutator (asks refs nums) inside is asked =
       let request = asked.0 in
-      let reads = request_reads m g.count t refs nums request in
+      let reads = request_reads memory graph.count mutator refs nums request in
       ⊎_elim
-      (λ (some : 1 < full_from c m (Answer t)).
-      let new = new_promise t refs nums inside is some in
-      let word = packed_wait c m t in
-      let more : q.refs (t + 1) ≡ refs = new.refs ∙ ap (λ k. refs_in (request_shape_in k)) word ∙ reads.refs_are in
-      let less : q.nums (t + 1) ≡ nums = new.nums ∙ ap (λ k. nums_in (request_shape_in k)) word ∙ reads.nums_are in
-      let there = promise c (full_from c m) (plot c m g asking r) g q (is_after c m g asking r bare) t refs nums inside some more less request.few_refs request.few_nums request.few in
-      subst (IsAsked (full_from c m) (plot_then c m g asking r bare) g.count t)
-      (sym (cond-false (full_from c m (Answer t) == 1) refused (given refs nums) (ne_eqb (full_from c m (Answer t)) 1 (λ e. omega (arith, e, some)))))
-      (full_wait c m t, some, there))
-      (λ (one : full_from c m (Answer t) ≡ 1).
-      subst (IsAsked (full_from c m) (plot_then c m g asking r bare) g.count t)
-      (sym (cond-true (full_from c m (Answer t) == 1) refused (given refs nums) (eq-eqb (full_from c m (Answer t)) 1 one)))
-      (full_wait c m t, one, no_promise c (full_from c m) (plot c m g asking r) g q (is_after c m g asking r bare) t inside (omega (arith, one))))
-      (answer_found c m g asking r t inside (waits_for m g.count t refs nums request))
+      (λ (some : 1 < full_from config memory (Answer mutator)).
+      let new = new_promise mutator refs nums inside is some in
+      let word = packed_wait config memory mutator in
+      let more : q.refs (mutator + 1) ≡ refs = new.refs ∙ ap (λ k. refs_in (request_shape_in k)) word ∙ reads.refs_are in
+      let less : q.nums (mutator + 1) ≡ nums = new.nums ∙ ap (λ k. nums_in (request_shape_in k)) word ∙ reads.nums_are in
+      let there = promise config (full_from config memory) (plot config memory graph asking r) graph q (is_after config memory graph asking r bare) mutator refs nums inside some more less request.few_refs request.few_nums request.few in
+      subst (IsAsked (full_from config memory) (plot_then config memory graph asking r bare) graph.count mutator)
+      (sym (cond-false (full_from config memory (Answer mutator) == 1) refused (given refs nums) (ne_eqb (full_from config memory (Answer mutator)) 1 (λ e. omega (arith, e, some)))))
+      (full_wait config memory mutator, some, there))
+      (λ (one : full_from config memory (Answer mutator) ≡ 1).
+      subst (IsAsked (full_from config memory) (plot_then config memory graph asking r bare) graph.count mutator)
+      (sym (cond-true (full_from config memory (Answer mutator) == 1) refused (given refs nums) (eq-eqb (full_from config memory (Answer mutator)) 1 one)))
+      (full_wait config memory mutator, one, no_promise config (full_from config memory) (plot config memory graph asking r) graph q (is_after config memory graph asking r bare) mutator inside (omega (arith, one))))
+      (answer_found config memory graph asking r mutator inside (waits_for memory graph.count mutator refs nums request))
 
   -- the words represent the graph again
-  pub represents_again : Represents c (full_from c m) g (asked_then c m g asking r)
+  pub represents_again : Represents config (full_from config memory) graph (asked_then config memory graph asking r)
   represents_again =
-      let facts = is_after c m g asking r bare in
+      let facts = is_after config memory graph asking r bare in
       record {
-        block = plot_then c m g asking r bare;
+        block = plot_then config memory graph asking r bare;
         ghost = no_ghost;
-        shared = shared_facts c (full_from c m) (plot c m g asking r) g q facts (full_from c m Phase) (full_from c m Cset) (full_from c m Evac) (full_from c m Claim) (λ s. full_from c m (Current s))
-            (λ n. full_from c m (Grey n)) (λ n. full_from c m (Black n)) (λ t. full_from c m (Count t)) (λ t k. full_from c m (Buffer t k)) (λ q. full_from c m (Tams q)) (λ q. full_from c m (Limit q)) (full_from c m Share)
-            (full_phase c m) (full_cset c m) (full_evac c m) (full_current c m) (full_share c m);
-        roots = roots_left c (full_from c m) (plot c m g asking r) g q facts;
-        usable = roots_usable c (full_from c m) (plot c m g asking r) g q facts (full_from c m Cset) (full_from c m Evac) (full_cset c m);
-        none = λ a seat words is. no_room c (full_from c m) (plot c m g asking r) g q facts a seat (hand seat words) is refl;
-        uncarved = λ a seat words is. no_room c (full_from c m) (plot c m g asking r) g q facts a seat (carved seat words) is refl;
+        shared = shared_facts config (full_from config memory) (plot config memory graph asking r) graph q facts (full_from config memory Phase) (full_from config memory Cset) (full_from config memory Evac) (full_from config memory Claim) (λ s. full_from config memory (Current s))
+            (λ n. full_from config memory (Grey n)) (λ n. full_from config memory (Black n)) (λ t. full_from config memory (Count t)) (λ t k. full_from config memory (Buffer t k)) (λ q. full_from config memory (Tams q)) (λ q. full_from config memory (Limit q)) (full_from config memory Share)
+            (full_phase config memory) (full_cset config memory) (full_evac config memory) (full_current config memory) (full_share config memory);
+        roots = roots_left config (full_from config memory) (plot config memory graph asking r) graph q facts;
+        usable = roots_usable config (full_from config memory) (plot config memory graph asking r) graph q facts (full_from config memory Cset) (full_from config memory Evac) (full_cset config memory);
+        none = λ a seat words is. no_room config (full_from config memory) (plot config memory graph asking r) graph q facts a seat (hand seat words) is refl;
+        uncarved = λ a seat words is. no_room config (full_from config memory) (plot config memory graph asking r) graph q facts a seat (carved seat words) is refl;
         asked = λ t inside. asked_by t (asking t) inside refl (r.asked t inside);
         promised_to = λ a seat words is.
-            let x = gone c (full_from c m) (plot c m g asking r) g q facts a seat words is in
+            let x = gone config (full_from config memory) (plot config memory graph asking r) graph q facts a seat words is in
             let at = facts.stands.rooted.no_more_promised x.name.thread x.name x.named in
             omega (arith, x.seat_is, at.1, at.2);
-        heard = λ t refs nums inside is. absurd (nobody_asks (asking t) (full_from c m (Answer t)) refs nums is);
+        heard = λ t refs nums inside is. absurd (nobody_asks (asking t) (full_from config memory (Answer t)) refs nums is);
         unmarking = record { records_none = λ t inside. refl; scans_none = λ seat inside. refl };
         uncopying = record { copies_none = λ seat inside. refl; works_none = λ seat inside. refl };
         no_more = r.no_more;

@@ -6,8 +6,8 @@ use Rattle.shen_graph.specs.Graph.{Graph}
 use Rattle.heap_world.specs.Asking.{Asking}
 use Rattle.heap_world.specs.Represents.{Represents, RepresentsByCopies}
 
-abbrev pub by_copies : (c : Config) (m : Word → ℕ) (g : Graph) (asking : ℕ → Asking) → Represents c m g asking → RepresentsByCopies c m g asking
-by_copies c m g asking r = record {
+abbrev pub by_copies : (config : Config) (memory : Word → ℕ) (graph : Graph) (asking : ℕ → Asking) → Represents config memory graph asking → RepresentsByCopies config memory graph asking
+by_copies config memory graph asking r = record {
   block = r.block;
   ghost = r.ghost;
   shared = r.shared;

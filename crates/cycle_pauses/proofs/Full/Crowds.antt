@@ -59,132 +59,132 @@ first_few f t k = ⊎_elim
     (cases_lt k t)
 
 -- 0 words are given as 0 words
-given_nothing : (o : Option ℕ) → given_by o 0 ≡ 0
+given_nothing : (found : Option ℕ) → given_by found 0 ≡ 0
 given_nothing None = refl
 given_nothing (Some r) = refl
 
-given_most : (o : Option ℕ) (n : ℕ) → given_by o n ≤ n
+given_most : (found : Option ℕ) (n : ℕ) → given_by found n ≤ n
 given_most None n = omega arith
 given_most (Some r) n = omega arith
 
-module _ (c : Config) (m : Word → ℕ) where
+module _ (config : Config) (memory : Word → ℕ) where
   -- who does not wait is given nothing
-  idle_given : (u : ℕ) → m (Wait u) ≡ 0 → given_in c m u ≡ 0
-  idle_given u none =
-      let is_zero : asked_in m u ≡ 0 = cond-true (m (Wait u) == 0) 0 (object_words (request_shape_in (m (Wait u)))) (eq-eqb (m (Wait u)) 0 none) in
-      ap (given_by (room_at_turn c.region_words c.regions (asked_in m) (λ s. m (Top s)) u)) is_zero ∙ given_nothing (room_at_turn c.region_words c.regions (asked_in m) (λ s. m (Top s)) u)
+  idle_given : (mutator : ℕ) → memory (Wait mutator) ≡ 0 → given_in config memory mutator ≡ 0
+  idle_given mutator none =
+      let is_zero : asked_in memory mutator ≡ 0 = cond-true (memory (Wait mutator) == 0) 0 (object_words (request_shape_in (memory (Wait mutator)))) (eq-eqb (memory (Wait mutator)) 0 none) in
+      ap (given_by (room_at_turn config.region_words config.regions (asked_in memory) (λ s. memory (Top s)) mutator)) is_zero ∙ given_nothing (room_at_turn config.region_words config.regions (asked_in memory) (λ s. memory (Top s)) mutator)
 
   -- and so is who finds no room
-  left_given : (u : ℕ) → NoneHasRoom c.region_words (tops_at_turn c m u) (asked_in m u) c.regions → given_in c m u ≡ 0
+  left_given : (u : ℕ) → NoneHasRoom config.region_words (tops_at_turn config memory u) (asked_in memory u) config.regions → given_in config memory u ≡ 0
   left_given u none =
-      ap (λ o. given_by o (asked_in m u))
-      (all_full c.region_words (tops_served c.region_words c.regions (asked_in m) (λ s. m (Top s)) u) (asked_in m u) c.regions
-      (λ s below. let same = tops_are_served c m u s in omega (arith, none s below, same)))
+      ap (λ o. given_by o (asked_in memory u))
+      (all_full config.region_words (tops_served config.region_words config.regions (asked_in memory) (λ s. memory (Top s)) u) (asked_in memory u) config.regions
+      (λ s below. let same = tops_are_served config memory u s in omega (arith, none s below, same)))
 
-module _ (c : Config) (m : Word → ℕ) (g : Graph) (asking : ℕ → Asking) (r : RepresentsByCopies c m g asking) where
+module _ (config : Config) (memory : Word → ℕ) (graph : Graph) (asking : ℕ → Asking) (r : RepresentsByCopies config memory graph asking) where
   abbrev p : Promises
-  p = promises_of c g asking
+  p = promises_of config graph asking
 
   abbrev after : Word → ℕ
-  after = packed_in c m
+  after = packed_in config memory
 
   -- what is asked for
-  asked_words : (u refs nums : ℕ) → IsRequest m g.count u refs nums → asked_in after u ≡ 3 + refs + nums
-  asked_words u refs nums request =
-      let reads = request_reads m g.count u refs nums request in
-      let waits = waits_for m g.count u refs nums request in
-      cond-false (after (Wait u) == 0) 0 (object_words (request_shape_in (after (Wait u)))) (ne_eqb (after (Wait u)) 0 (λ none. waits (sym (packed_wait c m u) ∙ none)))
-      ∙ ap (λ k. object_words (request_shape_in k)) (packed_wait c m u)
+  asked_words : (mutator refs nums : ℕ) → IsRequest memory graph.count mutator refs nums → asked_in after mutator ≡ 3 + refs + nums
+  asked_words mutator refs nums request =
+      let reads = request_reads memory graph.count mutator refs nums request in
+      let waits = waits_for memory graph.count mutator refs nums request in
+      cond-false (after (Wait mutator) == 0) 0 (object_words (request_shape_in (after (Wait mutator)))) (ne_eqb (after (Wait mutator)) 0 (λ none. waits (sym (packed_wait config memory mutator) ∙ none)))
+      ∙ ap (λ k. object_words (request_shape_in k)) (packed_wait config memory mutator)
       ∙ omega (arith, reads.refs_are, reads.nums_are)
 
-  promised_are : (u : ℕ) (x : Asking) → u < c.mutators → asking u ≡ x → promised_words p (u + 1) ≡ words_given x
-  promised_are u nothing inside is = ap (λ k. words_if k (3 + p.refs (u + 1) + p.nums (u + 1))) (ref_of c g asking u inside ∙ ap (promised_ref g (u + 1)) is)
-  promised_are u (asks refs nums) inside is = ap (λ k. words_if k (3 + p.refs (u + 1) + p.nums (u + 1))) (ref_of c g asking u inside ∙ ap (promised_ref g (u + 1)) is)
-  promised_are u refused inside is = ap (λ k. words_if k (3 + p.refs (u + 1) + p.nums (u + 1))) (ref_of c g asking u inside ∙ ap (promised_ref g (u + 1)) is)
-  promised_are u (given refs nums) inside is =
-      let sizes = refs_of c g asking u ∙ ap promised_refs is in
-      let more = nums_of c g asking u ∙ ap promised_nums is in
-      ap (λ k. words_if k (3 + p.refs (u + 1) + p.nums (u + 1))) (ref_of c g asking u inside ∙ ap (promised_ref g (u + 1)) is) ∙ omega (arith, sizes, more)
+  promised_are : (mutator : ℕ) (x : Asking) → mutator < config.mutators → asking mutator ≡ x → promised_words p (mutator + 1) ≡ words_given x
+  promised_are mutator nothing inside is = ap (λ k. words_if k (3 + p.refs (mutator + 1) + p.nums (mutator + 1))) (ref_of config graph asking mutator inside ∙ ap (promised_ref graph (mutator + 1)) is)
+  promised_are mutator (asks refs nums) inside is = ap (λ k. words_if k (3 + p.refs (mutator + 1) + p.nums (mutator + 1))) (ref_of config graph asking mutator inside ∙ ap (promised_ref graph (mutator + 1)) is)
+  promised_are mutator refused inside is = ap (λ k. words_if k (3 + p.refs (mutator + 1) + p.nums (mutator + 1))) (ref_of config graph asking mutator inside ∙ ap (promised_ref graph (mutator + 1)) is)
+  promised_are mutator (given refs nums) inside is =
+      let sizes = refs_of config graph asking mutator ∙ ap promised_refs is in
+      let more = nums_of config graph asking mutator ∙ ap promised_nums is in
+      ap (λ k. words_if k (3 + p.refs (mutator + 1) + p.nums (mutator + 1))) (ref_of config graph asking mutator inside ∙ ap (promised_ref graph (mutator + 1)) is) ∙ omega (arith, sizes, more)
 
   -- what a mutator has been given in all
-  given_are : (u : ℕ) (x : Asking) → u < c.mutators → asking u ≡ x → IsAsked m r.block g.count u x
-      → promised_words p (u + 1) + given_in c after u ≤ words_given (then_of x (full_from c m (Answer u)))
-  given_are u nothing inside is asked = omega (arith, promised_are u nothing inside is, idle_given c after u (packed_wait c m u ∙ asked.0))
-  given_are u refused inside is asked = omega (arith, promised_are u refused inside is, idle_given c after u (packed_wait c m u ∙ asked.0))
-  given_are u (given refs nums) inside is asked = omega (arith, promised_are u (given refs nums) inside is, idle_given c after u (packed_wait c m u ∙ asked.0))
-  given_are u (asks refs nums) inside is asked =
-      let none = promised_are u (asks refs nums) inside is in
-      let waits = waits_for m g.count u refs nums asked.0 in
-      let answered = (requests_are_answered c after).answered u inside (λ is_zero. waits (sym (packed_wait c m u) ∙ is_zero)) in
+  given_are : (mutator : ℕ) (x : Asking) → mutator < config.mutators → asking mutator ≡ x → IsAsked memory r.block graph.count mutator x
+      → promised_words p (mutator + 1) + given_in config after mutator ≤ words_given (then_of x (full_from config memory (Answer mutator)))
+  given_are mutator nothing inside is asked = omega (arith, promised_are mutator nothing inside is, idle_given config after mutator (packed_wait config memory mutator ∙ asked.0))
+  given_are mutator refused inside is asked = omega (arith, promised_are mutator refused inside is, idle_given config after mutator (packed_wait config memory mutator ∙ asked.0))
+  given_are mutator (given refs nums) inside is asked = omega (arith, promised_are mutator (given refs nums) inside is, idle_given config after mutator (packed_wait config memory mutator ∙ asked.0))
+  given_are mutator (asks refs nums) inside is asked =
+      let none = promised_are mutator (asks refs nums) inside is in
+      let waits = waits_for memory graph.count mutator refs nums asked.0 in
+      let answered = (requests_are_answered config after).answered mutator inside (λ is_zero. waits (sym (packed_wait config memory mutator) ∙ is_zero)) in
       ⊎_elim
-      (λ (room : (s : ℕ) × IsLowestRoom c.region_words (tops_at_turn c after u) (asked_in after u) c.regions s).
-      let low : 1 * c.region_words ≤ (room.0 + 1) * c.region_words = mul-le-mul_right c.region_words (omega arith) in
+      (λ (room : (s : ℕ) × IsLowestRoom config.region_words (tops_at_turn config after mutator) (asked_in after mutator) config.regions s).
+      let low : 1 * config.region_words ≤ (room.0 + 1) * config.region_words = mul-le-mul_right config.region_words (omega arith) in
       let answer = answered.given room.0 room.1 in
-      let other : full_from c m (Answer u) ≢ 1 = λ one. omega (arith, one, answer, low, c.in_range.least_words) in
-      let made : words_given (then_of (asks refs nums) (full_from c m (Answer u))) ≡ 3 + refs + nums =
-      ap words_given (cond-false (full_from c m (Answer u) == 1) refused (given refs nums) (ne_eqb (full_from c m (Answer u)) 1 other)) in
-      let most = given_most (room_at_turn c.region_words c.regions (asked_in after) (λ s. after (Top s)) u) (asked_in after u) in
-      omega (arith, none, made, most, asked_words u refs nums asked.0))
-      (λ (full_up : NoneHasRoom c.region_words (tops_at_turn c after u) (asked_in after u) c.regions). omega (arith, none, left_given c after u full_up))
+      let other : full_from config memory (Answer mutator) ≢ 1 = λ one. omega (arith, one, answer, low, config.in_range.least_words) in
+      let made : words_given (then_of (asks refs nums) (full_from config memory (Answer mutator))) ≡ 3 + refs + nums =
+      ap words_given (cond-false (full_from config memory (Answer mutator) == 1) refused (given refs nums) (ne_eqb (full_from config memory (Answer mutator)) 1 other)) in
+      let most = given_most (room_at_turn config.region_words config.regions (asked_in after) (λ s. after (Top s)) mutator) (asked_in after mutator) in
+      omega (arith, none, made, most, asked_words mutator refs nums asked.0))
+      (λ (full_up : NoneHasRoom config.region_words (tops_at_turn config after mutator) (asked_in after mutator) config.regions). omega (arith, none, left_given config after mutator full_up))
       answered.either
 
-  module _ (t refs nums : ℕ) (inside : t < c.mutators) (is : asking t ≡ asks refs nums) (was_refused : asked_then c m g asking r t ≡ refused) where
-    request_of : (x : Asking) → x ≡ asks refs nums → IsAsked m r.block g.count t x → IsRequest m g.count t refs nums
-    request_of x same asked = (subst (IsAsked m r.block g.count t) same asked).0
+  module _ (mutator refs nums : ℕ) (inside : mutator < config.mutators) (is : asking mutator ≡ asks refs nums) (was_refused : asked_then config memory graph asking r mutator ≡ refused) where
+    request_of : (asking : Asking) → asking ≡ asks refs nums → IsAsked memory r.block graph.count mutator asking → IsRequest memory graph.count mutator refs nums
+    request_of asking same asked = (subst (IsAsked memory r.block graph.count mutator) same asked).0
 
-    request : IsRequest m g.count t refs nums
-    request = request_of (asking t) is (r.asked t inside)
+    request : IsRequest memory graph.count mutator refs nums
+    request = request_of (asking mutator) is (r.asked mutator inside)
 
     -- the answer says so
-    is_one : full_from c m (Answer t) ≡ 1
+    is_one : full_from config memory (Answer mutator) ≡ 1
     is_one = ⊎_elim
-        (λ (one : full_from c m (Answer t) ≡ 1). one)
-        (λ (other : full_from c m (Answer t) ≢ 1).
+        (λ (one : full_from config memory (Answer mutator) ≡ 1). one)
+        (λ (other : full_from config memory (Answer mutator) ≢ 1).
         let made : given refs nums ≡ refused =
-        sym (cond-false (full_from c m (Answer t) == 1) refused (given refs nums) (ne_eqb (full_from c m (Answer t)) 1 other))
-        ∙ ap (λ x. then_of x (full_from c m (Answer t))) (sym is) ∙ was_refused in
+        sym (cond-false (full_from config memory (Answer mutator) == 1) refused (given refs nums) (ne_eqb (full_from config memory (Answer mutator)) 1 other))
+        ∙ ap (λ x. then_of x (full_from config memory (Answer mutator))) (sym is) ∙ was_refused in
         cc)
-        (cases_eq (full_from c m (Answer t)) 1)
+        (cases_eq (full_from config memory (Answer mutator)) 1)
 
     -- what another mutator has been given
     abbrev others : ℕ → ℕ
-    others u = cond (u == t) 0 (words_given (asked_then c m g asking r u))
+    others u = cond (u == mutator) 0 (words_given (asked_then config memory graph asking r u))
 
-    one_of : (u : ℕ) → u < c.mutators → promised_words p (suc u) + first_of (given_in c after) t u ≤ others u
+    one_of : (u : ℕ) → u < config.mutators → promised_words p (suc u) + first_of (given_in config after) mutator u ≤ others u
     one_of u below =
         let next : suc u ≡ u + 1 = omega arith in
         let promised : promised_words p (suc u) ≡ promised_words p (u + 1) = ap (promised_words p) next in
         ⊎_elim
-        (λ (own : u ≡ t).
+        (λ (own : u ≡ mutator).
         let none : promised_words p (u + 1) ≡ 0 = promised_are u (asks refs nums) below (ap asking own ∙ is) in
-        omega (arith, promised, none, first_past (given_in c after) t u (omega (arith, own))))
-        (λ (other : u ≢ t).
-        let same : others u ≡ words_given (asked_then c m g asking r u) = cond-false (u == t) 0 (words_given (asked_then c m g asking r u)) (ne_eqb u t other) in
-        omega (arith, promised, same, first_few (given_in c after) t u, given_are u (asking u) below refl (r.asked u below)))
-        (cases_eq u t)
+        omega (arith, promised, none, first_past (given_in config after) mutator u (omega (arith, own))))
+        (λ (other : u ≢ mutator).
+        let same : others u ≡ words_given (asked_then config memory graph asking r u) = cond-false (u == mutator) 0 (words_given (asked_then config memory graph asking r u)) (ne_eqb u mutator other) in
+        omega (arith, promised, same, first_few (given_in config after) mutator u, given_are u (asking u) below refl (r.asked u below)))
+        (cases_eq u mutator)
 
-    sum_others : sum_below (promised_words p) (c.mutators + 1) + sum_below (given_in c after) t ≤ sum_below others c.mutators
+    sum_others : sum_below (promised_words p) (config.mutators + 1) + sum_below (given_in config after) mutator ≤ sum_below others config.mutators
     sum_others =
-        let next : suc c.mutators ≡ c.mutators + 1 = omega arith in
-        let front : sum_below (promised_words p) (c.mutators + 1) ≡ 0 + sum_below (λ k. promised_words p (suc k)) c.mutators =
-        ap (sum_below (promised_words p)) (sym next) ∙ sum_front (promised_words p) c.mutators in
-        let both = sum_both (λ k. promised_words p (suc k)) (first_of (given_in c after) t) c.mutators in
-        let less = sum_at_most (λ k. promised_words p (suc k) + first_of (given_in c after) t k) others c.mutators one_of in
-        omega (arith, front, both, less, sum_first (given_in c after) t c.mutators (omega (arith, inside)))
+        let next : suc config.mutators ≡ config.mutators + 1 = omega arith in
+        let front : sum_below (promised_words p) (config.mutators + 1) ≡ 0 + sum_below (λ k. promised_words p (suc k)) config.mutators =
+        ap (sum_below (promised_words p)) (sym next) ∙ sum_front (promised_words p) config.mutators in
+        let both = sum_both (λ k. promised_words p (suc k)) (first_of (given_in config after) mutator) config.mutators in
+        let less = sum_at_most (λ k. promised_words p (suc k) + first_of (given_in config after) mutator k) others config.mutators one_of in
+        omega (arith, front, both, less, sum_first (given_in config after) mutator config.mutators (omega (arith, inside)))
 
-    pub is_crowded : IsCrowded c g (asked_then c m g asking r) t (3 + refs + nums)
+    pub is_crowded : IsCrowded config graph (asked_then config memory graph asking r) mutator (3 + refs + nums)
     is_crowded =
-        let reached = reach_list c m g asking r in
-        let holds = holds_by c m g asking r in
-        let words : asked_in m t ≡ 3 + refs + nums = same_words (packed_wait c m t) ∙ asked_words t refs nums request in
-        let short : asked_in m t ≤ c.region_words = omega (arith, words, request.few_refs, request.few_nums, c.in_range.least_words) in
-        let held = held_ones c g r.no_more_pins in
-        let pinned = pinned_ones c g r.no_more_pins in
-        let crowd = full_is_crowded c m (live c m g asking r) g p reached.0 held.0 pinned.0 holds.objects holds.rooted (are_fresh c m g asking r) reached.1 held.1 pinned.1 t inside
-        (waits_for m g.count t refs nums request) short is_one in
-        let product : (c.regions - pinned.0) * (c.region_words - asked_in m t + 1) ≡ (c.regions - pinned.0) * (c.region_words - (3 + refs + nums) + 1) =
-        ap (λ (n : ℕ). (c.regions - pinned.0) * (c.region_words - n + 1)) words in
+        let reached = reach_list config memory graph asking r in
+        let holds = holds_by config memory graph asking r in
+        let words : asked_in memory mutator ≡ 3 + refs + nums = same_words (packed_wait config memory mutator) ∙ asked_words mutator refs nums request in
+        let short : asked_in memory mutator ≤ config.region_words = omega (arith, words, request.few_refs, request.few_nums, config.in_range.least_words) in
+        let held = held_ones config graph r.no_more_pins in
+        let pinned = pinned_ones config graph r.no_more_pins in
+        let crowd = full_is_crowded config memory (live config memory graph asking r) graph p reached.0 held.0 pinned.0 holds.objects holds.rooted (are_fresh config memory graph asking r) reached.1 held.1 pinned.1 mutator inside
+        (waits_for memory graph.count mutator refs nums request) short is_one in
+        let product : (config.regions - pinned.0) * (config.region_words - asked_in memory mutator + 1) ≡ (config.regions - pinned.0) * (config.region_words - (3 + refs + nums) + 1) =
+        ap (λ (n : ℕ). (config.regions - pinned.0) * (config.region_words - n + 1)) words in
         (reached.0, held.0, pinned.0, reached.1, held.1, pinned.1, omega (arith, crowd, product, sum_others))
       where
-        same_words : after (Wait t) ≡ m (Wait t) → asked_in m t ≡ asked_in after t
+        same_words : after (Wait mutator) ≡ memory (Wait mutator) → asked_in memory mutator ≡ asked_in after mutator
         same_words same = ap (λ k. cond (k == 0) 0 (object_words (request_shape_in k))) (sym same)

@@ -25,23 +25,23 @@ use Rattle.cycle_pauses.proofs.Full.Mapped.{mapped_from}
 use Rattle.cycle_pauses.proofs.Full.Before.{as_current, as_object, OnlyFills, fills_still, fills_unnamed, live, live_at, pieces_are, names_stay, promised_at, object_at, once_each, pinned_thing, live_rooted, live_plotted}
 
 -- where a header leads to an address, the current copy is there
-pub led_to : (memory : Word → ℕ) (a to : ℕ) → memory (Heap a) ≡ header_word to → now_in memory a ≡ to
-led_to memory a to is =
-    let moved_on : memory (Heap a) % 4 ≡ 3 = omega (arith, is) in
-    cond-true (is_forwarded (memory (Heap a))) (forwardee_in (memory (Heap a))) a (eq-eqb (memory (Heap a) % 4) 3 moved_on) ∙ omega (arith, is)
+pub led_to : (memory : Word → ℕ) (address to : ℕ) → memory (Heap address) ≡ header_word to → now_in memory address ≡ to
+led_to memory address to is =
+    let moved_on : memory (Heap address) % 4 ≡ 3 = omega (arith, is) in
+    cond-true (is_forwarded (memory (Heap address))) (forwardee_in (memory (Heap address))) address (eq-eqb (memory (Heap address) % 4) 3 moved_on) ∙ omega (arith, is)
 
-module _ (c : Config) (m : Word → ℕ) (g : Graph) (asking : ℕ → Asking) (r : RepresentsByCopies c m g asking) where
+module _ (config : Config) (memory : Word → ℕ) (graph : Graph) (asking : ℕ → Asking) (r : RepresentsByCopies config memory graph asking) where
   abbrev heap : ℕ → ℕ
-  heap a = m (Heap a)
+  heap address = memory (Heap address)
 
   abbrev p : Promises
-  p = promises_of c g asking
+  p = promises_of config graph asking
 
   abbrev old : Plot
-  old = live c m g asking r
+  old = live config memory graph asking r
 
   abbrev IsRoot : ℕ → Type 0
-  IsRoot = IsAmong (held_words c m)
+  IsRoot = IsAmong (held_words config memory)
 
   abbrev Current : ℕ → Type 0
   Current = IsMarkable r.block
@@ -49,133 +49,133 @@ module _ (c : Config) (m : Word → ℕ) (g : Graph) (asking : ℕ → Asking) (
   -- a current copy has the header of an object that has not moved
   pub header_of : (a : ℕ) → Current a → heap a ≡ plain_header
   header_of a (IsMarkable.object name refs nums is) = (r.shared.contents.objects.each a refs nums name is).2.header
-  header_of a (IsMarkable.to_come seat words is) = ap heap (omega arith) ∙ (promised_at c m g asking r a seat words is).promise.words 0 (omega arith)
+  header_of a (IsMarkable.to_come seat words is) = ap heap (omega arith) ∙ (promised_at config memory graph asking r a seat words is).promise.words 0 (omega arith)
 
   -- An old copy: its header leads to the current one outside the collection set, which is the same object.
-  pub record IsOld (a refs nums to : ℕ) (name : Name) : Type 0 where
-    pub header : heap a ≡ header_word to
-    pub inside : IsCollected c (m Cset) a
+  pub record IsOld (address refs nums to : ℕ) (name : Name) : Type 0 where
+    pub header : heap address ≡ header_word to
+    pub inside : IsCollected config (memory Cset) address
     pub copy : Current to
-    pub outside : IsCollected c (m Cset) to → ⊥
+    pub outside : IsCollected config (memory Cset) to → ⊥
     pub same : old to ≡ Some (thing name refs nums)
 
   -- what stands at the current copy of an object that was promised
-  spent_same : (words to : ℕ) → Current to → old to ≡ Some (as_current g asking (r.block to) (dead words))
-  spent_same words to (IsMarkable.object name refs nums is) = live_at c m g asking r to (thing name refs nums) is ∙ ap (λ o. Some (as_current g asking o (dead words))) (sym is)
-  spent_same words to (IsMarkable.to_come seat more is) = live_at c m g asking r to (promised seat more) is ∙ ap (λ o. Some (as_current g asking o (dead words))) (sym is)
+  spent_same : (words to : ℕ) → Current to → old to ≡ Some (as_current graph asking (r.block to) (dead words))
+  spent_same words to (IsMarkable.object name refs nums is) = live_at config memory graph asking r to (thing name refs nums) is ∙ ap (λ o. Some (as_current graph asking o (dead words))) (sym is)
+  spent_same words to (IsMarkable.to_come seat more is) = live_at config memory graph asking r to (promised seat more) is ∙ ap (λ o. Some (as_current graph asking o (dead words))) (sym is)
 
   -- an object of the larger graph is a current copy, or an old one
-  pub data Kind (a refs nums : ℕ) (name : Name) : Type 0 where
-    is_current : Current a → Kind a refs nums name
-    is_old : (to : ℕ) → IsOld a refs nums to name → Kind a refs nums name
+  pub data Kind (seat refs nums : ℕ) (name : Name) : Type 0 where
+    is_current : Current seat → Kind seat refs nums name
+    is_old : (to : ℕ) → IsOld seat refs nums to name → Kind seat refs nums name
 
-  kind_of : (a refs nums : ℕ) (name : Name) (b : Block) → r.block a ≡ Some b → as_object g asking r.block b ≡ thing name refs nums → Kind a refs nums name
-  kind_of a refs nums name (thing n more less) is same = is_current (IsMarkable.object n more less is)
-  kind_of a refs nums name (moved n more less to) is same =
-      let was = r.shared.evacuated.moved.moveds a more less to n is in
+  kind_of : (address refs nums : ℕ) (name : Name) (piece : Block) → r.block address ≡ Some piece → as_object graph asking r.block piece ≡ thing name refs nums → Kind address refs nums name
+  kind_of address refs nums name (thing n more less) is same = is_current (IsMarkable.object n more less is)
+  kind_of address refs nums name (moved n more less to) is same =
+      let was = r.shared.evacuated.moved.moveds address more less to n is in
       is_old to (record {
         header = was.header;
         inside = was.inside;
         copy = IsMarkable.object n more less was.copy;
         outside = was.outside;
-        same = live_at c m g asking r to (thing n more less) was.copy ∙ ap Some same;
+        same = live_at config memory graph asking r to (thing n more less) was.copy ∙ ap Some same;
       })
-  kind_of a refs nums name (spent words to) is same =
-      let was = r.shared.evacuated.moved.spents a words to is in
+  kind_of address refs nums name (spent words to) is same =
+      let was = r.shared.evacuated.moved.spents address words to is in
       is_old to (record { header = was.header; inside = was.inside; copy = was.copy; outside = was.outside; same = spent_same words to was.copy ∙ ap Some same })
-  kind_of a refs nums name (promised seat words) is same = is_current (IsMarkable.to_come seat words is)
-  kind_of a refs nums name _ is same = cc
+  kind_of address refs nums name (promised seat words) is same = is_current (IsMarkable.to_come seat words is)
+  kind_of address refs nums name _ is same = cc
 
-  pub kind_at : (a refs nums : ℕ) (name : Name) → old a ≡ Some (thing name refs nums) → Kind a refs nums name
-  kind_at a refs nums name is =
-      let was = mapped_from (as_object g asking r.block) r.block a (thing name refs nums) is in
-      kind_of a refs nums name was.0 was.1 was.2
+  pub kind_at : (address refs nums : ℕ) (name : Name) → old address ≡ Some (thing name refs nums) → Kind address refs nums name
+  kind_at address refs nums name is =
+      let was = mapped_from (as_object graph asking r.block) r.block address (thing name refs nums) is in
+      kind_of address refs nums name was.0 was.1 was.2
 
   -- so the current copy is a current one, and the same object
-  now_of : (a refs nums : ℕ) (name : Name) → old a ≡ Some (thing name refs nums) → Kind a refs nums name → Current (now_in m a) × (old (now_in m a) ≡ Some (thing name refs nums))
+  now_of : (a refs nums : ℕ) (name : Name) → old a ≡ Some (thing name refs nums) → Kind a refs nums name → Current (now_in memory a) × (old (now_in memory a) ≡ Some (thing name refs nums))
   now_of a refs nums name is (is_current here) =
-      let own = own_copy m a (header_of a here) in
+      let own = own_copy memory a (header_of a here) in
       (subst Current (sym own) here, ap old own ∙ is)
   now_of a refs nums name is (is_old to was) =
-      let there = led_to m a to was.header in
+      let there = led_to memory a to was.header in
       (subst Current (sym there) was.copy, ap old there ∙ was.same)
 
-  pub now_is : (a refs nums : ℕ) (name : Name) → old a ≡ Some (thing name refs nums) → Current (now_in m a) × (old (now_in m a) ≡ Some (thing name refs nums))
+  pub now_is : (a refs nums : ℕ) (name : Name) → old a ≡ Some (thing name refs nums) → Current (now_in memory a) × (old (now_in memory a) ≡ Some (thing name refs nums))
   now_is a refs nums name is = now_of a refs nums name is (kind_at a refs nums name is)
 
   -- what stands for a name is an object of that name
   pub old_thing : (word : ℕ) (name : Name) → name_at (old word) ≡ Some name → (refs : ℕ) × (nums : ℕ) × (old word ≡ Some (thing name refs nums))
   old_thing word name is =
       let piece = named_piece (old word) name is in
-      let was = mapped_from (as_object g asking r.block) r.block word piece.0 piece.1 in
+      let was = mapped_from (as_object graph asking r.block) r.block word piece.0 piece.1 in
       ⊎_elim
-      (λ (one : (n : Name) × (refs : ℕ) × (nums : ℕ) × (as_object g asking r.block was.0 ≡ thing n refs nums)).
+      (λ (one : (n : Name) × (refs : ℕ) × (nums : ℕ) × (as_object graph asking r.block was.0 ≡ thing n refs nums)).
       let here : piece.0 ≡ thing one.0 one.1 one.2 = sym was.2 ∙ one.3 in
       let same : one.0 ≡ name = same_Some one.0 name (ap (λ x. name_at (Some x)) (sym here) ∙ piece.2) in
       (one.1, one.2, piece.1 ∙ ap Some here ∙ ap (λ n. Some (thing n one.1 one.2)) same))
       (λ (fills : OnlyFills was.0).
-      let same : was.0 ≡ piece.0 = sym (fills_still g asking r.block was.0 fills) ∙ was.2 in
+      let same : was.0 ≡ piece.0 = sym (fills_still graph asking r.block was.0 fills) ∙ was.2 in
       absurd (fills_unnamed piece.0 name (subst OnlyFills same fills) piece.2))
-      (pieces_are c m g asking r word was.0 was.1)
+      (pieces_are config memory graph asking r word was.0 was.1)
 
-  now_named : (word : ℕ) (name : Name) → name_at (old word) ≡ Some name → Current (now_in m word) × IsCopy old (now_in m word) name
+  now_named : (word : ℕ) (name : Name) → name_at (old word) ≡ Some name → Current (now_in memory word) × IsCopy old (now_in memory word) name
   now_named word name is =
       let at = old_thing word name is in
       let now = now_is word at.0 at.1 name at.2 in
       (now.0, (at.0, at.1, now.1))
 
   -- what is held is a current copy
-  field_current : (a i : ℕ) → Current a → i < refs_in (heap (a + 1)) → heap (a + 3 + i) ≢ 0 → Current (now_in m (heap (a + 3 + i)))
+  field_current : (a i : ℕ) → Current a → i < refs_in (heap (a + 1)) → heap (a + 3 + i) ≢ 0 → Current (now_in memory (heap (a + 3 + i)))
   field_current a i (IsMarkable.object name refs nums is) few some =
       let o = r.shared.contents.objects.each a refs nums name is in
       let shape : refs_in (heap (a + 1)) ≡ refs = ap refs_in o.2.shape ∙ refs_read refs nums o.2.few_refs o.2.few_nums in
       let reference : Reference = get_or o.0.refs i None in
       let there : slice_get o.0.refs i ≡ Some reference = slice_get-get_or o.0.refs i None (omega (arith, few, shape, o.2.refs_are)) in
-      let to = named_if_not_0 c (λ q. m (Top q)) r.block r.shared.parsable.plotted (heap (a + 3 + i)) reference (o.2.references i reference there) some in
-      (now_named (heap (a + 3 + i)) to.0 (names_stay c m g asking r (heap (a + 3 + i)) to.0 to.2)).0
+      let to = named_if_not_0 config (λ q. memory (Top q)) r.block r.shared.parsable.plotted (heap (a + 3 + i)) reference (o.2.references i reference there) some in
+      (now_named (heap (a + 3 + i)) to.0 (names_stay config memory graph asking r (heap (a + 3 + i)) to.0 to.2)).0
   field_current a i (IsMarkable.to_come seat words is) few some =
       let blank = r.shared.unwritten.blanks a seat words is in
       let shape : refs_in (heap (a + 1)) ≡ blank.refs = ap refs_in blank.shape ∙ refs_read blank.refs blank.nums blank.few_refs blank.few_nums in
       absurd (some (blank.nulls i (omega (arith, few, shape))))
 
-  pub held_current : (a : ℕ) → IsLedTo (now_in m) heap IsRoot a → Current a
+  pub held_current : (seat : ℕ) → IsLedTo (now_in memory) heap IsRoot seat → Current seat
   held_current _ (from_root word is some) =
-      let root = root_named c (λ q. m (Top q)) m old g p (live_plotted c m g asking r) (live_rooted c m g asking r) word is some in
+      let root = root_named config (λ q. memory (Top q)) memory old graph p (live_plotted config memory graph asking r) (live_rooted config memory graph asking r) word is some in
       (now_named word root.2 root.4).0
-  held_current _ (from_field a i held few some) = field_current a i (held_current a held) few some
+  held_current _ (from_field seat i held few some) = field_current seat i (held_current seat held) few some
 
   -- so the words hold the graph with the promised objects
-  pub live_holds : HoldsGraph c (λ q. m (Top q)) heap old (now_in m) IsRoot (with_promised g p)
+  pub live_holds : HoldsGraph config (λ q. memory (Top q)) heap old (now_in memory) IsRoot (with_promised graph p)
   live_holds = record {
-    plotted = live_plotted c m g asking r;
+    plotted = live_plotted config memory graph asking r;
     current = λ word name is. (now_named word name is).1;
-    each = λ a refs nums name held is. object_at c m g asking r a refs nums name (held_current a held) is;
+    each = λ a refs nums name held is. object_at config memory graph asking r a refs nums name (held_current a held) is;
     once = λ a b refs nums more_refs more_nums name held_a held_b is_a is_b.
-        once_each c m g asking r a b refs nums more_refs more_nums name (held_current a held_a) (held_current b held_b) is_a is_b;
-    root_named = root_named c (λ q. m (Top q)) m old g p (live_plotted c m g asking r) (live_rooted c m g asking r);
-    root_held = root_held c (λ q. m (Top q)) m old g p (live_plotted c m g asking r) (live_rooted c m g asking r);
+        once_each config memory graph asking r a b refs nums more_refs more_nums name (held_current a held_a) (held_current b held_b) is_a is_b;
+    root_named = root_named config (λ q. memory (Top q)) memory old graph p (live_plotted config memory graph asking r) (live_rooted config memory graph asking r);
+    root_held = root_held config (λ q. memory (Top q)) memory old graph p (live_plotted config memory graph asking r) (live_rooted config memory graph asking r);
     pinless = λ t slot held is. none-some held is;
   }
 
   -- what stands for an object has a current copy
-  pub has_current : (word : ℕ) (n : Name) → name_at (r.block word) ≡ Some n → (a : ℕ) × (refs : ℕ) × (nums : ℕ) × (r.block a ≡ Some (thing n refs nums))
-  has_current word n is =
-      let body = named_body (r.block word) n is in
+  pub has_current : (word : ℕ) (name : Name) → name_at (r.block word) ≡ Some name → (address : ℕ) × (refs : ℕ) × (nums : ℕ) × (r.block address ≡ Some (thing name refs nums))
+  has_current word name is =
+      let body = named_body (r.block word) name is in
       ⊎_elim
-      (λ (now : r.block word ≡ Some (thing n body.0 body.1)). (word, body.0, body.1, now))
-      (λ (was : (to : ℕ) × (r.block word ≡ Some (moved n body.0 body.1 to))). (was.0, body.0, body.1, (r.shared.evacuated.moved.moveds word body.0 body.1 was.0 n was.1).copy))
-      (copy_cases (r.block word) (body_of n body.0 body.1) body.2)
+      (λ (now : r.block word ≡ Some (thing name body.0 body.1)). (word, body.0, body.1, now))
+      (λ (was : (to : ℕ) × (r.block word ≡ Some (moved name body.0 body.1 to))). (was.0, body.0, body.1, (r.shared.evacuated.moved.moveds word body.0 body.1 was.0 name was.1).copy))
+      (copy_cases (r.block word) (body_of name body.0 body.1) body.2)
 
   -- An object that the graph reaches has an address.
-  pub reached_at : (n : Name) → IsReachable g n → (a : ℕ) × (refs : ℕ) × (nums : ℕ) × (r.block a ≡ Some (thing n refs nums))
-  reached_at n (reach.from_root t i _ is) =
-      let at = (live_rooted c m g asking r).no_more_roots t i n is in
-      let points : name_at (r.block (m (Root at.0 i))) ≡ Some n =
-      subst (Points r.block (m (Root at.0 i))) (ap (λ k. g.root k i) (sym at.2) ∙ is) (r.roots at.0 i at.1 at.3) in
-      has_current (m (Root at.0 i)) n points
-  reached_at _ (reach.from_pin t slot held is) = let at = pinned_thing c m g asking r t slot held is in (held.place, at.refs, at.nums, at.here)
-  reached_at n (reach.from_field k _ field reached is) =
+  pub reached_at : (name : Name) → IsReachable graph name → (address : ℕ) × (refs : ℕ) × (nums : ℕ) × (r.block address ≡ Some (thing name refs nums))
+  reached_at name (reach.from_root t i _ is) =
+      let at = (live_rooted config memory graph asking r).no_more_roots t i name is in
+      let points : name_at (r.block (memory (Root at.0 i))) ≡ Some name =
+      subst (Points r.block (memory (Root at.0 i))) (ap (λ k. graph.root k i) (sym at.2) ∙ is) (r.roots at.0 i at.1 at.3) in
+      has_current (memory (Root at.0 i)) name points
+  reached_at _ (reach.from_pin t slot held is) = let at = pinned_thing config memory graph asking r t slot held is in (held.place, at.refs, at.nums, at.here)
+  reached_at name (reach.from_field k _ field reached is) =
       let at = reached_at k reached in
       let o = r.shared.contents.objects.each at.0 at.1 at.2 k at.3 in
-      let there : slice_get o.0.refs field ≡ Some (Some n) = sym (ap (λ (x : Object). slice_get x.refs field) (named_object g k o.0 o.1)) ∙ is in
-      has_current (heap (at.0 + 3 + field)) n (o.2.references field (Some n) there)
+      let there : slice_get o.0.refs field ≡ Some (Some name) = sym (ap (λ (object : Object). slice_get object.refs field) (named_object graph k o.0 o.1)) ∙ is in
+      has_current (heap (at.0 + 3 + field)) name (o.2.references field (Some name) there)

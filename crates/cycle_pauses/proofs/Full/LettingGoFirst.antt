@@ -17,96 +17,96 @@ use Rattle.image_graph.proofs.LettingGo as letting_go
 use Rattle.cycle_pauses.proofs.Full.Outside.{IsZeroOutside}
 
 -- a word of the table is written
-write_outside : (c : Config) (m : Word → ℕ) (at : Word) (value : ℕ) → is_word c at ≡ true → IsZeroOutside c m → IsZeroOutside c (write m at value)
-write_outside c m at value is nothing word other = ⊎_elim
-    (λ (same : same_word at word ≡ true). absurd (true≢false (sym is ∙ ap (is_word c) (same_word_true at word same) ∙ other)))
-    (λ (differs : same_word at word ≡ false). cond-false (same_word at word) value (m word) differs ∙ nothing word other)
+write_outside : (config : Config) (memory : Word → ℕ) (at : Word) (value : ℕ) → is_word config at ≡ true → IsZeroOutside config memory → IsZeroOutside config (write memory at value)
+write_outside config memory at value is nothing word other = ⊎_elim
+    (λ (same : same_word at word ≡ true). absurd (true≢false (sym is ∙ ap (is_word config) (same_word_true at word same) ∙ other)))
+    (λ (differs : same_word at word ≡ false). cond-false (same_word at word) value (memory word) differs ∙ nothing word other)
     (cases_Bool (same_word at word))
 
 -- one of two memories
-either_outside : (c : Config) (b : Bool) (f g : Word → ℕ) → (b ≡ true → IsZeroOutside c f) → (b ≡ false → IsZeroOutside c g) → IsZeroOutside c (if b then f else g)
-either_outside c true f g one other = one refl
-either_outside c false f g one other = other refl
+either_outside : (config : Config) (holds : Bool) (memory other_memory : Word → ℕ) → (holds ≡ true → IsZeroOutside config memory) → (holds ≡ false → IsZeroOutside config other_memory) → IsZeroOutside config (if holds then memory else other_memory)
+either_outside config true memory other_memory one other = one refl
+either_outside config false memory other_memory one other = other refl
 
-module _ (c : Config) (m : Word → ℕ) (word : ℕ) (nothing : IsZeroOutside c m) where
+module _ (config : Config) (memory : Word → ℕ) (word : ℕ) (nothing : IsZeroOutside config memory) where
   -- the free words of a buffer are words of the heap
-  heap_word : IsInside c word → next_in word < end_in word → is_word c (Heap (next_in word)) ≡ true
+  heap_word : IsInside config word → next_in word < end_in word → is_word config (Heap (next_in word)) ≡ true
   heap_word inside more =
       let from = inside.from_base in
       let to = inside.to_end in
       let within = inside.region in
-      let low : 1 * c.region_words ≤ (buffer_region c word + 1) * c.region_words = mul-le-mul_right c.region_words (omega arith) in
-      let high : (buffer_region c word + 1 + 1) * c.region_words ≤ (c.regions + 1) * c.region_words = mul-le-mul_right c.region_words (omega (arith, within)) in
-      and_from (nat_le c.region_words (next_in word)) (nat_lt (next_in word) ((c.regions + 1) * c.region_words))
-      (le-leb c.region_words (next_in word) (omega (arith, low, from))) (lt-ltb (next_in word) ((c.regions + 1) * c.region_words) (omega (arith, high, to, more)))
+      let low : 1 * config.region_words ≤ (buffer_region config word + 1) * config.region_words = mul-le-mul_right config.region_words (omega arith) in
+      let high : (buffer_region config word + 1 + 1) * config.region_words ≤ (config.regions + 1) * config.region_words = mul-le-mul_right config.region_words (omega (arith, within)) in
+      and_from (nat_le config.region_words (next_in word)) (nat_lt (next_in word) ((config.regions + 1) * config.region_words))
+      (le-leb config.region_words (next_in word) (omega (arith, low, from))) (lt-ltb (next_in word) ((config.regions + 1) * config.region_words) (omega (arith, high, to, more)))
 
-  filled_outside : IsInside c word → IsZeroOutside c (filled_over m word)
+  filled_outside : IsInside config word → IsZeroOutside config (filled_over memory word)
   filled_outside inside =
-      either_outside c (nat_lt (next_in word) (end_in word)) (write m (Heap (next_in word)) (filler_header (end_in word - next_in word))) m
+      either_outside config (nat_lt (next_in word) (end_in word)) (write memory (Heap (next_in word)) (filler_header (end_in word - next_in word))) memory
       (λ test. ⊎_elim
-      (λ (more : next_in word < end_in word). write_outside c m (Heap (next_in word)) (filler_header (end_in word - next_in word)) (heap_word inside more) nothing)
+      (λ (more : next_in word < end_in word). write_outside config memory (Heap (next_in word)) (filler_header (end_in word - next_in word)) (heap_word inside more) nothing)
       (λ (empty : end_in word ≤ next_in word). absurd (true≢false (sym test ∙ le-ltb (next_in word) (end_in word) empty)))
       (cases_lt (next_in word) (end_in word)))
       (λ test. nothing)
 
-  back_outside : IsInside c word → IsZeroOutside c (given_back c m word)
-  back_outside inside = write_outside c m (Top (buffer_region c word)) (next_in word - base_of c (buffer_region c word)) (lt-ltb (buffer_region c word) c.regions inside.region) nothing
+  back_outside : IsInside config word → IsZeroOutside config (given_back config memory word)
+  back_outside inside = write_outside config memory (Top (buffer_region config word)) (next_in word - base_of config (buffer_region config word)) (lt-ltb (buffer_region config word) config.regions inside.region) nothing
 
-module _ (c : Config) (m : Word → ℕ) (seat : ℕ) (nothing : IsZeroOutside c m) (seated : seat < seat_count c.mutators c.helpers) (inside : m (Current seat) ≢ 0 → IsInside c (m (Current seat))) where
+module _ (config : Config) (memory : Word → ℕ) (seat : ℕ) (nothing : IsZeroOutside config memory) (seated : seat < seat_count config.mutators config.helpers) (inside : memory (Current seat) ≢ 0 → IsInside config (memory (Current seat))) where
   abbrev word : ℕ
-  word = m (Current seat)
+  word = memory (Current seat)
 
-  gone_outside : (n : Word → ℕ) → IsZeroOutside c n → IsZeroOutside c (write n (Current seat) 0)
-  gone_outside n there = write_outside c n (Current seat) 0 (lt-ltb seat (seat_count c.mutators c.helpers) seated) there
+  gone_outside : (memory : Word → ℕ) → IsZeroOutside config memory → IsZeroOutside config (write memory (Current seat) 0)
+  gone_outside memory there = write_outside config memory (Current seat) 0 (lt-ltb seat (seat_count config.mutators config.helpers) seated) there
 
-  settled_turn : IsZeroOutside c (settled_at c m seat)
+  settled_turn : IsZeroOutside config (settled_at config memory seat)
   settled_turn = ⊎_elim
       (λ (none : word ≡ 0).
-      let test : ((word == 0) || is_last c m word) ≡ true = ap (λ b. b || is_last c m word) (eq-eqb word 0 none) in
-      subst (IsZeroOutside c) (sym (cond-true ((word == 0) || is_last c m word) m (write (filled_over m word) (Current seat) 0) test)) nothing)
+      let test : ((word == 0) || is_last config memory word) ≡ true = ap (λ b. b || is_last config memory word) (eq-eqb word 0 none) in
+      subst (IsZeroOutside config) (sym (cond-true ((word == 0) || is_last config memory word) memory (write (filled_over memory word) (Current seat) 0) test)) nothing)
       (λ (is : word ≢ 0).
-      either_outside c ((word == 0) || is_last c m word) m (write (filled_over m word) (Current seat) 0) (λ test. nothing)
-      (λ test. gone_outside (filled_over m word) (filled_outside c m word nothing (inside is))))
+      either_outside config ((word == 0) || is_last config memory word) memory (write (filled_over memory word) (Current seat) 0) (λ test. nothing)
+      (λ test. gone_outside (filled_over memory word) (filled_outside config memory word nothing (inside is))))
       (cases_eq word 0)
 
-  let_go_turn : IsZeroOutside c (let_go_at c m seat)
+  let_go_turn : IsZeroOutside config (let_go_at config memory seat)
   let_go_turn = ⊎_elim
       (λ (none : word ≡ 0).
-      subst (IsZeroOutside c) (sym (cond-true (word == 0) m (write (if is_last c m word then given_back c m word else filled_over m word) (Current seat) 0) (eq-eqb word 0 none))) nothing)
+      subst (IsZeroOutside config) (sym (cond-true (word == 0) memory (write (if is_last config memory word then given_back config memory word else filled_over memory word) (Current seat) 0) (eq-eqb word 0 none))) nothing)
       (λ (is : word ≢ 0).
-      either_outside c (word == 0) m (write (if is_last c m word then given_back c m word else filled_over m word) (Current seat) 0) (λ test. nothing)
-      (λ test. gone_outside (if is_last c m word then given_back c m word else filled_over m word)
-      (either_outside c (is_last c m word) (given_back c m word) (filled_over m word) (λ last. back_outside c m word nothing (inside is)) (λ last. filled_outside c m word nothing (inside is)))))
+      either_outside config (word == 0) memory (write (if is_last config memory word then given_back config memory word else filled_over memory word) (Current seat) 0) (λ test. nothing)
+      (λ test. gone_outside (if is_last config memory word then given_back config memory word else filled_over memory word)
+      (either_outside config (is_last config memory word) (given_back config memory word) (filled_over memory word) (λ last. back_outside config memory word nothing (inside is)) (λ last. filled_outside config memory word nothing (inside is)))))
       (cases_eq word 0)
 
-module _ (c : Config) (m : Word → ℕ) (nothing : IsZeroOutside c m) (inside : AreInside c m) where
+module _ (config : Config) (memory : Word → ℕ) (nothing : IsZeroOutside config memory) (inside : AreInside config memory) where
   -- who has not had its turn has its buffer still
-  settled_later : (n s : ℕ) → n ≤ s → settled_below c m n (Current s) ≡ m (Current s)
+  settled_later : (n seat : ℕ) → n ≤ seat → settled_below config memory n (Current seat) ≡ memory (Current seat)
   unfolding settled_below
-  settled_later zero s later = refl
-  settled_later (suc n) s later = settling.turn_other c (settled_below c m n) n s (λ same. omega (arith, same, later)) ∙ settled_later n s (omega (arith, later))
+  settled_later zero seat later = refl
+  settled_later (suc n) seat later = settling.turn_other config (settled_below config memory n) n seat (λ same. omega (arith, same, later)) ∙ settled_later n seat (omega (arith, later))
 
-  let_go_later : (n s : ℕ) → n ≤ s → let_go_below c m n (Current s) ≡ m (Current s)
+  let_go_later : (n seat : ℕ) → n ≤ seat → let_go_below config memory n (Current seat) ≡ memory (Current seat)
   unfolding let_go_below
-  let_go_later zero s later = refl
-  let_go_later (suc n) s later = letting_go.turn_other c (let_go_below c m n) n s (λ same. omega (arith, same, later)) ∙ let_go_later n s (omega (arith, later))
+  let_go_later zero seat later = refl
+  let_go_later (suc n) seat later = letting_go.turn_other config (let_go_below config memory n) n seat (λ same. omega (arith, same, later)) ∙ let_go_later n seat (omega (arith, later))
 
-  settled_turns : (n : ℕ) → n ≤ seat_count c.mutators c.helpers → IsZeroOutside c (settled_below c m n)
+  settled_turns : (n : ℕ) → n ≤ seat_count config.mutators config.helpers → IsZeroOutside config (settled_below config memory n)
   unfolding settled_below
   settled_turns zero few = nothing
   settled_turns (suc n) few =
       let is = settled_later n n (omega arith) in
-      settled_turn c (settled_below c m n) n (settled_turns n (omega (arith, few))) (omega (arith, few)) (λ some. subst (IsInside c) (sym is) (inside n (omega (arith, few)) (λ none. some (is ∙ none))))
+      settled_turn config (settled_below config memory n) n (settled_turns n (omega (arith, few))) (omega (arith, few)) (λ some. subst (IsInside config) (sym is) (inside n (omega (arith, few)) (λ none. some (is ∙ none))))
 
-  let_go_turns : (n : ℕ) → n ≤ seat_count c.mutators c.helpers → IsZeroOutside c (let_go_below c m n)
+  let_go_turns : (n : ℕ) → n ≤ seat_count config.mutators config.helpers → IsZeroOutside config (let_go_below config memory n)
   unfolding let_go_below
   let_go_turns zero few = nothing
   let_go_turns (suc n) few =
       let is = let_go_later n n (omega arith) in
-      let_go_turn c (let_go_below c m n) n (let_go_turns n (omega (arith, few))) (omega (arith, few)) (λ some. subst (IsInside c) (sym is) (inside n (omega (arith, few)) (λ none. some (is ∙ none))))
+      let_go_turn config (let_go_below config memory n) n (let_go_turns n (omega (arith, few))) (omega (arith, few)) (λ some. subst (IsInside config) (sym is) (inside n (omega (arith, few)) (λ none. some (is ∙ none))))
 
-  pub settled_outside : IsZeroOutside c (buffers_settled c m)
-  settled_outside = settled_turns (seat_count c.mutators c.helpers) (omega arith)
+  pub settled_outside : IsZeroOutside config (buffers_settled config memory)
+  settled_outside = settled_turns (seat_count config.mutators config.helpers) (omega arith)
 
-  pub let_go_outside : IsZeroOutside c (let_go c m)
-  let_go_outside = let_go_turns (seat_count c.mutators c.helpers) (omega arith)
+  pub let_go_outside : IsZeroOutside config (let_go config memory)
+  let_go_outside = let_go_turns (seat_count config.mutators config.helpers) (omega arith)

@@ -9,22 +9,22 @@ use Rattle.cycle_words.proofs.Marking.Pruned.{from_option}
 abbrev pub mapped : (Block → Block) → Plot → Plot
 mapped f block a = option_map f (block a)
 
-pub mapped_at : (f : Block → Block) (block : Plot) (a : ℕ) (x : Block) → block a ≡ Some x → mapped f block a ≡ Some (f x)
-mapped_at f block a x is = ap (option_map f) is
+pub mapped_at : (f : Block → Block) (block : Plot) (address : ℕ) (piece : Block) → block address ≡ Some piece → mapped f block address ≡ Some (f piece)
+mapped_at f block address piece is = ap (option_map f) is
 
 -- the piece that there was
-pub mapped_from : (f : Block → Block) (block : Plot) (a : ℕ) (b : Block) → mapped f block a ≡ Some b → (x : Block) × (block a ≡ Some x) × (f x ≡ b)
-mapped_from f block a b is = from_option f (block a) b is
+pub mapped_from : (f : Block → Block) (block : Plot) (address : ℕ) (piece : Block) → mapped f block address ≡ Some piece → (other_piece : Block) × (block address ≡ Some other_piece) × (f other_piece ≡ piece)
+mapped_from f block address piece is = from_option f (block address) piece is
 
-module _ (c : Config) (top : ℕ → ℕ) (block : Plot) (f : Block → Block) (same : (a : ℕ) (b : Block) → block a ≡ Some b → words_of (f b) ≡ words_of b) where
+module _ (config : Config) (top : ℕ → ℕ) (block : Plot) (f : Block → Block) (same : (a : ℕ) (b : Block) → block a ≡ Some b → words_of (f b) ≡ words_of b) where
   -- the words of a piece and of what there was
-  size : (a : ℕ) (b : Block) (was : (x : Block) × (block a ≡ Some x) × (f x ≡ b)) → words_of was.0 ≡ words_of b
-  size a b was = sym (same a was.0 was.1) ∙ ap words_of was.2
+  size : (address : ℕ) (piece : Block) (was : (x : Block) × (block address ≡ Some x) × (f x ≡ piece)) → words_of was.0 ≡ words_of piece
+  size address piece was = sym (same address was.0 was.1) ∙ ap words_of was.2
 
-  pub plotted_alike : IsPlotted c top block → IsPlotted c top (mapped f block)
+  pub plotted_alike : IsPlotted config top block → IsPlotted config top (mapped f block)
   plotted_alike plotted = record {
     tops = plotted.tops;
-    in_use = λ a b is. let was = mapped_from f block a b is in subst (λ w. IsInUse c top a w) (size a b was) (plotted.in_use a was.0 was.1);
+    in_use = λ a b is. let was = mapped_from f block a b is in subst (λ w. IsInUse config top a w) (size a b was) (plotted.in_use a was.0 was.1);
     apart = λ a b x y is_x is_y before.
         let was_x = mapped_from f block a x is_x in
         let was_y = mapped_from f block b y is_y in
@@ -33,15 +33,15 @@ module _ (c : Config) (top : ℕ → ℕ) (block : Plot) (f : Block → Block) (
   }
 
   -- where there was a piece there is one
-  there : (a : ℕ) → (b : Block) × (block a ≡ Some b) → (b : Block) × (mapped f block a ≡ Some b)
-  there a was = (f was.0, mapped_at f block a was.0 was.1)
+  there : (address : ℕ) → (piece : Block) × (block address ≡ Some piece) → (piece : Block) × (mapped f block address ≡ Some piece)
+  there address was = (f was.0, mapped_at f block address was.0 was.1)
 
-  pub filled_alike : IsFilled c top block → IsFilled c top (mapped f block)
+  pub filled_alike : IsFilled config top block → IsFilled config top (mapped f block)
   filled_alike filled = record {
-    first = λ r inside used. there (base_of c r) (filled.first r inside used);
+    first = λ r inside used. there (base_of config r) (filled.first r inside used);
     next = λ r a x inside from is below.
         let was = mapped_from f block a x is in
         let long = size a x was in
-        subst (λ w. (b : Block) × (mapped f block (a + w) ≡ Some b)) long
+        subst (λ w. (piece : Block) × (mapped f block (a + w) ≡ Some piece)) long
         (there (a + words_of was.0) (filled.next r a was.0 inside from was.1 (omega (arith, below, long))));
   }

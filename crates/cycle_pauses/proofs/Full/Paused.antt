@@ -47,109 +47,109 @@ then_of refused answer = refused
 then_of (given refs nums) answer = given refs nums
 
 -- an answer that is no address is left by packing
-pub packed_answer : (c : Config) (m : Word → ℕ) (t : ℕ) → m (Answer t) ≤ 1 → packed_in c m (Answer t) ≡ m (Answer t)
+pub packed_answer : (config : Config) (memory : Word → ℕ) (mutator : ℕ) → memory (Answer mutator) ≤ 1 → packed_in config memory (Answer mutator) ≡ memory (Answer mutator)
 unfolding packed
-packed_answer c m t none = cond-true (nat_le (m (Answer t)) 1) (m (Answer t)) (place_in c (is_row_pinned c m) (kept_in c m) (now_in m (m (Answer t)))) (le-leb (m (Answer t)) 1 none)
+packed_answer config memory mutator none = cond-true (nat_le (memory (Answer mutator)) 1) (memory (Answer mutator)) (place_in config (is_row_pinned config memory) (kept_in config memory) (now_in memory (memory (Answer mutator)))) (le-leb (memory (Answer mutator)) 1 none)
 
-module _ (c : Config) (m : Word → ℕ) (g : Graph) (asking : ℕ → Asking) (r : RepresentsByCopies c m g asking) where
+module _ (config : Config) (memory : Word → ℕ) (graph : Graph) (asking : ℕ → Asking) (r : RepresentsByCopies config memory graph asking) where
   abbrev p : Promises
-  p = promises_of c g asking
+  p = promises_of config graph asking
 
   abbrev after : Word → ℕ
-  after = packed_in c m
+  after = packed_in config memory
 
   abbrev q : Promises
-  q = served_promises c after p c.mutators
+  q = served_promises config after p config.mutators
 
   abbrev kept : ℕ → ℕ
-  kept = kept_in c m
+  kept = kept_in config memory
 
   abbrev pub plot : Plot
-  plot = served_block c after (packed_block c (is_row_pinned c m) kept (live c m g asking r)) c.mutators
+  plot = served_block config after (packed_block config (is_row_pinned config memory) kept (live config memory graph asking r)) config.mutators
 
   abbrev pub asked_then : ℕ → Asking
-  asked_then t = then_of (asking t) (full_from c m (Answer t))
+  asked_then mutator = then_of (asking mutator) (full_from config memory (Answer mutator))
 
   -- what a mutator asks for after packing is its next object
-  asked_next : (t : ℕ) → t < c.mutators → after (Wait t) ≢ 0 → asked_name after t ≡ fresh g (t + 1)
-  asked_next t inside waits =
-      ap (λ (k : ℕ). record { thread = t + 1; count = request_count_in k }) (packed_wait c m t)
-      ∙ next_asked c m g asking r t inside (λ none. waits (packed_wait c m t ∙ none))
+  asked_next : (mutator : ℕ) → mutator < config.mutators → after (Wait mutator) ≢ 0 → asked_name after mutator ≡ fresh graph (mutator + 1)
+  asked_next mutator inside waits =
+      ap (λ (k : ℕ). record { thread = mutator + 1; count = request_count_in k }) (packed_wait config memory mutator)
+      ∙ next_asked config memory graph asking r mutator inside (λ none. waits (packed_wait config memory mutator ∙ none))
 
-  kept_are : AreHeldKept (λ a. m (Heap a)) (IsLedTo (now_in m) (λ a. m (Heap a)) (IsAmong (held_words c m))) kept
-  kept_are = walk_keeps c m (live c m g asking r) (with_promised g p) (holds_by c m g asking r).objects
+  kept_are : AreHeldKept (λ a. memory (Heap a)) (IsLedTo (now_in memory) (λ a. memory (Heap a)) (IsAmong (held_words config memory))) kept
+  kept_are = walk_keeps config memory (live config memory graph asking r) (with_promised graph p) (holds_by config memory graph asking r).objects
 
-  known_at : (a : ℕ) (n : Name) → name_at (r.block a) ≡ Some n → IsKnown g n
-  known_at a n is =
-      let piece = has_current c m g asking r a n is in
-      let o = r.shared.contents.objects.each piece.0 piece.1 piece.2 n piece.3 in
+  known_at : (address : ℕ) (name : Name) → name_at (r.block address) ≡ Some name → IsKnown graph name
+  known_at address name is =
+      let piece = has_current config memory graph asking r address name is in
+      let o = r.shared.contents.objects.each piece.0 piece.1 piece.2 name piece.3 in
       (o.0, o.1)
 
   -- who did not wait keeps the answer
-  pub answer_left : (t : ℕ) → t < c.mutators → m (Wait t) ≡ 0 → full_from c m (Answer t) ≡ after (Answer t)
-  answer_left t inside none = (requests_are_answered c after).others t inside (packed_wait c m t ∙ none)
+  pub answer_left : (mutator : ℕ) → mutator < config.mutators → memory (Wait mutator) ≡ 0 → full_from config memory (Answer mutator) ≡ after (Answer mutator)
+  answer_left mutator inside none = (requests_are_answered config after).others mutator inside (packed_wait config memory mutator ∙ none)
 
   -- and who did has an address or is refused
-  pub answer_found : (t : ℕ) → t < c.mutators → m (Wait t) ≢ 0 → (1 < full_from c m (Answer t)) ⊎ (full_from c m (Answer t) ≡ 1)
-  answer_found t inside waits =
-      let answered = (requests_are_answered c after).answered t inside (λ none. waits (sym (packed_wait c m t) ∙ none)) in
+  pub answer_found : (mutator : ℕ) → mutator < config.mutators → memory (Wait mutator) ≢ 0 → (1 < full_from config memory (Answer mutator)) ⊎ (full_from config memory (Answer mutator) ≡ 1)
+  answer_found mutator inside waits =
+      let answered = (requests_are_answered config after).answered mutator inside (λ none. waits (sym (packed_wait config memory mutator) ∙ none)) in
       ⊎_elim
-      (λ (room : (s : ℕ) × IsLowestRoom c.region_words (tops_at_turn c after t) (asked_in after t) c.regions s).
-      let low : 1 * c.region_words ≤ (room.0 + 1) * c.region_words = mul-le-mul_right c.region_words (omega arith) in
-      inl (omega (arith, answered.given room.0 room.1, low, c.in_range.least_words)))
-      (λ (none : NoneHasRoom c.region_words (tops_at_turn c after t) (asked_in after t) c.regions). inr (answered.full none))
+      (λ (room : (s : ℕ) × IsLowestRoom config.region_words (tops_at_turn config after mutator) (asked_in after mutator) config.regions s).
+      let low : 1 * config.region_words ≤ (room.0 + 1) * config.region_words = mul-le-mul_right config.region_words (omega arith) in
+      inl (omega (arith, answered.given room.0 room.1, low, config.in_range.least_words)))
+      (λ (none : NoneHasRoom config.region_words (tops_at_turn config after mutator) (asked_in after mutator) config.regions). inr (answered.full none))
       answered.either
 
   -- Where nobody has a buffer, so that each region can be walked.
-  module _ (bare : HasNoBuffers c m) where
+  module _ (bare : HasNoBuffers config memory) where
     abbrev packing : Plot
-    packing = packed_block c (is_row_pinned c m) kept (live c m g asking r)
+    packing = packed_block config (is_row_pinned config memory) kept (live config memory graph asking r)
 
-    no_room : HasNoRoom (live c m g asking r)
-    no_room a seat x is room = none_have_room c m g asking r bare a seat x (live_room c m g asking r a seat x is room) room
+    no_room : HasNoRoom (live config memory graph asking r)
+    no_room a seat x is room = none_have_room config memory graph asking r bare a seat x (live_room config memory graph asking r a seat x is room) room
 
-    parsed : AreParsed c (is_row_pinned c m) (λ s. m (Top s)) (λ a. m (Heap a)) (live c m g asking r)
+    parsed : AreParsed config (is_row_pinned config memory) (λ s. memory (Top s)) (λ a. memory (Heap a)) (live config memory graph asking r)
     parsed =
-        let holds = holds_by c m g asking r in
-        record { filled = holds.filled; some = holds.pieces.some; sized = λ a b is pinned. strides m (live c m g asking r) (are_sized c m g asking r) no_room a b is }
+        let holds = holds_by config memory graph asking r in
+        record { filled = holds.filled; some = holds.pieces.some; sized = λ a b is pinned. strides memory (live config memory graph asking r) (are_sized config memory graph asking r) no_room a b is }
 
     -- the words after it stand for the graph with what is promised then
-    stands : ImageStands c (full_from c m) plot g q
-    stands = (let holds = holds_by c m g asking r in full_stands c m (live c m g asking r) g p holds.objects holds.rooted parsed holds.asking)
+    stands : ImageStands config (full_from config memory) plot graph q
+    stands = (let holds = holds_by config memory graph asking r in full_stands config memory (live config memory graph asking r) graph p holds.objects holds.rooted parsed holds.asking)
 
     -- what is promised then are next objects
-    next_promised : (t : ℕ) (n : Name) → q.ref t ≡ Some n → n ≡ fresh g t
-    next_promised t n is =
-        let at = stands.rooted.no_more_promised t n is in
-        let own : q.ref (at.0 + 1) ≡ Some n = ap q.ref (sym at.2) ∙ is in
+    next_promised : (t : ℕ) (name : Name) → q.ref t ≡ Some name → name ≡ fresh graph t
+    next_promised t name is =
+        let at = stands.rooted.no_more_promised t name is in
+        let own : q.ref (at.0 + 1) ≡ Some name = ap q.ref (sym at.2) ∙ is in
         ⊎_elim
-        (λ (same : SamePromise p q (at.0 + 1)). (promised_one c g asking (at.0 + 1) n (sym same.ref ∙ own)).4 ∙ ap (fresh g) (sym at.2))
+        (λ (same : SamePromise p q (at.0 + 1)). (promised_one config graph asking (at.0 + 1) name (sym same.ref ∙ own)).4 ∙ ap (fresh graph) (sym at.2))
         (λ (new : IsPromisedAsAsked after q at.0).
-        sym (same_Some (asked_name after at.0) n (sym new.ref ∙ own)) ∙ asked_next at.0 at.1 new.waits ∙ ap (fresh g) (sym at.2))
-        (promise_after c after p at.0 c.mutators)
+        sym (same_Some (asked_name after at.0) name (sym new.ref ∙ own)) ∙ asked_next at.0 at.1 new.waits ∙ ap (fresh graph) (sym at.2))
+        (promise_after config after p at.0 config.mutators)
 
-    can : CanPack c (λ s. m (Top s)) (λ a. m (Heap a)) (live c m g asking r) (with_promised g p).object (now_in m) kept
+    can : CanPack config (λ s. memory (Top s)) (λ a. memory (Heap a)) (live config memory graph asking r) (with_promised graph p).object (now_in memory) kept
     can =
-        let holds = holds_by c m g asking r in
-        can_pack c (λ s. m (Top s)) (λ a. m (Heap a)) (live c m g asking r) (now_in m) (IsAmong (held_words c m)) (with_promised g p) holds.objects kept kept_are
+        let holds = holds_by config memory graph asking r in
+        can_pack config (λ s. memory (Top s)) (λ a. memory (Heap a)) (live config memory graph asking r) (now_in memory) (IsAmong (held_words config memory)) (with_promised graph p) holds.objects kept kept_are
 
     -- an object that has a piece then had one before
-    had_piece : (a refs nums : ℕ) (n : Name) (o : Object) → plot a ≡ Some (thing n refs nums) → g.object n ≡ Some o → (b : ℕ) × (r.block b ≡ Some (thing n refs nums))
-    had_piece a refs nums n o there object = ⊎_elim
-        (λ (old : packing a ≡ Some (thing n refs nums)). ⊎_elim
-        (λ (from : IsFrom c (λ s. m (Top s)) (λ x. m (Heap x)) (live c m g asking r) (with_promised g p).object (now_in m) kept can (is_row_pinned c m) a (thing n refs nums)). ⊎_elim
-        (λ (is : r.block from.0 ≡ Some (thing n refs nums)). (from.0, is))
-        (λ (new : (seat : ℕ) × (words : ℕ) × (r.block from.0 ≡ Some (promised seat words)) × (n ≡ fresh g (seat + 1))).
-        absurd (not_next c m g asking r n o new.0 object new.3))
-        (let held = kept_are.only from.0 from.1 in current_kind c m g asking r from.0 refs nums n (held_current c m g asking r from.0 held) from.4))
-        (λ (fills : IsLeft c (λ s. m (Top s)) (λ x. m (Heap x)) (live c m g asking r) (with_promised g p).object (now_in m) kept can (is_row_pinned c m) a (thing n refs nums)).
+    had_piece : (address refs nums : ℕ) (name : Name) (o : Object) → plot address ≡ Some (thing name refs nums) → graph.object name ≡ Some o → (other_address : ℕ) × (r.block other_address ≡ Some (thing name refs nums))
+    had_piece address refs nums name o there object = ⊎_elim
+        (λ (old : packing address ≡ Some (thing name refs nums)). ⊎_elim
+        (λ (from : IsFrom config (λ s. memory (Top s)) (λ x. memory (Heap x)) (live config memory graph asking r) (with_promised graph p).object (now_in memory) kept can (is_row_pinned config memory) address (thing name refs nums)). ⊎_elim
+        (λ (is : r.block from.0 ≡ Some (thing name refs nums)). (from.0, is))
+        (λ (new : (seat : ℕ) × (words : ℕ) × (r.block from.0 ≡ Some (promised seat words)) × (name ≡ fresh graph (seat + 1))).
+        absurd (not_next config memory graph asking r name o new.0 object new.3))
+        (let held = kept_are.only from.0 from.1 in current_kind config memory graph asking r from.0 refs nums name (held_current config memory graph asking r from.0 held) from.4))
+        (λ (fills : IsLeft config (λ s. memory (Top s)) (λ x. memory (Heap x)) (live config memory graph asking r) (with_promised graph p).object (now_in memory) kept can (is_row_pinned config memory) address (thing name refs nums)).
         (let differ = fills.4 in cc))
-        (block_from c (λ s. m (Top s)) (λ x. m (Heap x)) (live c m g asking r) (with_promised g p).object (now_in m) kept can (is_row_pinned c m) a (thing n refs nums) old))
-        (λ (made : (t : ℕ) × (t < c.mutators) × (after (Wait t) ≢ 0) × (Some n ≡ Some (asked_name after t))).
-        absurd (not_next c m g asking r n o made.0 object (same_Some n (asked_name after made.0) made.3 ∙ asked_next made.0 made.1 made.2)))
-        (piece_after c after packing c.mutators a (thing n refs nums) there)
+        (block_from config (λ s. memory (Top s)) (λ x. memory (Heap x)) (live config memory graph asking r) (with_promised graph p).object (now_in memory) kept can (is_row_pinned config memory) address (thing name refs nums) old))
+        (λ (made : (t : ℕ) × (t < config.mutators) × (after (Wait t) ≢ 0) × (Some name ≡ Some (asked_name after t))).
+        absurd (not_next config memory graph asking r name o made.0 object (same_Some name (asked_name after made.0) made.3 ∙ asked_next made.0 made.1 made.2)))
+        (piece_after config after packing config.mutators address (thing name refs nums) there)
 
-    pub is_after : IsAfter c (full_from c m) plot g q
+    pub is_after : IsAfter config (full_from config memory) plot graph q
     is_after = record {
       stands = stands;
       next = next_promised;
@@ -158,16 +158,16 @@ module _ (c : Config) (m : Word → ℕ) (g : Graph) (asking : ℕ → Asking) (
           let was = had_piece a refs nums n o there object in
           let x = r.shared.contents.objects.each was.0 refs nums n was.1 in
           let same : o ≡ x.0 = same_Some o x.0 (sym object ∙ x.1) in
-          known_at (m (Heap (was.0 + 3 + i))) f (x.2.references i (Some f) (ap (λ (k : Object). slice_get k.refs i) (sym same) ∙ field));
+          known_at (memory (Heap (was.0 + 3 + i))) f (x.2.references i (Some f) (ap (λ (object : Object). slice_get object.refs i) (sym same) ∙ field));
       roots = λ t i n is.
-          let at = reached_at c m g asking r n (reach.from_root t i n is) in
+          let at = reached_at config memory graph asking r n (reach.from_root t i n is) in
           let o = r.shared.contents.objects.each at.0 at.1 at.2 n at.3 in
           (o.0, o.1);
       pins = λ t i held is.
-          let at = pinned_thing c m g asking r t i held is in
+          let at = pinned_thing config memory graph asking r t i held is in
           let o = r.shared.contents.objects.each held.place at.refs at.nums held.name at.here in
           (o.0, o.1);
     }
 
     abbrev pub plot_then : Plot
-    plot_then = taken c (full_from c m) plot g q is_after
+    plot_then = taken config (full_from config memory) plot graph q is_after

@@ -22,52 +22,52 @@ use Rattle.cycle_pauses.proofs.Full.Crowds.{is_crowded}
 use Rattle.cycle_pauses.proofs.Full.Images.{image_length, image_is_full, table_is_full}
 
 -- What a pause owes says nothing of the words before it but that they stand for the graph.
-pub paused_from : (c : Config) (before other after : Word → ℕ) (g : Graph) (asking : ℕ → Asking) → IsPaused c before after g asking → IsPaused c other after g asking
-paused_from c before other after g asking p = record { asked_then = p.asked_then; stands = p.stands; answers = p.answers; crowded = p.crowded }
+pub paused_from : (config : Config) (before other after : Word → ℕ) (graph : Graph) (asking : ℕ → Asking) → IsPaused config before after graph asking → IsPaused config other after graph asking
+paused_from config before other after graph asking p = record { asked_then = p.asked_then; stands = p.stands; answers = p.answers; crowded = p.crowded }
 
 -- once buffers were let go
-pub let_go_paused : (c : Config) (m : Word → ℕ) (g : Graph) (asking : ℕ → Asking) → RepresentsByCopies c m g asking → HasNoBuffers c m → IsPaused c m (full_from c m) g asking
-let_go_paused c m g asking r bare = record {
-  asked_then = asked_then c m g asking r;
-  stands = represents_again c m g asking r bare;
+pub let_go_paused : (config : Config) (memory : Word → ℕ) (graph : Graph) (asking : ℕ → Asking) → RepresentsByCopies config memory graph asking → HasNoBuffers config memory → IsPaused config memory (full_from config memory) graph asking
+let_go_paused config memory graph asking r bare = record {
+  asked_then = asked_then config memory graph asking r;
+  stands = represents_again config memory graph asking r bare;
   answers = λ t inside. is_answer (asking t) _;
-  crowded = λ t refs nums inside is refused. is_crowded c m g asking r t refs nums inside is refused;
+  crowded = λ t refs nums inside is refused. is_crowded config memory graph asking r t refs nums inside is refused;
 }
 
 -- packing reads no buffer
-packed_trimmed : (c : Config) (m : Word → ℕ) (word : Word) → packed_in c (trim m) word ≡ packed_in c m word
+packed_trimmed : (config : Config) (memory : Word → ℕ) (word : Word) → packed_in config (trim memory) word ≡ packed_in config memory word
 unfolding packed moved_heap
-packed_trimmed c m Ask = refl
-packed_trimmed c m Phase = refl
-packed_trimmed c m Cset = refl
-packed_trimmed c m Claim = refl
-packed_trimmed c m Evac = refl
-packed_trimmed c m Free = refl
-packed_trimmed c m (Top q) = refl
-packed_trimmed c m (Tams q) = refl
-packed_trimmed c m (Limit q) = refl
-packed_trimmed c m (Heap x) = refl
-packed_trimmed c m (Root t i) = refl
-packed_trimmed c m (Answer t) = refl
-packed_trimmed c m (Pin t i) = refl
-packed_trimmed c m Pause = refl
-packed_trimmed c m Left = refl
-packed_trimmed c m End = refl
-packed_trimmed c m (State seat) = refl
-packed_trimmed c m (Current seat) = refl
-packed_trimmed c m (Count t) = refl
-packed_trimmed c m (Buffer t i) = refl
-packed_trimmed c m (Wait t) = refl
-packed_trimmed c m (Grey n) = refl
-packed_trimmed c m (Black n) = refl
-packed_trimmed c m Share = refl
+packed_trimmed config memory Ask = refl
+packed_trimmed config memory Phase = refl
+packed_trimmed config memory Cset = refl
+packed_trimmed config memory Claim = refl
+packed_trimmed config memory Evac = refl
+packed_trimmed config memory Free = refl
+packed_trimmed config memory (Top q) = refl
+packed_trimmed config memory (Tams q) = refl
+packed_trimmed config memory (Limit q) = refl
+packed_trimmed config memory (Heap x) = refl
+packed_trimmed config memory (Root t i) = refl
+packed_trimmed config memory (Answer t) = refl
+packed_trimmed config memory (Pin t i) = refl
+packed_trimmed config memory Pause = refl
+packed_trimmed config memory Left = refl
+packed_trimmed config memory End = refl
+packed_trimmed config memory (State seat) = refl
+packed_trimmed config memory (Current seat) = refl
+packed_trimmed config memory (Count t) = refl
+packed_trimmed config memory (Buffer t i) = refl
+packed_trimmed config memory (Wait t) = refl
+packed_trimmed config memory (Grey n) = refl
+packed_trimmed config memory (Black n) = refl
+packed_trimmed config memory Share = refl
 
 -- So a full collection is a pause, whatever buffers without free words there are.
-pub paused : (c : Config) (m : Word → ℕ) (g : Graph) (asking : ℕ → Asking) → RepresentsByCopies c m g asking → IsPaused c m (full c m) g asking
-paused c m g asking r =
-    subst (λ w. IsPaused c m w g asking) (ap (λ (v : Word → ℕ). refused (served c v c.mutators)) (fun_ext (packed_trimmed c (let_go c m))))
-    (paused_from c (trim (let_go c m)) m (full_from c (trim (let_go c m))) g asking (let_go_paused c (trim (let_go c m)) g asking (trimmed_copies c m g asking r)
-    (λ seat below. trimmed_none (currents_of (let_go c m)) seat (letting_go_leaves c m seat below))))
+pub paused : (config : Config) (memory : Word → ℕ) (graph : Graph) (asking : ℕ → Asking) → RepresentsByCopies config memory graph asking → IsPaused config memory (full config memory) graph asking
+paused config memory graph asking r =
+    subst (λ w. IsPaused config memory w graph asking) (ap (λ (memory : Word → ℕ). refused (served config memory config.mutators)) (fun_ext (packed_trimmed config (let_go config memory))))
+    (paused_from config (trim (let_go config memory)) memory (full_from config (trim (let_go config memory))) graph asking (let_go_paused config (trim (let_go config memory)) graph asking (trimmed_copies config memory graph asking r)
+    (λ seat below. trimmed_none (currents_of (let_go config memory)) seat (letting_go_leaves config memory seat below))))
 
 pub from_copies : FullFromCopies
 from_copies = paused

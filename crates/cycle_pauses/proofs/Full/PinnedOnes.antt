@@ -32,7 +32,7 @@ unfolding IsDistinct
 none_distinct X eq = tt
 
 module _ (X : Type 0) (eq : X → X → Bool) (laws : IsEquivalence eq) (exact : (x y : X) → eq x y ≡ true → x ≡ y) (at : ℕ → Option X) where
-  one_more : (n : ℕ) (xs : List X) (o : Option X) → at n ≡ o → IsListed X eq at n xs → (ys : List X) × IsListed X eq at (suc n) ys
+  one_more : (n : ℕ) (xs : List X) (found : Option X) → at n ≡ found → IsListed X eq at n xs → (ys : List X) × IsListed X eq at (suc n) ys
   one_more n xs None none s = (
     xs,
     record {
@@ -77,17 +77,17 @@ module _ (X : Type 0) (eq : X → X → Bool) (laws : IsEquivalence eq) (exact :
   listed (suc n) = let rest = listed n in one_more n rest.0 (at n) refl rest.1
 
 -- what is made of what a place holds
-some_from : (X : Type 0) (f : Pinned → X) (o : Option Pinned) (x : X) → option_map f o ≡ Some x → (held : Pinned) × (o ≡ Some held) × (f held ≡ x)
+some_from : (X : Type 0) (f : Pinned → X) (found : Option Pinned) (x : X) → option_map f found ≡ Some x → (held : Pinned) × (found ≡ Some held) × (f held ≡ x)
 some_from X f None x is = absurd (none-some x is)
 some_from X f (Some held) x is = (held, refl, same_Some (f held) x is)
 
 -- the slots by their numbers: 4 a mutator
 abbrev slot_at : Graph → ℕ → Option Pinned
-slot_at g k = g.pin (k / 4 + 1) (k % 4)
+slot_at graph k = graph.pin (k / 4 + 1) (k % 4)
 
-module _ (c : Config) (g : Graph) (no_more : HasNoMorePins c.mutators g) where
-  number_of : (t i : ℕ) (held : Pinned) → g.pin t i ≡ Some held → IsThreads c t i 4 → (k : ℕ) × (k < 4 * c.mutators) × (slot_at g k ≡ Some held)
-  number_of t i held is at =
+module _ (config : Config) (graph : Graph) (no_more : HasNoMorePins config.mutators graph) where
+  number_of : (thread i : ℕ) (held : Pinned) → graph.pin thread i ≡ Some held → IsThreads config thread i 4 → (k : ℕ) × (k < 4 * config.mutators) × (slot_at graph k ≡ Some held)
+  number_of thread i held is at =
       let u : ℕ = at.mutator in
       let few = at.few in
       let inside = at.inside in
@@ -95,21 +95,21 @@ module _ (c : Config) (g : Graph) (no_more : HasNoMorePins c.mutators g) where
       let column : (4 * at.mutator + i) % 4 ≡ i = omega (arith, few) in (
         4 * at.mutator + i,
         omega (arith, few, inside),
-        ap (λ j. g.pin (j + 1) ((4 * at.mutator + i) % 4)) row ∙ ap (g.pin (at.mutator + 1)) column ∙ ap (λ j. g.pin j i) (sym at.thread) ∙ is,
+        ap (λ j. graph.pin (j + 1) ((4 * at.mutator + i) % 4)) row ∙ ap (graph.pin (at.mutator + 1)) column ∙ ap (λ j. graph.pin j i) (sym at.thread) ∙ is,
       )
 
-  slot_number : (t i : ℕ) (held : Pinned) → g.pin t i ≡ Some held → (k : ℕ) × (k < 4 * c.mutators) × (slot_at g k ≡ Some held)
-  slot_number t i held is = number_of t i held is (⊎_elim
-      (λ (yes : is_slot_of c.mutators t i ≡ true). threads_one c t i 4 yes)
-      (λ (no : is_slot_of c.mutators t i ≡ false). absurd (none-some held (sym (no_more t i no) ∙ is)))
-      (cases_Bool (is_slot_of c.mutators t i)))
+  slot_number : (thread i : ℕ) (held : Pinned) → graph.pin thread i ≡ Some held → (k : ℕ) × (k < 4 * config.mutators) × (slot_at graph k ≡ Some held)
+  slot_number thread i held is = number_of thread i held is (⊎_elim
+      (λ (yes : is_slot_of config.mutators thread i ≡ true). threads_one config thread i 4 yes)
+      (λ (no : is_slot_of config.mutators thread i ≡ false). absurd (none-some held (sym (no_more thread i no) ∙ is)))
+      (cases_Bool (is_slot_of config.mutators thread i)))
 
   -- the names of what is pinned
-  pub held_ones : (held : ℕ) × Held g held
+  pub held_ones : (held : ℕ) × Held graph held
   held_ones =
       let of : Pinned → Name = λ p. p.name in
-      let found = listed Name same_name same_name-laws same_name-true (λ k. option_map of (slot_at g k)) (4 * c.mutators) in (
-        sum_by (λ n. size (named g (Some n))) found.0,
+      let found = listed Name same_name same_name-laws same_name-true (λ k. option_map of (slot_at graph k)) (4 * config.mutators) in (
+        sum_by (λ n. size (named graph (Some n))) found.0,
         (
           found.0,
           record {
@@ -117,7 +117,7 @@ module _ (c : Config) (g : Graph) (no_more : HasNoMorePins c.mutators g) where
             all = λ t i held is. let at = slot_number t i held is in found.1.all at.0 held.name at.1 (ap (option_map of) at.2);
             only = λ n has.
                 let at = found.1.only n has in
-                let was = some_from Name of (slot_at g at.0) n at.1 in
+                let was = some_from Name of (slot_at graph at.0) n at.1 in
                 (at.0 / 4 + 1, at.0 % 4, was.0, was.1, was.2);
           },
           refl,
@@ -125,19 +125,19 @@ module _ (c : Config) (g : Graph) (no_more : HasNoMorePins c.mutators g) where
       )
 
   -- the regions where it stays
-  pub pinned_ones : (count : ℕ) × PinnedRegions c.region_words g count
+  pub pinned_ones : (count : ℕ) × PinnedRegions config.region_words graph count
   pinned_ones =
-      let of : Pinned → ℕ = λ p. p.place / c.region_words in
-      let found = listed ℕ nat_eq nat_eq_equiv exact_unsigned_eq (λ k. option_map of (slot_at g k)) (4 * c.mutators) in (
+      let of : Pinned → ℕ = λ p. p.place / config.region_words in
+      let found = listed ℕ nat_eq nat_eq_equiv exact_unsigned_eq (λ k. option_map of (slot_at graph k)) (4 * config.mutators) in (
         length found.0,
         (
           found.0,
           record {
             differ = found.1.differ;
-            all = λ t i held is. let at = slot_number t i held is in found.1.all at.0 (held.place / c.region_words) at.1 (ap (option_map of) at.2);
+            all = λ t i held is. let at = slot_number t i held is in found.1.all at.0 (held.place / config.region_words) at.1 (ap (option_map of) at.2);
             only = λ r has.
                 let at = found.1.only r has in
-                let was = some_from ℕ of (slot_at g at.0) r at.1 in
+                let was = some_from ℕ of (slot_at graph at.0) r at.1 in
                 (at.0 / 4 + 1, at.0 % 4, was.0, was.1, was.2);
           },
           refl,

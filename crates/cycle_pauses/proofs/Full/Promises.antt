@@ -11,8 +11,8 @@ use Rattle.image_graph.specs.Promised.{Promises}
 
 -- the reference and the sizes that a thread is promised with an asking
 abbrev pub promised_ref : Graph → (thread : ℕ) → Asking → Reference
-promised_ref g thread (given refs nums) = Some (fresh g thread)
-promised_ref g thread _ = None
+promised_ref graph thread (given refs nums) = Some (fresh graph thread)
+promised_ref graph thread _ = None
 
 abbrev pub promised_refs : Asking → ℕ
 promised_refs (given refs nums) = refs
@@ -24,25 +24,25 @@ promised_nums _ = 0
 
 -- whether a number is a thread's
 abbrev is_thread : Config → ℕ → Bool
-is_thread c t = nat_le 1 t && nat_le t c.mutators
+is_thread config t = nat_le 1 t && nat_le t config.mutators
 
 -- what all threads are promised; the asking of thread t is that of mutator t - 1
 abbrev pub promises_of : Config → Graph → (ℕ → Asking) → Promises
-promises_of c g asking = record {
-  ref = λ t. if is_thread c t then promised_ref g t (asking (t - 1)) else None;
+promises_of config graph asking = record {
+  ref = λ t. if is_thread config t then promised_ref graph t (asking (t - 1)) else None;
   refs = λ t. promised_refs (asking (t - 1));
   nums = λ t. promised_nums (asking (t - 1));
 }
 
-module _ (c : Config) (g : Graph) (asking : ℕ → Asking) where
+module _ (config : Config) (graph : Graph) (asking : ℕ → Asking) where
   abbrev p : Promises
-  p = promises_of c g asking
+  p = promises_of config graph asking
 
-  pub ref_of : (t : ℕ) → t < c.mutators → p.ref (t + 1) ≡ promised_ref g (t + 1) (asking t)
-  ref_of t inside =
-      cond-true (is_thread c (t + 1)) (promised_ref g (t + 1) (asking (t + 1 - 1))) None
-      (and_from (nat_le 1 (t + 1)) (nat_le (t + 1) c.mutators) (le-leb 1 (t + 1) (omega arith)) (le-leb (t + 1) c.mutators (omega (arith, inside))))
-      ∙ ap (λ k. promised_ref g (t + 1) (asking k)) (back t)
+  pub ref_of : (mutator : ℕ) → mutator < config.mutators → p.ref (mutator + 1) ≡ promised_ref graph (mutator + 1) (asking mutator)
+  ref_of mutator inside =
+      cond-true (is_thread config (mutator + 1)) (promised_ref graph (mutator + 1) (asking (mutator + 1 - 1))) None
+      (and_from (nat_le 1 (mutator + 1)) (nat_le (mutator + 1) config.mutators) (le-leb 1 (mutator + 1) (omega arith)) (le-leb (mutator + 1) config.mutators (omega (arith, inside))))
+      ∙ ap (λ k. promised_ref graph (mutator + 1) (asking k)) (back mutator)
     where
       back : (k : ℕ) → k + 1 - 1 ≡ k
       back k = omega arith
@@ -54,21 +54,21 @@ module _ (c : Config) (g : Graph) (asking : ℕ → Asking) where
   nums_of t = let back : t + 1 - 1 ≡ t = omega arith in ap (λ k. promised_nums (asking k)) back
 
   -- an asking that promises something was given it
-  pub some_given : (t : ℕ) (a : Asking) (n : Name) → promised_ref g t a ≡ Some n → (a ≡ given (promised_refs a) (promised_nums a)) × (fresh g t ≡ n)
-  some_given t (given refs nums) n is = (refl, same_Some (fresh g t) n is)
-  some_given t nothing n is = absurd (none-some n is)
-  some_given t (asks refs nums) n is = absurd (none-some n is)
-  some_given t refused n is = absurd (none-some n is)
+  pub some_given : (t : ℕ) (asking : Asking) (name : Name) → promised_ref graph t asking ≡ Some name → (asking ≡ given (promised_refs asking) (promised_nums asking)) × (fresh graph t ≡ name)
+  some_given t (given refs nums) name is = (refl, same_Some (fresh graph t) name is)
+  some_given t nothing name is = absurd (none-some name is)
+  some_given t (asks refs nums) name is = absurd (none-some name is)
+  some_given t refused name is = absurd (none-some name is)
 
   -- what is promised is promised to a mutator, and is its next object
-  pub promised_one : (t : ℕ) (n : Name) → p.ref t ≡ Some n
-      → (u : ℕ) × (u < c.mutators) × (t ≡ u + 1) × (asking u ≡ given (promised_refs (asking u)) (promised_nums (asking u))) × (n ≡ fresh g t)
-  promised_one t n is = ⊎_elim
-      (λ (yes : is_thread c t ≡ true).
-      let parts = and_parts (nat_le 1 t) (nat_le t c.mutators) yes in
+  pub promised_one : (t : ℕ) (name : Name) → p.ref t ≡ Some name
+      → (mutator : ℕ) × (mutator < config.mutators) × (t ≡ mutator + 1) × (asking mutator ≡ given (promised_refs (asking mutator)) (promised_nums (asking mutator))) × (name ≡ fresh graph t)
+  promised_one t name is = ⊎_elim
+      (λ (yes : is_thread config t ≡ true).
+      let parts = and_parts (nat_le 1 t) (nat_le t config.mutators) yes in
       let low = leb-true 1 t parts.0 in
-      let high = leb-true t c.mutators parts.1 in
-      let found = some_given t (asking (t - 1)) n (sym (cond-true (is_thread c t) (promised_ref g t (asking (t - 1))) None yes) ∙ is) in
+      let high = leb-true t config.mutators parts.1 in
+      let found = some_given t (asking (t - 1)) name (sym (cond-true (is_thread config t) (promised_ref graph t (asking (t - 1))) None yes) ∙ is) in
       (t - 1, omega (arith, low, high), omega (arith, low), found.0, sym found.1))
-      (λ (no : is_thread c t ≡ false). absurd (none-some n (sym (cond-false (is_thread c t) (promised_ref g t (asking (t - 1))) None no) ∙ is)))
-      (cases_Bool (is_thread c t))
+      (λ (no : is_thread config t ≡ false). absurd (none-some name (sym (cond-false (is_thread config t) (promised_ref graph t (asking (t - 1))) None no) ∙ is)))
+      (cases_Bool (is_thread config t))

@@ -38,102 +38,102 @@ abbrev names_at : (ℕ → Option Name) → List ℕ → List Name
 names_at at [] = []
 names_at at (a ∷ others) = with_one (at a) (names_at at others)
 
-one_first : (o : Option Name) (names : List Name) (n : Name) → o ≡ Some n → Contains (with_one o names) n
-one_first None names n is = absurd (none-some n is)
-one_first (Some m) names n is = (0, omega arith, same_Some m n is)
+one_first : (found : Option Name) (names : List Name) (name : Name) → found ≡ Some name → Contains (with_one found names) name
+one_first None names name is = absurd (none-some name is)
+one_first (Some m) names name is = (0, omega arith, same_Some m name is)
 
-one_later : (o : Option Name) (names : List Name) (n : Name) → Contains names n → Contains (with_one o names) n
-one_later None names n there = there
-one_later (Some m) names n there = Contains-append_right (m ∷ []) names n there
+one_later : (found : Option Name) (names : List Name) (name : Name) → Contains names name → Contains (with_one found names) name
+one_later None names name there = there
+one_later (Some m) names name there = Contains-append_right (m ∷ []) names name there
 
-one_cases : (o : Option Name) (names : List Name) (n : Name) → Contains (with_one o names) n → (o ≡ Some n) ⊎ Contains names n
-one_cases None names n there = inr there
-one_cases (Some m) names n there = ⊎_elim (λ (is : m ≡ n). inl (ap Some is)) (λ (rest : Contains names n). inr rest) (Contains-cons_cases m names n there)
+one_cases : (found : Option Name) (names : List Name) (name : Name) → Contains (with_one found names) name → (found ≡ Some name) ⊎ Contains names name
+one_cases None names name there = inr there
+one_cases (Some m) names name there = ⊎_elim (λ (is : m ≡ name). inl (ap Some is)) (λ (rest : Contains names name). inr rest) (Contains-cons_cases m names name there)
 
-name_there : (at : ℕ → Option Name) (xs : List ℕ) (a : ℕ) (n : Name) → has xs a ≡ true → at a ≡ Some n → Contains (names_at at xs) n
-name_there at [] a n is named = absurd (false≢true is)
-name_there at (x ∷ xs) a n is named = ⊎_elim
-    (λ (here : nat_eq a x ≡ true). one_first (at x) (names_at at xs) n (ap at (sym (eqb-true a x here)) ∙ named))
-    (λ (rest : has xs a ≡ true). one_later (at x) (names_at at xs) n (name_there at xs a n rest named))
+name_there : (at : ℕ → Option Name) (xs : List ℕ) (a : ℕ) (name : Name) → has xs a ≡ true → at a ≡ Some name → Contains (names_at at xs) name
+name_there at [] a name is named = absurd (false≢true is)
+name_there at (x ∷ xs) a name is named = ⊎_elim
+    (λ (here : nat_eq a x ≡ true). one_first (at x) (names_at at xs) name (ap at (sym (eqb-true a x here)) ∙ named))
+    (λ (rest : has xs a ≡ true). one_later (at x) (names_at at xs) name (name_there at xs a name rest named))
     (or_cases (nat_eq a x) (has xs a) is)
 
-there_named : (at : ℕ → Option Name) (xs : List ℕ) (n : Name) → Contains (names_at at xs) n → (a : ℕ) × (has xs a ≡ true) × (at a ≡ Some n)
-there_named at [] n there = absurd (Contains-nil n there)
-there_named at (x ∷ xs) n there = ⊎_elim
-    (λ (here : at x ≡ Some n). (x, or_left (nat_eq x x) (has xs x) (eq-eqb x x refl), here))
-    (λ (rest : Contains (names_at at xs) n). let found = there_named at xs n rest in (found.0, or_right (nat_eq found.0 x) (has xs found.0) found.1, found.2))
-    (one_cases (at x) (names_at at xs) n there)
+there_named : (at : ℕ → Option Name) (xs : List ℕ) (name : Name) → Contains (names_at at xs) name → (a : ℕ) × (has xs a ≡ true) × (at a ≡ Some name)
+there_named at [] name there = absurd (Contains-nil name there)
+there_named at (x ∷ xs) name there = ⊎_elim
+    (λ (here : at x ≡ Some name). (x, or_left (nat_eq x x) (has xs x) (eq-eqb x x refl), here))
+    (λ (rest : Contains (names_at at xs) name). let found = there_named at xs name rest in (found.0, or_right (nat_eq found.0 x) (has xs found.0) found.1, found.2))
+    (one_cases (at x) (names_at at xs) name there)
 
-module _ (c : Config) (m : Word → ℕ) (g : Graph) (asking : ℕ → Asking) (r : RepresentsByCopies c m g asking) where
+module _ (config : Config) (memory : Word → ℕ) (graph : Graph) (asking : ℕ → Asking) (r : RepresentsByCopies config memory graph asking) where
   abbrev p : Promises
-  p = promises_of c g asking
+  p = promises_of config graph asking
 
   abbrev more : Graph
-  more = with_promised g p
+  more = with_promised graph p
 
   abbrev block : Plot
-  block = live c m g asking r
+  block = live config memory graph asking r
 
   abbrev heap : ℕ → ℕ
-  heap a = m (Heap a)
+  heap address = memory (Heap address)
 
   abbrev IsRoot : ℕ → Type 0
-  IsRoot = IsAmong (held_words c m)
+  IsRoot = IsAmong (held_words config memory)
 
-  holds : HoldsGraph c (λ s. m (Top s)) heap block (now_in m) IsRoot more
-  holds = live_holds c m g asking r
+  holds : HoldsGraph config (λ s. memory (Top s)) heap block (now_in memory) IsRoot more
+  holds = live_holds config memory graph asking r
 
   -- the larger graph reaches what the graph does, for its roots and what its slots hold are roots there
-  reach_more : (n : Name) → IsReachable g n → IsReachable more n
-  reach_more n (reach.from_root t i _ is) =
-      let at = (live_rooted c m g asking r).no_more_roots t i n is in
-      reach.from_root t i n (plain_root g p t i at.3 ∙ is)
+  reach_more : (name : Name) → IsReachable graph name → IsReachable more name
+  reach_more name (reach.from_root t i _ is) =
+      let at = (live_rooted config memory graph asking r).no_more_roots t i name is in
+      reach.from_root t i name (plain_root graph p t i at.3 ∙ is)
   reach_more _ (reach.from_pin t slot held is) =
-      let at = slot_of c m g asking r t slot held is in
-      reach.from_root t (17 + slot) held.name (pin_root g p t slot at.few ∙ ap name_in is)
-  reach_more n (reach.from_field k _ field reached is) =
-      reach.from_field k n field (reach_more k reached)
-      (ap (λ (o : Object). slice_get o.refs field) (old_object c.mutators g p (are_fresh c m g asking r) k reached) ∙ is)
+      let at = slot_of config memory graph asking r t slot held is in
+      reach.from_root t (17 + slot) held.name (pin_root graph p t slot at.few ∙ ap name_in is)
+  reach_more name (reach.from_field k _ field reached is) =
+      reach.from_field k name field (reach_more k reached)
+      (ap (λ (object : Object). slice_get object.refs field) (old_object config.mutators graph p (are_fresh config memory graph asking r) k reached) ∙ is)
 
   -- what was found is held, and the other way round
-  pub found_held : (a : ℕ) → has (held_in c m) a ≡ true → IsLedTo (now_in m) heap IsRoot a
-  found_held = found_is_held c m block more holds
+  pub found_held : (a : ℕ) → has (held_in config memory) a ≡ true → IsLedTo (now_in memory) heap IsRoot a
+  found_held = found_is_held config memory block more holds
 
-  pub held_found : (a : ℕ) → IsLedTo (now_in m) heap IsRoot a → has (held_in c m) a ≡ true
-  held_found = held_is_found c m block more holds
+  pub held_found : (a : ℕ) → IsLedTo (now_in memory) heap IsRoot a → has (held_in config memory) a ≡ true
+  held_found = held_is_found config memory block more holds
 
   abbrev found : List Name
-  found = names_at (λ a. name_at (r.block a)) (held_in c m)
+  found = names_at (λ a. name_at (r.block a)) (held_in config memory)
 
   -- each name that the graph reaches is found
-  all_found : (n : Name) → IsReachable g n → Contains found n
-  all_found n reached =
-      let at = reached_is_held c (λ s. m (Top s)) heap block (now_in m) IsRoot more holds n (reach_more n reached) in
-      let old : r.block at.0 ≡ Some (thing n at.1 at.2) = ⊎_elim
-      (λ (is : r.block at.0 ≡ Some (thing n at.1 at.2)). is)
-      (λ (new : (seat : ℕ) × (words : ℕ) × (r.block at.0 ≡ Some (promised seat words)) × (n ≡ fresh g (seat + 1))).
-      let piece = reached_at c m g asking r n reached in
-      absurd (names_differ c m g asking r piece.0 piece.1 piece.2 new.0 n piece.3 new.3))
-      (current_kind c m g asking r at.0 at.1 at.2 n (held_current c m g asking r at.0 at.3) at.4)
+  all_found : (name : Name) → IsReachable graph name → Contains found name
+  all_found name reached =
+      let at = reached_is_held config (λ s. memory (Top s)) heap block (now_in memory) IsRoot more holds name (reach_more name reached) in
+      let old : r.block at.0 ≡ Some (thing name at.1 at.2) = ⊎_elim
+      (λ (is : r.block at.0 ≡ Some (thing name at.1 at.2)). is)
+      (λ (new : (seat : ℕ) × (words : ℕ) × (r.block at.0 ≡ Some (promised seat words)) × (name ≡ fresh graph (seat + 1))).
+      let piece = reached_at config memory graph asking r name reached in
+      absurd (names_differ config memory graph asking r piece.0 piece.1 piece.2 new.0 name piece.3 new.3))
+      (current_kind config memory graph asking r at.0 at.1 at.2 name (held_current config memory graph asking r at.0 at.3) at.4)
       in
-      name_there (λ a. name_at (r.block a)) (held_in c m) at.0 n (held_found at.0 at.3) (ap name_at old)
+      name_there (λ a. name_at (r.block a)) (held_in config memory) at.0 name (held_found at.0 at.3) (ap name_at old)
 
   -- and no other
-  only_found : (n : Name) → Contains found n → IsReachable g n
-  only_found n there =
-      let at = there_named (λ a. name_at (r.block a)) (held_in c m) n there in
-      let held = held_is_reached c (λ s. m (Top s)) heap block (now_in m) IsRoot more holds at.0 (found_held at.0 at.1) in
-      let piece = has_current c m g asking r at.0 n at.2 in
-      let same : held.0 ≡ n = same_Some held.0 n (ap name_at (sym held.3) ∙ names_stay c m g asking r at.0 n at.2) in
+  only_found : (name : Name) → Contains found name → IsReachable graph name
+  only_found name there =
+      let at = there_named (λ a. name_at (r.block a)) (held_in config memory) name there in
+      let held = held_is_reached config (λ s. memory (Top s)) heap block (now_in memory) IsRoot more holds at.0 (found_held at.0 at.1) in
+      let piece = has_current config memory graph asking r at.0 name at.2 in
+      let same : held.0 ≡ name = same_Some held.0 name (ap name_at (sym held.3) ∙ names_stay config memory graph asking r at.0 name at.2) in
       ⊎_elim
-      (λ (old : IsReachable g n). old)
-      (λ (new : (t : ℕ) × (p.ref t ≡ Some n)).
-      let one = promised_one c g asking new.0 n new.1 in
-      absurd (names_differ c m g asking r piece.0 piece.1 piece.2 one.0 n piece.3 (one.4 ∙ ap (fresh g) one.2)))
-      (reaches_promised c.mutators g p (are_fresh c m g asking r) n (subst (IsReachable more) same held.4))
+      (λ (old : IsReachable graph name). old)
+      (λ (new : (t : ℕ) × (p.ref t ≡ Some name)).
+      let one = promised_one config graph asking new.0 name new.1 in
+      absurd (names_differ config memory graph asking r piece.0 piece.1 piece.2 one.0 name piece.3 (one.4 ∙ ap (fresh graph) one.2)))
+      (reaches_promised config.mutators graph p (are_fresh config memory graph asking r) name (subst (IsReachable more) same held.4))
 
   -- so there is a list of them in their order
-  pub reach_list : (names : List Name) × IsReach g names
+  pub reach_list : (names : List Name) × IsReach graph names
   reach_list =
       let sorted = sorted_names found in (
         sorted.0,

@@ -15,29 +15,29 @@ use Rattle.image_graph.specs.Holds.{AreSized}
 led_no_filler : (header to : ℕ) → header ≡ header_word to → is_filler header ≡ false
 led_no_filler header to is = ne_eqb (header % 4) 2 (λ two. omega (arith, is, two))
 
-module _ (c : Config) (m : Word → ℕ) (block : Plot) (object : Name → Option Object) (objects : AreObjects (λ a. m (Heap a)) block object) (unwritten : AreUnwritten (λ a. m (Heap a)) block)
-    (moves : HaveMoved c (m Cset) (λ a. m (Heap a)) block) where
-  size_of : (a : ℕ) (b : Block) → block a ≡ Some b → is_loose b ≡ false → object_words (m (Heap (a + 1))) ≡ words_of b
-  size_of a (thing name refs nums) is fixed =
-      let o = objects.each a refs nums name is in
+module _ (config : Config) (memory : Word → ℕ) (block : Plot) (object : Name → Option Object) (objects : AreObjects (λ a. memory (Heap a)) block object) (unwritten : AreUnwritten (λ a. memory (Heap a)) block)
+    (moves : HaveMoved config (memory Cset) (λ a. memory (Heap a)) block) where
+  size_of : (address : ℕ) (piece : Block) → block address ≡ Some piece → is_loose piece ≡ false → object_words (memory (Heap (address + 1))) ≡ words_of piece
+  size_of address (thing name refs nums) is fixed =
+      let o = objects.each address refs nums name is in
       ap object_words o.2.shape ∙ words_read refs nums o.2.few_refs o.2.few_nums
-  size_of a (moved name refs nums to) is fixed =
-      let was = moves.moveds a refs nums to name is in
+  size_of address (moved name refs nums to) is fixed =
+      let was = moves.moveds address refs nums to name is in
       ap object_words was.shape ∙ words_read refs nums was.few_refs was.few_nums
-  size_of a (spent words to) is fixed = (moves.spents a words to is).shape
-  size_of a (promised seat words) is fixed =
-      let blank = unwritten.blanks a seat words is in
+  size_of address (spent words to) is fixed = (moves.spents address words to is).shape
+  size_of address (promised seat words) is fixed =
+      let blank = unwritten.blanks address seat words is in
       ap object_words blank.shape ∙ words_read blank.refs blank.nums blank.few_refs blank.few_nums ∙ sym blank.long
-  size_of a (dead words) is fixed = unwritten.lengths a words is
-  size_of a _ is fixed = absurd (true≢false fixed)
+  size_of address (dead words) is fixed = unwritten.lengths address words is
+  size_of address _ is fixed = absurd (true≢false fixed)
 
-  header_at : (a : ℕ) (b : Block) → block a ≡ Some b → is_loose b ≡ false → is_filler (m (Heap a)) ≡ false
-  header_at a (thing name refs nums) is fixed = ap is_filler (objects.each a refs nums name is).2.header
-  header_at a (moved name refs nums to) is fixed = led_no_filler (m (Heap a)) to (moves.moveds a refs nums to name is).header
-  header_at a (spent words to) is fixed = led_no_filler (m (Heap a)) to (moves.spents a words to is).header
-  header_at a (promised seat words) is fixed = ap is_filler (unwritten.blanks a seat words is).header
-  header_at a (dead words) is fixed = ap is_filler (unwritten.headers a words is)
-  header_at a _ is fixed = absurd (true≢false fixed)
+  header_at : (address : ℕ) (piece : Block) → block address ≡ Some piece → is_loose piece ≡ false → is_filler (memory (Heap address)) ≡ false
+  header_at address (thing name refs nums) is fixed = ap is_filler (objects.each address refs nums name is).2.header
+  header_at address (moved name refs nums to) is fixed = led_no_filler (memory (Heap address)) to (moves.moveds address refs nums to name is).header
+  header_at address (spent words to) is fixed = led_no_filler (memory (Heap address)) to (moves.spents address words to is).header
+  header_at address (promised seat words) is fixed = ap is_filler (unwritten.blanks address seat words is).header
+  header_at address (dead words) is fixed = ap is_filler (unwritten.headers address words is)
+  header_at address _ is fixed = absurd (true≢false fixed)
 
-  pub pieces_sized : AreSized m block
+  pub pieces_sized : AreSized memory block
   pieces_sized = record { objects = size_of; headers = header_at; fillers = unwritten.fillers }

@@ -9,93 +9,93 @@ use Rattle.shen_graph.proofs.PlainLemmas.{same_name-true}
 use Rattle.shen_graph.proofs.ReachLemmas.{Contains-cons_cases}
 
 -- of two names that differ one is before the other
-before_cases : (a b : Name) → (a ≡ b) ⊎ (IsBefore a b ⊎ IsBefore b a)
-before_cases a b = ⊎_elim
-    (λ (less : a.thread < b.thread). inr (inl (inl less)))
+before_cases : (name other_name : Name) → (name ≡ other_name) ⊎ (IsBefore name other_name ⊎ IsBefore other_name name)
+before_cases name other_name = ⊎_elim
+    (λ (less : name.thread < other_name.thread). inr (inl (inl less)))
     (λ not_less. ⊎_elim
-    (λ (more : b.thread < a.thread). inr (inr (inl more)))
+    (λ (more : other_name.thread < name.thread). inr (inr (inl more)))
     (λ not_more.
-    let same : a.thread ≡ b.thread = omega (arith, not_less, not_more) in
+    let same : name.thread ≡ other_name.thread = omega (arith, not_less, not_more) in
     ⊎_elim
-    (λ (low : a.count < b.count). inr (inl (inr (same, low))))
+    (λ (low : name.count < other_name.count). inr (inl (inr (same, low))))
     (λ not_low. ⊎_elim
-    (λ (high : b.count < a.count). inr (inr (inr (sym same, high))))
+    (λ (high : other_name.count < name.count). inr (inr (inr (sym same, high))))
     (λ not_high.
-    let one : a.count ≡ b.count = omega (arith, not_low, not_high) in
-    inl (same_name-true a b (and_from (a.thread == b.thread) (a.count == b.count) (eq-eqb a.thread b.thread same) (eq-eqb a.count b.count one))))
-    (cases_lt b.count a.count))
-    (cases_lt a.count b.count))
-    (cases_lt b.thread a.thread))
-    (cases_lt a.thread b.thread)
+    let one : name.count ≡ other_name.count = omega (arith, not_low, not_high) in
+    inl (same_name-true name other_name (and_from (name.thread == other_name.thread) (name.count == other_name.count) (eq-eqb name.thread other_name.thread same) (eq-eqb name.count other_name.count one))))
+    (cases_lt other_name.count name.count))
+    (cases_lt name.count other_name.count))
+    (cases_lt other_name.thread name.thread))
+    (cases_lt name.thread other_name.thread)
 
 -- a list has the names of another one and this name, and no others
-pub record HasWith (n : Name) (old new : List Name) : Type 0 where
-  pub here : Contains new n
-  pub keeps : (x : Name) → Contains old x → Contains new x
-  pub only : (x : Name) → Contains new x → (n ≡ x) ⊎ Contains old x
+pub record HasWith (name : Name) (old new : List Name) : Type 0 where
+  pub here : Contains new name
+  pub keeps : (other_name : Name) → Contains old other_name → Contains new other_name
+  pub only : (other_name : Name) → Contains new other_name → (name ≡ other_name) ⊎ Contains old other_name
 
-first : (n : Name) (ms : List Name) → Contains (n ∷ ms) n
-first n ms = (0, omega arith, refl)
+first : (name : Name) (ms : List Name) → Contains (name ∷ ms) name
+first name ms = (0, omega arith, refl)
 
-later : (m : Name) (ms : List Name) (x : Name) → Contains ms x → Contains (m ∷ ms) x
-later m ms x there = Contains-append_right (m ∷ []) ms x there
+later : (name : Name) (ms : List Name) (other_name : Name) → Contains ms other_name → Contains (name ∷ ms) other_name
+later name ms other_name there = Contains-append_right (name ∷ []) ms other_name there
 
-at_front : (n : Name) (ms : List Name) → HasWith n ms (n ∷ ms)
-at_front n ms = record { here = first n ms; keeps = later n ms; only = Contains-cons_cases n ms }
+at_front : (name : Name) (ms : List Name) → HasWith name ms (name ∷ ms)
+at_front name ms = record { here = first name ms; keeps = later name ms; only = Contains-cons_cases name ms }
 
-already : (n m : Name) (ms : List Name) → n ≡ m → HasWith n (m ∷ ms) (m ∷ ms)
-already n m ms same = record {
+already : (name other_name : Name) (ms : List Name) → name ≡ other_name → HasWith name (other_name ∷ ms) (other_name ∷ ms)
+already name other_name ms same = record {
   here = (0, omega arith, sym same);
   keeps = λ x there. there;
   only = λ x there. inr there;
 }
 
-behind : (n m : Name) (old new : List Name) → HasWith n old new → HasWith n (m ∷ old) (m ∷ new)
-behind n m old new has = record {
-  here = later m new n has.here;
+behind : (name other_name : Name) (old new : List Name) → HasWith name old new → HasWith name (other_name ∷ old) (other_name ∷ new)
+behind name other_name old new has = record {
+  here = later other_name new name has.here;
   keeps = λ x there. ⊎_elim
-      (λ (is : m ≡ x). (0, omega arith, is))
-      (λ (rest : Contains old x). later m new x (has.keeps x rest))
-      (Contains-cons_cases m old x there);
+      (λ (is : other_name ≡ x). (0, omega arith, is))
+      (λ (rest : Contains old x). later other_name new x (has.keeps x rest))
+      (Contains-cons_cases other_name old x there);
   only = λ x there. ⊎_elim
-      (λ (is : m ≡ x). inr (0, omega arith, is))
+      (λ (is : other_name ≡ x). inr (0, omega arith, is))
       (λ (rest : Contains new x). ⊎_elim
-      (λ (is : n ≡ x). inl is)
-      (λ (old_one : Contains old x). inr (later m old x old_one))
+      (λ (is : name ≡ x). inl is)
+      (λ (old_one : Contains old x). inr (later other_name old x old_one))
       (has.only x rest))
-      (Contains-cons_cases m new x there);
+      (Contains-cons_cases other_name new x there);
 }
 
 -- a name goes into its place behind another one
-insert_behind : (m n : Name) (ms : List Name) → IsBefore m n → InOrder (m ∷ ms) → (out : List Name) × InOrder (m ∷ out) × HasWith n ms out
-insert_behind m n [] before order = (n ∷ [], (before, tt), at_front n [])
-insert_behind m n (k ∷ ks) before order = ⊎_elim
-    (λ (same : n ≡ k). (k ∷ ks, order, already n k ks same))
-    (λ (differ : IsBefore n k ⊎ IsBefore k n). ⊎_elim
-    (λ (low : IsBefore n k). (n ∷ k ∷ ks, (before, (low, order.1)), at_front n (k ∷ ks)))
-    (λ (high : IsBefore k n).
-    let rest = insert_behind k n ks high order.1 in
-    (k ∷ rest.0, (order.0, rest.1), behind n k ks rest.0 rest.2))
+insert_behind : (name other_name : Name) (ms : List Name) → IsBefore name other_name → InOrder (name ∷ ms) → (out : List Name) × InOrder (name ∷ out) × HasWith other_name ms out
+insert_behind name other_name [] before order = (other_name ∷ [], (before, tt), at_front other_name [])
+insert_behind name other_name (k ∷ ks) before order = ⊎_elim
+    (λ (same : other_name ≡ k). (k ∷ ks, order, already other_name k ks same))
+    (λ (differ : IsBefore other_name k ⊎ IsBefore k other_name). ⊎_elim
+    (λ (low : IsBefore other_name k). (other_name ∷ k ∷ ks, (before, (low, order.1)), at_front other_name (k ∷ ks)))
+    (λ (high : IsBefore k other_name).
+    let rest = insert_behind k other_name ks high order.1 in
+    (k ∷ rest.0, (order.0, rest.1), behind other_name k ks rest.0 rest.2))
     differ)
-    (before_cases n k)
+    (before_cases other_name k)
 
-inserted : (n : Name) (ms : List Name) → InOrder ms → (out : List Name) × InOrder out × HasWith n ms out
-inserted n [] order = (n ∷ [], tt, at_front n [])
-inserted n (k ∷ ks) order = ⊎_elim
-    (λ (same : n ≡ k). (k ∷ ks, order, already n k ks same))
-    (λ (differ : IsBefore n k ⊎ IsBefore k n). ⊎_elim
-    (λ (low : IsBefore n k). (n ∷ k ∷ ks, (low, order), at_front n (k ∷ ks)))
-    (λ (high : IsBefore k n).
-    let rest = insert_behind k n ks high order in
-    (k ∷ rest.0, rest.1, behind n k ks rest.0 rest.2))
+inserted : (name : Name) (ms : List Name) → InOrder ms → (out : List Name) × InOrder out × HasWith name ms out
+inserted name [] order = (name ∷ [], tt, at_front name [])
+inserted name (k ∷ ks) order = ⊎_elim
+    (λ (same : name ≡ k). (k ∷ ks, order, already name k ks same))
+    (λ (differ : IsBefore name k ⊎ IsBefore k name). ⊎_elim
+    (λ (low : IsBefore name k). (name ∷ k ∷ ks, (low, order), at_front name (k ∷ ks)))
+    (λ (high : IsBefore k name).
+    let rest = insert_behind k name ks high order in
+    (k ∷ rest.0, rest.1, behind name k ks rest.0 rest.2))
     differ)
-    (before_cases n k)
+    (before_cases name k)
 
 -- names in order, and the same ones
 pub record IsSortOf (names sorted : List Name) : Type 0 where
   pub in_order : InOrder sorted
-  pub all : (x : Name) → Contains names x → Contains sorted x
-  pub only : (x : Name) → Contains sorted x → Contains names x
+  pub all : (name : Name) → Contains names name → Contains sorted name
+  pub only : (name : Name) → Contains sorted name → Contains names name
 
 pub sorted_names : (names : List Name) → (sorted : List Name) × IsSortOf names sorted
 sorted_names [] = ([], record { in_order = tt; all = λ x there. there; only = λ x there. there })

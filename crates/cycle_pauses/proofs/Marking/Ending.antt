@@ -28,92 +28,92 @@ use Rattle.cycle_words.proofs.Marking.Vanished as freed
 use Rattle.cycle_pauses.proofs.Marking.FromSnapshot.{mark_is, is_mark, no_moved, no_spent, thing_at, piece_below, markable_piece, markable_kept, markable_alive, closed_markable}
 use Rattle.cycle_pauses.specs.Marking.MarkedOut.{IsMarkedOut}
 
-module _ (c : Config) (m : Word → ℕ) (g : Graph) (asking : ℕ → Asking) (r : Represents c m g asking) (on : m Phase ≡ 1) where
+module _ (config : Config) (memory : Word → ℕ) (graph : Graph) (asking : ℕ → Asking) (r : Represents config memory graph asking) (on : memory Phase ≡ 1) where
   abbrev n : Word → ℕ
-  n = final_marked c m
+  n = final_marked config memory
 
-  calm : m Cset ≡ 0
+  calm : memory Cset ≡ 0
   calm = r.shared.phased.cset_is (omega (arith, on))
 
   abbrev out : ℕ → Bool
-  out = dead_in c m
+  out = dead_in config memory
 
   abbrev pub plot : Plot
-  plot = freed_block c out r.block
+  plot = freed_block config out r.block
 
   -- the region of an object is not dead
-  alive : (a : ℕ) → IsMarkable r.block a → out (region_with c a) ≡ false
-  alive = markable_alive c m g asking r calm on
+  alive : (address : ℕ) → IsMarkable r.block address → out (region_with config address) ≡ false
+  alive = markable_alive config memory graph asking r calm on
 
   -- the dead regions are freed of pieces that lie apart
-  some : (a : ℕ) (b : Block) → r.block a ≡ Some b → 1 ≤ words_of b
-  some = some_words c (λ q. m (Top q)) r.block r.shared.parsable r.shared.owned.rooms
+  some : (address : ℕ) (piece : Block) → r.block address ≡ Some piece → 1 ≤ words_of piece
+  some = some_words config (λ q. memory (Top q)) r.block r.shared.parsable r.shared.owned.rooms
 
   -- a piece that is left, and one of a region that is not dead
-  left : (a : ℕ) (b : Block) → plot a ≡ Some b → (out (region_with c a) ≡ false) × (r.block a ≡ Some b)
-  left = freed.piece_was c out r.block
+  left : (address : ℕ) (piece : Block) → plot address ≡ Some piece → (out (region_with config address) ≡ false) × (r.block address ≡ Some piece)
+  left = freed.piece_was config out r.block
 
-  stays : (a : ℕ) → out (region_with c a) ≡ false → plot a ≡ r.block a
-  stays = freed.piece_stays c out r.block
+  stays : (address : ℕ) → out (region_with config address) ≡ false → plot address ≡ r.block address
+  stays = freed.piece_stays config out r.block
 
-  thing_stays : (a refs nums : ℕ) (name : Name) → r.block a ≡ Some (thing name refs nums) → plot a ≡ Some (thing name refs nums)
-  thing_stays a refs nums name is = stays a (alive a (IsMarkable.object name refs nums is)) ∙ is
+  thing_stays : (address refs nums : ℕ) (name : Name) → r.block address ≡ Some (thing name refs nums) → plot address ≡ Some (thing name refs nums)
+  thing_stays address refs nums name is = stays address (alive address (IsMarkable.object name refs nums is)) ∙ is
 
-  promised_stays : (a seat words : ℕ) → r.block a ≡ Some (promised seat words) → plot a ≡ Some (promised seat words)
-  promised_stays a seat words is = stays a (alive a (IsMarkable.to_come seat words is)) ∙ is
+  promised_stays : (address seat words : ℕ) → r.block address ≡ Some (promised seat words) → plot address ≡ Some (promised seat words)
+  promised_stays address seat words is = stays address (alive address (IsMarkable.to_come seat words is)) ∙ is
 
-  names_stay : (a : ℕ) (name : Name) → name_at (r.block a) ≡ Some name → name_at (plot a) ≡ Some name
-  names_stay a name is = let piece = thing_at c m g asking r calm a name is in ap name_at (thing_stays a piece.0 piece.1 name piece.2)
+  names_stay : (address : ℕ) (name : Name) → name_at (r.block address) ≡ Some name → name_at (plot address) ≡ Some name
+  names_stay address name is = let piece = thing_at config memory graph asking r calm address name is in ap name_at (thing_stays address piece.0 piece.1 name piece.2)
 
-  top_stays : (q : ℕ) → out q ≡ false → n (Top q) ≡ m (Top q)
-  top_stays = freed.top_stays c out (closed c m)
+  top_stays : (region : ℕ) → out region ≡ false → n (Top region) ≡ memory (Top region)
+  top_stays = freed.top_stays config out (closed config memory)
 
-  objects_again : AreObjects (λ a. m (Heap a)) plot g.object
+  objects_again : AreObjects (λ a. memory (Heap a)) plot graph.object
   objects_again = record {
     each = λ a refs nums name is.
         let o = r.shared.contents.objects.each a refs nums name (left a (thing name refs nums) is).1 in
-        (o.0, o.1, object_reads (λ x. m (Heap x)) (λ x. m (Heap x)) r.block plot a refs nums name o.0 (λ k below. refl) names_stay o.2);
+        (o.0, o.1, object_reads (λ x. memory (Heap x)) (λ x. memory (Heap x)) r.block plot a refs nums name o.0 (λ k below. refl) names_stay o.2);
     once = λ a b refs nums more_refs more_nums name is_a is_b.
         r.shared.contents.objects.once a b refs nums more_refs more_nums name (left a (thing name refs nums) is_a).1 (left b (thing name more_refs more_nums) is_b).1;
   }
 
   -- no seat has a region to itself
   abbrev owner : ℕ → Option ℕ
-  owner q = None
+  owner region = None
 
-  free_again : IsFreeWord c (n Free) (λ q. n (Top q)) owner
-  free_again = freed.free_again c out (closed c m) r.block r.shared.parsable.plotted some r.ghost.owner owner r.shared.owned.free_word (λ q gone. refl) (λ q none. refl)
+  free_again : IsFreeWord config (n Free) (λ q. n (Top q)) owner
+  free_again = freed.free_again config out (closed config memory) r.block r.shared.parsable.plotted some r.ghost.owner owner r.shared.owned.free_word (λ q gone. refl) (λ q none. refl)
 
   -- the region that is shared is not dead, ..
-  share_again : ShareIsOpen c (m Share) (n Free) (m Cset) owner
+  share_again : ShareIsOpen config (memory Share) (n Free) (memory Cset) owner
   share_again q is =
       let was = r.shared.owned.shared_one q is in
       record {
         within = was.within;
-        in_use = λ free. ⊎_elim was.in_use (λ (gone : out q ≡ true). true≢false (sym gone ∙ shared_alive c m q is)) (freed.free_was c out (closed c m) q was.within free);
+        in_use = λ free. ⊎_elim was.in_use (λ (gone : out q ≡ true). true≢false (sym gone ∙ shared_alive config memory q is)) (freed.free_was config out (closed config memory) q was.within free);
         nobodys = refl;
         outside = was.outside;
       }
 
   -- .. nor is one where a buffer ends, and so room stays.
-  module _ (no_more : HasNoMoreSeats c m) where
-    buffer_alive : (seat : ℕ) (some_buffer : m (Current seat) ≢ 0) → out (r.shared.owned.buffers.each seat some_buffer).region ≡ false
+  module _ (no_more : HasNoMoreSeats config memory) where
+    buffer_alive : (seat : ℕ) (some_buffer : memory (Current seat) ≢ 0) → out (r.shared.owned.buffers.each seat some_buffer).region ≡ false
     buffer_alive seat some_buffer =
         let b = r.shared.owned.buffers.each seat some_buffer in
-        current_alive c m no_more seat b.region (some_buffer, buffer_ends c (λ q. m (Top q)) r.block seat (m (Current seat)) b (r.shared.parsable.plotted.tops b.region b.within))
+        current_alive config memory no_more seat b.region (some_buffer, buffer_ends config (λ q. memory (Top q)) r.block seat (memory (Current seat)) b (r.shared.parsable.plotted.tops b.region b.within))
 
-    room_alive : (a seat words : ℕ) → r.block a ≡ Some (spare seat words) → out (region_with c a) ≡ false
-    room_alive a seat words is =
-        let own = r.shared.owned.buffers.spares a seat words is in
-        let long = r.shared.owned.rooms.spares a seat words is in
-        let used = r.shared.parsable.plotted.in_use a (spare seat words) is in
+    room_alive : (address seat words : ℕ) → r.block address ≡ Some (spare seat words) → out (region_with config address) ≡ false
+    room_alive address seat words is =
+        let own = r.shared.owned.buffers.spares address seat words is in
+        let long = r.shared.owned.rooms.spares address seat words is in
+        let used = r.shared.parsable.plotted.in_use address (spare seat words) is in
         let most = r.shared.parsable.plotted.tops used.region used.within in
         let low = used.from_base in
         let high = used.to_top in
         let end = own.1 in
-        let some_buffer : m (Current seat) ≢ 0 = λ none. (let zero_end : end_in (m (Current seat)) ≡ 0 = ap end_in none in omega (arith, zero_end, end, long)) in
-        ap out (regions_tile.of_no_other c used.region a (record { from = low; before = omega (arith, high, most, long) }))
-        ∙ current_alive c m no_more seat used.region (some_buffer, record { from = omega (arith, low, end, long); before = omega (arith, high, most, end, long) })
+        let some_buffer : memory (Current seat) ≢ 0 = λ none. (let zero_end : end_in (memory (Current seat)) ≡ 0 = ap end_in none in omega (arith, zero_end, end, long)) in
+        ap out (regions_tile.of_no_other config used.region address (record { from = low; before = omega (arith, high, most, long) }))
+        ∙ current_alive config memory no_more seat used.region (some_buffer, record { from = omega (arith, low, end, long); before = omega (arith, high, most, end, long) })
 
     same_room : SameRoom r.block plot
     same_room = record {
@@ -121,71 +121,71 @@ module _ (c : Config) (m : Word → ℕ) (g : Graph) (asking : ℕ → Asking) (
       came = λ a seat x of is. (left a x is).1;
     }
 
-    owned_again : AreOwned c (λ q. n (Top q)) (m Share) (n Free) (m Cset) (λ s. m (Current s)) plot owner
+    owned_again : AreOwned config (λ q. n (Top q)) (memory Share) (n Free) (memory Cset) (λ s. memory (Current s)) plot owner
     owned_again = record {
       free_word = free_again;
       shared_one = share_again;
-      rooms = rooms_stay c r.block plot same_room r.shared.owned.rooms;
-      buffers = buffers_stay c (λ q. m (Top q)) (λ q. n (Top q)) (λ s. m (Current s)) r.block plot same_room r.shared.owned.buffers
+      rooms = rooms_stay config r.block plot same_room r.shared.owned.rooms;
+      buffers = buffers_stay config (λ q. memory (Top q)) (λ q. n (Top q)) (λ s. memory (Current s)) r.block plot same_room r.shared.owned.buffers
           (λ seat some_buffer. (let same = top_stays (r.shared.owned.buffers.each seat some_buffer).region (buffer_alive seat some_buffer) in omega (arith, same)));
       outside = r.shared.owned.outside;
     }
 
   -- What is marked then is an object, and each object is marked or new.
-  tams_stays : (q : ℕ) → out q ≡ false → n (Tams q) ≡ m (Tams q)
-  tams_stays = freed.tams_stays c out (closed c m)
+  tams_stays : (region : ℕ) → out region ≡ false → n (Tams region) ≡ memory (Tams region)
+  tams_stays = freed.tams_stays config out (closed config memory)
 
-  was_markable : (a : ℕ) → IsMarkable plot a → IsMarkable r.block a
-  was_markable a (IsMarkable.object name refs nums is) = IsMarkable.object name refs nums (left a (thing name refs nums) is).1
-  was_markable a (IsMarkable.to_come seat words is) = IsMarkable.to_come seat words (left a (promised seat words) is).1
+  was_markable : (address : ℕ) → IsMarkable plot address → IsMarkable r.block address
+  was_markable address (IsMarkable.object name refs nums is) = IsMarkable.object name refs nums (left address (thing name refs nums) is).1
+  was_markable address (IsMarkable.to_come seat words is) = IsMarkable.to_come seat words (left address (promised seat words) is).1
 
-  still_markable : (a : ℕ) → IsMarkable r.block a → IsMarkable plot a
-  still_markable a (IsMarkable.object name refs nums is) = IsMarkable.object name refs nums (thing_stays a refs nums name is)
-  still_markable a (IsMarkable.to_come seat words is) = IsMarkable.to_come seat words (promised_stays a seat words is)
+  still_markable : (address : ℕ) → IsMarkable r.block address → IsMarkable plot address
+  still_markable address (IsMarkable.object name refs nums is) = IsMarkable.object name refs nums (thing_stays address refs nums name is)
+  still_markable address (IsMarkable.to_come seat words is) = IsMarkable.to_come seat words (promised_stays address seat words is)
 
-  black_or_young : (a : ℕ) → IsMarkable r.block a → HasMark c (λ k. n (Black k)) a ⊎ IsYoung c (λ q. n (Tams q)) a
-  black_or_young a is = ⊎_elim
-      (λ (black : is_black c (closed c m) a ≡ true). inl (mark_is c (λ k. n (Black k)) a black).1)
-      (λ (fresh : IsNew c (closed c m) a).
-      let piece = markable_piece c m g asking r calm a is in
-      let at = piece_below c m g asking r calm a piece.0 piece.1 in
-      let same = tams_stays (region_with c a) (alive a is) in
+  black_or_young : (address : ℕ) → IsMarkable r.block address → HasMark config (λ k. n (Black k)) address ⊎ IsYoung config (λ q. n (Tams q)) address
+  black_or_young address is = ⊎_elim
+      (λ (black : is_black config (closed config memory) address ≡ true). inl (mark_is config (λ k. n (Black k)) address black).1)
+      (λ (fresh : IsNew config (closed config memory) address).
+      let piece = markable_piece config memory graph asking r calm address is in
+      let at = piece_below config memory graph asking r calm address piece.0 piece.1 in
+      let same = tams_stays (region_with config address) (alive address is) in
       inr (omega (arith, fresh, same, at.1)))
-      (markable_kept c m g asking r calm on a is)
+      (markable_kept config memory graph asking r calm on address is)
 
-  floors_again : (q : ℕ) → q < c.regions → n (Tams q) ≤ n (Top q)
-  floors_again q inside = ⊎_elim
-      (λ (gone : out q ≡ true). (let none = freed.tams_out c out (closed c m) q gone in omega (arith, none)))
-      (λ (other : out q ≡ false).
-      let top = top_stays q other in
-      let tams = tams_stays q other in
-      let same = (r.shared.marked.marking on).tams_are q inside in
-      let floor = r.shared.marked.floors q inside in
+  floors_again : (region : ℕ) → region < config.regions → n (Tams region) ≤ n (Top region)
+  floors_again region inside = ⊎_elim
+      (λ (gone : out region ≡ true). (let none = freed.tams_out config out (closed config memory) region gone in omega (arith, none)))
+      (λ (other : out region ≡ false).
+      let top = top_stays region other in
+      let tams = tams_stays region other in
+      let same = (r.shared.marked.marking on).tams_are region inside in
+      let floor = r.shared.marked.floors region inside in
       omega (arith, top, tams, same, floor))
-      (cases_Bool (out q))
+      (cases_Bool (out region))
 
   -- room lies where what is allocated is new
-  young_again : AreYoungRooms c (λ q. n (Tams q)) plot
+  young_again : AreYoungRooms config (λ q. n (Tams q)) plot
   young_again a seat x is room =
       let was = left a x is in
-      let at = piece_below c m g asking r calm a x was.1 in
-      let tams = tams_stays (region_with c a) was.0 in
-      let same = (r.shared.marked.marking on).tams_are (region_with c a) at.0 in
+      let at = piece_below config memory graph asking r calm a x was.1 in
+      let tams = tams_stays (region_with config a) was.0 in
+      let same = (r.shared.marked.marking on).tams_are (region_with config a) at.0 in
       let above = (r.shared.marked.marking on).young a seat x was.1 room in
       omega (arith, above, tams, same)
 
   -- dead objects lie below the tops at mark start
-  deads_again : (a words : ℕ) → plot a ≡ Some (dead words) → IsYoung c (λ q. n (Tams q)) a → ⊥
-  deads_again a words is young =
-      let was = left a (dead words) is in
-      let at = piece_below c m g asking r calm a (dead words) was.1 in
-      let tams = tams_stays (region_with c a) was.0 in
-      let same = (r.shared.marked.marking on).tams_are (region_with c a) at.0 in
-      (r.shared.marked.marking on).deads a words was.1 (omega (arith, young, tams, same))
+  deads_again : (address words : ℕ) → plot address ≡ Some (dead words) → IsYoung config (λ q. n (Tams q)) address → ⊥
+  deads_again address words is young =
+      let was = left address (dead words) is in
+      let at = piece_below config memory graph asking r calm address (dead words) was.1 in
+      let tams = tams_stays (region_with config address) was.0 in
+      let same = (r.shared.marked.marking on).tams_are (region_with config address) at.0 in
+      (r.shared.marked.marking on).deads address words was.1 (omega (arith, young, tams, same))
 
   -- what is asked and promised stays
-  asked_again : (t : ℕ) → IsAsked m r.block g.count t (asking t) → IsAsked n plot g.count t (asking t)
-  asked_again t asked = asked_stays m n r.block plot g.count t refl refl (λ a words k is below. refl) (λ a words is. promised_stays a t words is) (λ a words is. (left a (promised t words) is).1) (asking t) asked
+  asked_again : (t : ℕ) → IsAsked memory r.block graph.count t (asking t) → IsAsked n plot graph.count t (asking t)
+  asked_again t asked = asked_stays memory n r.block plot graph.count t refl refl (λ a words k is below. refl) (λ a words is. promised_stays a t words is) (λ a words is. (left a (promised t words) is).1) (asking t) asked
 
   abbrev pub ghost : Ghost
   ghost = record {
@@ -198,26 +198,26 @@ module _ (c : Config) (m : Word → ℕ) (g : Graph) (asking : ℕ → Asking) (
   }
 
   -- so marking has ended
-  pub marked_out : HasNoMoreSeats c m → IsMarkedOut c n plot ghost g asking
+  pub marked_out : HasNoMoreSeats config memory → IsMarkedOut config n plot ghost graph asking
   marked_out no_more = record {
     phase_is = on;
     cset_is = calm;
     evac_is = r.shared.phased.evac_is (λ evacuates. omega (arith, on, evacuates));
-    parsable = freed.parsable_again c out (closed c m) r.block r.shared.parsable.plotted some r.shared.parsable;
+    parsable = freed.parsable_again config out (closed config memory) r.block r.shared.parsable.plotted some r.shared.parsable;
     contents = record { objects = objects_again; given = r.shared.contents.given };
     owned = owned_again no_more;
     nobodys = λ q. refl;
     seated = no_more;
-    unwritten = freed.unwritten_again c out (closed c m) r.block r.shared.parsable.plotted some r.shared.unwritten;
+    unwritten = freed.unwritten_again config out (closed config memory) r.block r.shared.parsable.plotted some r.shared.unwritten;
     unmoved = record {
-      no_moved = λ a refs nums to name is. no_moved c m g asking r calm a refs nums to name (left a (moved name refs nums to) is).1;
-      no_spent = λ a words to is. no_spent c m g asking r calm a words to (left a (spent words to) is).1;
+      no_moved = λ a refs nums to name is. no_moved config memory graph asking r calm a refs nums to name (left a (moved name refs nums to) is).1;
+      no_spent = λ a words to is. no_spent config memory graph asking r calm a words to (left a (spent words to) is).1;
       no_hand = λ a seat words is. r.none a seat words (left a (hand seat words) is).1;
       no_carved = λ a seat words is. r.uncarved a seat words (left a (carved seat words) is).1;
     };
     marked = record {
       objects = λ a is. black_or_young a (was_markable a is);
-      only = λ a high mark. still_markable a (closed_markable c m g asking r calm on a (is_mark c (λ k. n (Black k)) a high mark));
+      only = λ a high mark. still_markable a (closed_markable config memory graph asking r calm on a (is_mark config (λ k. n (Black k)) a high mark));
       floors = floors_again;
       deads = deads_again;
       young = young_again;
@@ -225,8 +225,8 @@ module _ (c : Config) (m : Word → ℕ) (g : Graph) (asking : ℕ → Asking) (
     snapshot_is = refl;
     unmarking = record { records_none = r.unmarking.records_none; scans_none = r.unmarking.scans_none };
     uncopying = record { copies_none = r.uncopying.copies_none; works_none = r.uncopying.works_none };
-    roots = λ t i inside few. points_stay r.block plot names_stay (m (Root t i)) (g.root (t + 1) i) (r.roots t i inside few);
-    pinned = pins_stay c (m Cset) (m Evac) (m Cset) (m Evac) r.block plot (λ t i. m (Pin t i)) g.pin
+    roots = λ t i inside few. points_stay r.block plot names_stay (memory (Root t i)) (graph.root (t + 1) i) (r.roots t i inside few);
+    pinned = pins_stay config (memory Cset) (memory Evac) (memory Cset) (memory Evac) r.block plot (λ t i. memory (Pin t i)) graph.pin
         (λ a refs nums name target. record { piece = thing_stays a refs nums name target.piece; safe = target.safe }) r.shared.pinned;
     asked = λ t inside. asked_again t (r.asked t inside);
     heard = r.heard;

@@ -29,134 +29,134 @@ use Rattle.cycle_words.proofs.Marking.Plain.{below_top}
 use Rattle.cycle_words.proofs.Marking.Closed.{markable_object, black_markable, traced_markable, are_closed, object_kept, object_alive}
 
 -- a mark, as a test
-pub mark_is : (c : Config) (marks : ℕ → ℕ) (a : ℕ) → (nat_le c.region_words a && (bit_at (marks (mark_word c a)) (mark_bit c a) == 1)) ≡ true → (c.region_words ≤ a) × HasMark c marks a
-mark_is c marks a is =
-    let both = and_parts (nat_le c.region_words a) (bit_at (marks (mark_word c a)) (mark_bit c a) == 1) is in
-    (leb-true c.region_words a both.0, eqb-true (bit_at (marks (mark_word c a)) (mark_bit c a)) 1 both.1)
+pub mark_is : (config : Config) (marks : ℕ → ℕ) (address : ℕ) → (nat_le config.region_words address && (bit_at (marks (mark_word config address)) (mark_bit config address) == 1)) ≡ true → (config.region_words ≤ address) × HasMark config marks address
+mark_is config marks address is =
+    let both = and_parts (nat_le config.region_words address) (bit_at (marks (mark_word config address)) (mark_bit config address) == 1) is in
+    (leb-true config.region_words address both.0, eqb-true (bit_at (marks (mark_word config address)) (mark_bit config address)) 1 both.1)
 
-pub is_mark : (c : Config) (marks : ℕ → ℕ) (a : ℕ) → c.region_words ≤ a → HasMark c marks a → (nat_le c.region_words a && (bit_at (marks (mark_word c a)) (mark_bit c a) == 1)) ≡ true
-is_mark c marks a high is =
-    and_from (nat_le c.region_words a) (bit_at (marks (mark_word c a)) (mark_bit c a) == 1) (le-leb c.region_words a high) (eq-eqb (bit_at (marks (mark_word c a)) (mark_bit c a)) 1 is)
+pub is_mark : (config : Config) (marks : ℕ → ℕ) (address : ℕ) → config.region_words ≤ address → HasMark config marks address → (nat_le config.region_words address && (bit_at (marks (mark_word config address)) (mark_bit config address) == 1)) ≡ true
+is_mark config marks address high is =
+    and_from (nat_le config.region_words address) (bit_at (marks (mark_word config address)) (mark_bit config address) == 1) (le-leb config.region_words address high) (eq-eqb (bit_at (marks (mark_word config address)) (mark_bit config address)) 1 is)
 
 -- While there is no collection set, nothing has moved.
-module _ (c : Config) (m : Word → ℕ) (g : Graph) (asking : ℕ → Asking) (r : Represents c m g asking) (calm : m Cset ≡ 0) where
+module _ (config : Config) (memory : Word → ℕ) (graph : Graph) (asking : ℕ → Asking) (r : Represents config memory graph asking) (calm : memory Cset ≡ 0) where
   -- the same words by copies
-  abbrev copies : RepresentsByCopies c m g asking
-  copies = by_copies c m g asking r
+  abbrev copies : RepresentsByCopies config memory graph asking
+  copies = by_copies config memory graph asking r
 
-  uncollected : (a : ℕ) → IsCollected c (m Cset) a → ⊥
-  uncollected a is = none_in_0 c a (subst (λ set. IsCollected c set a) calm is)
+  uncollected : (address : ℕ) → IsCollected config (memory Cset) address → ⊥
+  uncollected address is = none_in_0 config address (subst (λ set. IsCollected config set address) calm is)
 
-  pub no_moved : (a refs nums to : ℕ) (name : Name) → r.block a ≡ Some (moved name refs nums to) → ⊥
-  no_moved a refs nums to name is = uncollected a (r.shared.evacuated.moved.moveds a refs nums to name is).inside
+  pub no_moved : (address refs nums to : ℕ) (name : Name) → r.block address ≡ Some (moved name refs nums to) → ⊥
+  no_moved address refs nums to name is = uncollected address (r.shared.evacuated.moved.moveds address refs nums to name is).inside
 
-  pub no_spent : (a words to : ℕ) → r.block a ≡ Some (spent words to) → ⊥
-  no_spent a words to is = uncollected a (r.shared.evacuated.moved.spents a words to is).inside
+  pub no_spent : (address words to : ℕ) → r.block address ≡ Some (spent words to) → ⊥
+  no_spent address words to is = uncollected address (r.shared.evacuated.moved.spents address words to is).inside
 
   -- so what stands for a name is an object
-  pub thing_at : (a : ℕ) (name : Name) → name_at (r.block a) ≡ Some name → (refs : ℕ) × (nums : ℕ) × (r.block a ≡ Some (thing name refs nums))
-  thing_at a name is = named_thing (r.block a) name (λ refs nums to. no_moved a refs nums to name) is
+  pub thing_at : (address : ℕ) (name : Name) → name_at (r.block address) ≡ Some name → (refs : ℕ) × (nums : ℕ) × (r.block address ≡ Some (thing name refs nums))
+  thing_at address name is = named_thing (r.block address) name (λ refs nums to. no_moved address refs nums to name) is
 
   -- a piece lies in the part of its region that is in use, and in the heap
-  pub piece_below : (a : ℕ) (b : Block) → r.block a ≡ Some b
-      → (region_with c a < c.regions) × (base_of c (region_with c a) ≤ a) × (a < base_of c (region_with c a) + m (Top (region_with c a)))
-  piece_below a b is =
-      let some = some_words c (λ q. m (Top q)) r.block r.shared.parsable r.shared.owned.rooms a b is in
-      let at = below_top c (λ q. m (Top q)) r.block r.shared.parsable.plotted a b is (omega (arith, some)) in
+  pub piece_below : (a : ℕ) (piece : Block) → r.block a ≡ Some piece
+      → (region_with config a < config.regions) × (base_of config (region_with config a) ≤ a) × (a < base_of config (region_with config a) + memory (Top (region_with config a)))
+  piece_below a piece is =
+      let some = some_words config (λ q. memory (Top q)) r.block r.shared.parsable r.shared.owned.rooms a piece is in
+      let at = below_top config (λ q. memory (Top q)) r.block r.shared.parsable.plotted a piece is (omega (arith, some)) in
       (at.0, at.1, omega (arith, at.2, some))
 
-  pub piece_above : (a : ℕ) (b : Block) → r.block a ≡ Some b → c.region_words ≤ a
-  piece_above a b is = (piece_inside c (λ q. m (Top q)) r.block r.shared.parsable.plotted a b is).0
+  pub piece_above : (address : ℕ) (piece : Block) → r.block address ≡ Some piece → config.region_words ≤ address
+  piece_above address piece is = (piece_inside config (λ q. memory (Top q)) r.block r.shared.parsable.plotted address piece is).0
 
   -- what can be marked is a piece
-  pub markable_piece : (a : ℕ) → IsMarkable r.block a → (b : Block) × (r.block a ≡ Some b)
-  markable_piece a (IsMarkable.object name refs nums is) = (thing name refs nums, is)
-  markable_piece a (IsMarkable.to_come seat words is) = (promised seat words, is)
+  pub markable_piece : (address : ℕ) → IsMarkable r.block address → (piece : Block) × (r.block address ≡ Some piece)
+  markable_piece address (IsMarkable.object name refs nums is) = (thing name refs nums, is)
+  markable_piece address (IsMarkable.to_come seat words is) = (promised seat words, is)
 
   -- what is an object of the larger graph can be marked
-  pub live_markable : (a refs nums : ℕ) (name : Name) → live c m g asking copies a ≡ Some (thing name refs nums) → IsMarkable r.block a
-  live_markable a refs nums name is = by_kind (kind_at c m g asking copies a refs nums name is)
+  pub live_markable : (address refs nums : ℕ) (name : Name) → live config memory graph asking copies address ≡ Some (thing name refs nums) → IsMarkable r.block address
+  live_markable address refs nums name is = by_kind (kind_at config memory graph asking copies address refs nums name is)
     where
-      by_kind : Kind c m g asking copies a refs nums name → IsMarkable r.block a
+      by_kind : Kind config memory graph asking copies address refs nums name → IsMarkable r.block address
       by_kind (is_current now) = now
-      by_kind (is_old to was) = absurd (uncollected a was.inside)
+      by_kind (is_old to was) = absurd (uncollected address was.inside)
 
   -- what roots and answers lead to can be marked
-  pub reached_markable : (a : ℕ) → CanBeReached c m a → IsMarkable r.block a
-  reached_markable a held = held_current c m g asking copies a held
+  pub reached_markable : (address : ℕ) → CanBeReached config memory address → IsMarkable r.block address
+  reached_markable address held = held_current config memory graph asking copies address held
 
   -- on the larger plot it is an object, and nothing else is
-  still_markable : (a : ℕ) → IsMarkable r.block a → IsMarkable (live c m g asking copies) a
-  still_markable a (IsMarkable.object name refs nums is) = IsMarkable.object name refs nums (live_at c m g asking copies a (thing name refs nums) is)
-  still_markable a (IsMarkable.to_come seat words is) = IsMarkable.object _ _ _ (live_at c m g asking copies a (promised seat words) is)
+  still_markable : (address : ℕ) → IsMarkable r.block address → IsMarkable (live config memory graph asking copies) address
+  still_markable address (IsMarkable.object name refs nums is) = IsMarkable.object name refs nums (live_at config memory graph asking copies address (thing name refs nums) is)
+  still_markable address (IsMarkable.to_come seat words is) = IsMarkable.object _ _ _ (live_at config memory graph asking copies address (promised seat words) is)
 
-  pub was_markable : (a : ℕ) → IsMarkable (live c m g asking copies) a → IsMarkable r.block a
-  was_markable a (IsMarkable.object name refs nums is) = live_markable a refs nums name is
-  was_markable a (IsMarkable.to_come seat words is) = absurd (live_unpromised c m g asking copies a seat words is)
+  pub was_markable : (address : ℕ) → IsMarkable (live config memory graph asking copies) address → IsMarkable r.block address
+  was_markable address (IsMarkable.object name refs nums is) = live_markable address refs nums name is
+  was_markable address (IsMarkable.to_come seat words is) = absurd (live_unpromised config memory graph asking copies address seat words is)
 
-  marks_still : (marks : ℕ → ℕ) → AreMarks c marks r.block → AreMarks c marks (live c m g asking copies)
-  marks_still marks are = record { small = are.small; of_objects = λ q k below set. still_markable (address_at c q k) (are.of_objects q k below set) }
+  marks_still : (marks : ℕ → ℕ) → AreMarks config marks r.block → AreMarks config marks (live config memory graph asking copies)
+  marks_still marks are = record { small = are.small; of_objects = λ q k below set. still_markable (address_at config q k) (are.of_objects q k below set) }
 
-  module _ (on : m Phase ≡ 1) where
+  module _ (on : memory Phase ≡ 1) where
     abbrev s : Snapshot
     s = r.ghost.snapshot
 
-    older_of : (a refs nums : ℕ) (name : Name) → IsMarkable r.block a → live c m g asking copies a ≡ Some (thing name refs nums)
-        → (s.block a ≡ Some (thing name refs nums)) ⊎ ((s.starts a ≡ true) ⊎ IsYoung c s.top a)
-    older_of a refs nums name (IsMarkable.object n more less here) is =
-        (r.shared.marked.marking on).older a refs nums name (here ∙ sym (live_at c m g asking copies a (thing n more less) here) ∙ is)
-    older_of a refs nums name (IsMarkable.to_come seat words here) is = inr (inl ((r.shared.marked.marking on).promises a seat words here))
+    older_of : (address refs nums : ℕ) (name : Name) → IsMarkable r.block address → live config memory graph asking copies address ≡ Some (thing name refs nums)
+        → (s.block address ≡ Some (thing name refs nums)) ⊎ ((s.starts address ≡ true) ⊎ IsYoung config s.top address)
+    older_of address refs nums name (IsMarkable.object n more less here) is =
+        (r.shared.marked.marking on).older address refs nums name (here ∙ sym (live_at config memory graph asking copies address (thing n more less) here) ∙ is)
+    older_of address refs nums name (IsMarkable.to_come seat words here) is = inr (inl ((r.shared.marked.marking on).promises address seat words here))
 
-    pub is_marking : IsMarking c m (live c m g asking copies)
+    pub is_marking : IsMarking config memory (live config memory graph asking copies)
     is_marking =
         let was = r.shared.marked in
         let now = was.marking on in
         record {
           ghost = r.ghost;
-          object = (with_promised g (promises_of c g asking)).object;
+          object = (with_promised graph (promises_of config graph asking)).object;
           marked = record {
             empty = λ other. absurd (other refl);
             traced = was.traced;
             led = was.led;
             old = was.old;
-            kept = λ a refs nums name is. live_at c m g asking copies a (thing name refs nums) (was.kept a refs nums name is);
+            kept = λ a refs nums name is. live_at config memory graph asking copies a (thing name refs nums) (was.kept a refs nums name is);
             floors = was.floors;
             marking = λ _. record {
               older = λ a refs nums name is. older_of a refs nums name (live_markable a refs nums name is) is;
-              promises = λ a seat words is. absurd (live_unpromised c m g asking copies a seat words is);
-              deads = λ a words is. now.deads a words (live_dead c m g asking copies a words is);
-              young = λ a seat x is room. now.young a seat x (live_room c m g asking copies a seat x is room) room;
+              promises = λ a seat words is. absurd (live_unpromised config memory graph asking copies a seat words is);
+              deads = λ a words is. now.deads a words (live_dead config memory graph asking copies a words is);
+              young = λ a seat x is room. now.young a seat x (live_room config memory graph asking copies a seat x is room) room;
               tams_are = now.tams_are;
-              greys = marks_still (λ q. m (Grey q)) now.greys;
-              blacks = marks_still (λ q. m (Black q)) now.blacks;
-              entries = record { few = now.entries.few; of_objects = λ t k inside below. still_markable (m (Buffer t k)) (now.entries.of_objects t k inside below) };
+              greys = marks_still (λ q. memory (Grey q)) now.greys;
+              blacks = marks_still (λ q. memory (Black q)) now.blacks;
+              entries = record { few = now.entries.few; of_objects = λ t k inside below. still_markable (memory (Buffer t k)) (now.entries.of_objects t k inside below) };
             };
           };
           unmarking = r.unmarking;
           objects = record {
-            each = λ a refs nums name is. object_at c m g asking copies a refs nums name (live_markable a refs nums name is) is;
+            each = λ a refs nums name is. object_at config memory graph asking copies a refs nums name (live_markable a refs nums name is) is;
             once = λ a b refs nums more_refs more_nums name is_a is_b.
-                once_each c m g asking copies a b refs nums more_refs more_nums name (live_markable a refs nums name is_a) (live_markable b more_refs more_nums name is_b) is_a is_b;
+                once_each config memory graph asking copies a b refs nums more_refs more_nums name (live_markable a refs nums name is_a) (live_markable b more_refs more_nums name is_b) is_a is_b;
           };
           uncollected = calm;
         }
 
     -- so once the marks are closed each of them is kept, and lies in no dead region; and what is black can be marked
-    abbrev holds : HoldsBy c m (live c m g asking copies) r.ghost.owner (promises_of c g asking) g
-    holds = holds_by c m g asking copies
+    abbrev holds : HoldsBy config memory (live config memory graph asking copies) r.ghost.owner (promises_of config graph asking) graph
+    holds = holds_by config memory graph asking copies
 
-    pub markable_kept : (a : ℕ) → IsMarkable r.block a → IsKept c (closed c m) a
-    markable_kept a is =
-        object_kept c m (live c m g asking copies) r.ghost.owner (promises_of c g asking) g holds is_marking a
-        (markable_object c m (live c m g asking copies) r.ghost.owner (promises_of c g asking) g holds is_marking a (still_markable a is))
+    pub markable_kept : (address : ℕ) → IsMarkable r.block address → IsKept config (closed config memory) address
+    markable_kept address is =
+        object_kept config memory (live config memory graph asking copies) r.ghost.owner (promises_of config graph asking) graph holds is_marking address
+        (markable_object config memory (live config memory graph asking copies) r.ghost.owner (promises_of config graph asking) graph holds is_marking address (still_markable address is))
 
-    pub markable_alive : (a : ℕ) → IsMarkable r.block a → dead_in c m (region_with c a) ≡ false
-    markable_alive a is =
-        object_alive c m (live c m g asking copies) r.ghost.owner (promises_of c g asking) g holds is_marking a
-        (markable_object c m (live c m g asking copies) r.ghost.owner (promises_of c g asking) g holds is_marking a (still_markable a is))
+    pub markable_alive : (address : ℕ) → IsMarkable r.block address → dead_in config memory (region_with config address) ≡ false
+    markable_alive address is =
+        object_alive config memory (live config memory graph asking copies) r.ghost.owner (promises_of config graph asking) graph holds is_marking address
+        (markable_object config memory (live config memory graph asking copies) r.ghost.owner (promises_of config graph asking) graph holds is_marking address (still_markable address is))
 
-    pub closed_markable : (a : ℕ) → is_black c (closed c m) a ≡ true → IsMarkable r.block a
-    closed_markable a is = was_markable a (⊎_elim
-        (λ (was : is_black c m a ≡ true). black_markable c m (live c m g asking copies) r.ghost.owner (promises_of c g asking) g holds is_marking a was)
-        (λ (traced : IsTraced c m a). traced_markable c m (live c m g asking copies) r.ghost.owner (promises_of c g asking) g holds is_marking a traced)
-        (((are_closed c m (live c m g asking copies) r.ghost.owner (promises_of c g asking) g holds is_marking).black a).0 is))
+    pub closed_markable : (address : ℕ) → is_black config (closed config memory) address ≡ true → IsMarkable r.block address
+    closed_markable address is = was_markable address (⊎_elim
+        (λ (was : is_black config memory address ≡ true). black_markable config memory (live config memory graph asking copies) r.ghost.owner (promises_of config graph asking) graph holds is_marking address was)
+        (λ (traced : IsTraced config memory address). traced_markable config memory (live config memory graph asking copies) r.ghost.owner (promises_of config graph asking) graph holds is_marking address traced)
+        (((are_closed config memory (live config memory graph asking copies) r.ghost.owner (promises_of config graph asking) graph holds is_marking).black address).0 is))

@@ -42,17 +42,17 @@ bits_none test first (suc k) none =
     ap (λ b. one b * 2 ^ k + bits_of test first k) (none k (omega arith)) ∙ omega (arith, rest)
 
 -- addresses of the heap have no bits behind the words of marks
-marks_outside : (c : Config) (set : ℕ → Bool) → ((a : ℕ) → c.region_words ≤ a → set a ≡ true → a < heap_end c) → (q : ℕ) → is_word c (Grey q) ≡ false → mark_bits c set q ≡ 0
-marks_outside c set within q other = bits_none set (c.region_words + 64 * q) 64 (λ k below. ⊎_elim
-    (λ (is : set (c.region_words + 64 * q + k) ≡ true).
-    let low = within (c.region_words + 64 * q + k) (omega arith) is in
-    let past : bit_words c ≤ q = ltb-false q (bit_words c) other in
+marks_outside : (config : Config) (set : ℕ → Bool) → ((a : ℕ) → config.region_words ≤ a → set a ≡ true → a < heap_end config) → (q : ℕ) → is_word config (Grey q) ≡ false → mark_bits config set q ≡ 0
+marks_outside config set within q other = bits_none set (config.region_words + 64 * q) 64 (λ k below. ⊎_elim
+    (λ (is : set (config.region_words + 64 * q + k) ≡ true).
+    let low = within (config.region_words + 64 * q + k) (omega arith) is in
+    let past : bit_words config ≤ q = ltb-false q (bit_words config) other in
     absurd (omega (arith, low, past)))
     (λ none. none)
-    (cases_Bool (set (c.region_words + 64 * q + k))))
+    (cases_Bool (set (config.region_words + 64 * q + k))))
 
 -- 0, if a region is freed or not
-pub if_zero : (b : Bool) (x : ℕ) → x ≡ 0 → (if b then 0 else x) ≡ 0
+pub if_zero : (holds : Bool) (x : ℕ) → x ≡ 0 → (if holds then 0 else x) ≡ 0
 if_zero true x is = refl
 if_zero false x is = is
 
@@ -60,51 +60,51 @@ or_zero : (x y : ℕ) → x ≡ 0 → y ≡ 0 → bit_or x y ≡ 0
 or_zero x y left right = ap (λ k. bit_or k y) left ∙ ap (bit_or 0) right
 
 -- an edge is no higher than the top
-pub edge_zero : (c : Config) (m : Word → ℕ) (q : ℕ) → m (Top q) ≡ 0 → edge c m q ≡ 0
-edge_zero c m q none = (let low = (edges_lie c m q).below_top in omega (arith, low, none))
+pub edge_zero : (config : Config) (memory : Word → ℕ) (region : ℕ) → memory (Top region) ≡ 0 → edge config memory region ≡ 0
+edge_zero config memory region none = (let low = (edges_lie config memory region).below_top in omega (arith, low, none))
 
 -- regions are freed
-pub freed_outside : (c : Config) (out : ℕ → Bool) (m : Word → ℕ) → IsZeroOutside c m → IsZeroOutside c (freed c out m)
-freed_outside c out m nothing (Top q) other = if_zero (out q) (m (Top q)) (nothing (Top q) other)
-freed_outside c out m nothing (Tams q) other = if_zero (out q) (m (Tams q)) (nothing (Tams q) other)
-freed_outside c out m nothing (Limit q) other = if_zero (out q) (m (Limit q)) (nothing (Limit q) other)
-freed_outside c out m nothing Free other = absurd (true≢false other)
-freed_outside c out m nothing word other = nothing word other
+pub freed_outside : (config : Config) (out : ℕ → Bool) (memory : Word → ℕ) → IsZeroOutside config memory → IsZeroOutside config (freed config out memory)
+freed_outside config out memory nothing (Top q) other = if_zero (out q) (memory (Top q)) (nothing (Top q) other)
+freed_outside config out memory nothing (Tams q) other = if_zero (out q) (memory (Tams q)) (nothing (Tams q) other)
+freed_outside config out memory nothing (Limit q) other = if_zero (out q) (memory (Limit q)) (nothing (Limit q) other)
+freed_outside config out memory nothing Free other = absurd (true≢false other)
+freed_outside config out memory nothing word other = nothing word other
 
-module _ (c : Config) (m : Word → ℕ) (block : Plot) (owner : ℕ → Option ℕ) (p : Promises) (g : Graph) (holds : HoldsBy c m block owner p g) (nothing : IsZeroOutside c m) where
-  root_within : m Cset ≡ 0 → (a : ℕ) → c.region_words ≤ a → has (held_words c m) a ≡ true → a < heap_end c
+module _ (config : Config) (memory : Word → ℕ) (block : Plot) (owner : ℕ → Option ℕ) (promises : Promises) (graph : Graph) (holds : HoldsBy config memory block owner promises graph) (nothing : IsZeroOutside config memory) where
+  root_within : memory Cset ≡ 0 → (a : ℕ) → config.region_words ≤ a → has (held_words config memory) a ≡ true → a < heap_end config
   root_within calm a high is =
-      let long = c.in_range.least_words in
-      let object = reached_object c m block owner p g holds calm a (root_reached c m block owner p g holds calm a is (λ none. omega (arith, none, long, high))) in
-      let at = object_above c m block owner p g holds calm a object.refs object.nums object.name object.here in
+      let long = config.in_range.least_words in
+      let object = reached_object config memory block owner promises graph holds calm a (root_reached config memory block owner promises graph holds calm a is (λ none. omega (arith, none, long, high))) in
+      let at = object_above config memory block owner promises graph holds calm a object.refs object.nums object.name object.here in
       omega (arith, at.1)
 
-  begun_outside : m Cset ≡ 0 → IsZeroOutside c (marking_begun c m)
-  begun_outside calm (Grey q) other = marks_outside c (has (held_words c m)) (root_within calm) q other
+  begun_outside : memory Cset ≡ 0 → IsZeroOutside config (marking_begun config memory)
+  begun_outside calm (Grey q) other = marks_outside config (has (held_words config memory)) (root_within calm) q other
   begun_outside calm (Black q) other = refl
-  begun_outside calm (Tams q) other = edge_zero c m q (nothing (Top q) other)
+  begun_outside calm (Tams q) other = edge_zero config memory q (nothing (Top q) other)
   begun_outside calm (Count t) other = refl
   begun_outside calm Claim other = refl
   begun_outside calm Ask other = refl
   begun_outside calm Phase other = absurd (true≢false other)
   begun_outside calm word other = nothing word other
 
-  traced_within : IsMarking c m block → (a : ℕ) → c.region_words ≤ a → has (traced_in c m) a ≡ true → a < heap_end c
+  traced_within : IsMarking config memory block → (a : ℕ) → config.region_words ≤ a → has (traced_in config memory) a ≡ true → a < heap_end config
   traced_within marking a high is =
-      let at = inside c m block owner p g holds marking a (listed_traced c m (c.regions * c.region_words) a is) in
+      let at = inside config memory block owner promises graph holds marking a (listed_traced config memory (config.regions * config.region_words) a is) in
       omega (arith, at.1)
 
-  closed_outside : IsMarking c m block → IsZeroOutside c (closed c m)
-  closed_outside marking (Grey q) other = or_zero (m (Grey q)) (mark_bits c (has (traced_in c m)) q) (nothing (Grey q) other) (marks_outside c (has (traced_in c m)) (traced_within marking) q other)
-  closed_outside marking (Black q) other = or_zero (m (Black q)) (mark_bits c (has (traced_in c m)) q) (nothing (Black q) other) (marks_outside c (has (traced_in c m)) (traced_within marking) q other)
+  closed_outside : IsMarking config memory block → IsZeroOutside config (closed config memory)
+  closed_outside marking (Grey q) other = or_zero (memory (Grey q)) (mark_bits config (has (traced_in config memory)) q) (nothing (Grey q) other) (marks_outside config (has (traced_in config memory)) (traced_within marking) q other)
+  closed_outside marking (Black q) other = or_zero (memory (Black q)) (mark_bits config (has (traced_in config memory)) q) (nothing (Black q) other) (marks_outside config (has (traced_in config memory)) (traced_within marking) q other)
   closed_outside marking (Count t) other = refl
   closed_outside marking word other = nothing word other
 
-  pub final_outside : IsMarking c m block → IsZeroOutside c (final_marked c m)
-  final_outside marking = freed_outside c (dead_in c m) (closed c m) (closed_outside marking)
+  pub final_outside : IsMarking config memory block → IsZeroOutside config (final_marked config memory)
+  final_outside marking = freed_outside config (dead_in config memory) (closed config memory) (closed_outside marking)
 
 -- So it is where buffers are settled first.
-pub init_outside : (c : Config) (m : Word → ℕ) (block : Plot) (owner : ℕ → Option ℕ) (p : Promises) (g : Graph) → HoldsBy c m block owner p g → IsZeroOutside c m → m Cset ≡ 0 → IsZeroOutside c (init_marked c m)
-init_outside c m block owner p g holds nothing calm =
-    begun_outside c (buffers_settled c m) (settled_block c m block) owner p g (settling_holds c m (no_seats c m nothing) block owner p g holds).holds
-    (settled_outside c m nothing (buffers_inside c m block holds.objects.plotted holds.buffers)) (settled_same Cset (λ never. never) c m (seat_count c.mutators c.helpers) ∙ calm)
+pub init_outside : (config : Config) (memory : Word → ℕ) (block : Plot) (owner : ℕ → Option ℕ) (promises : Promises) (graph : Graph) → HoldsBy config memory block owner promises graph → IsZeroOutside config memory → memory Cset ≡ 0 → IsZeroOutside config (init_marked config memory)
+init_outside config memory block owner promises graph holds nothing calm =
+    begun_outside config (buffers_settled config memory) (settled_block config memory block) owner promises graph (settling_holds config memory (no_seats config memory nothing) block owner promises graph holds).holds
+    (settled_outside config memory nothing (buffers_inside config memory block holds.objects.plotted holds.buffers)) (settled_same Cset (λ never. never) config memory (seat_count config.mutators config.helpers) ∙ calm)

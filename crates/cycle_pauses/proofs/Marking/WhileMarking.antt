@@ -23,8 +23,8 @@ use Rattle.cycle_pauses.proofs.Marking.Beginning.{begun}
 use Rattle.cycle_pauses.proofs.Marking.Ending.{plot, ghost, marked_out}
 
 -- there is no collection set while objects are marked
-calm_at : (c : Config) (m : Word → ℕ) (g : Graph) (asking : ℕ → Asking) (r : Represents c m g asking) → m Phase ≡ 1 → m Cset ≡ 0
-calm_at c m g asking r on = r.shared.phased.cset_is (omega (arith, on))
+calm_at : (config : Config) (memory : Word → ℕ) (graph : Graph) (asking : ℕ → Asking) (r : Represents config memory graph asking) → memory Phase ≡ 1 → memory Cset ≡ 0
+calm_at config memory graph asking r on = r.shared.phased.cset_is (omega (arith, on))
 
 pub marking_stands : MarkingStands
 marking_stands c m g asking r on =

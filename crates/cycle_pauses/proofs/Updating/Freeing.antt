@@ -9,17 +9,17 @@ use Rattle.cycle_words.specs.Updating.Changes.{is_chosen}
 use Rattle.cycle_pauses.specs.Updating.Laws.{SetIsFreed}
 
 -- a region is chosen where it is in the set
-pub chosen_if : (m : Word → ℕ) (r : ℕ) → IsIn (m Cset) r → is_chosen m r ≡ true
-chosen_if m r is = eq-eqb (bit_at (m Cset) r) 1 is
+pub chosen_if : (memory : Word → ℕ) (region : ℕ) → IsIn (memory Cset) region → is_chosen memory region ≡ true
+chosen_if memory region is = eq-eqb (bit_at (memory Cset) region) 1 is
 
-pub spared_if : (m : Word → ℕ) (r : ℕ) → (IsIn (m Cset) r → ⊥) → is_chosen m r ≡ false
-spared_if m r away = ne_eqb (bit_at (m Cset) r) 1 away
+pub spared_if : (memory : Word → ℕ) (region : ℕ) → (IsIn (memory Cset) region → ⊥) → is_chosen memory region ≡ false
+spared_if memory region away = ne_eqb (bit_at (memory Cset) region) 1 away
 
-pub not_in_set : (m : Word → ℕ) (r : ℕ) → is_chosen m r ≡ false → IsIn (m Cset) r → ⊥
-not_in_set m r spared is = true≢false (sym (chosen_if m r is) ∙ spared)
+pub not_in_set : (memory : Word → ℕ) (region : ℕ) → is_chosen memory region ≡ false → IsIn (memory Cset) region → ⊥
+not_in_set memory region spared is = true≢false (sym (chosen_if memory region is) ∙ spared)
 
-pub in_set : (m : Word → ℕ) (r : ℕ) → is_chosen m r ≡ true → IsIn (m Cset) r
-in_set m r is = eqb-true (bit_at (m Cset) r) 1 is
+pub in_set : (memory : Word → ℕ) (region : ℕ) → is_chosen memory region ≡ true → IsIn (memory Cset) region
+in_set memory region is = eqb-true (bit_at (memory Cset) region) 1 is
 
 pub set_is_freed : SetIsFreed
 set_is_freed = record {

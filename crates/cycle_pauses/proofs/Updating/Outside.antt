@@ -12,21 +12,21 @@ use Rattle.cycle_words.specs.Marking.Final.{freed}
 use Rattle.cycle_pauses.proofs.Marking.Outside.{if_zero, edge_zero, freed_outside}
 use Rattle.cycle_words.specs.Updating.Changes.{is_chosen, updating_begun, init_updated, cycle_ended, final_updated}
 
-begun_outside : (c : Config) (m : Word → ℕ) → IsZeroOutside c m → IsZeroOutside c (updating_begun c m)
-begun_outside c m nothing (Limit q) other = if_zero (is_chosen m q) (edge c m q) (edge_zero c m q (nothing (Top q) other))
-begun_outside c m nothing Phase other = absurd (true≢false other)
-begun_outside c m nothing Evac other = refl
-begun_outside c m nothing Claim other = refl
-begun_outside c m nothing word other = nothing word other
+begun_outside : (config : Config) (memory : Word → ℕ) → IsZeroOutside config memory → IsZeroOutside config (updating_begun config memory)
+begun_outside config memory nothing (Limit q) other = if_zero (is_chosen memory q) (edge config memory q) (edge_zero config memory q (nothing (Top q) other))
+begun_outside config memory nothing Phase other = absurd (true≢false other)
+begun_outside config memory nothing Evac other = refl
+begun_outside config memory nothing Claim other = refl
+begun_outside config memory nothing word other = nothing word other
 
-pub init_outside : (c : Config) (m : Word → ℕ) → AreInside c m → IsZeroOutside c m → IsZeroOutside c (init_updated c m)
-init_outside c m inside nothing = begun_outside c (buffers_settled c m) (settled_outside c m nothing inside)
+pub init_outside : (config : Config) (memory : Word → ℕ) → AreInside config memory → IsZeroOutside config memory → IsZeroOutside config (init_updated config memory)
+init_outside config memory inside nothing = begun_outside config (buffers_settled config memory) (settled_outside config memory nothing inside)
 
-pub cycle_outside : (c : Config) (m : Word → ℕ) → IsZeroOutside c m → IsZeroOutside c (cycle_ended m)
-cycle_outside c m nothing Phase other = refl
-cycle_outside c m nothing Cset other = refl
-cycle_outside c m nothing Claim other = refl
-cycle_outside c m nothing word other = nothing word other
+pub cycle_outside : (config : Config) (memory : Word → ℕ) → IsZeroOutside config memory → IsZeroOutside config (cycle_ended memory)
+cycle_outside config memory nothing Phase other = refl
+cycle_outside config memory nothing Cset other = refl
+cycle_outside config memory nothing Claim other = refl
+cycle_outside config memory nothing word other = nothing word other
 
-pub final_outside : (c : Config) (m : Word → ℕ) → IsZeroOutside c m → IsZeroOutside c (final_updated c m)
-final_outside c m nothing = cycle_outside c (freed c (is_chosen m) m) (freed_outside c (is_chosen m) m nothing)
+pub final_outside : (config : Config) (memory : Word → ℕ) → IsZeroOutside config memory → IsZeroOutside config (final_updated config memory)
+final_outside config memory nothing = cycle_outside config (freed config (is_chosen memory) memory) (freed_outside config (is_chosen memory) memory nothing)

@@ -19,47 +19,47 @@ use Rattle.cycle_words.proofs.Pinned.{same_pinned}
 use Rattle.cycle_pauses.specs.Updating.Laws.{NoneIsPinned}
 
 -- a slot that holds an address of a region
-record HasSlot (c : Config) (m : Word → ℕ) (q : ℕ) : Type 0 where
+record HasSlot (config : Config) (memory : Word → ℕ) (region : ℕ) : Type 0 where
   mutator : ℕ
   slot : ℕ
-  inside : mutator < c.mutators
+  inside : mutator < config.mutators
   few : slot < 4
-  from : base_of c q ≤ m (Pin mutator slot)
-  before : m (Pin mutator slot) < base_of c q + c.region_words
+  from : base_of config region ≤ memory (Pin mutator slot)
+  before : memory (Pin mutator slot) < base_of config region + config.region_words
 
-slot_there : (c : Config) (m : Word → ℕ) (q : ℕ) → is_pinned c m q ≡ true → HasSlot c m q
-slot_there c m q is =
-    let t = any_is (has_pin c m q) 0 c.mutators is in
+slot_there : (config : Config) (memory : Word → ℕ) (region : ℕ) → is_pinned config memory region ≡ true → HasSlot config memory region
+slot_there config memory region is =
+    let t = any_is (has_pin config memory region) 0 config.mutators is in
     let seat : 0 + t.0 ≡ t.0 = omega arith in
-    let i = any_is (λ k. lies_in c q (m (Pin t.0 k))) 0 4 (sym (ap (has_pin c m q) seat) ∙ t.2) in
+    let i = any_is (λ k. lies_in config region (memory (Pin t.0 k))) 0 4 (sym (ap (has_pin config memory region) seat) ∙ t.2) in
     let place : 0 + i.0 ≡ i.0 = omega arith in
-    let lies : lies_in c q (m (Pin t.0 i.0)) ≡ true = sym (ap (λ k. lies_in c q (m (Pin t.0 k))) place) ∙ i.2 in
-    let both = and_parts (nat_le (base_of c q) (m (Pin t.0 i.0))) (nat_lt (m (Pin t.0 i.0)) (base_of c q + c.region_words)) lies in
+    let lies : lies_in config region (memory (Pin t.0 i.0)) ≡ true = sym (ap (λ k. lies_in config region (memory (Pin t.0 k))) place) ∙ i.2 in
+    let both = and_parts (nat_le (base_of config region) (memory (Pin t.0 i.0))) (nat_lt (memory (Pin t.0 i.0)) (base_of config region + config.region_words)) lies in
     record {
       mutator = t.0;
       slot = i.0;
       inside = t.1;
       few = i.1;
-      from = leb-true (base_of c q) (m (Pin t.0 i.0)) both.0;
-      before = ltb-true (m (Pin t.0 i.0)) (base_of c q + c.region_words) both.1;
+      from = leb-true (base_of config region) (memory (Pin t.0 i.0)) both.0;
+      before = ltb-true (memory (Pin t.0 i.0)) (base_of config region + config.region_words) both.1;
     }
 
-module _ (c : Config) (m : Word → ℕ) (g : Graph) (asking : ℕ → Asking) (r : Represents c m g asking) (on : m Phase ≡ 3) where
+module _ (config : Config) (memory : Word → ℕ) (graph : Graph) (asking : ℕ → Asking) (r : Represents config memory graph asking) (on : memory Phase ≡ 3) where
   -- what a slot holds lies outside of the set
-  held_outside : (word : ℕ) (held : Option Pinned) (q : ℕ) → IsIn (m Cset) q → base_of c q ≤ word → word < base_of c q + c.region_words
-      → PinStands c (m Cset) (m Evac) r.block word held → ⊥
+  held_outside : (word : ℕ) (held : Option Pinned) (q : ℕ) → IsIn (memory Cset) q → base_of config q ≤ word → word < base_of config q + config.region_words
+      → PinStands config (memory Cset) (memory Evac) r.block word held → ⊥
   held_outside word None q member from before none =
-      let long = c.in_range.least_words in
-      let low : 1 * c.region_words ≤ (q + 1) * c.region_words = mul-le-mul_right c.region_words (omega arith) in
+      let long = config.in_range.least_words in
+      let low : 1 * config.region_words ≤ (q + 1) * config.region_words = mul-le-mul_right config.region_words (omega arith) in
       omega (arith, none, from, low, long)
   held_outside word (Some p) q member from before is =
-      let region : region_with c word ≡ q = regions_tile.of_no_other c q word (record { from = from; before = before }) in
-      (r.shared.updated on).outside word is.1 is.2 p.name is.3.piece (subst (IsIn (m Cset)) (sym region) member)
+      let region : region_with config word ≡ q = regions_tile.of_no_other config q word (record { from = from; before = before }) in
+      (r.shared.updated on).outside word is.1 is.2 p.name is.3.piece (subst (IsIn (memory Cset)) (sym region) member)
 
-  none_pinned : (q : ℕ) → IsIn (m Cset) q → is_pinned c m q ≡ false
-  none_pinned q member = false_from_ne_true (is_pinned c m q) (λ is.
-      let at = slot_there c m q is in
-      held_outside (m (Pin at.mutator at.slot)) (g.pin (at.mutator + 1) at.slot) q member at.from at.before (r.shared.pinned at.mutator at.slot at.inside at.few))
+  none_pinned : (region : ℕ) → IsIn (memory Cset) region → is_pinned config memory region ≡ false
+  none_pinned region member = false_from_ne_true (is_pinned config memory region) (λ is.
+      let at = slot_there config memory region is in
+      held_outside (memory (Pin at.mutator at.slot)) (graph.pin (at.mutator + 1) at.slot) region member at.from at.before (r.shared.pinned at.mutator at.slot at.inside at.few))
 
 pub none_is_pinned : NoneIsPinned
 none_is_pinned c m g asking r on q inside member = same_pinned c m (final_updated c m) (λ t i. refl) q ∙ none_pinned c m g asking r on q member

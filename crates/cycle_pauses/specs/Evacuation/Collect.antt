@@ -9,4 +9,4 @@ use Rattle.cycle_words.specs.Evacuation.Begun.{evac_begun}
 -- Marking has ended, and evacuation begins: the marks are closed, dead regions are freed, regions are chosen, and roots and
 -- answers cleared of them. Where no region is chosen the cycle is over.
 abbrev pub evac_next : Config → (Word → ℕ) → Word → ℕ
-evac_next c memory = evac_begun c (final_marked c memory) (chosen c (final_marked c memory))
+evac_next config memory = evac_begun config (final_marked config memory) (chosen config (final_marked config memory))

@@ -17,15 +17,15 @@ use Rattle.cycle_pauses.specs.Evacuation.Collect.{evac_next}
 
 -- The words that it leaves represent the same graph, with what mutators have asked for, also where one of them waits.
 abbrev pub EvacuationRepresents : Type 0
-EvacuationRepresents = (c : Config) (memory : Word → ℕ) (g : Graph) (asking : ℕ → Asking) → Represents c memory g asking → memory Phase ≡ marking_phase → HasNoMoreSeats c memory
-    → Represents c (evac_next c memory) g asking
+EvacuationRepresents = (config : Config) (memory : Word → ℕ) (graph : Graph) (asking : ℕ → Asking) → Represents config memory graph asking → memory Phase ≡ marking_phase → HasNoMoreSeats config memory
+    → Represents config (evac_next config memory) graph asking
 
 -- So do those that the beginning of evacuation leaves by itself, of any words that the end of marking may leave.
 abbrev pub EvacuationAloneRepresents : Type 0
-EvacuationAloneRepresents = (c : Config) (memory : Word → ℕ) (block : Plot) (ghost : Ghost) (g : Graph) (asking : ℕ → Asking) → IsMarkedOut c memory block ghost g asking
-    → CanBegin c memory → Represents c (evac_begun c memory (chosen c memory)) g asking
+EvacuationAloneRepresents = (config : Config) (memory : Word → ℕ) (block : Plot) (ghost : Ghost) (graph : Graph) (asking : ℕ → Asking) → IsMarkedOut config memory block ghost graph asking
+    → CanBegin config memory → Represents config (evac_begun config memory (chosen config memory)) graph asking
 
 -- So it is what a pause owes, where no mutator waits.
 abbrev pub EvacuationBegins : Type 0
-EvacuationBegins = (c : Config) (memory : Word → ℕ) (g : Graph) (asking : ℕ → Asking) → Represents c memory g asking → memory Phase ≡ marking_phase → bit_at (memory Ask) 1 ≡ 0
-    → HasNoMoreSeats c memory → IsPaused c memory (evac_next c memory) g asking
+EvacuationBegins = (config : Config) (memory : Word → ℕ) (graph : Graph) (asking : ℕ → Asking) → Represents config memory graph asking → memory Phase ≡ marking_phase → bit_at (memory Ask) 1 ≡ 0
+    → HasNoMoreSeats config memory → IsPaused config memory (evac_next config memory) graph asking

@@ -15,17 +15,17 @@ use Rattle.cycle_words.specs.Finishing.Copies.{CanCopyFrom, all_copied, is_room_
 
 -- The words stand for the same graph, but that roots may name old copies; where all found room no object has its current copy in the
 -- collection set any more, but in pinned regions; and words that copying does not write stay.
-pub record IsCopiedAll (c : Config) (memory : Word → ℕ) (g : Graph) (asking : ℕ → Asking) : Type 0 where
-  pub stands : RepresentsByCopies c (all_copied c memory) g asking
-  pub none_left : is_room_for_all c memory ≡ true → (a refs nums : ℕ) (name : Name) → stands.block a ≡ Some (thing name refs nums)
-      → IsCollected c (all_copied c memory Cset) a → is_pinned c memory (region_with c a) ≡ true
-  pub same : (word : Word) → (MayChange word → ⊥) → all_copied c memory word ≡ memory word
+pub record IsCopiedAll (config : Config) (memory : Word → ℕ) (graph : Graph) (asking : ℕ → Asking) : Type 0 where
+  pub stands : RepresentsByCopies config (all_copied config memory) graph asking
+  pub none_left : is_room_for_all config memory ≡ true → (address refs nums : ℕ) (name : Name) → stands.block address ≡ Some (thing name refs nums)
+      → IsCollected config (all_copied config memory Cset) address → is_pinned config memory (region_with config address) ≡ true
+  pub same : (word : Word) → (MayChange word → ⊥) → all_copied config memory word ≡ memory word
 
 -- Words that represent a graph do so by copies once all that is left was copied, or what found room.
 abbrev pub CopyingKeeps : Type 0
-CopyingKeeps = (c : Config) (memory : Word → ℕ) (g : Graph) (asking : ℕ → Asking) → Represents c memory g asking → IsCopiedAll c memory g asking
+CopyingKeeps = (config : Config) (memory : Word → ℕ) (graph : Graph) (asking : ℕ → Asking) → Represents config memory graph asking → IsCopiedAll config memory graph asking
 
 -- And while objects are evacuated what is left can be copied out, one object after the other.
 abbrev pub LeftCanBeCopied : Type 0
-LeftCanBeCopied = (c : Config) (memory : Word → ℕ) (g : Graph) (asking : ℕ → Asking) → Represents c memory g asking → memory Phase ≡ evacuation_phase
-    → CanCopyFrom c memory c.region_words (c.regions * c.region_words)
+LeftCanBeCopied = (config : Config) (memory : Word → ℕ) (graph : Graph) (asking : ℕ → Asking) → Represents config memory graph asking → memory Phase ≡ evacuation_phase
+    → CanCopyFrom config memory config.region_words (config.regions * config.region_words)

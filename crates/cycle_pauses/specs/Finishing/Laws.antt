@@ -19,31 +19,31 @@ use Rattle.cycle_words.specs.Finishing.Copies.{is_room_for_all}
 use Rattle.cycle_words.specs.Finishing.Finish.{cycle_finished, finished, is_whole, CanFinish}
 
 -- The pause did what it owes, and whoever asks is given what it asks for.
-pub record IsWholePause (c : Config) (before after : Word → ℕ) (g : Graph) (asking : ℕ → Asking) : Type 0 where
-  pub paused : IsPaused c before after g asking
-  pub given_all : (t refs nums : ℕ) → t < c.mutators → asking t ≡ asks refs nums → paused.asked_then t ≡ given refs nums
+pub record IsWholePause (config : Config) (before after : Word → ℕ) (graph : Graph) (asking : ℕ → Asking) : Type 0 where
+  pub paused : IsPaused config before after graph asking
+  pub given_all : (mutator refs nums : ℕ) → mutator < config.mutators → asking mutator ≡ asks refs nums → paused.asked_then mutator ≡ given refs nums
 
 -- Where each object that was left found room, and each request, finishing the cycle is such a pause, in whatever phase.
 abbrev pub WholeIsPause : Type 0
-WholeIsPause = (c : Config) (memory : Word → ℕ) (g : Graph) (asking : ℕ → Asking) → Represents c memory g asking → HasNoMoreSeats c memory → is_whole c memory ≡ true
-    → IsWholePause c memory (finished c memory) g asking
+WholeIsPause = (config : Config) (memory : Word → ℕ) (graph : Graph) (asking : ℕ → Asking) → Represents config memory graph asking → HasNoMoreSeats config memory → is_whole config memory ≡ true
+    → IsWholePause config memory (finished config memory) graph asking
 
 -- Else a full collection of the words that it leaves does what the pause owes: they hold the same graph still, by pieces each of which
 -- says how many words it has.
-pub record ShortHolds (c : Config) (memory : Word → ℕ) (g : Graph) (asking : ℕ → Asking) : Type 0 where
-  pub holds : (block : Plot) × (owner : ℕ → Option ℕ) × (p : Promises) × HoldsBy c (finished c memory) block owner p g × AreSized (finished c memory) block
-  pub paused : IsPaused c memory (full c (finished c memory)) g asking
+pub record ShortHolds (config : Config) (memory : Word → ℕ) (graph : Graph) (asking : ℕ → Asking) : Type 0 where
+  pub holds : (block : Plot) × (owner : ℕ → Option ℕ) × (promises : Promises) × HoldsBy config (finished config memory) block owner promises graph × AreSized (finished config memory) block
+  pub paused : IsPaused config memory (full config (finished config memory)) graph asking
 
 abbrev pub ShortIsPause : Type 0
-ShortIsPause = (c : Config) (memory : Word → ℕ) (g : Graph) (asking : ℕ → Asking) → Represents c memory g asking → HasNoMoreSeats c memory → is_whole c memory ≡ false
-    → ShortHolds c memory g asking
+ShortIsPause = (config : Config) (memory : Word → ℕ) (graph : Graph) (asking : ℕ → Asking) → Represents config memory graph asking → HasNoMoreSeats config memory → is_whole config memory ≡ false
+    → ShortHolds config memory graph asking
 
 -- Before requests are served, and once buffers were let go, each region of the collection set that is not pinned is free, where each object that
 -- was left found room.
 abbrev pub SetIsFree : Type 0
-SetIsFree = (c : Config) (memory : Word → ℕ) (g : Graph) (asking : ℕ → Asking) → Represents c memory g asking → is_room_for_all c (let_go c memory) ≡ true
-    → (r : ℕ) → r < c.regions → IsIn (memory Cset) r → is_pinned c memory r ≡ false → IsFreed (cycle_finished c (let_go c memory)) r
+SetIsFree = (config : Config) (memory : Word → ℕ) (graph : Graph) (asking : ℕ → Asking) → Represents config memory graph asking → is_room_for_all config (let_go config memory) ≡ true
+    → (region : ℕ) → region < config.regions → IsIn (memory Cset) region → is_pinned config memory region ≡ false → IsFreed (cycle_finished config (let_go config memory)) region
 
 -- Words that represent a graph are such that a cycle can be finished.
 abbrev pub RepresentingCanFinish : Type 0
-RepresentingCanFinish = (c : Config) (memory : Word → ℕ) (g : Graph) (asking : ℕ → Asking) → Represents c memory g asking → HasNoMoreSeats c memory → CanFinish c memory
+RepresentingCanFinish = (config : Config) (memory : Word → ℕ) (graph : Graph) (asking : ℕ → Asking) → Represents config memory graph asking → HasNoMoreSeats config memory → CanFinish config memory

@@ -9,7 +9,7 @@ use Rattle.image_graph.specs.Full.{full}
 
 -- the words of the image in a memory, in the order of their places
 abbrev pub words_of_image : Config → (Word → ℕ) → List ℕ
-words_of_image c memory = map (λ k. memory (name_of c (image_start c + k))) (range_with_len 0 (image_words c))
+words_of_image config memory = map (λ k. memory (name_of config (image_start config + k))) (range_with_len 0 (image_words config))
 
 -- and those after a full collection
 abbrev pub full_image : Change

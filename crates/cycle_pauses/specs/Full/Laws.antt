@@ -16,26 +16,26 @@ use Rattle.cycle_pauses.specs.Full.Image.{full_image}
 -- Words that represent a graph, with what mutators have asked for, hold a graph in the sense of the full collection, in a way in which
 -- each piece says how many words it has.
 abbrev pub RepresentingHolds : Type 0
-RepresentingHolds = (c : Config) (memory : Word → ℕ) (g : Graph) (asking : ℕ → Asking) → Represents c memory g asking → HoldsSized c memory
+RepresentingHolds = (config : Config) (memory : Word → ℕ) (graph : Graph) (asking : ℕ → Asking) → Represents config memory graph asking → HoldsSized config memory
 
 -- They do so in a way in which each piece says how many words it has, and what finishing a cycle asks for holds: what the single calls of a
 -- pause ask for where they keep the graph.
 abbrev pub RepresentingIsSized : Type 0
-RepresentingIsSized = (c : Config) (memory : Word → ℕ) (g : Graph) (asking : ℕ → Asking) → Represents c memory g asking
-    → (block : Plot) × (owner : ℕ → Option ℕ) × (p : Promises) × HoldsBy c memory block owner p g × AreSized memory block × WhileCollecting c memory block
+RepresentingIsSized = (config : Config) (memory : Word → ℕ) (graph : Graph) (asking : ℕ → Asking) → Represents config memory graph asking
+    → (block : Plot) × (owner : ℕ → Option ℕ) × (promises : Promises) × HoldsBy config memory block owner promises graph × AreSized memory block × WhileCollecting config memory block
 
 -- By their names the words of an image after a full collection are those that a full collection makes of its words.
 abbrev pub ImageIsFull : Type 0
-ImageIsFull = (c : Config) (image : List ℕ) → length image ≡ image_words c → HoldsSome c (image_view c image) → image_view c (full_image c image) ≡ full c (image_view c image)
+ImageIsFull = (config : Config) (image : List ℕ) → length image ≡ image_words config → HoldsSome config (image_view config image) → image_view config (full_image config image) ≡ full config (image_view config image)
 
 -- So a table that reads as a full collection makes of an image is that image after it, behind words that are 0.
 abbrev pub TableIsFull : Type 0
-TableIsFull = (c : Config) (image table : List ℕ) → length image ≡ image_words c → length table ≡ table_words c → HoldsSome c (image_view c image)
-    → view c table ≡ full c (image_view c image) → table ≡ replicate (image_start c) 0 ++ full_image c image
+TableIsFull = (config : Config) (image table : List ℕ) → length image ≡ image_words config → length table ≡ table_words config → HoldsSome config (image_view config image)
+    → view config table ≡ full config (image_view config image) → table ≡ replicate (image_start config) 0 ++ full_image config image
 
 -- A full collection does what a pause owes also where roots name old copies: it needs no root that may be used.
 abbrev pub FullFromCopies : Type 0
-FullFromCopies = (c : Config) (memory : Word → ℕ) (g : Graph) (asking : ℕ → Asking) → RepresentsByCopies c memory g asking → IsPaused c memory (full c memory) g asking
+FullFromCopies = (config : Config) (memory : Word → ℕ) (graph : Graph) (asking : ℕ → Asking) → RepresentsByCopies config memory graph asking → IsPaused config memory (full config memory) graph asking
 
 -- A full collection is a pause: it keeps the length of the image, and where the words represent a graph it keeps the graph,
 -- answers each mutator that asks, and refuses an object only where the heap is crowded.

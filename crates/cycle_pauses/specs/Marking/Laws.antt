@@ -18,24 +18,24 @@ use Rattle.cycle_pauses.specs.Marking.MarkedOut.{IsMarkedOut}
 
 -- Words that represent a graph while objects are marked hold it, and marking comes to each object that can be reached.
 abbrev pub MarkingStands : Type 0
-MarkingStands = (c : Config) (memory : Word → ℕ) (g : Graph) (asking : ℕ → Asking) → Represents c memory g asking → memory Phase ≡ marking_phase
-    → (block : Plot) × (owner : ℕ → Option ℕ) × (p : Promises) × HoldsBy c memory block owner p g × IsMarking c memory block
+MarkingStands = (config : Config) (memory : Word → ℕ) (graph : Graph) (asking : ℕ → Asking) → Represents config memory graph asking → memory Phase ≡ marking_phase
+    → (block : Plot) × (owner : ℕ → Option ℕ) × (promises : Promises) × HoldsBy config memory block owner promises graph × IsMarking config memory block
 
 -- So once the marks are closed, each object that can be reached is marked or has been allocated since mark start.
 abbrev pub ReachableAreMarked : Type 0
-ReachableAreMarked = (c : Config) (memory : Word → ℕ) (g : Graph) (asking : ℕ → Asking) → Represents c memory g asking → memory Phase ≡ marking_phase
-    → (block : Plot) × (owner : ℕ → Option ℕ) × (p : Promises) × HoldsBy c (closed c memory) block owner p g × IsMarkedThrough c (closed c memory) block
+ReachableAreMarked = (config : Config) (memory : Word → ℕ) (graph : Graph) (asking : ℕ → Asking) → Represents config memory graph asking → memory Phase ≡ marking_phase
+    → (block : Plot) × (owner : ℕ → Option ℕ) × (promises : Promises) × HoldsBy config (closed config memory) block owner promises graph × IsMarkedThrough config (closed config memory) block
 
 -- no mutator asks for an object
 abbrev pub NobodyAsks : Config → (ℕ → Asking) → Type 0
-NobodyAsks c asking = (t refs nums : ℕ) → t < c.mutators → asking t ≡ asks refs nums → ⊥
+NobodyAsks config asking = (mutator refs nums : ℕ) → mutator < config.mutators → asking mutator ≡ asks refs nums → ⊥
 
 -- Where nothing runs and nobody asks, the beginning of marking keeps the graph.
 abbrev pub BeginningRepresents : Type 0
-BeginningRepresents = (c : Config) (memory : Word → ℕ) (g : Graph) (asking : ℕ → Asking) → Represents c memory g asking → memory Phase ≡ idle_phase → NobodyAsks c asking
-    → Represents c (init_marked c memory) g asking
+BeginningRepresents = (config : Config) (memory : Word → ℕ) (graph : Graph) (asking : ℕ → Asking) → Represents config memory graph asking → memory Phase ≡ idle_phase → NobodyAsks config asking
+    → Represents config (init_marked config memory) graph asking
 
 -- The end of marking keeps the graph too, and each object is marked then, or was allocated since mark start.
 abbrev pub EndGives : Type 0
-EndGives = (c : Config) (memory : Word → ℕ) (g : Graph) (asking : ℕ → Asking) → Represents c memory g asking → memory Phase ≡ marking_phase → HasNoMoreSeats c memory
-    → (block : Plot) × (ghost : Ghost) × IsMarkedOut c (final_marked c memory) block ghost g asking
+EndGives = (config : Config) (memory : Word → ℕ) (graph : Graph) (asking : ℕ → Asking) → Represents config memory graph asking → memory Phase ≡ marking_phase → HasNoMoreSeats config memory
+    → (block : Plot) × (ghost : Ghost) × IsMarkedOut config (final_marked config memory) block ghost graph asking

@@ -15,41 +15,41 @@ use Rattle.image_graph.specs.Buffers.{HasNoMoreSeats}
 
 -- no piece is an old copy, in hand or carved: all room is free words of buffers
 pub record AreUnmoved (block : Plot) : Type 0 where
-  pub no_moved : (a refs nums to : ℕ) (name : Name) → block a ≡ Some (moved name refs nums to) → ⊥
-  pub no_spent : (a words to : ℕ) → block a ≡ Some (spent words to) → ⊥
-  pub no_hand : (a seat words : ℕ) → block a ≡ Some (hand seat words) → ⊥
-  pub no_carved : (a seat words : ℕ) → block a ≡ Some (carved seat words) → ⊥
+  pub no_moved : (address refs nums to : ℕ) (name : Name) → block address ≡ Some (moved name refs nums to) → ⊥
+  pub no_spent : (address words to : ℕ) → block address ≡ Some (spent words to) → ⊥
+  pub no_hand : (address seat words : ℕ) → block address ≡ Some (hand seat words) → ⊥
+  pub no_carved : (address seat words : ℕ) → block address ≡ Some (carved seat words) → ⊥
 
 -- Each object, of the graph or promised, is marked or was allocated since mark start, and what is marked is an object. Dead objects are
 -- neither. All room lies where what is allocated is new.
-pub record AreMarkedOut (c : Config) (black top tams : ℕ → ℕ) (block : Plot) : Type 0 where
-  pub objects : (a : ℕ) → IsMarkable block a → HasMark c black a ⊎ IsYoung c tams a
-  pub only : (a : ℕ) → c.region_words ≤ a → HasMark c black a → IsMarkable block a
-  pub floors : (r : ℕ) → r < c.regions → tams r ≤ top r
-  pub deads : (a words : ℕ) → block a ≡ Some (dead words) → IsYoung c tams a → ⊥
-  pub young : AreYoungRooms c tams block
+pub record AreMarkedOut (config : Config) (black top tams : ℕ → ℕ) (block : Plot) : Type 0 where
+  pub objects : (address : ℕ) → IsMarkable block address → HasMark config black address ⊎ IsYoung config tams address
+  pub only : (address : ℕ) → config.region_words ≤ address → HasMark config black address → IsMarkable block address
+  pub floors : (region : ℕ) → region < config.regions → tams region ≤ top region
+  pub deads : (address words : ℕ) → block address ≡ Some (dead words) → IsYoung config tams address → ⊥
+  pub young : AreYoungRooms config tams block
 
 -- The words stand for a graph as ever, with what mutators have asked for. The marks are closed, no object has moved, no seat has a region to
 -- itself, and no seat but those of the heap has a buffer.
-pub record IsMarkedOut (c : Config) (memory : Word → ℕ) (block : Plot) (ghost : Ghost) (g : Graph) (asking : ℕ → Asking) : Type 0 where
+pub record IsMarkedOut (config : Config) (memory : Word → ℕ) (block : Plot) (ghost : Ghost) (graph : Graph) (asking : ℕ → Asking) : Type 0 where
   pub phase_is : memory Phase ≡ marking_phase
   pub cset_is : memory Cset ≡ 0
   pub evac_is : memory Evac ≡ 0
-  pub parsable : IsParsable c (λ r. memory (Top r)) block
-  pub contents : HasContents c (λ a. memory (Heap a)) block g.object g.count
-  pub owned : AreOwned c (λ r. memory (Top r)) (memory Share) (memory Free) (memory Cset) (λ s. memory (Current s)) block ghost.owner
-  pub nobodys : (r : ℕ) → ghost.owner r ≡ None
-  pub seated : HasNoMoreSeats c memory
-  pub unwritten : AreUnwritten (λ a. memory (Heap a)) block
+  pub parsable : IsParsable config (λ region. memory (Top region)) block
+  pub contents : HasContents config (λ address. memory (Heap address)) block graph.object graph.count
+  pub owned : AreOwned config (λ region. memory (Top region)) (memory Share) (memory Free) (memory Cset) (λ s. memory (Current s)) block ghost.owner
+  pub nobodys : (region : ℕ) → ghost.owner region ≡ None
+  pub seated : HasNoMoreSeats config memory
+  pub unwritten : AreUnwritten (λ address. memory (Heap address)) block
   pub unmoved : AreUnmoved block
-  pub marked : AreMarkedOut c (λ n. memory (Black n)) (λ r. memory (Top r)) (λ r. memory (Tams r)) block
+  pub marked : AreMarkedOut config (λ n. memory (Black n)) (λ region. memory (Top region)) (λ region. memory (Tams region)) block
   pub snapshot_is : ghost.snapshot ≡ no_snapshot
-  pub unmarking : NobodyMarks c ghost
-  pub uncopying : NobodyCopies c ghost
-  pub roots : (t i : ℕ) → t < c.mutators → i < 16 → Points block (memory (Root t i)) (g.root (t + 1) i)
-  pub pinned : (t i : ℕ) → t < c.mutators → i < 4 → PinStands c (memory Cset) (memory Evac) block (memory (Pin t i)) (g.pin (t + 1) i)
-  pub asked : (t : ℕ) → t < c.mutators → IsAsked memory block g.count t (asking t)
-  pub heard : (t refs nums : ℕ) → t < c.mutators → asking t ≡ asks refs nums → bit_at (memory Ask) 1 ≡ 1
-  pub promised_to : (a seat words : ℕ) → block a ≡ Some (promised seat words) → seat < c.mutators
-  pub no_more : HasNoMore c.mutators g
-  pub no_more_pins : HasNoMorePins c.mutators g
+  pub unmarking : NobodyMarks config ghost
+  pub uncopying : NobodyCopies config ghost
+  pub roots : (mutator index : ℕ) → mutator < config.mutators → index < 16 → Points block (memory (Root mutator index)) (graph.root (mutator + 1) index)
+  pub pinned : (mutator index : ℕ) → mutator < config.mutators → index < 4 → PinStands config (memory Cset) (memory Evac) block (memory (Pin mutator index)) (graph.pin (mutator + 1) index)
+  pub asked : (mutator : ℕ) → mutator < config.mutators → IsAsked memory block graph.count mutator (asking mutator)
+  pub heard : (mutator refs nums : ℕ) → mutator < config.mutators → asking mutator ≡ asks refs nums → bit_at (memory Ask) 1 ≡ 1
+  pub promised_to : (address seat words : ℕ) → block address ≡ Some (promised seat words) → seat < config.mutators
+  pub no_more : HasNoMore config.mutators graph
+  pub no_more_pins : HasNoMorePins config.mutators graph

@@ -15,20 +15,20 @@ use Rattle.cycle_pauses.specs.Updating.Freed.{IsFreed, IsSpared}
 -- Once all regions are claimed in phase 2, and if there was always room, the words stand for the same graph where the updating of
 -- references begins, with what mutators have asked for.
 abbrev pub UpdatingBegins : Type 0
-UpdatingBegins = (c : Config) (memory : Word → ℕ) (g : Graph) (asking : ℕ → Asking) → Represents c memory g asking → memory Phase ≡ evacuation_phase → is_out_of_room (memory Evac) ≡ false
-    → c.regions ≤ memory Claim → Represents c (init_updated c memory) g asking
+UpdatingBegins = (config : Config) (memory : Word → ℕ) (graph : Graph) (asking : ℕ → Asking) → Represents config memory graph asking → memory Phase ≡ evacuation_phase → is_out_of_room (memory Evac) ≡ false
+    → config.regions ≤ memory Claim → Represents config (init_updated config memory) graph asking
 
 -- Once all regions are claimed in phase 3 they stand for it where the updating ends.
 abbrev pub UpdatingEnds : Type 0
-UpdatingEnds = (c : Config) (memory : Word → ℕ) (g : Graph) (asking : ℕ → Asking) → Represents c memory g asking → memory Phase ≡ updating_phase
-    → c.regions ≤ memory Claim → Represents c (final_updated c memory) g asking
+UpdatingEnds = (config : Config) (memory : Word → ℕ) (graph : Graph) (asking : ℕ → Asking) → Represents config memory graph asking → memory Phase ≡ updating_phase
+    → config.regions ≤ memory Claim → Represents config (final_updated config memory) graph asking
 
 -- The end of updating frees each region of the collection set, and leaves each other as it is.
 pub record SetIsFreed : Type 0 where
-  pub chosen_ones : (c : Config) (memory : Word → ℕ) (r : ℕ) → r < c.regions → IsIn (memory Cset) r → IsFreed (final_updated c memory) r
-  pub others : (c : Config) (memory : Word → ℕ) (r : ℕ) → r < c.regions → (IsIn (memory Cset) r → ⊥) → IsSpared memory (final_updated c memory) r
+  pub chosen_ones : (config : Config) (memory : Word → ℕ) (region : ℕ) → region < config.regions → IsIn (memory Cset) region → IsFreed (final_updated config memory) region
+  pub others : (config : Config) (memory : Word → ℕ) (region : ℕ) → region < config.regions → (IsIn (memory Cset) region → ⊥) → IsSpared memory (final_updated config memory) region
 
 -- In phase 3 no region of the collection set is pinned: so after the end of updating none of those that it frees is.
 abbrev pub NoneIsPinned : Type 0
-NoneIsPinned = (c : Config) (memory : Word → ℕ) (g : Graph) (asking : ℕ → Asking) → Represents c memory g asking → memory Phase ≡ updating_phase
-    → (r : ℕ) → r < c.regions → IsIn (memory Cset) r → is_pinned c (final_updated c memory) r ≡ false
+NoneIsPinned = (config : Config) (memory : Word → ℕ) (graph : Graph) (asking : ℕ → Asking) → Represents config memory graph asking → memory Phase ≡ updating_phase
+    → (region : ℕ) → region < config.regions → IsIn (memory Cset) region → is_pinned config (final_updated config memory) region ≡ false

@@ -41,74 +41,74 @@ use Rattle.cycle_runs.specs.Evacuation.Due.{has_begun, HasControl, PausesComeWhe
 use Rattle.cycle_runs.proofs.Evacuation.Runs.{the_world, stands, idle, stage_goes, all_is_forwarded_in_runs}
 
 -- where the control has begun a pause, that is due
-begun_due : (c : Config) (w : World) (number : ℕ) (spot : ControlSpot) → has_begun spot ≡ true → ControlFacts c w number spot → IsDue c w.memory
-begun_due c w number (control.Stopping at) on facts = facts.1
-begun_due c w number (control.LoadWord index extent) on facts = facts.1
-begun_due c w number _ on facts = absurd (cc (on))
+begun_due : (config : Config) (world : World) (number : ℕ) (spot : ControlSpot) → has_begun spot ≡ true → ControlFacts config world number spot → IsDue config world.memory
+begun_due config world number (control.Stopping at) on facts = facts.1
+begun_due config world number (control.LoadWord index extent) on facts = facts.1
+begun_due config world number _ on facts = absurd (cc (on))
 
-module _ (c : Config) (g : Graph) (s : Stage Actor) (h : List Entry) (goes : Goes c g s h) where
+module _ (config : Config) (graph : Graph) (stage : Stage Actor) (entries : List Entry) (goes : Goes config graph stage entries) where
   -- what the control knows
-  control_facts : (k : Controlling) → HasControl c s k → ControlFacts c (the_world c g s h goes) (control_number c) k.spot
+  control_facts : (k : Controlling) → HasControl config stage k → ControlFacts config (the_world config graph stage entries goes) (control_number config) k.spot
   control_facts k has =
-      (subst (λ m. IsMachine c s.words (the_world c g s h goes) (of_thread h (control_number c + 1)) (control_number c) has.actor m) has.is (goes.follows.machines (control_number c) has.actor has.here)).facts
+      (subst (λ m. IsMachine config stage.words (the_world config graph stage entries goes) (of_thread entries (control_number config + 1)) (control_number config) has.actor m) has.is (goes.follows.machines (control_number config) has.actor has.here)).facts
 
   -- the pause is due that it has begun
-  pause_due : (k : Controlling) → HasControl c s k → has_begun k.spot ≡ true → IsDue c (settled c s)
-  pause_due k has on = begun_due c (the_world c g s h goes) (control_number c) k.spot on (control_facts k has)
+  pause_due : (k : Controlling) → HasControl config stage k → has_begun k.spot ≡ true → IsDue config (settled config stage)
+  pause_due k has on = begun_due config (the_world config graph stage entries goes) (control_number config) k.spot on (control_facts k has)
 
   -- An answer that is an address is that of an object that is promised.
-  promised_there : (t : ℕ) (x : Asking) → IsAsked (settled c s) goes.follows.block (after g h).count t x → 1 < settled c s (Answer t) → (words : ℕ) × (goes.follows.block (settled c s (Answer t)) ≡ Some (promised t words))
+  promised_there : (t : ℕ) (asking : Asking) → IsAsked (settled config stage) goes.follows.block (after graph entries).count t asking → 1 < settled config stage (Answer t) → (words : ℕ) × (goes.follows.block (settled config stage (Answer t)) ≡ Some (promised t words))
   promised_there t nothing asked more = absurd (let none = asked.1 in omega (arith, none, more))
   promised_there t (asks refs nums) asked more = absurd (let none = asked.1 in omega (arith, none, more))
   promised_there t refused asked more = absurd (let one = asked.1 in omega (arith, one, more))
   promised_there t (given refs nums) asked more = (3 + refs + nums, asked.2.here)
 
   -- In phase 3, with all regions claimed and all machines outside, all is updated.
-  module _ (pause : IsInPause c s) (empty : IsEmpty c s) (on : settled c s Phase ≡ 3) (all : c.regions ≤ settled c s Claim) where
+  module _ (pause : IsInPause config stage) (empty : IsEmpty config stage) (on : settled config stage Phase ≡ 3) (all : config.regions ≤ settled config stage Claim) where
     -- what is current does not lie in the set
-    current_outside : (v : ℕ) → IsCurrent goes.follows.block v → v ≢ 0 → IsCollected c (settled c s Cset) v → ⊥
-    current_outside v current some inside = units_are_updated.outside c (the_world c g s h goes) v goes.follows.shared on current some inside
+    current_outside : (address : ℕ) → IsCurrent goes.follows.block address → address ≢ 0 → IsCollected config (settled config stage Cset) address → ⊥
+    current_outside address current some inside = units_are_updated.outside config (the_world config graph stage entries goes) address goes.follows.shared on current some inside
 
     -- the roots of a mutator may be used
-    thread_there : (t : ℕ) → t < c.mutators → (a : Actor) × (m : Mutating) × (slice_get s.machines t ≡ Some a) × (a.machine ≡ mutating m) × IsThread c s.words (the_world c g s h goes) (of_thread h (t + 1)) t a m
-    thread_there t below = mutator_there c s.words (the_world c g s h goes) h s.machines goes.follows.seats goes.follows.machines t below
+    thread_there : (other_mutator : ℕ) → other_mutator < config.mutators → (actor : Actor) × (mutator : Mutating) × (slice_get stage.machines other_mutator ≡ Some actor) × (actor.machine ≡ mutating mutator) × IsThread config stage.words (the_world config graph stage entries goes) (of_thread entries (other_mutator + 1)) other_mutator actor mutator
+    thread_there other_mutator below = mutator_there config stage.words (the_world config graph stage entries goes) entries stage.machines goes.follows.seats goes.follows.machines other_mutator below
 
-    root_outside : (t i : ℕ) → t < c.mutators → i < 16 → NamesNoSet c (settled c s) (Root t i)
-    root_outside t i below small some inside =
-        let thread = (thread_there t below).4 in
-        current_outside (settled c s (Root t i))
-        (usable_current c (settled c s Cset) (settled c s Evac) goes.follows.block (settled c s (Root t i))
-        (subst (λ j. IsUsable c (settled c s Cset) (settled c s Evac) goes.follows.block (settled c s (Root j i))) thread.number_is (thread.mine.seated.usable i small)))
+    root_outside : (mutator index : ℕ) → mutator < config.mutators → index < 16 → NamesNoSet config (settled config stage) (Root mutator index)
+    root_outside mutator index below small some inside =
+        let thread = (thread_there mutator below).4 in
+        current_outside (settled config stage (Root mutator index))
+        (usable_current config (settled config stage Cset) (settled config stage Evac) goes.follows.block (settled config stage (Root mutator index))
+        (subst (λ j. IsUsable config (settled config stage Cset) (settled config stage Evac) goes.follows.block (settled config stage (Root j index))) thread.number_is (thread.mine.seated.usable index small)))
         some inside
 
     -- an answer is that of an object that is promised, which does not lie in the set
-    answer_outside : (t : ℕ) → t < c.mutators → 1 < settled c s (Answer t) → NamesNoSet c (settled c s) (Answer t)
-    answer_outside t below more some inside =
-        let there = thread_there t below in
+    answer_outside : (mutator : ℕ) → mutator < config.mutators → 1 < settled config stage (Answer mutator) → NamesNoSet config (settled config stage) (Answer mutator)
+    answer_outside mutator below more some inside =
+        let there = thread_there mutator below in
         let m = there.1 in
         let thread = there.4 in
-        let out = empty.nobody t there.0 m (record { here = there.2; is = there.3 }) in
-        let asked = asked_outside c (the_world c g s h goes) m.seat m.made m.kept m.spot there.0.command thread.fixed out thread.mine in
-        let piece = promised_there t (asking_at m.spot (settled c s (Answer t)) m.kept.command)
-        (subst (λ j. IsAsked (settled c s) goes.follows.block (after g h).count j (asking_at m.spot (settled c s (Answer j)) m.kept.command)) thread.number_is asked) more in
-        goes.follows.shared.evacuated.aside.no_promises (settled c s (Answer t)) t piece.0 piece.1 inside
+        let out = empty.nobody mutator there.0 m (record { here = there.2; is = there.3 }) in
+        let asked = asked_outside config (the_world config graph stage entries goes) m.seat m.made m.kept m.spot there.0.command thread.fixed out thread.mine in
+        let piece = promised_there mutator (asking_at m.spot (settled config stage (Answer mutator)) m.kept.command)
+        (subst (λ j. IsAsked (settled config stage) goes.follows.block (after graph entries).count j (asking_at m.spot (settled config stage (Answer j)) m.kept.command)) thread.number_is asked) more in
+        goes.follows.shared.evacuated.aside.no_promises (settled config stage (Answer mutator)) mutator piece.0 piece.1 inside
 
-    are_updated : AreUpdated c s (after g h)
+    are_updated : AreUpdated config stage (after graph entries)
     are_updated = record {
-      stands = stands c g s h goes;
+      stands = stands config graph stage entries goes;
       roots = root_outside;
       answers = answer_outside;
       fields = λ a refs nums k name is below some inside.
-          current_outside (settled c s (Heap (a + 3 + k)))
-          (all_is_updated c (the_world c g s h goes) goes.follows.shared on (λ seat seated. (idle c g s h goes pause seat seated).1) all a refs nums k name is below) some inside;
+          current_outside (settled config stage (Heap (a + 3 + k)))
+          (all_is_updated config (the_world config graph stage entries goes) goes.follows.shared on (λ seat seated. (idle config graph stage entries goes pause seat seated).1) all a refs nums k name is below) some inside;
     }
 
 pub pauses_come_when_due : PausesComeWhenDue
 pauses_come_when_due change law c s g begins events k has on = pause_due c g (go (kind change c) s events) (history change c s events) (stage_goes change law c s g begins events) k has on
 
 -- the control that reads the image is in a pause
-reads_in_pause : (c : Config) (s : Stage Actor) (k : Controlling) → HasControl c s k → (index : ℕ) (extent : Extent) → k.spot ≡ control.LoadWord index extent → IsInPause c s
-reads_in_pause c s k has index extent is = record { actor = has.actor; control = k; here = has.here; is = has.is; pausing = ap (λ spot. is_pausing (control_standing spot)) is }
+reads_in_pause : (config : Config) (stage : Stage Actor) (k : Controlling) → HasControl config stage k → (index : ℕ) (extent : Extent) → k.spot ≡ control.LoadWord index extent → IsInPause config stage
+reads_in_pause config stage k has index extent is = record { actor = has.actor; control = k; here = has.here; is = has.is; pausing = ap (λ spot. is_pausing (control_standing spot)) is }
 
 pub evacuation_is_whole : EvacuationIsWhole
 evacuation_is_whole change law c s g begins events k has index extent is two quiet room =
@@ -116,32 +116,32 @@ evacuation_is_whole change law c s g begins events k has index extent is two qui
     (pauses_come_when_due change law c s g begins events k has (ap has_begun is) (omega (arith, two)) quiet) room
 
 -- The control that has found the last word of the image.
-module _ (change : Change) (law : PausesByParts change) (c : Config) (s : Stage Actor) (g : Graph) (begins : Begins c s g) (number index : ℕ) (a : Actor) (k : Controlling) (is : a.machine ≡ controlling k)
-    (at : k.spot ≡ control.LoadWord index Whole) (last : index + 1 ≡ image_words c) (events : List (Event Order)) (here : slice_get (go (kind change c) s events).machines number ≡ Some a) where
+module _ (change : Change) (law : PausesByParts change) (config : Config) (stage : Stage Actor) (graph : Graph) (begins : Begins config stage graph) (number index : ℕ) (actor : Actor) (k : Controlling) (is : actor.machine ≡ controlling k)
+    (at : k.spot ≡ control.LoadWord index Whole) (last : index + 1 ≡ image_words config) (events : List (Event Order)) (here : slice_get (go (kind change config) stage events).machines number ≡ Some actor) where
   abbrev t : Stage Actor
-  t = go (kind change c) s events
+  t = go (kind change config) stage events
 
   -- the image with that word
   abbrev image : List ℕ
-  image = k.image ++ slice_index t.words (image_start c + index) ∷ []
+  image = k.image ++ slice_index t.words (image_start config + index) ∷ []
 
   -- it has the words of the table
-  aims : IsAim c t.words (control.LoadWord index Whole) k.image
-  aims = subst (λ spot. IsAim c t.words spot k.image) at (run_aims change law c s g begins events number a k here is).1
+  aims : IsAim config t.words (control.LoadWord index Whole) k.image
+  aims = subst (λ spot. IsAim config t.words spot k.image) at (run_aims change law config stage graph begins events number actor k here is).1
 
-  read : AreRead c t.words (all_of image) (image_words c)
-  read i below counted = image_grows c t.words Whole k.image index aims.0 aims.1 refl i (omega (arith, below, last))
+  read : AreRead config t.words (all_of image) (image_words config)
+  read i below counted = image_grows config t.words Whole k.image index aims.0 aims.1 refl i (omega (arith, below, last))
 
   -- the machine is that of the control's number
-  there : slice_get t.machines (control_number c) ≡ Some a
-  there = subst (λ n. slice_get t.machines n ≡ Some a) (subst (λ (m : Machine). HasNumber c number m) is ((every_run change law c s g begins events).of_heap.roles number a here)) here
+  there : slice_get t.machines (control_number config) ≡ Some actor
+  there = subst (λ n. slice_get t.machines n ≡ Some actor) (subst (λ (machine : Machine). HasNumber config number machine) is ((every_run change law config stage graph begins events).of_heap.roles number actor here)) here
 
   -- no image counts yet
-  table_counts : settled c t ≡ view c t.words
-  table_counts = ap (λ o. settled_by c t.words (image_of o)) there ∙ ap (λ m. settled_by c t.words (image_read m)) is ∙ ap (λ spot. settled_by c t.words (stored_image spot k.image)) at
+  table_counts : settled config t ≡ view config t.words
+  table_counts = ap (λ o. settled_by config t.words (image_of o)) there ∙ ap (λ m. settled_by config t.words (image_read m)) is ∙ ap (λ spot. settled_by config t.words (stored_image spot k.image)) at
 
-  image_evacuated : IsEvacuated c (image_view c image)
-  image_evacuated = subst (λ memory. IsEvacuated c memory) (table_counts ∙ sym (mixed_whole c t.words (all_of image) read)) (evacuation_is_whole change law c s g begins events k (record { actor = a; here = there; is = is }) index Whole at)
+  image_evacuated : IsEvacuated config (image_view config image)
+  image_evacuated = subst (λ memory. IsEvacuated config memory) (table_counts ∙ sym (mixed_whole config t.words (all_of image) read)) (evacuation_is_whole change law config stage graph begins events k (record { actor = actor; here = there; is = is }) index Whole at)
 
 pub images_are_evacuated : ImagesAreEvacuated
 unfolding kind

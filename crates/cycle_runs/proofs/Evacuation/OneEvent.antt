@@ -56,35 +56,35 @@ use Rattle.cycle_runs.proofs.Evacuation.Runs.{stage_goes}
 
 -- The words that count stay, or the access is one of a word by its name, and they are those after it.
 abbrev CountsAfter : Config → (before later : Word → ℕ) → Access → Touch → Type 0
-CountsAfter c before later access t = (later ≡ before) ⊎ ((access ≡ placed c t) × (later ≡ touched before t))
+CountsAfter config before later access touch = (later ≡ before) ⊎ ((access ≡ placed config touch) × (later ≡ touched before touch))
 
 -- What a stage says in which all goes as it should, of an event of a machine.
-module _ (change : Change) (c : Config) (g : Graph) (s : Stage Actor) (h : List Entry) (goes : Goes c g s h) (number : ℕ) where
+module _ (change : Change) (config : Config) (graph : Graph) (stage : Stage Actor) (h : List Entry) (goes : Goes config graph stage h) (number : ℕ) where
   abbrev the_world : World
-  the_world = world_of c s goes.follows.block goes.follows.ghost (after g h)
+  the_world = world_of config stage goes.follows.block goes.follows.ghost (after graph h)
 
   abbrev entries : List Entry
   entries = of_thread h (number + 1)
 
   -- The machine is not the control. Its access is of no word of the image while one counts, or it is a load.
-  module _ (t : Touch) (new : Actor) (other : number ≢ control_number c) (word : is_word c t.word ≡ true) where
+  module _ (touch : Touch) (new : Actor) (other : number ≢ control_number config) (word : is_word config touch.word ≡ true) where
     abbrev stage_then : Stage Actor
-    stage_then = record { words = words_after c s.words t; machines = slice_set s.machines number new }
+    stage_then = record { words = words_after config stage.words touch; machines = slice_set stage.machines number new }
 
-    counts_accessed : ((image : Counting) → held_image c s ≡ Some image → is_image t.word ≡ false) → CountsAfter c (settled c s) (settled c stage_then) (placed c t) t
-    counts_accessed outside = inr (refl, ap (settled_by c (words_after c s.words t)) (other_holds c s number new other) ∙ settled_touched c s.words t (held_image c s) word goes.follows.words outside)
+    counts_accessed : ((image : Counting) → held_image config stage ≡ Some image → is_image touch.word ≡ false) → CountsAfter config (settled config stage) (settled config stage_then) (placed config touch) touch
+    counts_accessed outside = inr (refl, ap (settled_by config (words_after config stage.words touch)) (other_holds config stage number new other) ∙ settled_touched config stage.words touch (held_image config stage) word goes.follows.words outside)
 
-    counts_loaded : words_after c s.words t ≡ s.words → CountsAfter c (settled c s) (settled c stage_then) (placed c t) t
-    counts_loaded same = inl (ap (settled_by c (words_after c s.words t)) (other_holds c s number new other) ∙ ap (λ ws. settled_by c ws (held_image c s)) same)
+    counts_loaded : words_after config stage.words touch ≡ stage.words → CountsAfter config (settled config stage) (settled config stage_then) (placed config touch) touch
+    counts_loaded same = inl (ap (settled_by config (words_after config stage.words touch)) (other_holds config stage number new other) ∙ ap (λ ws. settled_by config ws (held_image config stage)) same)
 
-    counts_by_image : ((image : Counting) → held_image c s ≡ Some image → (is_image t.word ≡ false) ⊎ (words_after c s.words t ≡ s.words)) → CountsAfter c (settled c s) (settled c stage_then) (placed c t) t
-    counts_by_image cases = by_image (held_image c s) refl
+    counts_by_image : ((image : Counting) → held_image config stage ≡ Some image → (is_image touch.word ≡ false) ⊎ (words_after config stage.words touch ≡ stage.words)) → CountsAfter config (settled config stage) (settled config stage_then) (placed config touch) touch
+    counts_by_image cases = by_image (held_image config stage) refl
       where
-        by_image : (o : Option Counting) → held_image c s ≡ o → CountsAfter c (settled c s) (settled c stage_then) (placed c t) t
+        by_image : (found : Option Counting) → held_image config stage ≡ found → CountsAfter config (settled config stage) (settled config stage_then) (placed config touch) touch
         by_image None none = counts_accessed (λ image held. absurd (let clash = sym none ∙ held in cc))
         by_image (Some image) held = ⊎_elim
-            (λ (outside : is_image t.word ≡ false). counts_accessed (λ more same. outside))
-            (λ (same : words_after c s.words t ≡ s.words). counts_loaded same)
+            (λ (outside : is_image touch.word ≡ false). counts_accessed (λ more same. outside))
+            (λ (same : words_after config stage.words touch ≡ stage.words). counts_loaded same)
             (cases image held)
 
   module _ (command : Command) (calls : List Entry) where
@@ -92,39 +92,39 @@ module _ (change : Change) (c : Config) (g : Graph) (s : Stage Actor) (h : List 
     actor_of machine = record { machine = machine; command = command; calls = calls }
 
     abbrev Here : Machine → Type 0
-    Here machine = slice_get s.machines number ≡ Some (actor_of machine)
+    Here machine = slice_get stage.machines number ≡ Some (actor_of machine)
 
     -- what it is after its event
     abbrev new_of : Order → Machine → Actor
-    new_of order machine = took_of change c (actor_of machine) order (slice_index s.words (table_index (plan_of c order machine))) machine
+    new_of order machine = took_of change config (actor_of machine) order (slice_index stage.words (table_index (plan_of config order machine))) machine
 
     -- and the stage then
     abbrev next : Order → Machine → Stage Actor
-    next order machine = moved (kind change c) s number (actor_of machine) order
+    next order machine = moved (kind change config) stage number (actor_of machine) order
 
     abbrev Counts : Order → Machine → Type 0
-    Counts order machine = CountsAfter c (settled c s) (settled c (next order machine)) (plan_of c order machine) (touch_in c order machine)
+    Counts order machine = CountsAfter config (settled config stage) (settled config (next order machine)) (plan_of config order machine) (touch_in config order machine)
 
     -- of a mutator
-    mutator_counts : (order : Order) (m : Mutating) → Here (mutating m) → takes_of (mutating m) order ≡ true → Counts order (mutating m)
+    mutator_counts : (order : Order) (mutator : Mutating) → Here (mutating mutator) → takes_of (mutating mutator) order ≡ true → Counts order (mutating mutator)
     unfolding kind
-    mutator_counts order m here takes =
-        let thread : IsThread c s.words the_world entries number (actor_of (mutating m)) m = goes.follows.machines number (actor_of (mutating m)) here in
-        let below : number < c.mutators = subst (λ k. k < c.mutators) thread.number_is thread.mine.seated.below in
-        counts_by_image (touch_of c m order) (new_of order (mutating m)) (λ e. omega (arith, below, e)) (order_word c m.seat m.made m.kept order m.spot thread.mine.seated.below thread.mine.ready takes)
+    mutator_counts order mutator here takes =
+        let thread : IsThread config stage.words the_world entries number (actor_of (mutating mutator)) mutator = goes.follows.machines number (actor_of (mutating mutator)) here in
+        let below : number < config.mutators = subst (λ k. k < config.mutators) thread.number_is thread.mine.seated.below in
+        counts_by_image (touch_of config mutator order) (new_of order (mutating mutator)) (λ e. omega (arith, below, e)) (order_word config mutator.seat mutator.made mutator.kept order mutator.spot thread.mine.seated.below thread.mine.ready takes)
         (λ image held. ⊎_elim
-        (λ (outside : is_image (touch_of c m order).word ≡ false). inl outside)
-        (λ (polls : m.spot ≡ Waiting wait.Poll). inr (ap (λ spot. words_after c s.words (touch_at c m.seat m.made m.kept order spot)) polls ∙ words_loaded c s.words (Answer m.seat)))
-        (outside_touch c m.seat m.made m.kept order m.spot (outside_held c s goes.shaken image held number (actor_of (mutating m)) (omega (arith, below)) here) takes))
+        (λ (outside : is_image (touch_of config mutator order).word ≡ false). inl outside)
+        (λ (polls : mutator.spot ≡ Waiting wait.Poll). inr (ap (λ spot. words_after config stage.words (touch_at config mutator.seat mutator.made mutator.kept order spot)) polls ∙ words_loaded config stage.words (Answer mutator.seat)))
+        (outside_touch config mutator.seat mutator.made mutator.kept order mutator.spot (outside_held config stage goes.shaken image held number (actor_of (mutating mutator)) (omega (arith, below)) here) takes))
 
     -- of a helper without an order
     helper_counts : (m : Helping) → Here (helping m) → Counts Nothing (helping m)
     unfolding kind
     helper_counts m here =
-        let helper : IsHelper c the_world number m = goes.follows.machines number (actor_of (helping m)) here in
+        let helper : IsHelper config the_world number m = goes.follows.machines number (actor_of (helping m)) here in
         let below = helper.below in
-        counts_by_image (help_touch c m) (new_of Nothing (helping m)) (λ e. omega (arith, below, e)) (is_word_from c (help_touch c m).word (help_word c the_world number m goes.follows.shared helper))
-        (λ image held. inl (help_leaves_image c m.seat m.spot (outside_held c s goes.shaken image held number (actor_of (helping m)) below here)))
+        counts_by_image (help_touch config m) (new_of Nothing (helping m)) (λ e. omega (arith, below, e)) (is_word_from config (help_touch config m).word (help_word config the_world number m goes.follows.shared helper))
+        (λ image held. inl (help_leaves_image config m.seat m.spot (outside_held config stage goes.shaken image held number (actor_of (helping m)) below here)))
 
     -- of the control without an order
     module _ (seen phase cset hints : ℕ) (image : List ℕ) where
@@ -132,47 +132,47 @@ module _ (change : Change) (c : Config) (g : Graph) (s : Stage Actor) (h : List 
       control_at spot = controlling (record { spot = spot; seen = seen; phase = phase; cset = cset; hints = hints; image = image })
 
       abbrev CountsAt : ControlSpot → Type 0
-      CountsAt spot = (BeginsToCount c s (next Nothing (control_at spot)) → ⊥) → Counts Nothing (control_at spot)
+      CountsAt spot = (BeginsToCount config stage (next Nothing (control_at spot)) → ⊥) → Counts Nothing (control_at spot)
 
-      known : (spot : ControlSpot) → Here (control_at spot) → IsControl c s.words the_world number (record { spot = spot; seen = seen; phase = phase; cset = cset; hints = hints; image = image })
+      known : (spot : ControlSpot) → Here (control_at spot) → IsControl config stage.words the_world number (record { spot = spot; seen = seen; phase = phase; cset = cset; hints = hints; image = image })
       known spot here = goes.follows.machines number (actor_of (control_at spot)) here
 
-      held_is : (spot : ControlSpot) → Here (control_at spot) → held_image c s ≡ stored_image spot image
-      held_is spot here = ap (λ n. image_of (slice_get s.machines n)) (sym (known spot here).number_is) ∙ ap image_of here
+      held_is : (spot : ControlSpot) → Here (control_at spot) → held_image config stage ≡ stored_image spot image
+      held_is spot here = ap (λ n. image_of (slice_get stage.machines n)) (sym (known spot here).number_is) ∙ ap image_of here
 
       abbrev words_then : ControlSpot → List ℕ
-      words_then spot = accessed (plan_of c Nothing (control_at spot)) s.words
+      words_then spot = accessed (plan_of config Nothing (control_at spot)) stage.words
 
-      image_then : (spot : ControlSpot) → Here (control_at spot) → image_of (slice_get (next Nothing (control_at spot)).machines (control_number c)) ≡ image_read (new_of Nothing (control_at spot)).machine
+      image_then : (spot : ControlSpot) → Here (control_at spot) → image_of (slice_get (next Nothing (control_at spot)).machines (control_number config)) ≡ image_read (new_of Nothing (control_at spot)).machine
       unfolding kind
       image_then spot here =
-          ap (λ n. image_of (slice_get (slice_set s.machines number (new_of Nothing (control_at spot))) n)) (sym (known spot here).number_is)
-          ∙ ap image_of (slice_get-set_same s.machines number (actor_of (control_at spot)) (new_of Nothing (control_at spot)) here)
+          ap (λ n. image_of (slice_get (slice_set stage.machines number (new_of Nothing (control_at spot))) n)) (sym (known spot here).number_is)
+          ∙ ap image_of (slice_get-set_same stage.machines number (actor_of (control_at spot)) (new_of Nothing (control_at spot)) here)
 
       -- where no image counts before and after
-      settled_none : (spot : ControlSpot) → Here (control_at spot) → stored_image spot image ≡ None → settled c s ≡ view c s.words
-      settled_none spot here none = ap (settled_by c s.words) (held_is spot here ∙ none)
+      settled_none : (spot : ControlSpot) → Here (control_at spot) → stored_image spot image ≡ None → settled config stage ≡ view config stage.words
+      settled_none spot here none = ap (settled_by config stage.words) (held_is spot here ∙ none)
 
-      settled_open : (spot : ControlSpot) → Here (control_at spot) → image_read (new_of Nothing (control_at spot)).machine ≡ None → settled c (next Nothing (control_at spot)) ≡ view c (words_then spot)
+      settled_open : (spot : ControlSpot) → Here (control_at spot) → image_read (new_of Nothing (control_at spot)).machine ≡ None → settled config (next Nothing (control_at spot)) ≡ view config (words_then spot)
       unfolding kind
-      settled_open spot here none = ap (settled_by c (words_then spot)) (image_then spot here ∙ none)
+      settled_open spot here none = ap (settled_by config (words_then spot)) (image_then spot here ∙ none)
 
       -- an image does not begin to count
-      not_begun : (spot : ControlSpot) (more : Counting) → Here (control_at spot) → stored_image spot image ≡ None → image_read (new_of Nothing (control_at spot)).machine ≡ Some more → (BeginsToCount c s (next Nothing (control_at spot)) → ⊥) → ⊥
+      not_begun : (spot : ControlSpot) (more : Counting) → Here (control_at spot) → stored_image spot image ≡ None → image_read (new_of Nothing (control_at spot)).machine ≡ Some more → (BeginsToCount config stage (next Nothing (control_at spot)) → ⊥) → ⊥
       not_begun spot more here none counts not = not (record { image = more; not_yet = held_is spot here ∙ none; counts = image_then spot here ∙ counts })
 
       -- at a spot outside the image
-      plain_counts : (spot : ControlSpot) → Here (control_at spot) → stored_image spot image ≡ None → plan_of c Nothing (control_at spot) ≡ placed c (control_touch c spot) → is_word c (control_touch c spot).word ≡ true
+      plain_counts : (spot : ControlSpot) → Here (control_at spot) → stored_image spot image ≡ None → plan_of config Nothing (control_at spot) ≡ placed config (control_touch config spot) → is_word config (control_touch config spot).word ≡ true
           → CountsAt spot
       plain_counts spot here none plan word not = by_image (image_read (new_of Nothing (control_at spot)).machine) refl
         where
-          by_image : (o : Option Counting) → image_read (new_of Nothing (control_at spot)).machine ≡ o → Counts Nothing (control_at spot)
+          by_image : (found : Option Counting) → image_read (new_of Nothing (control_at spot)).machine ≡ found → Counts Nothing (control_at spot)
           by_image None none_then = inr (
             plan,
             settled_open spot here none_then
-                ∙ ap (λ access. view c (accessed access s.words)) plan
-                ∙ view-placed c s.words (control_touch c spot) word goes.follows.words
-                ∙ ap (λ memory. touched memory (control_touch c spot)) (sym (settled_none spot here none)),
+                ∙ ap (λ access. view config (accessed access stage.words)) plan
+                ∙ view-placed config stage.words (control_touch config spot) word goes.follows.words
+                ∙ ap (λ memory. touched memory (control_touch config spot)) (sym (settled_none spot here none)),
           )
           by_image (Some more) counts = absurd (not_begun spot more here none counts not)
 
@@ -180,10 +180,10 @@ module _ (change : Change) (c : Config) (g : Graph) (s : Stage Actor) (h : List 
       load_counts : (index : ℕ) (extent : Extent) → Here (control_at (control.LoadWord index extent)) → CountsAt (control.LoadWord index extent)
       load_counts index extent here not = by_image (image_read (new_of Nothing (control_at (control.LoadWord index extent))).machine) refl
         where
-          by_image : (o : Option Counting) → image_read (new_of Nothing (control_at (control.LoadWord index extent))).machine ≡ o → Counts Nothing (control_at (control.LoadWord index extent))
+          by_image : (found : Option Counting) → image_read (new_of Nothing (control_at (control.LoadWord index extent))).machine ≡ found → Counts Nothing (control_at (control.LoadWord index extent))
           by_image None none_then = inl (
               settled_open (control.LoadWord index extent) here none_then
-              ∙ ap (view c) (set-get_or s.words (image_start c + index) 0)
+              ∙ ap (view config) (set-get_or stage.words (image_start config + index) 0)
               ∙ sym (settled_none (control.LoadWord index extent) here refl))
           by_image (Some more) counts = absurd (not_begun (control.LoadWord index extent) more here refl counts not)
 
@@ -193,10 +193,10 @@ module _ (change : Change) (c : Config) (g : Graph) (s : Stage Actor) (h : List 
       store_counts index extent here =
           let at = known (control.StoreWord index extent) here in
           inl (
-          ap (settled_by c (words_then (control.StoreWord index extent))) (image_then (control.StoreWord index extent) here)
-          ∙ sym (counts_then change c s.words goes.follows.block goes.follows.ghost (after g h) h s.machines extent image index seen phase cset hints command calls at.ready goes.follows.words at.aims.0 at.aims.1 at.aims.2 goes.follows.seats
-          (nat_lt (next_stored c extent image index) (image_words c)) refl)
-          ∙ sym (ap (settled_by c s.words) (held_is (control.StoreWord index extent) here)))
+          ap (settled_by config (words_then (control.StoreWord index extent))) (image_then (control.StoreWord index extent) here)
+          ∙ sym (counts_then change config stage.words goes.follows.block goes.follows.ghost (after graph h) h stage.machines extent image index seen phase cset hints command calls at.ready goes.follows.words at.aims.0 at.aims.1 at.aims.2 goes.follows.seats
+          (nat_lt (next_stored config extent image index) (image_words config)) refl)
+          ∙ sym (ap (settled_by config stage.words) (held_is (control.StoreWord index extent) here)))
 
       -- wherever it stands
       control_counts : (spot : ControlSpot) → Here (control_at spot) → CountsAt spot
@@ -205,7 +205,7 @@ module _ (change : Change) (c : Config) (g : Graph) (s : Stage Actor) (h : List 
       control_counts control.LookAsked here not = plain_counts control.LookAsked here refl refl refl not
       control_counts control.LookFree here not = plain_counts control.LookFree here refl refl refl not
       control_counts (control.Working at) here not =
-          plain_counts (control.Working at) here refl refl (is_word_from c _ (unit_inside c (control_seat c) at (omega arith) (and_parts _ _ (known (control.Working at) here).ready).0)) not
+          plain_counts (control.Working at) here refl refl (is_word_from config _ (unit_inside config (control_seat config) at (omega arith) (and_parts _ _ (known (control.Working at) here).ready).0)) not
       control_counts (control.Stopping at) here not = plain_counts (control.Stopping at) here refl refl (and_parts _ _ (and_parts _ _ (known (control.Stopping at) here).ready).0).0 not
       control_counts (control.LoadWord index extent) here not = load_counts index extent here not
       control_counts (control.StoreWord index extent) here not = store_counts index extent here
@@ -214,25 +214,25 @@ module _ (change : Change) (c : Config) (g : Graph) (s : Stage Actor) (h : List 
 
 -- A machine of whose event without an order this is known, in place of another that has an order: so it is of the event of that one, where
 -- both events make the same access and lead to the same machine.
-module _ (change : Change) (c : Config) (s : Stage Actor) (number : ℕ) (order : Order) (before taken : Actor) (here : slice_get s.machines number ≡ Some before) (place : TakesPlace c number before taken)
-    (plan : plan_of c Nothing taken.machine ≡ plan_of c order before.machine) (took : (got : ℕ) → took_of change c taken Nothing got taken.machine ≡ took_of change c before order got before.machine) where
+module _ (change : Change) (config : Config) (s : Stage Actor) (number : ℕ) (order : Order) (before taken : Actor) (here : slice_get s.machines number ≡ Some before) (place : TakesPlace config number before taken)
+    (plan : plan_of config Nothing taken.machine ≡ plan_of config order before.machine) (took : (got : ℕ) → took_of change config taken Nothing got taken.machine ≡ took_of change config before order got before.machine) where
   abbrev stage_with : Stage Actor
-  stage_with = replaced c s number before taken here place
+  stage_with = replaced config s number before taken here place
 
-  moved_with : moved (kind change c) stage_with number taken Nothing ≡ moved (kind change c) s number before order
-  moved_with = moved_replaced c s number before taken here place change order plan took
+  moved_with : moved (kind change config) stage_with number taken Nothing ≡ moved (kind change config) s number before order
+  moved_with = moved_replaced config s number before taken here place change order plan took
 
-  counts_in_place : (access : Access) (t : Touch) → CountsAfter c (settled c stage_with) (settled c (moved (kind change c) stage_with number taken Nothing)) access t
-      → CountsAfter c (settled c s) (settled c (moved (kind change c) s number before order)) access t
-  counts_in_place access t counts =
-      subst (λ memory. CountsAfter c memory (settled c (moved (kind change c) s number before order)) access t) (settled_same c s number before taken here place)
-      (subst (λ stage. CountsAfter c (settled c stage_with) (settled c stage) access t) moved_with counts)
+  counts_in_place : (access : Access) (touch : Touch) → CountsAfter config (settled config stage_with) (settled config (moved (kind change config) stage_with number taken Nothing)) access touch
+      → CountsAfter config (settled config s) (settled config (moved (kind change config) s number before order)) access touch
+  counts_in_place access touch counts =
+      subst (λ memory. CountsAfter config memory (settled config (moved (kind change config) s number before order)) access touch) (settled_same config s number before taken here place)
+      (subst (λ stage. CountsAfter config (settled config stage_with) (settled config stage) access touch) moved_with counts)
 
-  begins_in_place : held_image c stage_with ≡ held_image c s → BeginsToCount c stage_with (moved (kind change c) stage_with number taken Nothing) → BeginsToCount c s (moved (kind change c) s number before order)
-  begins_in_place held begins = subst (λ stage. BeginsToCount c s stage) moved_with (record { image = begins.image; not_yet = sym held ∙ begins.not_yet; counts = begins.counts })
+  begins_in_place : held_image config stage_with ≡ held_image config s → BeginsToCount config stage_with (moved (kind change config) stage_with number taken Nothing) → BeginsToCount config s (moved (kind change config) s number before order)
+  begins_in_place held begins = subst (λ stage. BeginsToCount config s stage) moved_with (record { image = begins.image; not_yet = sym held ∙ begins.not_yet; counts = begins.counts })
 
 -- So it is of an event of any machine, with an order or without.
-module _ (change : Change) (c : Config) (g : Graph) (s : Stage Actor) (h : List Entry) (goes : Goes c g s h) (number : ℕ) (order : Order) (command : Command) (calls : List Entry) where
+module _ (change : Change) (config : Config) (graph : Graph) (s : Stage Actor) (entries : List Entry) (goes : Goes config graph s entries) (number : ℕ) (order : Order) (command : Command) (calls : List Entry) where
   abbrev actor_with : Machine → Actor
   actor_with machine = record { machine = machine; command = command; calls = calls }
 
@@ -243,112 +243,112 @@ module _ (change : Change) (c : Config) (g : Graph) (s : Stage Actor) (h : List 
   keeps_command hints _ takes = absurd (cc (takes))
 
   abbrev actor_then : ℕ → Machine → Command → Actor
-  actor_then got machine kept = record { machine = machine_after change c order got machine; command = kept; calls = calls ++ [] }
+  actor_then got machine kept = record { machine = machine_after change config order got machine; command = kept; calls = calls ++ [] }
 
-  helper_hinted_counts : (m : Helping) → slice_get s.machines number ≡ Some (actor_with (helping m)) → takes_of (helping m) order ≡ true → Counts change c g s h goes number command calls order (helping m)
-  helper_hinted_counts m here takes =
-      let y : Helping = helping_by c order m in
-      let place = helper_takes_place c number order m command calls in
-      counts_in_place change c s number order (actor_with (helping m)) (actor_with (helping y)) here place refl
-      (λ got. ap (actor_then got (helping m)) (keeps_command (help.takes_hint m.spot) order (and_parts _ _ takes).0)) (plan_of c order (helping m)) (touch_in c order (helping m))
-      (helper_counts change c g (replaced c s number (actor_with (helping m)) (actor_with (helping y)) here place) h
-      (goes_replaced c g s h number (actor_with (helping m)) (actor_with (helping y)) here place goes) number command calls y
-      (there c s number (actor_with (helping m)) (actor_with (helping y)) here place))
+  helper_hinted_counts : (helper : Helping) → slice_get s.machines number ≡ Some (actor_with (helping helper)) → takes_of (helping helper) order ≡ true → Counts change config graph s entries goes number command calls order (helping helper)
+  helper_hinted_counts helper here takes =
+      let y : Helping = helping_by config order helper in
+      let place = helper_takes_place config number order helper command calls in
+      counts_in_place change config s number order (actor_with (helping helper)) (actor_with (helping y)) here place refl
+      (λ got. ap (actor_then got (helping helper)) (keeps_command (help.takes_hint helper.spot) order (and_parts _ _ takes).0)) (plan_of config order (helping helper)) (touch_in config order (helping helper))
+      (helper_counts change config graph (replaced config s number (actor_with (helping helper)) (actor_with (helping y)) here place) entries
+      (goes_replaced config graph s entries number (actor_with (helping helper)) (actor_with (helping y)) here place goes) number command calls y
+      (there config s number (actor_with (helping helper)) (actor_with (helping y)) here place))
 
   control_hinted_counts : (k : Controlling) → slice_get s.machines number ≡ Some (actor_with (controlling k)) → takes_of (controlling k) order ≡ true
-      → (BeginsToCount c s (moved (kind change c) s number (actor_with (controlling k)) order) → ⊥) → Counts change c g s h goes number command calls order (controlling k)
+      → (BeginsToCount config s (moved (kind change config) s number (actor_with (controlling k)) order) → ⊥) → Counts change config graph s entries goes number command calls order (controlling k)
   control_hinted_counts k here takes not =
-      let y : Controlling = controlling_by c order k in
-      let place = control_takes_place c number order k command calls in
-      let stage : Stage Actor = replaced c s number (actor_with (controlling k)) (actor_with (controlling y)) here place in
-      let goes_then : Goes c g stage h = goes_replaced c g s h number (actor_with (controlling k)) (actor_with (controlling y)) here place goes in
-      let there_is : slice_get stage.machines number ≡ Some (actor_with (controlling y)) = there c s number (actor_with (controlling k)) (actor_with (controlling y)) here place in
-      let held : held_image c stage ≡ held_image c s =
-      held_is change c g stage h goes_then number command calls y.seen y.phase y.cset y.hints y.image y.spot there_is
-      ∙ control_hinted_image c (hint_in order) k
-      ∙ sym (held_is change c g s h goes number command calls k.seen k.phase k.cset k.hints k.image k.spot here) in
-      let took : (got : ℕ) → took_of change c (actor_with (controlling y)) Nothing got (controlling y) ≡ took_of change c (actor_with (controlling k)) order got (controlling k) =
+      let y : Controlling = controlling_by config order k in
+      let place = control_takes_place config number order k command calls in
+      let stage : Stage Actor = replaced config s number (actor_with (controlling k)) (actor_with (controlling y)) here place in
+      let goes_then : Goes config graph stage entries = goes_replaced config graph s entries number (actor_with (controlling k)) (actor_with (controlling y)) here place goes in
+      let there_is : slice_get stage.machines number ≡ Some (actor_with (controlling y)) = there config s number (actor_with (controlling k)) (actor_with (controlling y)) here place in
+      let held : held_image config stage ≡ held_image config s =
+      held_is change config graph stage entries goes_then number command calls y.seen y.phase y.cset y.hints y.image y.spot there_is
+      ∙ control_hinted_image config (hint_in order) k
+      ∙ sym (held_is change config graph s entries goes number command calls k.seen k.phase k.cset k.hints k.image k.spot here) in
+      let took : (got : ℕ) → took_of change config (actor_with (controlling y)) Nothing got (controlling y) ≡ took_of change config (actor_with (controlling k)) order got (controlling k) =
       λ got. ap (actor_then got (controlling k)) (keeps_command (controls.takes_hint k.spot) order (and_parts _ _ takes).0) in
-      counts_in_place change c s number order (actor_with (controlling k)) (actor_with (controlling y)) here place refl took (plan_of c order (controlling k)) (touch_in c order (controlling k))
-      (control_counts change c g stage h goes_then number command calls y.seen y.phase y.cset y.hints y.image y.spot there_is
-      (λ begins. not (begins_in_place change c s number order (actor_with (controlling k)) (actor_with (controlling y)) here place refl took held begins)))
+      counts_in_place change config s number order (actor_with (controlling k)) (actor_with (controlling y)) here place refl took (plan_of config order (controlling k)) (touch_in config order (controlling k))
+      (control_counts change config graph stage entries goes_then number command calls y.seen y.phase y.cset y.hints y.image y.spot there_is
+      (λ begins. not (begins_in_place change config s number order (actor_with (controlling k)) (actor_with (controlling y)) here place refl took held begins)))
 
   machine_counts : (machine : Machine) → slice_get s.machines number ≡ Some (actor_with machine) → takes_of machine order ≡ true
-      → (BeginsToCount c s (moved (kind change c) s number (actor_with machine) order) → ⊥) → Counts change c g s h goes number command calls order machine
-  machine_counts (mutating m) here takes not = mutator_counts change c g s h goes number command calls order m here takes
+      → (BeginsToCount config s (moved (kind change config) s number (actor_with machine) order) → ⊥) → Counts change config graph s entries goes number command calls order machine
+  machine_counts (mutating m) here takes not = mutator_counts change config graph s entries goes number command calls order m here takes
   machine_counts (helping m) here takes not = helper_hinted_counts m here takes
   machine_counts (controlling k) here takes not = control_hinted_counts k here takes not
 
-module _ (change : Change) (c : Config) (g : Graph) (s : Stage Actor) (h : List Entry) (goes : Goes c g s h) (e : Event Order) where
-  abbrev stands : StandsFor c s (after g h)
-  stands = stands_there c g s h goes
+module _ (change : Change) (config : Config) (graph : Graph) (stage : Stage Actor) (entries : List Entry) (goes : Goes config graph stage entries) (e : Event Order) where
+  abbrev stands : StandsFor config stage (after graph entries)
+  stands = stands_there config graph stage entries goes
 
   abbrev world_now : World
-  world_now = world_of c s goes.follows.block goes.follows.ghost (after g h)
+  world_now = world_of config stage goes.follows.block goes.follows.ghost (after graph entries)
 
   abbrev Spares : (Word → ℕ) → Type 0
-  Spares later = EventSpares change c s (after g h) e later
+  Spares later = EventSpares change config stage (after graph entries) e later
 
   -- where the words that count stay
-  spares_same : Spares (settled c s)
+  spares_same : Spares (settled config stage)
   spares_same = record {
     stands = stands;
     quiet = λ quiet. quiet;
-    headers = λ a x is no_room. inl refl;
-    words = λ a k x is alone behind below. refl;
+    headers = λ a actor is no_room. inl refl;
+    words = λ a k actor is alone behind below. refl;
   }
 
   -- where a machine makes an access
-  module _ (x : Actor) (event : IsEvent (kind change c) s e x) where
+  module _ (actor : Actor) (event : IsEvent (kind change config) stage e actor) where
     abbrev t : Touch
-    t = touch_in c e.order x.machine
+    t = touch_in config e.order actor.machine
 
-    writes : Writes c world_now e.number t (WorkIn e.order x.machine)
-    writes = machine_writes c world_now goes.follows.shared s.words (of_thread h (e.number + 1)) e.number x e.order x.machine (goes.follows.machines e.number x event.here)
+    writes : Writes config world_now e.number t (WorkIn e.order actor.machine)
+    writes = machine_writes config world_now goes.follows.shared stage.words (of_thread entries (e.number + 1)) e.number actor e.order actor.machine (goes.follows.machines e.number actor event.here)
 
     -- who publishes a copy copies
-    forwards : (a : ℕ) → plan_of c e.order x.machine ≡ placed c t → IsMade c world_now goes.follows.shared e.number t (WorkIn e.order x.machine) a
-        → IsForwarding change c s world_now e a (touched (settled c s) t (Heap a))
+    forwards : (address : ℕ) → plan_of config e.order actor.machine ≡ placed config t → IsMade config world_now goes.follows.shared e.number t (WorkIn e.order actor.machine) address
+        → IsForwarding change config stage world_now e address (touched (settled config stage) t (Heap address))
     unfolding publishing
-    forwards a plan made = record {
-      actor = x;
+    forwards address plan made = record {
+      actor = actor;
       event = event;
-      copies = sym (in_seat c s.words world_now (of_thread h (e.number + 1)) e.number x x.machine (goes.follows.machines e.number x event.here)).copies ∙ made.publication.copies;
+      copies = sym (in_seat config stage.words world_now (of_thread entries (e.number + 1)) e.number actor actor.machine (goes.follows.machines e.number actor event.here)).copies ∙ made.publication.copies;
       body = made.body;
       object = made.object;
       inside = made.publication.inside;
-      publishing = publishing c world_now e.number a made.body t (plan_of c e.order x.machine) plan made.publication;
+      publishing = publishing config world_now e.number address made.body t (plan_of config e.order actor.machine) plan made.publication;
       was = made.was;
       leads = made.leads;
     }
 
-    spares_access : plan_of c e.order x.machine ≡ placed c t → Spares (touched (settled c s) t)
+    spares_access : plan_of config e.order actor.machine ≡ placed config t → Spares (touched (settled config stage) t)
     spares_access plan = record {
       stands = stands;
-      quiet = quiet_stays c world_now goes.follows.shared e.number t (WorkIn e.order x.machine) writes;
+      quiet = quiet_stays config world_now goes.follows.shared e.number t (WorkIn e.order actor.machine) writes;
       headers = λ a y is no_room. ⊎_elim
           (λ same. inl same)
           (λ made. inr (forwards a plan made))
-          (header_stays c world_now goes.follows.shared e.number t (WorkIn e.order x.machine) a y is (some_words c (λ r. world_now.memory (Top r)) world_now.block goes.follows.shared.parsable goes.follows.shared.owned.rooms a y is) writes no_room);
-      words = λ a k y is alone behind below. words_stay c world_now goes.follows.shared e.number t (WorkIn e.order x.machine) a k y is below writes alone behind;
+          (header_stays config world_now goes.follows.shared e.number t (WorkIn e.order actor.machine) a y is (some_words config (λ r. world_now.memory (Top r)) world_now.block goes.follows.shared.parsable goes.follows.shared.owned.rooms a y is) writes no_room);
+      words = λ a k y is alone behind below. words_stay config world_now goes.follows.shared e.number t (WorkIn e.order actor.machine) a k y is below writes alone behind;
     }
 
   -- so of any event
-  pub event_spares : (BeginsToCount c s (act (kind change c) s e) → ⊥) → Spares (settled c (act (kind change c) s e))
+  pub event_spares : (BeginsToCount config stage (act (kind change config) stage e) → ⊥) → Spares (settled config (act (kind change config) stage e))
   unfolding act kind
-  event_spares not = by_machine (slice_get s.machines e.number) refl not
+  event_spares not = by_machine (slice_get stage.machines e.number) refl not
     where
-      by_order : (x : Actor) (b : Bool) → slice_get s.machines e.number ≡ Some x → takes_of x.machine e.order ≡ b
-          → (BeginsToCount c s (if b then moved (kind change c) s e.number x e.order else s) → ⊥) → Spares (settled c (if b then moved (kind change c) s e.number x e.order else s))
-      by_order x true here takes out = ⊎_elim
+      by_order : (actor : Actor) (holds : Bool) → slice_get stage.machines e.number ≡ Some actor → takes_of actor.machine e.order ≡ holds
+          → (BeginsToCount config stage (if holds then moved (kind change config) stage e.number actor e.order else stage) → ⊥) → Spares (settled config (if holds then moved (kind change config) stage e.number actor e.order else stage))
+      by_order actor true here takes out = ⊎_elim
           (λ same. subst Spares (sym same) spares_same)
-          (λ made. subst Spares (sym made.1) (spares_access x (record { here = here; takes = takes }) made.0))
-          (machine_counts change c g s h goes e.number e.order x.command x.calls x.machine here takes out)
-      by_order x false here takes out = spares_same
+          (λ made. subst Spares (sym made.1) (spares_access actor (record { here = here; takes = takes }) made.0))
+          (machine_counts change config graph stage entries goes e.number e.order actor.command actor.calls actor.machine here takes out)
+      by_order actor false here takes out = spares_same
 
-      by_machine : (o : Option Actor) → slice_get s.machines e.number ≡ o → (BeginsToCount c s (act_of (kind change c) s e o) → ⊥) → Spares (settled c (act_of (kind change c) s e o))
+      by_machine : (found : Option Actor) → slice_get stage.machines e.number ≡ found → (BeginsToCount config stage (act_of (kind change config) stage e found) → ⊥) → Spares (settled config (act_of (kind change config) stage e found))
       by_machine None here out = spares_same
-      by_machine (Some x) here out = by_order x (takes_of x.machine e.order) here refl out
+      by_machine (Some actor) here out = by_order actor (takes_of actor.machine e.order) here refl out
 
 pub events_spare_copies : EventsSpareCopies
 events_spare_copies change law c s g begins events e not =

@@ -57,20 +57,20 @@ use Rattle.cycle_runs.proofs.Evacuation.Writes.{touch_in, WorkIn, machine_writes
 use Rattle.cycle_runs.proofs.Evacuation.Sparing.{Hits, hits, publishing, body_no_room}
 
 -- What a stage says in which all goes as it should.
-module _ (c : Config) (g : Graph) (s : Stage Actor) (h : List Entry) (goes : Goes c g s h) where
+module _ (config : Config) (graph : Graph) (stage : Stage Actor) (entries : List Entry) (goes : Goes config graph stage entries) where
   abbrev pub the_world : World
-  the_world = world_of c s goes.follows.block goes.follows.ghost (after g h)
+  the_world = world_of config stage goes.follows.block goes.follows.ghost (after graph entries)
 
   -- of a mutator
-  pub thread_of : (number : ℕ) (a : Actor) (m : Mutating) → IsMutator s number a m → IsThread c s.words the_world (of_thread h (number + 1)) number a m
-  thread_of = thread_there c g s h goes
+  pub thread_of : (number : ℕ) (a : Actor) (mutator : Mutating) → IsMutator stage number a mutator → IsThread config stage.words the_world (of_thread entries (number + 1)) number a mutator
+  thread_of = thread_there config graph stage entries goes
 
   -- words and machines stand for the graph
-  abbrev pub stands : StandsFor c s (after g h)
-  stands = stands_there c g s h goes
+  abbrev pub stands : StandsFor config stage (after graph entries)
+  stands = stands_there config graph stage entries goes
 
   -- headers of old copies lead to current ones
-  pub have_headers : HaveHeaders c s (after g h)
+  pub have_headers : HaveHeaders config stage (after graph entries)
   have_headers = record {
     stands = stands;
     old = λ a refs nums to name is.
@@ -89,48 +89,48 @@ module _ (c : Config) (g : Graph) (s : Stage Actor) (h : List Entry) (goes : Goe
 
   -- The access of a machine that stores no word of an image is one of a word by its name, or loads one of the image.
   abbrev IsNamedBy : Access → Touch → Type 0
-  IsNamedBy access t = ((access ≡ placed c t) × IsWord c t.word) ⊎ ((at : ℕ) × (access ≡ Load at))
+  IsNamedBy access touch = ((access ≡ placed config touch) × IsWord config touch.word) ⊎ ((at : ℕ) × (access ≡ Load at))
 
   abbrev IsNamed : Order → Machine → Type 0
-  IsNamed order machine = IsNamedBy (plan_of c order machine) (touch_in c order machine)
+  IsNamed order machine = IsNamedBy (plan_of config order machine) (touch_in config order machine)
 
-  control_named : (seen phase cset hints : ℕ) (image : List ℕ) (spot : ControlSpot) → is_ready c spot ≡ true → stored_image spot image ≡ None
-      → IsNamedBy (control_access c (record { spot = spot; seen = seen; phase = phase; cset = cset; hints = hints; image = image })) (control_touch c spot)
-  control_named seen phase cset hints image (Working at) ready out = inl (refl, unit_inside c (control_seat c) at (omega arith) (and_parts _ _ ready).0)
-  control_named seen phase cset hints image (Stopping at) ready out = inl (refl, is_word_true c (stop_touch at).word (and_parts _ _ (and_parts _ _ ready).0).0)
-  control_named seen phase cset hints image (LoadWord index extent) ready out = inr (image_start c + index, refl)
+  control_named : (seen phase cset hints : ℕ) (image : List ℕ) (spot : ControlSpot) → is_ready config spot ≡ true → stored_image spot image ≡ None
+      → IsNamedBy (control_access config (record { spot = spot; seen = seen; phase = phase; cset = cset; hints = hints; image = image })) (control_touch config spot)
+  control_named seen phase cset hints image (Working at) ready out = inl (refl, unit_inside config (control_seat config) at (omega arith) (and_parts _ _ ready).0)
+  control_named seen phase cset hints image (Stopping at) ready out = inl (refl, is_word_true config (stop_touch at).word (and_parts _ _ (and_parts _ _ ready).0).0)
+  control_named seen phase cset hints image (LoadWord index extent) ready out = inr (image_start config + index, refl)
   control_named seen phase cset hints image (StoreWord index extent) ready out = absurd (cc (out))
   control_named seen phase cset hints image _ ready out = inl (refl, tt)
 
-  named : (number : ℕ) (order : Order) (x : Actor) (machine : Machine) → IsMachine c s.words the_world (of_thread h (number + 1)) number x machine → takes_of machine order ≡ true → image_read machine ≡ None → IsNamed order machine
-  named number order x (mutating m) facts takes out = inl (refl, is_word_true c (touch_of c m order).word (order_word c m.seat m.made m.kept order m.spot facts.mine.seated.below facts.mine.ready takes))
-  named number order x (helping m) facts takes out = inl (refl, help_word c the_world number (helping_by c order m) goes.follows.shared (help_hinted_is c the_world number (hint_in order) m facts))
-  named number order x (controlling m) facts takes out =
-      let k : Controlling = controlling_by c order m in
-      control_named k.seen k.phase k.cset k.hints k.image k.spot (control_hinted_ready c (hint_in order) m facts.ready) (control_hinted_image c (hint_in order) m ∙ out)
+  named : (number : ℕ) (order : Order) (actor : Actor) (machine : Machine) → IsMachine config stage.words the_world (of_thread entries (number + 1)) number actor machine → takes_of machine order ≡ true → image_read machine ≡ None → IsNamed order machine
+  named number order actor (mutating m) facts takes out = inl (refl, is_word_true config (touch_of config m order).word (order_word config m.seat m.made m.kept order m.spot facts.mine.seated.below facts.mine.ready takes))
+  named number order actor (helping m) facts takes out = inl (refl, help_word config the_world number (helping_by config order m) goes.follows.shared (help_hinted_is config the_world number (hint_in order) m facts))
+  named number order actor (controlling m) facts takes out =
+      let k : Controlling = controlling_by config order m in
+      control_named k.seen k.phase k.cset k.hints k.image k.spot (control_hinted_ready config (hint_in order) m facts.ready) (control_hinted_image config (hint_in order) m ∙ out)
 
-  module _ (number : ℕ) (order : Order) (a k : ℕ) (b : Body) (inside : IsCollected c (settled c s Cset) a) (is : body_at (goes.follows.block a) ≡ Some b) (below : k < body_words b) (machine : Machine)
-      (same : table_index (plan_of c order machine) ≡ word_at c (Heap (a + k))) where
+  module _ (number : ℕ) (order : Order) (a k : ℕ) (body : Body) (inside : IsCollected config (settled config stage Cset) a) (is : body_at (goes.follows.block a) ≡ Some body) (below : k < body_words body) (machine : Machine)
+      (same : table_index (plan_of config order machine) ≡ word_at config (Heap (a + k))) where
     abbrev t : Touch
-    t = touch_in c order machine
+    t = touch_in config order machine
 
     -- a load of the word
-    loads_it : (at : ℕ) → plan_of c order machine ≡ Load at → plan_of c order machine ≡ Load (word_at c (Heap (a + k)))
+    loads_it : (at : ℕ) → plan_of config order machine ≡ Load at → plan_of config order machine ≡ Load (word_at config (Heap (a + k)))
     loads_it at plan = plan ∙ ap Load (sym (ap table_index plan) ∙ same)
 
     -- an access of the word by its name is of it
-    word_of : plan_of c order machine ≡ placed c t → IsWord c t.word → IsWord c (Heap (a + k)) → t.word ≡ Heap (a + k)
-    word_of plan there word = words_differ c t.word (Heap (a + k)) there word (sym (table_index-access_at (word_at c t.word) t.form) ∙ sym (ap table_index plan) ∙ same)
+    word_of : plan_of config order machine ≡ placed config t → IsWord config t.word → IsWord config (Heap (a + k)) → t.word ≡ Heap (a + k)
+    word_of plan there word = words_differ config t.word (Heap (a + k)) there word (sym (table_index-access_at (word_at config t.word) t.form) ∙ sym (ap table_index plan) ∙ same)
 
     -- what the access is by what it does to the piece
-    by_hit : (x : Block) → goes.follows.block a ≡ Some x → plan_of c order machine ≡ placed c t → Hits c the_world number t (WorkIn order machine) a k x → IsSparing c the_world number order machine a k b
-    by_hit x there plan (Hits.loads_it form) = inl (loads_it (word_at c t.word) (plan ∙ ap (λ f. access_at (word_at c t.word) f) form))
-    by_hit x there plan (Hits.header more published none) =
-        let one : more ≡ b = same_Some more b (sym published.there ∙ is) in
-        inr (inl (subst (λ y. IsPublishing c the_world number a y (plan_of c order machine)) one (publishing c the_world number a more t (plan_of c order machine) plan published)))
-    by_hit x there plan (Hits.used refs nums name object from target work) = inr (inr (by_work machine work))
+    by_hit : (piece : Block) → goes.follows.block a ≡ Some piece → plan_of config order machine ≡ placed config t → Hits config the_world number t (WorkIn order machine) a k piece → IsSparing config the_world number order machine a k body
+    by_hit piece there plan (Hits.loads_it form) = inl (loads_it (word_at config t.word) (plan ∙ ap (λ f. access_at (word_at config t.word) f) form))
+    by_hit piece there plan (Hits.header more published none) =
+        let one : more ≡ body = same_Some more body (sym published.there ∙ is) in
+        inr (inl (subst (λ y. IsPublishing config the_world number a y (plan_of config order machine)) one (publishing config the_world number a more t (plan_of config order machine) plan published)))
+    by_hit piece there plan (Hits.used refs nums name object from target work) = inr (inr (by_work machine work))
       where
-        by_work : (m : Machine) → WorkIn order m → IsWriting the_world order m a k b
+        by_work : (m : Machine) → WorkIn order m → IsWriting the_world order m a k body
         by_work (mutating m) writes = record {
           mutator = m;
           is = refl;
@@ -140,37 +140,37 @@ module _ (c : Config) (g : Graph) (s : Stage Actor) (h : List Entry) (goes : Goe
           quiet = target.safe inside;
         }
           where
-            current_is : goes.follows.block a ≡ Some (thing b.name b.refs b.nums)
-            current_is = ⊎_elim (λ now. now) (λ was. absurd (let both = sym target.piece ∙ was.1 in cc)) (copy_cases (goes.follows.block a) b is)
+            current_is : goes.follows.block a ≡ Some (thing body.name body.refs body.nums)
+            current_is = ⊎_elim (λ now. now) (λ was. absurd (let both = sym target.piece ∙ was.1 in cc)) (copy_cases (goes.follows.block a) body is)
         by_work (helping m) writes = absurd writes
         by_work (controlling m) writes = absurd writes
-    by_hit x there plan (Hits.renewed refs nums name object from out) = absurd (out inside)
+    by_hit piece there plan (Hits.renewed refs nums name object from out) = absurd (out inside)
 
     -- what the next access of a machine is
-    spares : (x : Actor) → IsMachine c s.words the_world (of_thread h (number + 1)) number x machine → takes_of machine order ≡ true → image_read machine ≡ None → IsSparing c the_world number order machine a k b
-    spares x facts takes out =
-        let piece = body_piece (goes.follows.block a) b is in
+    spares : (actor : Actor) → IsMachine config stage.words the_world (of_thread entries (number + 1)) number actor machine → takes_of machine order ≡ true → image_read machine ≡ None → IsSparing config the_world number order machine a k body
+    spares actor facts takes out =
+        let piece = body_piece (goes.follows.block a) body is in
         let long = piece.2 in
         let within : k < words_of piece.0 = omega (arith, below, long) in
         ⊎_elim
-        (λ (by_name : (plan_of c order machine ≡ placed c t) × IsWord c t.word).
-        by_hit piece.0 piece.1 by_name.0 (hits c the_world goes.follows.shared number t (WorkIn order machine) a k piece.0 piece.1 within
-        (machine_writes c the_world goes.follows.shared s.words (of_thread h (number + 1)) number x order machine facts)
-        (body_no_room (goes.follows.block a) b is piece.0 piece.1)
-        (word_of by_name.0 by_name.1 (is_word_true c (Heap (a + k)) (piece_word_is c the_world goes.follows.shared a k piece.0 piece.1 within)))))
-        (λ (loaded : (at : ℕ) × (plan_of c order machine ≡ Load at)). inl (loads_it loaded.0 loaded.1))
-        (named number order x machine facts takes out)
+        (λ (by_name : (plan_of config order machine ≡ placed config t) × IsWord config t.word).
+        by_hit piece.0 piece.1 by_name.0 (hits config the_world goes.follows.shared number t (WorkIn order machine) a k piece.0 piece.1 within
+        (machine_writes config the_world goes.follows.shared stage.words (of_thread entries (number + 1)) number actor order machine facts)
+        (body_no_room (goes.follows.block a) body is piece.0 piece.1)
+        (word_of by_name.0 by_name.1 (is_word_true config (Heap (a + k)) (piece_word_is config the_world goes.follows.shared a k piece.0 piece.1 within)))))
+        (λ (loaded : (at : ℕ) × (plan_of config order machine ≡ Load at)). inl (loads_it loaded.0 loaded.1))
+        (named number order actor machine facts takes out)
 
   -- copies are spared
-  pub are_spared : AreSpared c s (after g h)
+  pub are_spared : AreSpared config stage (after graph entries)
   are_spared = record {
     stands = stands;
-    spared = λ number x order a k b here takes out inside is below same. spares number order a k b inside is below x.machine same x (goes.follows.machines number x here) takes out;
+    spared = λ number x order a k body here takes out inside is below same. spares number order a k body inside is below x.machine same x (goes.follows.machines number x here) takes out;
   }
 
-  module _ (pause : IsInPause c s) where
+  module _ (pause : IsInPause config stage) where
     -- the control rests in a pause
-    control_rests : (number : ℕ) (spot : ControlSpot) → is_pausing (control_standing spot) ≡ true → ControlFacts c the_world number spot → IsResting the_world number
+    control_rests : (number : ℕ) (spot : ControlSpot) → is_pausing (control_standing spot) ≡ true → ControlFacts config the_world number spot → IsResting the_world number
     control_rests number (Working at) on facts = absurd (cc (on))
     control_rests number LookFree on facts = absurd (cc (on))
     control_rests number (Stopping at) on facts = facts.0
@@ -181,29 +181,29 @@ module _ (c : Config) (g : Graph) (s : Stage Actor) (h : List Entry) (goes : Goe
     abbrev pub IsIdleSeat : ℕ → Type 0
     IsIdleSeat number = (goes.follows.ghost.working number ≡ None) × (goes.follows.ghost.scanning number ≡ None)
 
-    control_still : (number : ℕ) (x : Actor) → slice_get s.machines number ≡ Some x → number ≡ control_number c → IsResting the_world number
-    control_still number x here is =
-        let same : x ≡ pause.actor = same_Some x pause.actor (sym here ∙ ap (λ n. slice_get s.machines n) is ∙ pause.here) in
-        let role : x.machine ≡ controlling pause.control = ap (λ y. y.machine) same ∙ pause.is in
-        let facts = subst (λ machine. IsMachine c s.words the_world (of_thread h (number + 1)) number x machine) role (goes.follows.machines number x here) in
+    control_still : (number : ℕ) (actor : Actor) → slice_get stage.machines number ≡ Some actor → number ≡ control_number config → IsResting the_world number
+    control_still number actor here is =
+        let same : actor ≡ pause.actor = same_Some actor pause.actor (sym here ∙ ap (λ n. slice_get stage.machines n) is ∙ pause.here) in
+        let role : actor.machine ≡ controlling pause.control = ap (λ y. y.machine) same ∙ pause.is in
+        let facts = subst (λ machine. IsMachine config stage.words the_world (of_thread entries (number + 1)) number actor machine) role (goes.follows.machines number actor here) in
         control_rests number pause.control.spot pause.pausing facts.facts
 
-    pub idle : (number : ℕ) → number < seat_count c.mutators c.helpers → IsIdleSeat number
+    pub idle : (number : ℕ) → number < seat_count config.mutators config.helpers → IsIdleSeat number
     idle number below =
-        let there = machine_there c s.words the_world h s.machines goes.follows.seats number below in
+        let there = machine_there config stage.words the_world entries stage.machines goes.follows.seats number below in
         let facts = goes.follows.machines number there.0 there.1 in
-        let has = number_of c s.words the_world (of_thread h (number + 1)) number there.0 there.0.machine facts in
-        let rests = rests_there c s.words the_world (of_thread h (number + 1)) number there.0 there.0.machine
-        (λ other. outside_in_pause c s goes.shaken pause number there.0 (below_control c number there.0.machine has other) there.1) (control_still number there.0 there.1) facts in
+        let has = number_of config stage.words the_world (of_thread entries (number + 1)) number there.0 there.0.machine facts in
+        let rests = rests_there config stage.words the_world (of_thread entries (number + 1)) number there.0 there.0.machine
+        (λ other. outside_in_pause config stage goes.shaken pause number there.0 (below_control config number there.0.machine has other) there.1) (control_still number there.0 there.1) facts in
         (rests.works_none, rests.scans_none)
 
     -- each marked object of the set is forwarded
-    pub are_forwarded : AreAllForwarded c s
-    are_forwarded on all room a low inside marked = all_is_forwarded c the_world goes.follows.shared on (λ number below. (idle number below).0) all room a low inside marked
+    pub are_forwarded : AreAllForwarded config stage
+    are_forwarded on all room a low inside marked = all_is_forwarded config the_world goes.follows.shared on (λ number below. (idle number below).0) all room a low inside marked
 
 -- in each stage that events lead to all goes as it should
-pub stage_goes : (change : Change) → PausesByParts change → (c : Config) (s : Stage Actor) (g : Graph) → Begins c s g → (events : List (Event Order)) → Goes c g (go (kind change c) s events) (history change c s events)
-stage_goes change law c s g begins events = goes_run change law c g s [] events (goes_begins c s g begins)
+pub stage_goes : (change : Change) → PausesByParts change → (config : Config) (stage : Stage Actor) (graph : Graph) → Begins config stage graph → (events : List (Event Order)) → Goes config graph (go (kind change config) stage events) (history change config stage events)
+stage_goes change law config stage graph begins events = goes_run change law config graph stage [] events (goes_begins config stage graph begins)
 
 pub headers_lead_in_runs : HeadersLeadInRuns
 headers_lead_in_runs change law c s g begins events = have_headers c g (go (kind change c) s events) (history change c s events) (stage_goes change law c s g begins events)

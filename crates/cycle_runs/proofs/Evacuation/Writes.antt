@@ -90,44 +90,44 @@ is_watched Evac = true
 is_watched _ = false
 
 -- the exchange on the header at an address that publishes a copy of the object there, by a machine of a seat that copies it
-pub record IsPublication (c : Config) (w : World) (seat a : ℕ) (b : Body) (t : Touch) : Type 0 where
+pub record IsPublication (config : Config) (world : World) (seat address : ℕ) (body : Body) (touch : Touch) : Type 0 where
   pub copy : ℕ
   pub end : ℕ
-  pub word : t.word ≡ Heap a
-  pub form : t.form ≡ exchanges plain_header (header_word copy)
-  pub inside : IsCollected c (w.memory Cset) a
-  pub copies : w.ghost.copying seat ≡ true
-  pub there : body_at (w.block a) ≡ Some b
-  pub copied : IsCopied c w seat a copy end b (body_words b)
-  pub plain : w.memory (Heap copy) ≡ plain_header
+  pub word : touch.word ≡ Heap address
+  pub form : touch.form ≡ exchanges plain_header (header_word copy)
+  pub inside : IsCollected config (world.memory Cset) address
+  pub copies : world.ghost.copying seat ≡ true
+  pub there : body_at (world.block address) ≡ Some body
+  pub copied : IsCopied config world seat address copy end body (body_words body)
+  pub plain : world.memory (Heap copy) ≡ plain_header
 
 -- What an access of the machine of a seat does to those words. It loads one; it is of another word; it moves the word of the copiers, which
 -- stays quiet; it writes a word of room of its own; it publishes a copy; it writes a field or a number of an object that may be used, where it may
 -- work so; or it renews a field of an object outside the collection set.
-pub data Writes (c : Config) (w : World) (seat : ℕ) (t : Touch) (Work : Type 0) : Type 0 where
-  only_loads : t.form ≡ loads → Writes c w seat t Work
-  elsewhere : is_watched t.word ≡ false → Writes c w seat t Work
-  counts : t.word ≡ Evac → (IsQuiet (w.memory Evac) → IsQuiet (touched w.memory t Evac)) → Writes c w seat t Work
-  fills : (a k : ℕ) (x : Block) → w.block a ≡ Some x → room_of x ≡ Some seat → k < words_of x → t.word ≡ Heap (a + k) → Writes c w seat t Work
-  publishes : (a : ℕ) (b : Body) → IsPublication c w seat a b t → Writes c w seat t Work
-  works : (a k refs nums : ℕ) (name : Name) → TargetIn c w a refs nums name → 3 ≤ k → k < 3 + refs + nums → t.word ≡ Heap (a + k) → Work → Writes c w seat t Work
-  renews : (a k refs nums : ℕ) (name : Name) → w.block a ≡ Some (thing name refs nums) → (IsCollected c (w.memory Cset) a → ⊥) → 3 ≤ k → k < 3 + refs + nums → t.word ≡ Heap (a + k)
-      → Writes c w seat t Work
+pub data Writes (config : Config) (world : World) (seat : ℕ) (touch : Touch) (Work : Type 0) : Type 0 where
+  only_loads : touch.form ≡ loads → Writes config world seat touch Work
+  elsewhere : is_watched touch.word ≡ false → Writes config world seat touch Work
+  counts : touch.word ≡ Evac → (IsQuiet (world.memory Evac) → IsQuiet (touched world.memory touch Evac)) → Writes config world seat touch Work
+  fills : (address k : ℕ) (piece : Block) → world.block address ≡ Some piece → room_of piece ≡ Some seat → k < words_of piece → touch.word ≡ Heap (address + k) → Writes config world seat touch Work
+  publishes : (address : ℕ) (body : Body) → IsPublication config world seat address body touch → Writes config world seat touch Work
+  works : (address k refs nums : ℕ) (name : Name) → TargetIn config world address refs nums name → 3 ≤ k → k < 3 + refs + nums → touch.word ≡ Heap (address + k) → Work → Writes config world seat touch Work
+  renews : (address k refs nums : ℕ) (name : Name) → world.block address ≡ Some (thing name refs nums) → (IsCollected config (world.memory Cset) address → ⊥) → 3 ≤ k → k < 3 + refs + nums → touch.word ≡ Heap (address + k)
+      → Writes config world seat touch Work
 
 -- the access of a machine by the name of its word: of the control, where it is of no word of an image
 abbrev pub touch_in : Config → Order → Machine → Touch
-touch_in c order (mutating m) = touch_of c m order
-touch_in c order (helping h) = helps.help_touch c (helping_by c order h)
-touch_in c order (controlling k) = control_touch c (controlling_by c order k).spot
+touch_in config order (mutating m) = touch_of config m order
+touch_in config order (helping h) = helps.help_touch config (helping_by config order h)
+touch_in config order (controlling k) = control_touch config (controlling_by config order k).spot
 
 -- whether it may write fields and numbers of objects: only a mutator does, at the places of these writes
 abbrev pub WorkIn : Order → Machine → Type 0
 WorkIn order (mutating m) = is_write (place_at order m.spot) ≡ true
 WorkIn order _ = ⊥
 
-module _ (c : Config) (w : World) (shared : Shared c w) where
+module _ (config : Config) (world : World) (shared : Shared config world) where
   -- of who takes room
-  take_writes : (seat words : ℕ) (at : TakeSpot) (Work : Type 0) → TakeFacts c w seat words at → Writes c w seat (takes.touch_at seat words at) Work
+  take_writes : (seat words : ℕ) (at : TakeSpot) (Work : Type 0) → TakeFacts config world seat words at → Writes config world seat (takes.touch_at seat words at) Work
   take_writes seat words take.LoadBuffer Work facts = Writes.elsewhere refl
   take_writes seat words (take.LoadShared buffer) Work facts = Writes.elsewhere refl
   take_writes seat words (take.LoadTop buffer region) Work facts = Writes.elsewhere refl
@@ -142,13 +142,13 @@ module _ (c : Config) (w : World) (shared : Shared c w) where
   take_writes seat words (take.Ended taken end) Work facts = Writes.elsewhere refl
 
   -- a step of a resolving leaves the word of the copiers quiet
-  quiet_then : (seat a : ℕ) (at : ResolveSpot) → resolves.is_ended at ≡ false → CanResolve c w seat a at → IsQuiet (w.memory Evac) → IsQuiet (touched w.memory (resolves.touch_at c seat a at) Evac)
+  quiet_then : (seat a : ℕ) (at : ResolveSpot) → resolves.is_ended at ≡ false → CanResolve config world seat a at → IsQuiet (world.memory Evac) → IsQuiet (touched world.memory (resolves.touch_at config seat a at) Evac)
   quiet_then seat a at going can quiet =
-      let step = ((resolving_steps.steps c seat a).goes w at going shared can).step in
+      let step = ((resolving_steps.steps config seat a).goes world at going shared can).step in
       subst (λ (memory : Word → ℕ). IsQuiet (memory Evac)) step.memory (step.keeps.copies.quiet quiet)
 
   -- of who copies
-  copy_writes : (seat a copy end : ℕ) (at : CopySpot) (Work : Type 0) → CanResolve c w seat a (Copying copy end at) → Writes c w seat (resolves.copy_touch seat a copy end at) Work
+  copy_writes : (seat a copy end : ℕ) (at : CopySpot) (Work : Type 0) → CanResolve config world seat a (Copying copy end at) → Writes config world seat (resolves.copy_touch seat a copy end at) Work
   copy_writes seat a copy end (LoadWord words index) Work can = Writes.only_loads refl
   copy_writes seat a copy end (StoreWord words index found) Work can =
       let less = can.facts.2.2 in let long = can.facts.2.0 in Writes.fills copy index (hand seat (body_words can.facts.0)) can.facts.2.3.taken.here refl (omega (arith, less, long)) refl
@@ -167,7 +167,7 @@ module _ (c : Config) (w : World) (shared : Shared c w) where
   copy_writes seat a copy end (GiveBack answer) Work can = Writes.elsewhere refl
 
   -- of who resolves an address, also while references are updated
-  resolve_writes : (seat a : ℕ) (at : ResolveSpot) (Work : Type 0) → CanResolve c w seat a at → Writes c w seat (resolves.touch_at c seat a at) Work
+  resolve_writes : (seat a : ℕ) (at : ResolveSpot) (Work : Type 0) → CanResolve config world seat a at → Writes config world seat (resolves.touch_at config seat a at) Work
   resolve_writes seat a LoadHeader Work can = Writes.only_loads refl
   resolve_writes seat a (Entering at) Work can = Writes.counts refl (quiet_then seat a (Entering at) refl can)
   resolve_writes seat a LoadShape Work can = Writes.only_loads refl
@@ -178,12 +178,12 @@ module _ (c : Config) (w : World) (shared : Shared c w) where
   resolve_writes seat a LoadAgain Work can = Writes.only_loads refl
   resolve_writes seat a (Resolved answer) Work can = Writes.only_loads refl
 
-  resolving_writes : (seat a : ℕ) (at : ResolveSpot) (Work : Type 0) → IsResolving c w seat a at → Writes c w seat (resolves.touch_at c seat a at) Work
+  resolving_writes : (seat a : ℕ) (at : ResolveSpot) (Work : Type 0) → IsResolving config world seat a at → Writes config world seat (resolves.touch_at config seat a at) Work
   resolving_writes seat a at Work (inl can) = resolve_writes seat a at Work can
-  resolving_writes seat a at Work (inr can) = Writes.only_loads (following_steps.only_loads c w seat a at can)
+  resolving_writes seat a at Work (inr can) = Writes.only_loads (following_steps.only_loads config world seat a at can)
 
   -- of who updates references
-  update_writes : (seat cset : ℕ) (at : UpdateSpot) (Work : Type 0) → CanUpdate c w seat cset at → Writes c w seat (updates.touch_at c at) Work
+  update_writes : (seat cset : ℕ) (at : UpdateSpot) (Work : Type 0) → CanUpdate config world seat cset at → Writes config world seat (updates.touch_at config at) Work
   update_writes seat cset (update.ClaimUnit unit) Work can = Writes.elsewhere refl
   update_writes seat cset (update.ExchangeField at field found copy) Work can =
       let has = can.facts.0 in
@@ -196,40 +196,40 @@ module _ (c : Config) (w : World) (shared : Shared c w) where
   update_writes seat cset _ Work can = Writes.only_loads refl
 
   -- of who evacuates
-  evac_writes : (seat cset : ℕ) (at : EvacSpot) (Work : Type 0) → CanEvacuate c w seat cset at → Writes c w seat (evacs.touch_at c seat at) Work
+  evac_writes : (seat cset : ℕ) (at : EvacSpot) (Work : Type 0) → CanEvacuate config world seat cset at → Writes config world seat (evacs.touch_at config seat at) Work
   evac_writes seat cset (evac.ClaimUnit unit) Work can = Writes.elsewhere refl
   evac_writes seat cset (evac.Resolving address end next at) Work can = resolve_writes seat address at Work can.facts.1
   evac_writes seat cset _ Work can = Writes.only_loads refl
 
   -- of who scans
-  scan_writes : (seat : ℕ) (at : ScanSpot) (Work : Type 0) → Writes c w seat (scans.touch_at c at) Work
+  scan_writes : (seat : ℕ) (at : ScanSpot) (Work : Type 0) → Writes config world seat (scans.touch_at config at) Work
   scan_writes seat (scan.ClaimUnit unit) Work = Writes.elsewhere refl
   scan_writes seat (scan.SetBlack address) Work = Writes.elsewhere refl
   scan_writes seat (scan.SetGrey address field refs found) Work = Writes.elsewhere refl
   scan_writes seat _ Work = Writes.only_loads refl
 
   -- of who works on a unit
-  unit_writes : (seat : ℕ) (at : UnitSpot) (Work : Type 0) → CanWork c w seat at → Writes c w seat (units.touch_at c seat at) Work
+  unit_writes : (seat : ℕ) (at : UnitSpot) (Work : Type 0) → CanWork config world seat at → Writes config world seat (units.touch_at config seat at) Work
   unit_writes seat (unit.Scanning at) Work can = scan_writes seat at Work
   unit_writes seat (unit.Evacuating cset at) Work can = evac_writes seat cset at Work can
   unit_writes seat (unit.Updating cset at) Work can = update_writes seat cset at Work can
   unit_writes seat (unit.Ended ended) Work can = Writes.only_loads refl
 
   -- of who enters, and of who stops the others
-  enter_writes : (seat of : ℕ) (at : EnterSpot) (Work : Type 0) → Writes c w seat (enter_touch of at) Work
+  enter_writes : (seat of : ℕ) (at : EnterSpot) (Work : Type 0) → Writes config world seat (enter_touch of at) Work
   enter_writes seat of enter.Raise Work = Writes.elsewhere refl
   enter_writes seat of enter.Look Work = Writes.elsewhere refl
   enter_writes seat of enter.Lower Work = Writes.elsewhere refl
   enter_writes seat of enter.Await Work = Writes.elsewhere refl
   enter_writes seat of enter.Inside Work = Writes.elsewhere refl
 
-  stop_writes : (seat : ℕ) (at : StopSpot) (Work : Type 0) → Writes c w seat (stop_touch at) Work
+  stop_writes : (seat : ℕ) (at : StopSpot) (Work : Type 0) → Writes config world seat (stop_touch at) Work
   stop_writes seat stop.Raise Work = Writes.elsewhere refl
   stop_writes seat (stop.Check of) Work = Writes.elsewhere refl
   stop_writes seat stop.Stopped Work = Writes.elsewhere refl
 
   -- of a helper
-  help_writes : (seat : ℕ) (spot : HelpSpot) (Work : Type 0) → HelpFacts c w seat spot → Writes c w seat (helps.touch_at c seat spot) Work
+  help_writes : (seat : ℕ) (spot : HelpSpot) (Work : Type 0) → HelpFacts config world seat spot → Writes config world seat (helps.touch_at config seat spot) Work
   help_writes seat help.LoadEnd Work facts = Writes.only_loads refl
   help_writes seat (help.Entering at) Work facts = enter_writes seat seat at Work
   help_writes seat help.LoadPhase Work facts = Writes.only_loads refl
@@ -239,26 +239,26 @@ module _ (c : Config) (w : World) (shared : Shared c w) where
   help_writes seat help.Gone Work facts = Writes.only_loads refl
 
   -- of the control, where it stores no word of an image
-  control_writes : (spot : ControlSpot) (Work : Type 0) → ControlFacts c w (control_seat c) spot → Writes c w (control_seat c) (control_touch c spot) Work
+  control_writes : (spot : ControlSpot) (Work : Type 0) → ControlFacts config world (control_seat config) spot → Writes config world (control_seat config) (control_touch config spot) Work
   control_writes control.LookLeft Work facts = Writes.only_loads refl
   control_writes control.StoreEnd Work facts = Writes.elsewhere refl
   control_writes control.LookAsked Work facts = Writes.only_loads refl
   control_writes control.LookFree Work facts = Writes.only_loads refl
-  control_writes (control.Working at) Work facts = unit_writes (control_seat c) at Work facts
-  control_writes (control.Stopping at) Work facts = stop_writes (control_seat c) at Work
+  control_writes (control.Working at) Work facts = unit_writes (control_seat config) at Work facts
+  control_writes (control.Stopping at) Work facts = stop_writes (control_seat config) at Work
   control_writes (control.LoadWord index extent) Work facts = Writes.only_loads refl
   control_writes (control.StoreWord index extent) Work facts = Writes.only_loads refl
   control_writes control.Go Work facts = Writes.elsewhere refl
   control_writes control.Gone Work facts = Writes.only_loads refl
 
   -- by the parts of a call
-  load_writes : (seat : ℕ) (command : Command) (at : LoadSpot) (Work : Type 0) → Writes c w seat (load_touch seat command at) Work
+  load_writes : (seat : ℕ) (command : Command) (at : LoadSpot) (Work : Type 0) → Writes config world seat (load_touch seat command at) Work
   load_writes seat command load.First Work = Writes.only_loads refl
   load_writes seat command (load.Second first) Work = Writes.only_loads refl
   load_writes seat command (load.Third first second) Work = Writes.only_loads refl
   load_writes seat command (load.Shape object second third) Work = Writes.only_loads refl
 
-  field_writes : (seat : ℕ) (kept command : Command) (fixed : Option Reply) (object : ℕ) (at : FieldSpot) → FieldFacts c w seat kept command fixed object at → Writes c w seat (field_touch object kept at) (is_write (field_place at) ≡ true)
+  field_writes : (seat : ℕ) (kept command : Command) (fixed : Option Reply) (object : ℕ) (at : FieldSpot) → FieldFacts config world seat kept command fixed object at → Writes config world seat (field_touch object kept at) (is_write (field_place at) ≡ true)
   field_writes seat kept command fixed object fields.Load facts = Writes.only_loads refl
   field_writes seat kept command fixed object (fields.LoadExpected expect value) facts = Writes.only_loads refl
   field_writes seat kept command fixed object (fields.LoadOld value) facts = Writes.only_loads refl
@@ -269,8 +269,8 @@ module _ (c : Config) (w : World) (shared : Shared c w) where
   field_writes seat kept command fixed object (fields.Exchange found expect value) facts =
       let cas = facts.1 in let within = cas.below in Writes.works object (3 + index_of kept) cas.of.refs cas.of.nums cas.of.name cas.of.target (omega arith) (omega (arith, within)) (ap Heap (omega arith)) refl
 
-  number_writes : (seat : ℕ) (kept command : Command) (fixed : Option Reply) (object refs : ℕ) (at : NumberSpot) → NumberFacts c w seat kept command fixed object refs at
-      → Writes c w seat (number_touch object refs kept at) (is_write (number_place at) ≡ true)
+  number_writes : (seat : ℕ) (kept command : Command) (fixed : Option Reply) (object refs : ℕ) (at : NumberSpot) → NumberFacts config world seat kept command fixed object refs at
+      → Writes config world seat (number_touch object refs kept at) (is_write (number_place at) ≡ true)
   number_writes seat kept command fixed object refs numbers.Load facts = Writes.only_loads refl
   number_writes seat kept command fixed object refs numbers.Store facts =
       let wr = facts.1 in
@@ -278,7 +278,7 @@ module _ (c : Config) (w : World) (shared : Shared c w) where
       let long = wr.refs_are in
       Writes.works object (3 + refs + index_of kept) wr.of.refs wr.of.nums wr.of.name wr.of.target (omega arith) (omega (arith, within, long)) (ap Heap (omega arith)) refl
 
-  remember_writes : (seat address : ℕ) (at : RememberSpot) (Work : Type 0) → Writes c w seat (satb.touch_at c seat address at) Work
+  remember_writes : (seat address : ℕ) (at : RememberSpot) (Work : Type 0) → Writes config world seat (satb.touch_at config seat address at) Work
   remember_writes seat address remember.LoadCount Work = Writes.elsewhere refl
   remember_writes seat address (remember.LoadEntry entry) Work = Writes.elsewhere refl
   remember_writes seat address (remember.MarkEntry entry found) Work = Writes.elsewhere refl
@@ -287,16 +287,16 @@ module _ (c : Config) (w : World) (shared : Shared c w) where
   remember_writes seat address (remember.StoreCount entry) Work = Writes.elsewhere refl
   remember_writes seat address remember.Recorded Work = Writes.elsewhere refl
 
-  show_writes : (seat value : ℕ) (command : Command) (at : ShowSpot) (Work : Type 0) → Writes c w seat (show_touch seat value command at) Work
+  show_writes : (seat value : ℕ) (command : Command) (at : ShowSpot) (Work : Type 0) → Writes config world seat (show_touch seat value command at) Work
   show_writes seat value command show.LoadName Work = Writes.only_loads refl
   show_writes seat value command (show.StoreRoot reply) Work = Writes.elsewhere refl
 
-  make_writes : (seat made : ℕ) (kept command : Command) (fixed : Option Reply) (at : MakeSpot) (Work : Type 0) → MakeFacts c w seat made kept command fixed at → Writes c w seat (make_touch seat made kept at) Work
+  make_writes : (seat made : ℕ) (kept command : Command) (fixed : Option Reply) (at : MakeSpot) (Work : Type 0) → MakeFacts config world seat made kept command fixed at → Writes config world seat (make_touch seat made kept at) Work
   make_writes seat made kept command fixed (make.Taking at) Work facts = take_writes seat _ at Work facts.1
   make_writes seat made kept command fixed (make.StoreWord address done) Work facts = Writes.fills address done (hand seat _) facts.1.room refl facts.2 refl
   make_writes seat made kept command fixed (make.StoreRoot address) Work facts = Writes.elsewhere refl
 
-  wait_writes : (seat made : ℕ) (command : Command) (at : WaitSpot) (Work : Type 0) → Writes c w seat (wait_touch seat made command at) Work
+  wait_writes : (seat made : ℕ) (command : Command) (at : WaitSpot) (Work : Type 0) → Writes config world seat (wait_touch seat made command at) Work
   wait_writes seat made command wait.Poll Work = Writes.elsewhere refl
   wait_writes seat made command wait.LoadAnswer Work = Writes.elsewhere refl
   wait_writes seat made command wait.StoreRequest Work = Writes.elsewhere refl
@@ -305,20 +305,20 @@ module _ (c : Config) (w : World) (shared : Shared c w) where
   wait_writes seat made command (wait.StoreRoot address) Work = Writes.elsewhere refl
   wait_writes seat made command (wait.ClearAnswer reply) Work = Writes.elsewhere refl
 
-  pin_writes : (seat value : ℕ) (command : Command) (at : PinSpot) (Work : Type 0) → Writes c w seat (pin_touch seat value command at) Work
+  pin_writes : (seat value : ℕ) (command : Command) (at : PinSpot) (Work : Type 0) → Writes config world seat (pin_touch seat value command at) Work
   pin_writes seat value command pins.Look Work = Writes.only_loads refl
   pin_writes seat value command pins.Store Work = Writes.elsewhere refl
 
   -- between two calls
-  first_writes : (seat : ℕ) (order : Order) (Work : Type 0) → Writes c w seat (first_touch seat order) Work
+  first_writes : (seat : ℕ) (order : Order) (Work : Type 0) → Writes config world seat (first_touch seat order) Work
   first_writes seat Nothing Work = Writes.elsewhere refl
   first_writes seat (Begin command) Work = Writes.elsewhere refl
   first_writes seat End Work = Writes.elsewhere refl
   first_writes seat (Hint address) Work = Writes.elsewhere refl
 
   -- of a mutator
-  spot_writes : (seat made : ℕ) (kept : Kept) (command : Command) (fixed : Option Reply) (order : Order) (spot : Spot) → SpotFacts c w seat made kept command fixed spot
-      → Writes c w seat (touch_at c seat made kept order spot) (is_write (place_at order spot) ≡ true)
+  spot_writes : (seat made : ℕ) (kept : Kept) (command : Command) (fixed : Option Reply) (order : Order) (spot : Spot) → SpotFacts config world seat made kept command fixed spot
+      → Writes config world seat (touch_at config seat made kept order spot) (is_write (place_at order spot) ≡ true)
   spot_writes seat made kept command fixed order Rest facts = first_writes seat order _
   spot_writes seat made kept command fixed order (Ended reply) facts = first_writes seat order _
   spot_writes seat made kept command fixed order (Enters at next) facts = enter_writes seat seat at _
@@ -339,14 +339,14 @@ module _ (c : Config) (w : World) (shared : Shared c w) where
   spot_writes seat made kept command fixed order Gone facts = Writes.only_loads refl
 
   -- and of any machine
-  pub machine_writes : (words : List ℕ) (entries : List Entry) (number : ℕ) (x : Actor) (order : Order) (machine : Machine) → IsMachine c words w entries number x machine → Writes c w number (touch_in c order machine) (WorkIn order machine)
-  machine_writes words entries number x order (mutating m) facts =
-      subst (λ seat. Writes c w seat (touch_of c m order) (is_write (place_at order m.spot) ≡ true)) facts.number_is (spot_writes m.seat m.made m.kept x.command facts.fixed order m.spot facts.mine.facts)
-  machine_writes words entries number x order (helping h) facts = helper_writes (helping_by c order h) (help_hinted_is c w number (hint_in order) h facts)
+  pub machine_writes : (words : List ℕ) (entries : List Entry) (number : ℕ) (actor : Actor) (order : Order) (machine : Machine) → IsMachine config words world entries number actor machine → Writes config world number (touch_in config order machine) (WorkIn order machine)
+  machine_writes words entries number actor order (mutating m) facts =
+      subst (λ seat. Writes config world seat (touch_of config m order) (is_write (place_at order m.spot) ≡ true)) facts.number_is (spot_writes m.seat m.made m.kept actor.command facts.fixed order m.spot facts.mine.facts)
+  machine_writes words entries number actor order (helping h) facts = helper_writes (helping_by config order h) (help_hinted_is config world number (hint_in order) h facts)
     where
-      helper_writes : (y : Helping) → IsHelper c w number y → Writes c w number (helps.help_touch c y) ⊥
-      helper_writes y known = subst (λ seat. Writes c w seat (helps.help_touch c y) ⊥) known.number_is (help_writes y.seat y.spot ⊥ (subst (λ seat. HelpFacts c w seat y.spot) (sym known.number_is) known.facts))
-  machine_writes words entries number x order (controlling k) facts = the_control_writes (controlling_by c order k) (control_hinted_is c w number words (hint_in order) k facts)
+      helper_writes : (y : Helping) → IsHelper config world number y → Writes config world number (helps.help_touch config y) ⊥
+      helper_writes y known = subst (λ seat. Writes config world seat (helps.help_touch config y) ⊥) known.number_is (help_writes y.seat y.spot ⊥ (subst (λ seat. HelpFacts config world seat y.spot) (sym known.number_is) known.facts))
+  machine_writes words entries number actor order (controlling k) facts = the_control_writes (controlling_by config order k) (control_hinted_is config world number words (hint_in order) k facts)
     where
-      the_control_writes : (y : Controlling) → IsControl c words w number y → Writes c w number (control_touch c y.spot) ⊥
-      the_control_writes y known = subst (λ seat. Writes c w seat (control_touch c y.spot) ⊥) (sym known.number_is) (control_writes y.spot ⊥ (subst (λ seat. ControlFacts c w seat y.spot) known.number_is known.facts))
+      the_control_writes : (y : Controlling) → IsControl config words world number y → Writes config world number (control_touch config y.spot) ⊥
+      the_control_writes y known = subst (λ seat. Writes config world seat (control_touch config y.spot) ⊥) (sym known.number_is) (control_writes y.spot ⊥ (subst (λ seat. ControlFacts config world seat y.spot) known.number_is known.facts))

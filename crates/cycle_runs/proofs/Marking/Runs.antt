@@ -37,61 +37,61 @@ marking_comes_in_runs c s g begins events = let stands = (every_run collect_imag
 }
 
 -- in phase 1 a pause is of all of the image
-whole_in_marking : (c : Config) (xs : List ℕ) → extent_by c 1 xs ≡ Whole
-whole_in_marking c xs = by_wide (is_wide c) (says_room 1 3 (slice_index xs 3)) (says_room 1 5 (slice_index xs 5))
+whole_in_marking : (config : Config) (xs : List ℕ) → extent_by config 1 xs ≡ Whole
+whole_in_marking config xs = by_wide (is_wide config) (says_room 1 3 (slice_index xs 3)) (says_room 1 5 (slice_index xs 5))
   where
-    by_wide : (w evac ask : Bool) → (if ask then Whole else (if evac then Whole else (if w then Whole else Whole))) ≡ Whole
-    by_wide w evac true = refl
-    by_wide w true false = refl
+    by_wide : (holds evac ask : Bool) → (if ask then Whole else (if evac then Whole else (if holds then Whole else Whole))) ≡ Whole
+    by_wide holds evac true = refl
+    by_wide holds true false = refl
     by_wide true false false = refl
     by_wide false false false = refl
 
 -- behind the last word of the image none is loaded
-none_behind : (c : Config) (extent : Extent) (index : ℕ) → index + 1 ≡ image_words c → image_words c ≤ next_loaded c extent index
-none_behind c Whole index last = omega (arith, last)
-none_behind c OffHeap index last = by_test (nat_le (heap_index c) (index + 1) && nat_lt (index + 1) (heap_index c + heap_size c)) refl
+none_behind : (config : Config) (extent : Extent) (index : ℕ) → index + 1 ≡ image_words config → image_words config ≤ next_loaded config extent index
+none_behind config Whole index last = omega (arith, last)
+none_behind config OffHeap index last = by_test (nat_le (heap_index config) (index + 1) && nat_lt (index + 1) (heap_index config + heap_size config)) refl
   where
-    by_test : (b : Bool) → (nat_le (heap_index c) (index + 1) && nat_lt (index + 1) (heap_index c + heap_size c)) ≡ b → image_words c ≤ (if b then heap_index c + heap_size c else index + 1)
-    by_test true at = absurd (let within = ltb-true (index + 1) (heap_index c + heap_size c) (and_parts (nat_le (heap_index c) (index + 1)) _ at).1 in omega (arith, within, last))
+    by_test : (holds : Bool) → (nat_le (heap_index config) (index + 1) && nat_lt (index + 1) (heap_index config + heap_size config)) ≡ holds → image_words config ≤ (if holds then heap_index config + heap_size config else index + 1)
+    by_test true at = absurd (let within = ltb-true (index + 1) (heap_index config + heap_size config) (and_parts (nat_le (heap_index config) (index + 1)) _ at).1 in omega (arith, within, last))
     by_test false at = omega (arith, last)
-none_behind c Ahead index last = by_test (nat_lt (index + 1) (roots_index c))
+none_behind config Ahead index last = by_test (nat_lt (index + 1) (roots_index config))
   where
-    by_test : (b : Bool) → image_words c ≤ (if b then index + 1 else image_words c)
+    by_test : (holds : Bool) → image_words config ≤ (if holds then index + 1 else image_words config)
     by_test true = omega (arith, last)
     by_test false = omega arith
 
 -- with the last word of an image in phase 1 it is whole
-module _ (c : Config) (phase index got : ℕ) (extent : Extent) (image : List ℕ) (last : index + 1 ≡ image_words c) (long : length image ≡ index) (on : image_view c (image ++ got ∷ []) Phase ≡ 1) where
+module _ (config : Config) (phase index got : ℕ) (extent : Extent) (image : List ℕ) (last : index + 1 ≡ image_words config) (long : length image ≡ index) (on : image_view config (image ++ got ∷ []) Phase ≡ 1) where
   abbrev loaded : List ℕ
   loaded = image ++ got ∷ []
 
-  loaded_long : length loaded ≡ image_words c
+  loaded_long : length loaded ≡ image_words config
   loaded_long = (let longer = length-append image (got ∷ []) in omega (arith, longer, long, last))
 
-  all_loaded : loaded_all c image got ≡ loaded
-  all_loaded = (let none : image_words c - length loaded ≡ 0 = omega (arith, loaded_long) in ap (λ n. loaded ++ replicate n 0) none ∙ append-nil loaded)
+  all_loaded : loaded_all config image got ≡ loaded
+  all_loaded = (let none : image_words config - length loaded ≡ 0 = omega (arith, loaded_long) in ap (λ n. loaded ++ replicate n 0) none ∙ append-nil loaded)
 
   first_word : slice_index loaded 0 ≡ 1
-  first_word = sym (image_reads c loaded Phase refl refl ∙ ap (λ k. slice_index loaded k) (omega arith)) ∙ on
+  first_word = sym (image_reads config loaded Phase refl refl ∙ ap (λ k. slice_index loaded k) (omega arith)) ∙ on
 
-  whole_at : IsWholeImage c phase (LoadWord index extent) image got → ∥ AreMarkedThrough c (closed c (image_view c loaded)) ∥₁
+  whole_at : IsWholeImage config phase (LoadWord index extent) image got → ∥ AreMarkedThrough config (closed config (image_view config loaded)) ∥₁
   whole_at whole =
-      let prop : IsProp (∥ AreMarkedThrough c (closed c (image_view c loaded)) ∥₁) = hlevel in
-      ∥∥₁_elim (whole (le-ltb _ _ (none_behind c (extent_after phase index extent got) index last))) prop (λ h.
+      let prop : IsProp (∥ AreMarkedThrough config (closed config (image_view config loaded)) ∥₁) = hlevel in
+      ∥∥₁_elim (whole (le-ltb _ _ (none_behind config (extent_after phase index extent got) index last))) prop (λ h.
       let all : extent_after phase index extent got ≡ Whole =
-      h.5 ∙ ap (λ xs. extent_by c (slice_index xs 0) xs) all_loaded ∙ ap (λ p. extent_by c p loaded) first_word ∙ whole_in_marking c loaded in
+      h.5 ∙ ap (λ xs. extent_by config (slice_index xs 0) xs) all_loaded ∙ ap (λ p. extent_by config p loaded) first_word ∙ whole_in_marking config loaded in
       let same : loaded ≡ h.0 = same_number_lists loaded h.0 (loaded_long ∙ sym h.3)
       (λ k below.
       ap (λ xs. slice_index xs k) (sym all_loaded)
-      ∙ subst (λ e. slice_index (loaded_all c image got) k ≡ (if is_of_extent c e k then slice_index h.0 k else 0)) all (h.4 k (omega (arith, below, loaded_long)))) in
-      let marked = reachable_are_marked c (image_view c loaded) h.1 h.2 (subst (λ xs. Represents c (image_view c xs) h.1 h.2) (sym same) h.6) on in
+      ∙ subst (λ e. slice_index (loaded_all config image got) k ≡ (if is_of_extent config e k then slice_index h.0 k else 0)) all (h.4 k (omega (arith, below, loaded_long)))) in
+      let marked = reachable_are_marked config (image_view config loaded) h.1 h.2 (subst (λ xs. Represents config (image_view config xs) h.1 h.2) (sym same) h.6) on in
       ∣ record { block = marked.0; owner = marked.1; promises = marked.2; graph = h.1; holds = marked.3; marked = marked.4 } ∣₁)
 
 pub reachable_are_marked_in_runs : ReachableAreMarkedInRuns
 unfolding kind
 reachable_are_marked_in_runs c s g begins number index got extent a k finds is at last on =
-    let fits : IsFitFor c Nothing got (controlling k) = subst (λ (m : Machine). IsFitFor c Nothing got m) is (found_fit collect_image collect_pauses_by_parts c s g begins number a Nothing got finds) in
+    let fits : IsFitFor c Nothing got (controlling k) = subst (λ (machine : Machine). IsFitFor c Nothing got machine) is (found_fit collect_image collect_pauses_by_parts c s g begins number a Nothing got finds) in
     let aims : IsAim c finds.stage.words k.spot k.image =
     reached_has (kind collect_image c) (λ t. slice_get t.machines number ≡ Some a → IsAim c t.words k.spot k.image) s finds.stage
     (λ events here. (run_aims collect_image collect_pauses_by_parts c s g begins events number a k here is).1) finds.reached finds.here in
-    whole_at c k.phase index got extent k.image last (subst (λ spot. IsAim c finds.stage.words spot k.image) at aims).0 on (subst (λ (x : ControlSpot). IsWholeImage c k.phase x k.image got) at fits.0)
+    whole_at c k.phase index got extent k.image last (subst (λ spot. IsAim c finds.stage.words spot k.image) at aims).0 on (subst (λ (spot : ControlSpot). IsWholeImage c k.phase spot k.image got) at fits.0)

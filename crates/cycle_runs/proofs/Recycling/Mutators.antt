@@ -39,69 +39,69 @@ use Rattle.cycle_runs.specs.Recycling.InHand.{IsLoadHand, IsFieldHand, IsLoadedH
 use Rattle.cycle_runs.proofs.Recycling.Free.{IsElsewhere, piece_elsewhere, null_elsewhere, named_elsewhere, points_elsewhere, target_elsewhere, usable_elsewhere}
 use Rattle.cycle_runs.proofs.Recycling.PartHands.{same_apart, either_apart, take_hand, resolve_hand, follow_hand, remember_hand}
 
-module _ (c : Config) (w : World) (shared : Shared c w) (r : ℕ) (inside : r < c.regions) (free : IsIn (w.memory Free) r) where
+module _ (config : Config) (world : World) (shared : Shared config world) (region : ℕ) (inside : region < config.regions) (free : IsIn (world.memory Free) region) where
   -- an address does not lie there
   abbrev IsApart : ℕ → Type 0
-  IsApart a = IsElsewhere c w shared r inside free a
+  IsApart a = IsElsewhere config world shared region inside free a
 
   same : (a b : ℕ) → IsApart b → a ≡ b → IsApart a
-  same a b apart is = same_apart c w shared r inside free a b apart is
+  same a b apart is = same_apart config world shared region inside free a b apart is
 
   either : (a b d : ℕ) → IsApart b → IsApart d → (a ≡ b) ⊎ (a ≡ d) → IsApart a
-  either a b d first second which = either_apart c w shared r inside free a b d first second which
+  either a b d first second which = either_apart config world shared region inside free a b d first second which
 
   third_of : (a b d e : ℕ) → IsApart b → IsApart d → IsApart e → (a ≡ b) ⊎ ((a ≡ d) ⊎ (a ≡ e)) → IsApart a
   third_of a b d e first second third which = ⊎_elim (λ (is : a ≡ b). same a b first is) (λ (rest : (a ≡ d) ⊎ (a ≡ e)). either a d e second third rest) which
 
   -- a root that was loaded, and the object that one names
-  root_apart : (seat index word : ℕ) → IsRootWord c w seat index word → IsApart word
-  root_apart seat index word is = points_elsewhere c w shared r inside free word (w.graph.root (seat + 1) index) is.stands
+  root_apart : (seat index word : ℕ) → IsRootWord config world seat index word → IsApart word
+  root_apart seat index word is = points_elsewhere config world shared region inside free word (world.graph.root (seat + 1) index) is.stands
 
-  object_apart : (seat root object : ℕ) → HasObject c w seat root object → IsApart object
-  object_apart seat root object is = target_elsewhere c w shared r inside free object is.refs is.nums is.name is.target
+  object_apart : (seat root object : ℕ) → HasObject config world seat root object → IsApart object
+  object_apart seat root object is = target_elsewhere config world shared region inside free object is.refs is.nums is.name is.target
 
   -- what names the same as another word
-  found_apart : (found expect : ℕ) → NameTheSame w.block found expect → IsApart found
+  found_apart : (found expect : ℕ) → NameTheSame world.block found expect → IsApart found
   found_apart found expect is = ⊎_elim
-      (λ null. null_elsewhere c w shared r inside free found null.0)
-      (λ named. named_elsewhere c w shared r inside free found named.0 named.1)
+      (λ null. null_elsewhere config world shared region inside free found null.0)
+      (λ named. named_elsewhere config world shared region inside free found named.0 named.1)
       is
 
   -- of who loads roots
-  load_hand : (seat made : ℕ) (k command : Command) (fixed : Option Reply) (at : LoadSpot) → LoadFacts c w seat made k command fixed at → (a : ℕ) → IsLoadHand k at a → IsApart a
-  load_hand seat made k command fixed load.First facts a is = absurd is
-  load_hand seat made k command fixed (load.Second first) facts a is = let root = facts.2 in same a first (root_apart seat _ first (root.first_is root.some)) is
-  load_hand seat made k command fixed (load.Third first second) facts a is =
+  load_hand : (seat made : ℕ) (other_command command : Command) (fixed : Option Reply) (at : LoadSpot) → LoadFacts config world seat made other_command command fixed at → (a : ℕ) → IsLoadHand other_command at a → IsApart a
+  load_hand seat made other_command command fixed load.First facts a is = absurd is
+  load_hand seat made other_command command fixed (load.Second first) facts a is = let root = facts.2 in same a first (root_apart seat _ first (root.first_is root.some)) is
+  load_hand seat made other_command command fixed (load.Third first second) facts a is =
       let root = facts.2 in
       let more = facts.1 in
       either a first second (root_apart seat _ first (root.first_is root.some)) (root_apart seat _ second (facts.3 (omega (arith, more)))) is
-  load_hand seat made k command fixed (load.Shape object second third) facts a is =
+  load_hand seat made other_command command fixed (load.Shape object second third) facts a is =
       let roots = facts.2 in
       ⊎_elim
       (λ (first : a ≡ object). same a object (root_apart seat _ object (roots.first_is.first_is roots.first_is.some)) first)
       (λ rest. ⊎_elim
-      (λ (has_second : (1 < length (command_roots k)) × (a ≡ second)). same a second (root_apart seat _ second (roots.second_is has_second.0)) has_second.1)
-      (λ (has_third : (2 < length (command_roots k)) × (a ≡ third)). same a third (root_apart seat _ third (roots.third_is has_third.0)) has_third.1)
+      (λ (has_second : (1 < length (command_roots other_command)) × (a ≡ second)). same a second (root_apart seat _ second (roots.second_is has_second.0)) has_second.1)
+      (λ (has_third : (2 < length (command_roots other_command)) × (a ≡ third)). same a third (root_apart seat _ third (roots.third_is has_third.0)) has_third.1)
       rest)
       is
 
   -- of who exchanges a field by what is to be there
-  cas_apart : (seat object field expect value a : ℕ) (command : Command) → IsCas c w seat command object field expect value → (a ≡ object) ⊎ ((a ≡ expect) ⊎ (a ≡ value)) → IsApart a
+  cas_apart : (seat object field expect value a : ℕ) (command : Command) → IsCas config world seat command object field expect value → (a ≡ object) ⊎ ((a ≡ expect) ⊎ (a ≡ value)) → IsApart a
   cas_apart seat object field expect value a command cas is =
       third_of a object expect value (object_apart seat cas.obj object cas.of) (root_apart seat cas.expected expect cas.expect_is) (root_apart seat cas.val value cas.value_is) is
 
-  set_apart : (seat object field value a : ℕ) (command : Command) → IsSet c w seat command object field value → (a ≡ object) ⊎ (a ≡ value) → IsApart a
+  set_apart : (seat object field value a : ℕ) (command : Command) → IsSet config world seat command object field value → (a ≡ object) ⊎ (a ≡ value) → IsApart a
   set_apart seat object field value a command set is = either a object value (object_apart seat set.obj object set.of) (root_apart seat set.val value set.value_is) is
 
   -- of who works on a field
-  field_hand : (seat : ℕ) (k command : Command) (fixed : Option Reply) (object : ℕ) (at : FieldSpot) → FieldFacts c w seat k command fixed object at → (a : ℕ) → IsFieldHand object at a → IsApart a
-  field_hand seat k command fixed object fields.Load facts a is = let get = facts.1 in same a object (object_apart seat get.src object get.of) is
-  field_hand seat k command fixed object (fields.LoadExpected expect value) facts a is = cas_apart seat object (index_of k) expect value a command facts.1 is
-  field_hand seat k command fixed object (fields.LoadOld value) facts a is = set_apart seat object (index_of k) value a command facts.1 is
-  field_hand seat k command fixed object (fields.Store value) facts a is = set_apart seat object (index_of k) value a command facts.1 is
-  field_hand seat k command fixed object (fields.Swap value) facts a is =
+  field_hand : (seat : ℕ) (other_command command : Command) (fixed : Option Reply) (object : ℕ) (at : FieldSpot) → FieldFacts config world seat other_command command fixed object at → (a : ℕ) → IsFieldHand object at a → IsApart a
+  field_hand seat other_command command fixed object fields.Load facts a is = let get = facts.1 in same a object (object_apart seat get.src object get.of) is
+  field_hand seat other_command command fixed object (fields.LoadExpected expect value) facts a is = cas_apart seat object (index_of other_command) expect value a command facts.1 is
+  field_hand seat other_command command fixed object (fields.LoadOld value) facts a is = set_apart seat object (index_of other_command) value a command facts.1 is
+  field_hand seat other_command command fixed object (fields.Store value) facts a is = set_apart seat object (index_of other_command) value a command facts.1 is
+  field_hand seat other_command command fixed object (fields.Swap value) facts a is =
       let swap = facts.1 in either a object value (object_apart seat swap.obj object swap.of) (root_apart seat swap.val value swap.value_is) is
-  field_hand seat k command fixed object (fields.Exchange found expect value) facts a is =
+  field_hand seat other_command command fixed object (fields.Exchange found expect value) facts a is =
       let cas = facts.1 in
       ⊎_elim
       (λ (is_object : a ≡ object). same a object (object_apart seat cas.obj object cas.of) is_object)
@@ -109,63 +109,63 @@ module _ (c : Config) (w : World) (shared : Shared c w) (r : ℕ) (inside : r < 
       is
 
   -- of who resolves what it has found
-  loaded_hand : (seat : ℕ) (k command : Command) (fixed : Option Reply) (found : ℕ) (next : Loaded) → LoadedFacts c w seat k command fixed found next → (a : ℕ) → IsLoadedHand next a → IsApart a
-  loaded_hand seat k command fixed found ForRoot facts a is = absurd is
-  loaded_hand seat k command fixed found (ToCompare object expect value) facts a is = cas_apart seat object (index_of k) expect value a command facts.is_cas is
+  loaded_hand : (seat : ℕ) (other_command command : Command) (fixed : Option Reply) (found : ℕ) (next : Loaded) → LoadedFacts config world seat other_command command fixed found next → (a : ℕ) → IsLoadedHand next a → IsApart a
+  loaded_hand seat other_command command fixed found ForRoot facts a is = absurd is
+  loaded_hand seat other_command command fixed found (ToCompare object expect value) facts a is = cas_apart seat object (index_of other_command) expect value a command facts.is_cas is
 
-  resolving_hand : (seat address : ℕ) (at : ResolveSpot) → CanResolve c w seat address at ⊎ CanFollow c w seat address at → (a : ℕ) → IsResolveHand address at a → IsApart a
+  resolving_hand : (seat address : ℕ) (at : ResolveSpot) → CanResolve config world seat address at ⊎ CanFollow config world seat address at → (a : ℕ) → IsResolveHand address at a → IsApart a
   resolving_hand seat address at can a is = ⊎_elim
-      (λ (resolves : CanResolve c w seat address at). resolve_hand c w shared r inside free seat address at resolves a is)
-      (λ (follows : CanFollow c w seat address at). follow_hand c w shared r inside free seat address at follows a is)
+      (λ (resolves : CanResolve config world seat address at). resolve_hand config world shared region inside free seat address at resolves a is)
+      (λ (follows : CanFollow config world seat address at). follow_hand config world shared region inside free seat address at follows a is)
       can
 
   -- of who records what it overwrites
-  overwritten_hand : (seat : ℕ) (k command : Command) (fixed : Option Reply) (address : ℕ) (next : Overwritten) → RecordFacts c w seat k command fixed address next → (a : ℕ) → IsOverwrittenHand next a → IsApart a
-  overwritten_hand seat k command fixed address (overwrites.Set object value) facts a is = set_apart seat object (index_of k) value a command facts.1 is
-  overwritten_hand seat k command fixed address overwrites.Xchg facts a is = absurd is
-  overwritten_hand seat k command fixed address overwrites.Cas facts a is = absurd is
+  overwritten_hand : (seat : ℕ) (other_command command : Command) (fixed : Option Reply) (address : ℕ) (next : Overwritten) → RecordFacts config world seat other_command command fixed address next → (a : ℕ) → IsOverwrittenHand next a → IsApart a
+  overwritten_hand seat other_command command fixed address (overwrites.Set object value) facts a is = set_apart seat object (index_of other_command) value a command facts.1 is
+  overwritten_hand seat other_command command fixed address overwrites.Xchg facts a is = absurd is
+  overwritten_hand seat other_command command fixed address overwrites.Cas facts a is = absurd is
 
   -- of who works on a number
-  number_hand : (seat : ℕ) (k command : Command) (fixed : Option Reply) (object refs : ℕ) (at : NumberSpot) → NumberFacts c w seat k command fixed object refs at → IsApart object
-  number_hand seat k command fixed object refs numbers.Load facts = let rd = facts.1 in object_apart seat rd.obj object rd.of
-  number_hand seat k command fixed object refs numbers.Store facts = let wr = facts.1 in object_apart seat wr.obj object wr.of
+  number_hand : (seat : ℕ) (other_command command : Command) (fixed : Option Reply) (object refs : ℕ) (at : NumberSpot) → NumberFacts config world seat other_command command fixed object refs at → IsApart object
+  number_hand seat other_command command fixed object refs numbers.Load facts = let rd = facts.1 in object_apart seat rd.obj object rd.of
+  number_hand seat other_command command fixed object refs numbers.Store facts = let wr = facts.1 in object_apart seat wr.obj object wr.of
 
   -- of who shows what it has found
-  show_hand : (k : Command) (fixed : Option Reply) (value : ℕ) (at : ShowSpot) → ShowFacts c w k fixed value at → IsApart value
-  show_hand k fixed value show.LoadName facts = let found = facts.0 in named_elsewhere c w shared r inside free value found.name found.is
-  show_hand k fixed value (show.StoreRoot reply) facts = usable_elsewhere c w shared r inside free value facts.2
+  show_hand : (command : Command) (fixed : Option Reply) (value : ℕ) (at : ShowSpot) → ShowFacts config world command fixed value at → IsApart value
+  show_hand command fixed value show.LoadName facts = let found = facts.0 in named_elsewhere config world shared region inside free value found.name found.is
+  show_hand command fixed value (show.StoreRoot reply) facts = usable_elsewhere config world shared region inside free value facts.2
 
   -- of who makes one root another, or null
-  store_hand : (seat dst value : ℕ) (command : Command) → IsCopy c w seat command dst value ⊎ IsDrop command dst value → IsApart value
+  store_hand : (seat dst value : ℕ) (command : Command) → IsCopy config world seat command dst value ⊎ IsDrop command dst value → IsApart value
   store_hand seat dst value command which = ⊎_elim
-      (λ (copy : IsCopy c w seat command dst value). root_apart seat copy.src value copy.value_is)
-      (λ (drop : IsDrop command dst value). null_elsewhere c w shared r inside free value drop.value_is)
+      (λ (copy : IsCopy config world seat command dst value). root_apart seat copy.src value copy.value_is)
+      (λ (drop : IsDrop command dst value). null_elsewhere config world shared region inside free value drop.value_is)
       which
 
   -- of who makes an object
-  make_hand : (seat made : ℕ) (k command : Command) (fixed : Option Reply) (at : MakeSpot) → MakeFacts c w seat made k command fixed at → (a : ℕ) → IsMakeHand at a → IsApart a
-  make_hand seat made k command fixed (make.Taking at) facts a is = take_hand c w shared r inside free seat (words_made k) at facts.1 a is
-  make_hand seat made k command fixed (make.StoreWord address done) facts a is = same a address (piece_elsewhere c w shared r inside free address _ facts.1.room) is
-  make_hand seat made k command fixed (make.StoreRoot address) facts a is = same a address (piece_elsewhere c w shared r inside free address _ facts.1.room) is
+  make_hand : (seat made : ℕ) (other_command command : Command) (fixed : Option Reply) (at : MakeSpot) → MakeFacts config world seat made other_command command fixed at → (a : ℕ) → IsMakeHand at a → IsApart a
+  make_hand seat made other_command command fixed (make.Taking at) facts a is = take_hand config world shared region inside free seat (words_made other_command) at facts.1 a is
+  make_hand seat made other_command command fixed (make.StoreWord address done) facts a is = same a address (piece_elsewhere config world shared region inside free address _ facts.1.room) is
+  make_hand seat made other_command command fixed (make.StoreRoot address) facts a is = same a address (piece_elsewhere config world shared region inside free address _ facts.1.room) is
 
   -- of who pins an object, or unpins what a slot holds
-  slot_hand : (seat value : ℕ) (k : Command) → IsOfSlot c w seat k value → IsApart value
+  slot_hand : (seat value : ℕ) (command : Command) → IsOfSlot config world seat command value → IsApart value
   slot_hand seat value (Pin slot obj) is = object_apart seat obj value is.1
-  slot_hand seat value (Unpin slot) is = null_elsewhere c w shared r inside free value is.1
+  slot_hand seat value (Unpin slot) is = null_elsewhere config world shared region inside free value is.1
   slot_hand seat value _ is = absurd is
 
-  pin_hand : (seat : ℕ) (k command : Command) (fixed : Option Reply) (value : ℕ) (at : PinSpot) → PinFacts c w seat k command fixed value at → IsApart value
-  pin_hand seat k command fixed value pins.Look facts = slot_hand seat value k facts.2
-  pin_hand seat k command fixed value pins.Store facts = slot_hand seat value k facts.2
+  pin_hand : (seat : ℕ) (other_command command : Command) (fixed : Option Reply) (value : ℕ) (at : PinSpot) → PinFacts config world seat other_command command fixed value at → IsApart value
+  pin_hand seat other_command command fixed value pins.Look facts = slot_hand seat value other_command facts.2
+  pin_hand seat other_command command fixed value pins.Store facts = slot_hand seat value other_command facts.2
 
   -- of who has waited for one
-  wait_hand : (seat made : ℕ) (k command : Command) (fixed : Option Reply) (at : WaitSpot) → WaitFacts c w seat made k command fixed at → (a : ℕ) → IsWaitHand at a → IsApart a
-  wait_hand seat made k command fixed (wait.StoreRoot address) facts a is =
-      same a address (subst (λ x. IsApart x) facts.1 (piece_elsewhere c w shared r inside free (w.memory (Answer seat)) _ facts.0.1.2.here)) is
-  wait_hand seat made k command fixed _ facts a is = absurd is
+  wait_hand : (seat made : ℕ) (other_command command : Command) (fixed : Option Reply) (at : WaitSpot) → WaitFacts config world seat made other_command command fixed at → (a : ℕ) → IsWaitHand at a → IsApart a
+  wait_hand seat made other_command command fixed (wait.StoreRoot address) facts a is =
+      same a address (subst (λ x. IsApart x) facts.1 (piece_elsewhere config world shared region inside free (world.memory (Answer seat)) _ facts.0.1.2.here)) is
+  wait_hand seat made other_command command fixed _ facts a is = absurd is
 
   -- of a mutator
-  pub mutator_hand : (seat made : ℕ) (kept : Kept) (command : Command) (fixed : Option Reply) (spot : Spot) → SpotFacts c w seat made kept command fixed spot → (a : ℕ) → IsMutatorHand kept.command spot a → IsApart a
+  pub mutator_hand : (seat made : ℕ) (kept : Kept) (command : Command) (fixed : Option Reply) (spot : Spot) → SpotFacts config world seat made kept command fixed spot → (a : ℕ) → IsMutatorHand kept.command spot a → IsApart a
   mutator_hand seat made kept command fixed (Loading at) facts a is = load_hand seat made kept.command command fixed at facts a is
   mutator_hand seat made kept command fixed (OnField object at) facts a is = field_hand seat kept.command command fixed object at facts a is
   mutator_hand seat made kept command fixed (Resolving address at next) facts a is = ⊎_elim
@@ -173,7 +173,7 @@ module _ (c : Config) (w : World) (shared : Shared c w) (r : ℕ) (inside : r < 
       (λ (loaded : IsLoadedHand next a). loaded_hand seat kept.command command fixed address next facts.1 a loaded)
       is
   mutator_hand seat made kept command fixed (Recording at address next) facts a is = ⊎_elim
-      (λ (records : IsRememberHand address at a). remember_hand c w shared r inside free seat address at facts.0 a records)
+      (λ (records : IsRememberHand address at a). remember_hand config world shared region inside free seat address at facts.0 a records)
       (λ (overwritten : IsOverwrittenHand next a). overwritten_hand seat kept.command command fixed address next facts.1 a overwritten)
       is
   mutator_hand seat made kept command fixed (OnNumber object refs at) facts a is = same a object (number_hand seat kept.command command fixed object refs at facts) is

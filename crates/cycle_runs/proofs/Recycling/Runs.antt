@@ -55,143 +55,143 @@ use Rattle.cycle_runs.proofs.Recycling.Free.{IsElsewhere, piece_elsewhere, null_
 use Rattle.cycle_runs.proofs.Recycling.PartHands.{scan_hand, evac_hand, update_hand}
 use Rattle.cycle_runs.proofs.Recycling.Mutators.{mutator_hand}
 
-module _ (c : Config) (w : World) (shared : Shared c w) (r : ℕ) (inside : r < c.regions) (free : IsIn (w.memory Free) r) where
+module _ (config : Config) (world : World) (shared : Shared config world) (other_region : ℕ) (inside : other_region < config.regions) (free : IsIn (world.memory Free) other_region) where
   -- an address does not lie there
   abbrev IsApart : ℕ → Type 0
-  IsApart a = IsElsewhere c w shared r inside free a
+  IsApart a = IsElsewhere config world shared other_region inside free a
 
   -- what a helper and the control have in hand does not
-  unit_hand : (seat : ℕ) (at : UnitSpot) → CanWork c w seat at → (a : ℕ) → IsUnitHand c at a → IsApart a
-  unit_hand seat (unit.Scanning at) can a is = scan_hand c w shared r inside free seat at can.0 a is
-  unit_hand seat (unit.Evacuating cset at) can a is = evac_hand c w shared r inside free seat cset at can a is
-  unit_hand seat (unit.Updating cset at) can a is = update_hand c w shared r inside free seat cset at can a is
+  unit_hand : (seat : ℕ) (at : UnitSpot) → CanWork config world seat at → (a : ℕ) → IsUnitHand config at a → IsApart a
+  unit_hand seat (unit.Scanning at) can a is = scan_hand config world shared other_region inside free seat at can.0 a is
+  unit_hand seat (unit.Evacuating cset at) can a is = evac_hand config world shared other_region inside free seat cset at can a is
+  unit_hand seat (unit.Updating cset at) can a is = update_hand config world shared other_region inside free seat cset at can a is
   unit_hand seat (unit.Ended ended) can a is = absurd is
 
-  help_hand : (seat : ℕ) (spot : HelpSpot) → HelpFacts c w seat spot → (a : ℕ) → IsHelpHand c spot a → IsApart a
+  help_hand : (seat : ℕ) (spot : HelpSpot) → HelpFacts config world seat spot → (a : ℕ) → IsHelpHand config spot a → IsApart a
   help_hand seat (help.Working at) facts a is = unit_hand seat at facts a is
   help_hand seat _ facts a is = absurd is
 
-  control_hand : (seat : ℕ) (spot : ControlSpot) → ControlFacts c w seat spot → (a : ℕ) → IsControlHand c spot a → IsApart a
+  control_hand : (seat : ℕ) (spot : ControlSpot) → ControlFacts config world seat spot → (a : ℕ) → IsControlHand config spot a → IsApart a
   control_hand seat (control.Working at) facts a is = unit_hand seat at facts a is
   control_hand seat _ facts a is = absurd is
 
   -- a buffer has words in use, so that it does not
-  pub buffer_apart : (seat : ℕ) → w.memory (Current seat) ≢ 0 → IsApart (end_in (w.memory (Current seat)) - 1)
+  pub buffer_apart : (seat : ℕ) → world.memory (Current seat) ≢ 0 → IsApart (end_in (world.memory (Current seat)) - 1)
   buffer_apart seat some of =
       let buffer = shared.owned.buffers.each seat some in
       let more = buffer.some in
       let to_top = buffer.to_top in
       let most = shared.parsable.plotted.tops buffer.region buffer.within in
-      let last : ℕ = end_in (w.memory (Current seat)) - 1 in
-      let here : buffer.region ≡ r =
-      sym (regions_tile.of_no_other c buffer.region last (record { from = omega (arith, more); before = omega (arith, more, to_top, most) })) ∙ regions_tile.of_no_other c r last of in
-      let none : w.memory (Top buffer.region) ≡ 0 = ap (λ k. w.memory (Top k)) here ∙ shared.owned.free_word.empty r inside free in
+      let last : ℕ = end_in (world.memory (Current seat)) - 1 in
+      let here : buffer.region ≡ other_region =
+      sym (regions_tile.of_no_other config buffer.region last (record { from = omega (arith, more); before = omega (arith, more, to_top, most) })) ∙ regions_tile.of_no_other config other_region last of in
+      let none : world.memory (Top buffer.region) ≡ 0 = ap (λ k. world.memory (Top k)) here ∙ shared.owned.free_word.empty other_region inside free in
       omega (arith, more, to_top, none)
 
   -- a region that is taken is not free
-  not_own : (seat region : ℕ) → IsTaken c w seat region → r ≡ region → ⊥
-  not_own seat region taken is = none-some seat (sym (shared.owned.free_word.nobodys r inside free) ∙ ap w.ghost.owner is ∙ taken.own)
+  not_own : (seat region : ℕ) → IsTaken config world seat region → other_region ≡ region → ⊥
+  not_own seat region taken is = none-some seat (sym (shared.owned.free_word.nobodys other_region inside free) ∙ ap world.ghost.owner is ∙ taken.own)
 
   -- nor is it one that a machine is about to carve, or has taken
-  pub take_region : (seat words : ℕ) (at : TakeSpot) → TakeFacts c w seat words at → IsTakeRegion at r → ⊥
-  take_region seat words (take.LoadTop buffer region) facts is = facts.1.in_use (subst (λ k. IsIn (w.memory Free) k) is free)
-  take_region seat words (take.Carve buffer region top room) facts is = facts.1.in_use (subst (λ k. IsIn (w.memory Free) k) is free)
+  pub take_region : (seat words : ℕ) (at : TakeSpot) → TakeFacts config world seat words at → IsTakeRegion at other_region → ⊥
+  take_region seat words (take.LoadTop buffer region) facts is = facts.1.in_use (subst (λ k. IsIn (world.memory Free) k) is free)
+  take_region seat words (take.Carve buffer region top room) facts is = facts.1.in_use (subst (λ k. IsIn (world.memory Free) k) is free)
   take_region seat words (take.ShareRegion buffer shared_word region) facts is = not_own seat region facts.1 is
   take_region seat words (take.GiveBack buffer region) facts is = not_own seat region facts.1 is
   take_region seat words _ facts is = absurd is
 
   -- nor does what any machine has
-  pub machine_hand : (words : List ℕ) (entries : List Entry) (number : ℕ) (x : Actor) (machine : Machine) → IsMachine c words w entries number x machine → (a : ℕ) → IsInHandOf c machine a → IsApart a
-  machine_hand words entries number x (mutating m) facts a is = mutator_hand c w shared r inside free m.seat m.made m.kept x.command facts.fixed m.spot facts.mine.facts a is
-  machine_hand words entries number x (helping h) facts a is = help_hand number h.spot facts.facts a is
-  machine_hand words entries number x (controlling k) facts a is = control_hand number k.spot facts.facts a is
+  pub machine_hand : (words : List ℕ) (entries : List Entry) (number : ℕ) (actor : Actor) (machine : Machine) → IsMachine config words world entries number actor machine → (a : ℕ) → IsInHandOf config machine a → IsApart a
+  machine_hand words entries number actor (mutating m) facts a is = mutator_hand config world shared other_region inside free m.seat m.made m.kept actor.command facts.fixed m.spot facts.mine.facts a is
+  machine_hand words entries number actor (helping h) facts a is = help_hand number h.spot facts.facts a is
+  machine_hand words entries number actor (controlling k) facts a is = control_hand number k.spot facts.facts a is
 
   -- where an answer leads
-  pub answer_apart : (t : ℕ) (asking : Asking) → IsAsked w.memory w.block w.graph.count t asking → 1 < w.memory (Answer t) → IsApart (w.memory (Answer t))
-  answer_apart t nothing is some = absurd (omega (arith, is.1, some))
-  answer_apart t (asks refs nums) is some = absurd (omega (arith, is.1, some))
-  answer_apart t refused is some = absurd (omega (arith, is.1, some))
-  answer_apart t (given refs nums) is some = piece_elsewhere c w shared r inside free (w.memory (Answer t)) _ is.2.here
+  pub answer_apart : (mutator : ℕ) (asking : Asking) → IsAsked world.memory world.block world.graph.count mutator asking → 1 < world.memory (Answer mutator) → IsApart (world.memory (Answer mutator))
+  answer_apart mutator nothing is some = absurd (omega (arith, is.1, some))
+  answer_apart mutator (asks refs nums) is some = absurd (omega (arith, is.1, some))
+  answer_apart mutator refused is some = absurd (omega (arith, is.1, some))
+  answer_apart mutator (given refs nums) is some = piece_elsewhere config world shared other_region inside free (world.memory (Answer mutator)) _ is.2.here
 
   -- what a slot holds
-  pub pin_apart : (word : ℕ) (held : Option Pinned) → PinStands c (w.memory Cset) (w.memory Evac) w.block word held → IsApart word
-  pin_apart word None is = null_elsewhere c w shared r inside free word is
-  pin_apart word (Some p) is = target_elsewhere c w shared r inside free word is.1 is.2 p.name is.3
+  pub pin_apart : (word : ℕ) (held : Option Pinned) → PinStands config (world.memory Cset) (world.memory Evac) world.block word held → IsApart word
+  pin_apart word None is = null_elsewhere config world shared other_region inside free word is
+  pin_apart word (Some p) is = target_elsewhere config world shared other_region inside free word is.1 is.2 p.name is.3
 
   -- of what was taken
-  taken_apart : (seat : ℕ) (reply : Reply) → HasTaken c w seat reply → 1 < w.memory (Answer seat) → IsApart (w.memory (Answer seat))
-  taken_apart seat (Ref name) taken some = target_elsewhere c w shared r inside free (w.memory (Answer seat)) taken.0 taken.1 name taken.2
+  taken_apart : (seat : ℕ) (reply : Reply) → HasTaken config world seat reply → 1 < world.memory (Answer seat) → IsApart (world.memory (Answer seat))
+  taken_apart seat (Ref name) taken some = target_elsewhere config world shared other_region inside free (world.memory (Answer seat)) taken.0 taken.1 name taken.2
   taken_apart seat Full full some = absurd (omega (arith, full, some))
   taken_apart seat _ other some = absurd other
 
   -- also while the mutator is about to clear it
-  pub answered_apart : (seat made : ℕ) (kept : Kept) (command : Command) (fixed : Option Reply) (spot : Spot) → Mine c w (mutator_at seat made kept spot) command fixed → 1 < w.memory (Answer seat)
-      → IsApart (w.memory (Answer seat))
+  pub answered_apart : (seat made : ℕ) (kept : Kept) (command : Command) (fixed : Option Reply) (spot : Spot) → Mine config world (mutator_at seat made kept spot) command fixed → 1 < world.memory (Answer seat)
+      → IsApart (world.memory (Answer seat))
   answered_apart seat made kept command fixed (Waiting (wait.ClearAnswer reply)) mine some = taken_apart seat reply mine.facts.3 some
   answered_apart seat made kept command fixed spot mine some =
-      let asked = has_asked c w seat made kept command fixed spot refl mine in
+      let asked = has_asked config world seat made kept command fixed spot refl mine in
       answer_apart seat asked.asking asked.is some
 
   -- what a field of a current copy names
-  field_apart : (a refs nums k : ℕ) (name : Name) → w.block a ≡ Some (thing name refs nums) → k < refs → IsApart (w.memory (Heap (a + 3 + k)))
-  field_apart a refs nums k name is below =
-      let object = shared.contents.objects.each a refs nums name is in
+  field_apart : (address refs nums k : ℕ) (name : Name) → world.block address ≡ Some (thing name refs nums) → k < refs → IsApart (world.memory (Heap (address + 3 + k)))
+  field_apart address refs nums k name is below =
+      let object = shared.contents.objects.each address refs nums name is in
       let there = slice_get-get_or object.0.refs k None (let long = object.2.refs_are in omega (arith, below, long)) in
-      points_elsewhere c w shared r inside free (w.memory (Heap (a + 3 + k))) (get_or object.0.refs k None) (object.2.references k (get_or object.0.refs k None) there)
+      points_elsewhere config world shared other_region inside free (world.memory (Heap (address + 3 + k))) (get_or object.0.refs k None) (object.2.references k (get_or object.0.refs k None) there)
 
   -- and what one of an old copy does
-  old_apart : (a refs nums to k : ℕ) (name : Name) → w.block a ≡ Some (moved name refs nums to) → k < refs → IsApart (w.memory (Heap (a + 3 + k)))
-  old_apart a refs nums to k name is below =
-      let there = (shared.evacuated.moved.moveds a refs nums to name is).references k below in
-      points_elsewhere c w shared r inside free (w.memory (Heap (a + 3 + k))) there.0 there.1
+  old_apart : (address refs nums to k : ℕ) (name : Name) → world.block address ≡ Some (moved name refs nums to) → k < refs → IsApart (world.memory (Heap (address + 3 + k)))
+  old_apart address refs nums to k name is below =
+      let there = (shared.evacuated.moved.moveds address refs nums to name is).references k below in
+      points_elsewhere config world shared other_region inside free (world.memory (Heap (address + 3 + k))) there.0 there.1
 
-  pub copy_apart : (a k : ℕ) (b : Body) → body_at (w.block a) ≡ Some b → k < b.refs → IsApart (w.memory (Heap (a + 3 + k)))
-  copy_apart a k b is below = ⊎_elim
-      (λ now. field_apart a b.refs b.nums k b.name now below)
-      (λ was. old_apart a b.refs b.nums was.0 k b.name was.1 below)
-      (copy_cases (w.block a) b is)
+  pub copy_apart : (address k : ℕ) (body : Body) → body_at (world.block address) ≡ Some body → k < body.refs → IsApart (world.memory (Heap (address + 3 + k)))
+  copy_apart address k body is below = ⊎_elim
+      (λ now. field_apart address body.refs body.nums k body.name now below)
+      (λ was. old_apart address body.refs body.nums was.0 k body.name was.1 below)
+      (copy_cases (world.block address) body is)
 
 -- What a stage says in which all goes as it should.
-module _ (c : Config) (g : Graph) (s : Stage Actor) (h : List Entry) (goes : Goes c g s h) where
+module _ (config : Config) (graph : Graph) (stage : Stage Actor) (entries : List Entry) (goes : Goes config graph stage entries) where
   abbrev the_world : World
-  the_world = world_of c s goes.follows.block goes.follows.ghost (after g h)
+  the_world = world_of config stage goes.follows.block goes.follows.ghost (after graph entries)
 
   -- of a mutator
-  thread_of : (number : ℕ) (a : Actor) (m : Mutating) → IsMutator s number a m → IsThread c s.words the_world (of_thread h (number + 1)) number a m
-  thread_of = thread_there c g s h goes
+  thread_of : (number : ℕ) (actor : Actor) (mutator : Mutating) → IsMutator stage number actor mutator → IsThread config stage.words the_world (of_thread entries (number + 1)) number actor mutator
+  thread_of = thread_there config graph stage entries goes
 
   -- words and machines stand for the graph
-  abbrev stands : StandsFor c s (after g h)
-  stands = stands_there c g s h goes
+  abbrev stands : StandsFor config stage (after graph entries)
+  stands = stands_there config graph stage entries goes
 
   -- no free region is held
-  not_held : (r : ℕ) → r < c.regions → IsIn (settled c s Free) r → IsHeld c the_world s.machines r → ⊥
+  not_held : (r : ℕ) → r < config.regions → IsIn (settled config stage Free) r → IsHeld config the_world stage.machines r → ⊥
   not_held r inside free (IsHeld.by_root number index x m here is below of) =
       let thread = thread_of number x m (record { here = here; is = is }) in
-      points_elsewhere c the_world goes.follows.shared r inside free (root_now the_world m.seat m.kept m.spot index) (the_world.graph.root (m.seat + 1) index) (thread.mine.roots index below) of
+      points_elsewhere config the_world goes.follows.shared r inside free (root_now the_world m.seat m.kept m.spot index) (the_world.graph.root (m.seat + 1) index) (thread.mine.roots index below) of
   not_held r inside free (IsHeld.by_pin t slot below few of) =
-      pin_apart c the_world goes.follows.shared r inside free (the_world.memory (Pin t slot)) (the_world.graph.pin (t + 1) slot) (goes.follows.shared.pinned t slot below few) of
+      pin_apart config the_world goes.follows.shared r inside free (the_world.memory (Pin t slot)) (the_world.graph.pin (t + 1) slot) (goes.follows.shared.pinned t slot below few) of
   not_held r inside free (IsHeld.by_answer t below some of) =
-      let there = mutator_there c s.words the_world h s.machines goes.follows.seats goes.follows.machines t below in
+      let there = mutator_there config stage.words the_world entries stage.machines goes.follows.seats goes.follows.machines t below in
       let thread = there.4 in
       let m = there.1 in
-      subst (λ seat. 1 < the_world.memory (Answer seat) → IsOf c r (the_world.memory (Answer seat)) → ⊥) thread.number_is
-      (answered_apart c the_world goes.follows.shared r inside free m.seat m.made m.kept there.0.command thread.fixed m.spot thread.mine) some of
-  not_held r inside free (IsHeld.by_field a k b is below of) = copy_apart c the_world goes.follows.shared r inside free a k b is below of
+      subst (λ seat. 1 < the_world.memory (Answer seat) → IsOf config r (the_world.memory (Answer seat)) → ⊥) thread.number_is
+      (answered_apart config the_world goes.follows.shared r inside free m.seat m.made m.kept there.0.command thread.fixed m.spot thread.mine) some of
+  not_held r inside free (IsHeld.by_field a k b is below of) = copy_apart config the_world goes.follows.shared r inside free a k b is below of
   not_held r inside free (IsHeld.by_hand number a x here hand_is of) =
-      machine_hand c the_world goes.follows.shared r inside free s.words (of_thread h (number + 1)) number x x.machine (goes.follows.machines number x here) a hand_is of
+      machine_hand config the_world goes.follows.shared r inside free stage.words (of_thread entries (number + 1)) number x x.machine (goes.follows.machines number x here) a hand_is of
   not_held r inside free (IsHeld.by_carried number x carried b here carries there from below of) =
-      let stands = (in_seat c s.words the_world (of_thread h (number + 1)) number x x.machine (goes.follows.machines number x here)).carries carried carries in
+      let stands = (in_seat config stage.words the_world (of_thread entries (number + 1)) number x x.machine (goes.follows.machines number x here)).carries carried carries in
       let word : carried.word ≡ the_world.memory (Heap (carried.object + 3 + (carried.index - 3))) = stands.same ∙ ap (λ a. the_world.memory (Heap a)) (omega (arith, from)) in
-      copy_apart c the_world goes.follows.shared r inside free carried.object (carried.index - 3) b there (omega (arith, from, below)) (subst (IsOf c r) word of)
-  not_held r inside free (IsHeld.by_piece a x is of) = piece_elsewhere c the_world goes.follows.shared r inside free a x is of
+      copy_apart config the_world goes.follows.shared r inside free carried.object (carried.index - 3) b there (omega (arith, from, below)) (subst (IsOf config r) word of)
+  not_held r inside free (IsHeld.by_piece a x is of) = piece_elsewhere config the_world goes.follows.shared r inside free a x is of
   not_held r inside free (IsHeld.by_share is) = (goes.follows.shared.owned.shared_one r is).in_use free
-  not_held r inside free (IsHeld.by_buffer seat some of) = buffer_apart c the_world goes.follows.shared r inside free seat some of
+  not_held r inside free (IsHeld.by_buffer seat some of) = buffer_apart config the_world goes.follows.shared r inside free seat some of
   not_held r inside free (IsHeld.by_taking number x t here takes region) =
-      take_region c the_world goes.follows.shared r inside free number t.words t.take
-      ((in_seat c s.words the_world (of_thread h (number + 1)) number x x.machine (goes.follows.machines number x here)).takes t takes) region
+      take_region config the_world goes.follows.shared r inside free number t.words t.take
+      ((in_seat config stage.words the_world (of_thread entries (number + 1)) number x x.machine (goes.follows.machines number x here)).takes t takes) region
 
-  pub free_is_not_held : FreeIsNotHeld c s (after g h)
+  pub free_is_not_held : FreeIsNotHeld config stage (after graph entries)
   free_is_not_held = record { stands = stands; not_held = not_held }
 
 pub free_is_not_held_in_runs : FreeIsNotHeldInRuns

@@ -30,59 +30,59 @@ use Rattle.step_core.proofs.Machines.Roles.{number_of, below_control, outside_ac
 use Rattle.cycle_runs.specs.Recycling.Held.{TakesRegion, TakenRegionsWereFree}
 
 -- the order is taken, and the words after the event are those after the access
-event_parts : (change : Change) (c : Config) (s : Stage Actor) (e : Event Order) (x : Actor) → IsEvent (kind change c) s e x
-    → (takes_of x.machine e.order ≡ true) × ((act (kind change c) s e).words ≡ accessed (plan_of c e.order x.machine) s.words)
+event_parts : (change : Change) (config : Config) (stage : Stage Actor) (e : Event Order) (actor : Actor) → IsEvent (kind change config) stage e actor
+    → (takes_of actor.machine e.order ≡ true) × ((act (kind change config) stage e).words ≡ accessed (plan_of config e.order actor.machine) stage.words)
 unfolding kind
-event_parts change c s e x event = (event.takes, ap (λ t. t.words) (act-event (kind change c) s e x event))
+event_parts change config stage e actor event = (event.takes, ap (λ t. t.words) (act-event (kind change config) stage e actor event))
 
-module _ (change : Change) (c : Config) (g : Graph) (s : Stage Actor) (h : List Entry) (goes : Goes c g s h) (e : Event Order) (x : Actor) (r : ℕ) (takes : TakesRegion change c s e x r) where
+module _ (change : Change) (config : Config) (graph : Graph) (stage : Stage Actor) (entries : List Entry) (goes : Goes config graph stage entries) (event : Event Order) (actor : Actor) (region : ℕ) (takes : TakesRegion change config stage event actor region) where
   abbrev the_world : World
-  the_world = world_of c s goes.follows.block goes.follows.ghost (after g h)
+  the_world = world_of config stage goes.follows.block goes.follows.ghost (after graph entries)
 
-  abbrev order_taken : takes_of x.machine e.order ≡ true
-  order_taken = (event_parts change c s e x takes.event).0
+  abbrev order_taken : takes_of actor.machine event.order ≡ true
+  order_taken = (event_parts change config stage event actor takes.event).0
 
   -- the free word is not left as it is
-  not_left : (t : Touch) → is_word c t.word ≡ true → plan_of c e.order x.machine ≡ placed c t → touched (view c s.words) t Free ≡ view c s.words Free → ⊥
-  not_left t is plan left = takes.taken (subst (λ free. IsIn free r) (sym (
-      ap (λ words. view c words Free) (event_parts change c s e x takes.event).1
-      ∙ ap (λ access. view c (accessed access s.words) Free) plan
-      ∙ ap (λ memory. memory Free) (view-placed c s.words t is goes.follows.words)
+  not_left : (touch : Touch) → is_word config touch.word ≡ true → plan_of config event.order actor.machine ≡ placed config touch → touched (view config stage.words) touch Free ≡ view config stage.words Free → ⊥
+  not_left touch is plan left = takes.taken (subst (λ free. IsIn free region) (sym (
+      ap (λ words. view config words Free) (event_parts change config stage event actor takes.event).1
+      ∙ ap (λ access. view config (accessed access stage.words) Free) plan
+      ∙ ap (λ memory. memory Free) (view-placed config stage.words touch is goes.follows.words)
       ∙ left)) takes.free)
 
   -- while the control writes an image back no other machine changes it, and it takes no region
-  not_storing : (k : Actor) (control : Controlling) (image : Counting) → slice_get s.machines (control_number c) ≡ Some k → k.machine ≡ controlling control → stored_image control.spot control.image ≡ Some image → ⊥
+  not_storing : (k : Actor) (control : Controlling) (image : Counting) → slice_get stage.machines (control_number config) ≡ Some k → k.machine ≡ controlling control → stored_image control.spot control.image ≡ Some image → ⊥
   not_storing k control image here is storing = other (λ number.
-      let same : x ≡ k = same_Some x k (sym takes.event.here ∙ ap (λ n. slice_get s.machines n) number ∙ here) in
+      let same : actor ≡ k = same_Some actor k (sym takes.event.here ∙ ap (λ n. slice_get stage.machines n) number ∙ here) in
       none-some image (sym takes.no_image ∙ ap (λ y. image_read y.machine) same ∙ ap image_read is ∙ storing))
     where
-      held : held_image c s ≡ Some image
+      held : held_image config stage ≡ Some image
       held = ap image_of here ∙ ap image_read is ∙ storing
 
-      other : (e.number ≡ control_number c → ⊥) → ⊥
+      other : (event.number ≡ control_number config → ⊥) → ⊥
       other elsewhere =
-          let facts = goes.follows.machines e.number x takes.event.here in
-          let below : e.number < control_number c = below_control c e.number x.machine (number_of c s.words the_world (of_thread h (e.number + 1)) e.number x x.machine facts) elsewhere in
-          let access = outside_access c s.words the_world (of_thread h (e.number + 1)) e.number x e.order x.machine goes.follows.shared elsewhere (outside_held c s goes.shaken image held e.number x below takes.event.here) order_taken facts in
-          not_left access.touch access.inside access.plan (access.free (view c s.words))
+          let facts = goes.follows.machines event.number actor takes.event.here in
+          let below : event.number < control_number config = below_control config event.number actor.machine (number_of config stage.words the_world (of_thread entries (event.number + 1)) event.number actor actor.machine facts) elsewhere in
+          let access = outside_access config stage.words the_world (of_thread entries (event.number + 1)) event.number actor event.order actor.machine goes.follows.shared elsewhere (outside_held config stage goes.shaken image held event.number actor below takes.event.here) order_taken facts in
+          not_left access.touch access.inside access.plan (access.free (view config stage.words))
 
   -- so the words of the table count
-  by_spot : (k : Actor) (control : Controlling) → slice_get s.machines (control_number c) ≡ Some k → k.machine ≡ controlling control → (spot : ControlSpot) → control.spot ≡ spot
-      → settled_by c s.words (stored_image spot control.image) ≡ view c s.words
-  by_spot k control here is (StoreWord index extent) same =
-      absurd (not_storing k control (record { extent = extent; image = control.image }) here is (ap (λ spot. stored_image spot control.image) same))
-  by_spot k control here is _ same = refl
+  by_spot : (actor : Actor) (control : Controlling) → slice_get stage.machines (control_number config) ≡ Some actor → actor.machine ≡ controlling control → (spot : ControlSpot) → control.spot ≡ spot
+      → settled_by config stage.words (stored_image spot control.image) ≡ view config stage.words
+  by_spot actor control here is (StoreWord index extent) same =
+      absurd (not_storing actor control (record { extent = extent; image = control.image }) here is (ap (λ spot. stored_image spot control.image) same))
+  by_spot actor control here is _ same = refl
 
-  by_machine : (k : Actor) (machine : Machine) → slice_get s.machines (control_number c) ≡ Some k → k.machine ≡ machine → settled_by c s.words (image_read machine) ≡ view c s.words
-  by_machine k (controlling m) here is = by_spot k m here is m.spot refl
-  by_machine k _ here is = refl
+  by_machine : (actor : Actor) (machine : Machine) → slice_get stage.machines (control_number config) ≡ Some actor → actor.machine ≡ machine → settled_by config stage.words (image_read machine) ≡ view config stage.words
+  by_machine actor (controlling m) here is = by_spot actor m here is m.spot refl
+  by_machine actor _ here is = refl
 
-  by_actor : (o : Option Actor) → slice_get s.machines (control_number c) ≡ o → settled_by c s.words (image_of o) ≡ view c s.words
+  by_actor : (found : Option Actor) → slice_get stage.machines (control_number config) ≡ found → settled_by config stage.words (image_of found) ≡ view config stage.words
   by_actor None here = refl
   by_actor (Some k) here = by_machine k k.machine here refl
 
-  pub table_counts : settled c s ≡ view c s.words
-  table_counts = by_actor (slice_get s.machines (control_number c)) refl
+  pub table_counts : settled config stage ≡ view config stage.words
+  table_counts = by_actor (slice_get stage.machines (control_number config)) refl
 
 pub taken_regions_were_free : TakenRegionsWereFree
 taken_regions_were_free change law c s g begins events e x r inside takes =

@@ -35,49 +35,49 @@ has_begun (LoadWord index extent) = true
 has_begun _ = false
 
 -- the control of a stage is this
-pub record HasControl (c : Config) (s : Stage Actor) (control : Controlling) : Type 0 where
+pub record HasControl (config : Config) (stage : Stage Actor) (control : Controlling) : Type 0 where
   pub actor : Actor
-  pub here : slice_get s.machines (control_number c) ≡ Some actor
+  pub here : slice_get stage.machines (control_number config) ≡ Some actor
   pub is : actor.machine ≡ controlling control
 
 -- a pause begins only where it is due, and is so until the image is read
 abbrev pub PausesComeWhenDue : Type 0
-PausesComeWhenDue = (change : Change) → PausesByParts change → (c : Config) (s : Stage Actor) (g : Graph) → Begins c s g → (events : List (Event Order))
-    → (control : Controlling) → HasControl c (go (kind change c) s events) control → has_begun control.spot ≡ true → IsDue c (settled c (go (kind change c) s events))
+PausesComeWhenDue = (change : Change) → PausesByParts change → (config : Config) (stage : Stage Actor) (graph : Graph) → Begins config stage graph → (events : List (Event Order))
+    → (control : Controlling) → HasControl config (go (kind change config) stage events) control → has_begun control.spot ≡ true → IsDue config (settled config (go (kind change config) stage events))
 
 -- in phase 2, where no allocation waits and there was always room, each marked address of the collection set has the header of an
 -- object that has moved
 abbrev pub IsEvacuated : Config → (Word → ℕ) → Type 0
-IsEvacuated c memory = memory Phase ≡ evacuation_phase → bit_at (memory Ask) 1 ≡ 0 → is_out_of_room (memory Evac) ≡ false
-    → (a : ℕ) → c.region_words ≤ a → IsCollected c (memory Cset) a → HasMark c (λ n. memory (Black n)) a → is_forwarded (memory (Heap a)) ≡ true
+IsEvacuated config memory = memory Phase ≡ evacuation_phase → bit_at (memory Ask) 1 ≡ 0 → is_out_of_room (memory Evac) ≡ false
+    → (address : ℕ) → config.region_words ≤ address → IsCollected config (memory Cset) address → HasMark config (λ n. memory (Black n)) address → is_forwarded (memory (Heap address)) ≡ true
 
 -- so it is wherever the control reads the image in a pause
 abbrev pub EvacuationIsWhole : Type 0
-EvacuationIsWhole = (change : Change) → PausesByParts change → (c : Config) (s : Stage Actor) (g : Graph) → Begins c s g → (events : List (Event Order))
-    → (control : Controlling) → HasControl c (go (kind change c) s events) control → (index : ℕ) (extent : Extent) → control.spot ≡ LoadWord index extent
-    → IsEvacuated c (settled c (go (kind change c) s events))
+EvacuationIsWhole = (change : Change) → PausesByParts change → (config : Config) (stage : Stage Actor) (graph : Graph) → Begins config stage graph → (events : List (Event Order))
+    → (control : Controlling) → HasControl config (go (kind change config) stage events) control → (index : ℕ) (extent : Extent) → control.spot ≡ LoadWord index extent
+    → IsEvacuated config (settled config (go (kind change config) stage events))
 
 -- and of the image itself where it has read all of it, with the last word that it finds: each marked object was copied before updating begins
 abbrev pub ImagesAreEvacuated : Type 0
-ImagesAreEvacuated = (change : Change) → PausesByParts change → (c : Config) (s : Stage Actor) (g : Graph) → Begins c s g
-    → (number index got : ℕ) (a : Actor) (k : Controlling) → Finds (kind change c) s number a Nothing got → a.machine ≡ controlling k → k.spot ≡ LoadWord index Whole → index + 1 ≡ image_words c
-    → IsEvacuated c (image_view c (k.image ++ got ∷ []))
+ImagesAreEvacuated = (change : Change) → PausesByParts change → (config : Config) (stage : Stage Actor) (graph : Graph) → Begins config stage graph
+    → (number index got : ℕ) (actor : Actor) (control : Controlling) → Finds (kind change config) stage number actor Nothing got → actor.machine ≡ controlling control → control.spot ≡ LoadWord index Whole → index + 1 ≡ image_words config
+    → IsEvacuated config (image_view config (control.image ++ got ∷ []))
 
 -- a word is null, or names no address of the collection set
 abbrev pub NamesNoSet : Config → (Word → ℕ) → Word → Type 0
-NamesNoSet c memory word = memory word ≢ 0 → IsCollected c (memory Cset) (memory word) → ⊥
+NamesNoSet config memory word = memory word ≢ 0 → IsCollected config (memory Cset) (memory word) → ⊥
 
 -- Words and machines stand for a graph by some plot, in which no root, no answer that is an address, and no field of a current copy names
 -- the collection set.
-pub record AreUpdated (c : Config) (s : Stage Actor) (g : Graph) : Type 0 where
-  pub stands : StandsFor c s g
-  pub roots : (t i : ℕ) → t < c.mutators → i < 16 → NamesNoSet c (settled c s) (Root t i)
-  pub answers : (t : ℕ) → t < c.mutators → 1 < settled c s (Answer t) → NamesNoSet c (settled c s) (Answer t)
-  pub fields : (a refs nums k : ℕ) (name : Name) → stands.block a ≡ Some (thing name refs nums) → k < refs → NamesNoSet c (settled c s) (Heap (a + 3 + k))
+pub record AreUpdated (config : Config) (stage : Stage Actor) (graph : Graph) : Type 0 where
+  pub stands : StandsFor config stage graph
+  pub roots : (mutator index : ℕ) → mutator < config.mutators → index < 16 → NamesNoSet config (settled config stage) (Root mutator index)
+  pub answers : (mutator : ℕ) → mutator < config.mutators → 1 < settled config stage (Answer mutator) → NamesNoSet config (settled config stage) (Answer mutator)
+  pub fields : (address refs nums k : ℕ) (name : Name) → stands.block address ≡ Some (thing name refs nums) → k < refs → NamesNoSet config (settled config stage) (Heap (address + 3 + k))
 
 -- so it is wherever the control reads the image in a pause in phase 3, where no allocation waits
 abbrev pub UpdatingIsWhole : Type 0
-UpdatingIsWhole = (change : Change) → PausesByParts change → (c : Config) (s : Stage Actor) (g : Graph) → Begins c s g → (events : List (Event Order))
-    → (control : Controlling) → HasControl c (go (kind change c) s events) control → (index : ℕ) (extent : Extent) → control.spot ≡ LoadWord index extent
-    → settled c (go (kind change c) s events) Phase ≡ updating_phase → bit_at (settled c (go (kind change c) s events) Ask) 1 ≡ 0
-    → AreUpdated c (go (kind change c) s events) (after g (history change c s events))
+UpdatingIsWhole = (change : Change) → PausesByParts change → (config : Config) (stage : Stage Actor) (graph : Graph) → Begins config stage graph → (events : List (Event Order))
+    → (control : Controlling) → HasControl config (go (kind change config) stage events) control → (index : ℕ) (extent : Extent) → control.spot ≡ LoadWord index extent
+    → settled config (go (kind change config) stage events) Phase ≡ updating_phase → bit_at (settled config (go (kind change config) stage events) Ask) 1 ≡ 0
+    → AreUpdated config (go (kind change config) stage events) (after graph (history change config stage events))

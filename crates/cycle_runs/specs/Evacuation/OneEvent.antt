@@ -22,22 +22,22 @@ use Rattle.step_core.specs.Sound.{world_of, StandsFor}
 use Rattle.cycle_runs.specs.Evacuation.Runs.{IsPublishing}
 
 -- By an event the words that a pause has computed begin to count, and those of the table count no more.
-pub record BeginsToCount (c : Config) (before later : Stage Actor) : Type 0 where
+pub record BeginsToCount (config : Config) (before later : Stage Actor) : Type 0 where
   pub image : Counting
-  pub not_yet : image_of (slice_get before.machines (control_number c)) ≡ None
-  pub counts : image_of (slice_get later.machines (control_number c)) ≡ Some image
+  pub not_yet : image_of (slice_get before.machines (control_number config)) ≡ None
+  pub counts : image_of (slice_get later.machines (control_number config)) ≡ Some image
 
 -- The event is one of a machine that copies an object of the collection set: it makes the exchange that publishes its copy, and the
 -- header, which was that of an object that has not moved, leads to that copy then.
-pub record IsForwarding (change : Change) (c : Config) (s : Stage Actor) (w : World) (e : Event Order) (a : ℕ) (header : ℕ) : Type 0 where
+pub record IsForwarding (change : Change) (config : Config) (stage : Stage Actor) (world : World) (e : Event Order) (address : ℕ) (header : ℕ) : Type 0 where
   pub actor : Actor
-  pub event : IsEvent (kind change c) s e actor
+  pub event : IsEvent (kind change config) stage e actor
   pub copies : copies_of actor.machine ≡ true
   pub body : Body
-  pub object : w.block a ≡ Some (thing body.name body.refs body.nums)
-  pub inside : IsCollected c (w.memory Cset) a
-  pub publishing : IsPublishing c w e.number a body (plan_of c e.order actor.machine)
-  pub was : w.memory (Heap a) ≡ plain_header
+  pub object : world.block address ≡ Some (thing body.name body.refs body.nums)
+  pub inside : IsCollected config (world.memory Cset) address
+  pub publishing : IsPublishing config world e.number address body (plan_of config e.order actor.machine)
+  pub was : world.memory (Heap address) ≡ plain_header
   pub leads : header ≡ header_word publishing.copy
 
 -- the piece is no room: it is an object, live or dead, an old copy of one, or words that only fill
@@ -49,27 +49,27 @@ IsNoRoom _ = ⊤
 
 -- Nobody but a pause writes the words behind the header of a piece: it is an object of the collection set that may still be copied, the
 -- old copy of one that has moved, one that is promised, a dead one, or words that only fill.
-abbrev pub IsLeftAlone : Config → (cset evac a : ℕ) → Block → Type 0
-IsLeftAlone c cset evac a (thing name refs nums) = IsCollected c cset a × (IsQuiet evac → ⊥)
-IsLeftAlone c cset evac a (hand seat words) = ⊥
-IsLeftAlone c cset evac a (spare seat words) = ⊥
-IsLeftAlone c cset evac a (carved seat words) = ⊥
-IsLeftAlone c cset evac a _ = ⊤
+abbrev pub IsLeftAlone : Config → (cset evac address : ℕ) → Block → Type 0
+IsLeftAlone config cset evac address (thing name refs nums) = IsCollected config cset address × (IsQuiet evac → ⊥)
+IsLeftAlone config cset evac address (hand seat words) = ⊥
+IsLeftAlone config cset evac address (spare seat words) = ⊥
+IsLeftAlone config cset evac address (carved seat words) = ⊥
+IsLeftAlone config cset evac address _ = ⊤
 
 -- Words and machines stand for a graph by some plot, and an event of any machine keeps this of the words that count:
-pub record EventSpares (change : Change) (c : Config) (s : Stage Actor) (g : Graph) (e : Event Order) (later : Word → ℕ) : Type 0 where
-  pub stands : StandsFor c s g
+pub record EventSpares (change : Change) (config : Config) (stage : Stage Actor) (graph : Graph) (event : Event Order) (later : Word → ℕ) : Type 0 where
+  pub stands : StandsFor config stage graph
   -- once a copier found no room and nobody copies any more, it stays so
-  pub quiet : IsQuiet (settled c s Evac) → IsQuiet (later Evac)
+  pub quiet : IsQuiet (settled config stage Evac) → IsQuiet (later Evac)
   -- the header of each piece but room stays, or the event publishes a copy of the object
-  pub headers : (a : ℕ) (x : Block) → stands.block a ≡ Some x → IsNoRoom x
-      → (later (Heap a) ≡ settled c s (Heap a)) ⊎ IsForwarding change c s (world_of c s stands.block stands.ghost g) e a (later (Heap a))
+  pub headers : (address : ℕ) (piece : Block) → stands.block address ≡ Some piece → IsNoRoom piece
+      → (later (Heap address) ≡ settled config stage (Heap address)) ⊎ IsForwarding change config stage (world_of config stage stands.block stands.ghost graph) event address (later (Heap address))
   -- and the words behind the header of each piece that is to be left alone stay
-  pub words : (a k : ℕ) (x : Block) → stands.block a ≡ Some x → IsLeftAlone c (settled c s Cset) (settled c s Evac) a x → 1 ≤ k → k < words_of x
-      → later (Heap (a + k)) ≡ settled c s (Heap (a + k))
+  pub words : (address k : ℕ) (piece : Block) → stands.block address ≡ Some piece → IsLeftAlone config (settled config stage Cset) (settled config stage Evac) address piece → 1 ≤ k → k < words_of piece
+      → later (Heap (address + k)) ≡ settled config stage (Heap (address + k))
 
 -- So it is of each event after every list of events, but of that by which the words of a pause begin to count.
 abbrev pub EventsSpareCopies : Type 0
-EventsSpareCopies = (change : Change) → PausesByParts change → (c : Config) (s : Stage Actor) (g : Graph) → Begins c s g → (events : List (Event Order)) (e : Event Order)
-    → (BeginsToCount c (go (kind change c) s events) (act (kind change c) (go (kind change c) s events) e) → ⊥)
-    → EventSpares change c (go (kind change c) s events) (after g (history change c s events)) e (settled c (act (kind change c) (go (kind change c) s events) e))
+EventsSpareCopies = (change : Change) → PausesByParts change → (config : Config) (stage : Stage Actor) (graph : Graph) → Begins config stage graph → (events : List (Event Order)) (event : Event Order)
+    → (BeginsToCount config (go (kind change config) stage events) (act (kind change config) (go (kind change config) stage events) event) → ⊥)
+    → EventSpares change config (go (kind change config) stage events) (after graph (history change config stage events)) event (settled config (act (kind change config) (go (kind change config) stage events) event))

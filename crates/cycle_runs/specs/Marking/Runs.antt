@@ -28,28 +28,28 @@ use Rattle.step_core.specs.Begins.{Begins}
 
 -- Words and machines stand for a graph, and while objects are marked each object is marked, or was allocated since, or marking comes
 -- to it by a chain of objects that are not marked yet.
-pub record IsTracked (c : Config) (s : Stage Actor) (g : Graph) : Type 0 where
-  pub stands : StandsFor c s g
-  pub comes : settled c s Phase ≡ marking_phase → (a : ℕ) → IsMarkable stands.block a → IsSafe c (world_of c s stands.block stands.ghost g) a
+pub record IsTracked (config : Config) (stage : Stage Actor) (graph : Graph) : Type 0 where
+  pub stands : StandsFor config stage graph
+  pub comes : settled config stage Phase ≡ marking_phase → (address : ℕ) → IsMarkable stands.block address → IsSafe config (world_of config stage stands.block stands.ghost graph) address
 
 -- So it is after every list of steps, from a stage that begins a graph.
 abbrev pub MarkingComesInRuns : Type 0
-MarkingComesInRuns = (c : Config) (s : Stage Actor) (g : Graph) → Begins c s g → (events : List (Event Order))
-    → IsTracked c (go (kind collect_image c) s events) (after g (history collect_image c s events))
+MarkingComesInRuns = (config : Config) (stage : Stage Actor) (graph : Graph) → Begins config stage graph → (events : List (Event Order))
+    → IsTracked config (go (kind collect_image config) stage events) (after graph (history collect_image config stage events))
 
 -- the words hold a graph, each object that can be reached is marked or was allocated since, and so is each that a field of such an
 -- object names
-pub record AreMarkedThrough (c : Config) (memory : Word → ℕ) : Type 0 where
+pub record AreMarkedThrough (config : Config) (memory : Word → ℕ) : Type 0 where
   pub block : Plot
   pub owner : ℕ → Option ℕ
   pub promises : Promises
   pub graph : Graph
-  pub holds : HoldsBy c memory block owner promises graph
-  pub marked : IsMarkedThrough c memory block
+  pub holds : HoldsBy config memory block owner promises graph
+  pub marked : IsMarkedThrough config memory block
 
 -- In the pause that leaves the phase of marking, with the last word that the control loads: once the marks of the image are closed,
 -- each object that can be reached is marked or was allocated since.
 abbrev pub ReachableAreMarkedInRuns : Type 0
-ReachableAreMarkedInRuns = (c : Config) (s : Stage Actor) (g : Graph) → Begins c s g → (number index got : ℕ) (extent : Extent) (a : Actor) (k : Controlling) → Finds (kind collect_image c) s number a Nothing got
-    → a.machine ≡ controlling k → k.spot ≡ LoadWord index extent → index + 1 ≡ image_words c → image_view c (k.image ++ got ∷ []) Phase ≡ marking_phase
-    → ∥ AreMarkedThrough c (closed c (image_view c (k.image ++ got ∷ []))) ∥₁
+ReachableAreMarkedInRuns = (config : Config) (stage : Stage Actor) (graph : Graph) → Begins config stage graph → (number index got : ℕ) (extent : Extent) (actor : Actor) (control : Controlling) → Finds (kind collect_image config) stage number actor Nothing got
+    → actor.machine ≡ controlling control → control.spot ≡ LoadWord index extent → index + 1 ≡ image_words config → image_view config (control.image ++ got ∷ []) Phase ≡ marking_phase
+    → ∥ AreMarkedThrough config (closed config (image_view config (control.image ++ got ∷ []))) ∥₁

@@ -26,39 +26,39 @@ use Rattle.cycle_runs.specs.Recycling.InHand.{IsInHandOf, IsTakeRegion}
 -- A region is held: in it lies what counts as a root, what a pin slot holds, where an answer leads, what a field of a copy names, current or old, what a machine
 -- has in hand, also a reference that it has loaded of an object and is about to store into a copy, or the beginning of a piece at all; it
 -- is the shared one, or has a seat's buffer; or a machine that takes room is about to carve it, or has taken it.
-pub data IsHeld (c : Config) (w : World) (machines : List Actor) (r : ℕ) : Type 0 where
-  by_root : (number index : ℕ) (x : Actor) (m : Mutating) → slice_get machines number ≡ Some x → x.machine ≡ mutating m → index < 16 → IsOf c r (root_now w m.seat m.kept m.spot index)
-      → IsHeld c w machines r
-  by_pin : (t slot : ℕ) → t < c.mutators → slot < 4 → IsOf c r (w.memory (Pin t slot)) → IsHeld c w machines r
-  by_answer : (t : ℕ) → t < c.mutators → 1 < w.memory (Answer t) → IsOf c r (w.memory (Answer t)) → IsHeld c w machines r
-  by_field : (a k : ℕ) (b : Body) → body_at (w.block a) ≡ Some b → k < b.refs → IsOf c r (w.memory (Heap (a + 3 + k))) → IsHeld c w machines r
-  by_hand : (number a : ℕ) (x : Actor) → slice_get machines number ≡ Some x → IsInHandOf c x.machine a → IsOf c r a → IsHeld c w machines r
-  by_carried : (number : ℕ) (x : Actor) (carried : Carried) (b : Body) → slice_get machines number ≡ Some x → carries_of x.machine ≡ Some carried → body_at (w.block carried.object) ≡ Some b
-      → 3 ≤ carried.index → carried.index < 3 + b.refs → IsOf c r carried.word → IsHeld c w machines r
-  by_piece : (a : ℕ) (x : Block) → w.block a ≡ Some x → IsOf c r a → IsHeld c w machines r
-  by_share : w.memory Share ≡ r + 1 → IsHeld c w machines r
-  by_buffer : (seat : ℕ) → w.memory (Current seat) ≢ 0 → IsOf c r (end_in (w.memory (Current seat)) - 1) → IsHeld c w machines r
-  by_taking : (number : ℕ) (x : Actor) (t : Taking) → slice_get machines number ≡ Some x → taking_of x.machine ≡ Some t → IsTakeRegion t.take r → IsHeld c w machines r
+pub data IsHeld (config : Config) (world : World) (machines : List Actor) (region : ℕ) : Type 0 where
+  by_root : (number index : ℕ) (x : Actor) (mutator : Mutating) → slice_get machines number ≡ Some x → x.machine ≡ mutating mutator → index < 16 → IsOf config region (root_now world mutator.seat mutator.kept mutator.spot index)
+      → IsHeld config world machines region
+  by_pin : (t slot : ℕ) → t < config.mutators → slot < 4 → IsOf config region (world.memory (Pin t slot)) → IsHeld config world machines region
+  by_answer : (t : ℕ) → t < config.mutators → 1 < world.memory (Answer t) → IsOf config region (world.memory (Answer t)) → IsHeld config world machines region
+  by_field : (address k : ℕ) (body : Body) → body_at (world.block address) ≡ Some body → k < body.refs → IsOf config region (world.memory (Heap (address + 3 + k))) → IsHeld config world machines region
+  by_hand : (number address : ℕ) (x : Actor) → slice_get machines number ≡ Some x → IsInHandOf config x.machine address → IsOf config region address → IsHeld config world machines region
+  by_carried : (number : ℕ) (x : Actor) (carried : Carried) (body : Body) → slice_get machines number ≡ Some x → carries_of x.machine ≡ Some carried → body_at (world.block carried.object) ≡ Some body
+      → 3 ≤ carried.index → carried.index < 3 + body.refs → IsOf config region carried.word → IsHeld config world machines region
+  by_piece : (address : ℕ) (x : Block) → world.block address ≡ Some x → IsOf config region address → IsHeld config world machines region
+  by_share : world.memory Share ≡ region + 1 → IsHeld config world machines region
+  by_buffer : (seat : ℕ) → world.memory (Current seat) ≢ 0 → IsOf config region (end_in (world.memory (Current seat)) - 1) → IsHeld config world machines region
+  by_taking : (number : ℕ) (x : Actor) (t : Taking) → slice_get machines number ≡ Some x → taking_of x.machine ≡ Some t → IsTakeRegion t.take region → IsHeld config world machines region
 
 -- Words and machines stand for a graph by some plot, in which no region that is free by the words that count is held.
-pub record FreeIsNotHeld (c : Config) (s : Stage Actor) (g : Graph) : Type 0 where
-  pub stands : StandsFor c s g
-  pub not_held : (r : ℕ) → r < c.regions → IsIn (settled c s Free) r → IsHeld c (world_of c s stands.block stands.ghost g) s.machines r → ⊥
+pub record FreeIsNotHeld (config : Config) (stage : Stage Actor) (graph : Graph) : Type 0 where
+  pub stands : StandsFor config stage graph
+  pub not_held : (region : ℕ) → region < config.regions → IsIn (settled config stage Free) region → IsHeld config (world_of config stage stands.block stands.ghost graph) stage.machines region → ⊥
 
 -- so it is after every list of events
 abbrev pub FreeIsNotHeldInRuns : Type 0
-FreeIsNotHeldInRuns = (change : Change) → PausesByParts change → (c : Config) (s : Stage Actor) (g : Graph) → Begins c s g → (events : List (Event Order))
-    → FreeIsNotHeld c (go (kind change c) s events) (after g (history change c s events))
+FreeIsNotHeldInRuns = (change : Change) → PausesByParts change → (config : Config) (stage : Stage Actor) (graph : Graph) → Begins config stage graph → (events : List (Event Order))
+    → FreeIsNotHeld config (go (kind change config) stage events) (after graph (history change config stage events))
 
 -- a machine of which no image counts takes a region: by its step the bit of the region in the table is 1 no more
-pub record TakesRegion (change : Change) (c : Config) (s : Stage Actor) (e : Event Order) (x : Actor) (r : ℕ) : Type 0 where
-  pub event : IsEvent (kind change c) s e x
-  pub no_image : image_read x.machine ≡ None
-  pub free : IsIn (view c s.words Free) r
-  pub taken : IsIn (view c (act (kind change c) s e).words Free) r → ⊥
+pub record TakesRegion (change : Change) (config : Config) (stage : Stage Actor) (e : Event Order) (actor : Actor) (region : ℕ) : Type 0 where
+  pub event : IsEvent (kind change config) stage e actor
+  pub no_image : image_read actor.machine ≡ None
+  pub free : IsIn (view config stage.words Free) region
+  pub taken : IsIn (view config (act (kind change config) stage e).words Free) region → ⊥
 
 -- The words of the table are those that count then, so that the region is free by them.
 abbrev pub TakenRegionsWereFree : Type 0
-TakenRegionsWereFree = (change : Change) → PausesByParts change → (c : Config) (s : Stage Actor) (g : Graph) → Begins c s g → (events : List (Event Order))
-    → (e : Event Order) (x : Actor) (r : ℕ) → r < c.regions → TakesRegion change c (go (kind change c) s events) e x r
-    → (settled c (go (kind change c) s events) ≡ view c (go (kind change c) s events).words) × IsIn (settled c (go (kind change c) s events) Free) r
+TakenRegionsWereFree = (change : Change) → PausesByParts change → (config : Config) (stage : Stage Actor) (graph : Graph) → Begins config stage graph → (events : List (Event Order))
+    → (event : Event Order) (actor : Actor) (region : ℕ) → region < config.regions → TakesRegion change config (go (kind change config) stage events) event actor region
+    → (settled config (go (kind change config) stage events) ≡ view config (go (kind change config) stage events).words) × IsIn (settled config (go (kind change config) stage events) Free) region

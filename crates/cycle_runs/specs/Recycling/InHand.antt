@@ -76,12 +76,12 @@ IsRememberHand address _ a = a ≡ address
 
 -- of who scans: the objects that it has found grey, that which it scans, and what it has found in a field
 abbrev pub IsScanHand : Config → ScanSpot → ℕ → Type 0
-IsScanHand c (scan.LoadBlack word grey) a = (k : ℕ) × (k < 64) × (bit_at grey k ≡ 1) × (a ≡ address_at c word k)
-IsScanHand c (scan.SetBlack address) a = a ≡ address
-IsScanHand c (scan.LoadShape address) a = a ≡ address
-IsScanHand c (scan.LoadField address field refs) a = a ≡ address
-IsScanHand c (scan.SetGrey address field refs found) a = (a ≡ address) ⊎ (a ≡ found)
-IsScanHand c _ a = ⊥
+IsScanHand config (scan.LoadBlack word grey) a = (k : ℕ) × (k < 64) × (bit_at grey k ≡ 1) × (a ≡ address_at config word k)
+IsScanHand config (scan.SetBlack address) a = a ≡ address
+IsScanHand config (scan.LoadShape address) a = a ≡ address
+IsScanHand config (scan.LoadField address field refs) a = a ≡ address
+IsScanHand config (scan.SetGrey address field refs found) a = (a ≡ address) ⊎ (a ≡ found)
+IsScanHand config _ a = ⊥
 
 -- of who evacuates: the object, or the words that only fill, to which it has come, that behind it if there is one, and those of its resolving
 abbrev pub IsEvacHand : EvacSpot → ℕ → Type 0
@@ -103,10 +103,10 @@ IsUpdateHand _ a = ⊥
 
 -- of who loads the roots of its command: those that it has loaded
 abbrev pub IsLoadHand : Command → LoadSpot → ℕ → Type 0
-IsLoadHand k load.First a = ⊥
-IsLoadHand k (load.Second first) a = a ≡ first
-IsLoadHand k (load.Third first second) a = (a ≡ first) ⊎ (a ≡ second)
-IsLoadHand k (load.Shape object second third) a = (a ≡ object) ⊎ (((1 < length (command_roots k)) × (a ≡ second)) ⊎ ((2 < length (command_roots k)) × (a ≡ third)))
+IsLoadHand command load.First a = ⊥
+IsLoadHand command (load.Second first) a = a ≡ first
+IsLoadHand command (load.Third first second) a = (a ≡ first) ⊎ (a ≡ second)
+IsLoadHand command (load.Shape object second third) a = (a ≡ object) ⊎ (((1 < length (command_roots command)) × (a ≡ second)) ⊎ ((2 < length (command_roots command)) × (a ≡ third)))
 
 -- of who works on a field of an object: the object, and what it compares and stores
 abbrev pub IsFieldHand : (object : ℕ) → FieldSpot → ℕ → Type 0
@@ -140,37 +140,37 @@ IsWaitHand _ a = ⊥
 
 -- of a mutator
 abbrev pub IsMutatorHand : Command → Spot → ℕ → Type 0
-IsMutatorHand k (Loading at) a = IsLoadHand k at a
-IsMutatorHand k (OnField object at) a = IsFieldHand object at a
-IsMutatorHand k (Resolving address at next) a = IsResolveHand address at a ⊎ IsLoadedHand next a
-IsMutatorHand k (Recording at address next) a = IsRememberHand address at a ⊎ IsOverwrittenHand next a
-IsMutatorHand k (OnNumber object refs at) a = a ≡ object
-IsMutatorHand k (Showing value at) a = a ≡ value
-IsMutatorHand k (StoreRoot value) a = a ≡ value
-IsMutatorHand k (Pinning value at) a = a ≡ value
-IsMutatorHand k (Making at) a = IsMakeHand at a
-IsMutatorHand k (Waiting at) a = IsWaitHand at a
-IsMutatorHand k _ a = ⊥
+IsMutatorHand command (Loading at) a = IsLoadHand command at a
+IsMutatorHand command (OnField object at) a = IsFieldHand object at a
+IsMutatorHand command (Resolving address at next) a = IsResolveHand address at a ⊎ IsLoadedHand next a
+IsMutatorHand command (Recording at address next) a = IsRememberHand address at a ⊎ IsOverwrittenHand next a
+IsMutatorHand command (OnNumber object refs at) a = a ≡ object
+IsMutatorHand command (Showing value at) a = a ≡ value
+IsMutatorHand command (StoreRoot value) a = a ≡ value
+IsMutatorHand command (Pinning value at) a = a ≡ value
+IsMutatorHand command (Making at) a = IsMakeHand at a
+IsMutatorHand command (Waiting at) a = IsWaitHand at a
+IsMutatorHand command _ a = ⊥
 
 -- of who works on a unit
 abbrev pub IsUnitHand : Config → UnitSpot → ℕ → Type 0
-IsUnitHand c (unit.Scanning at) a = IsScanHand c at a
-IsUnitHand c (unit.Evacuating cset at) a = IsEvacHand at a
-IsUnitHand c (unit.Updating cset at) a = IsUpdateHand at a
-IsUnitHand c _ a = ⊥
+IsUnitHand config (unit.Scanning at) a = IsScanHand config at a
+IsUnitHand config (unit.Evacuating cset at) a = IsEvacHand at a
+IsUnitHand config (unit.Updating cset at) a = IsUpdateHand at a
+IsUnitHand config _ a = ⊥
 
 -- of a helper
 abbrev pub IsHelpHand : Config → HelpSpot → ℕ → Type 0
-IsHelpHand c (help.Working at) a = IsUnitHand c at a
-IsHelpHand c _ a = ⊥
+IsHelpHand config (help.Working at) a = IsUnitHand config at a
+IsHelpHand config _ a = ⊥
 
 -- of the control
 abbrev pub IsControlHand : Config → ControlSpot → ℕ → Type 0
-IsControlHand c (control.Working at) a = IsUnitHand c at a
-IsControlHand c _ a = ⊥
+IsControlHand config (control.Working at) a = IsUnitHand config at a
+IsControlHand config _ a = ⊥
 
 -- and of any machine, by its role
 abbrev pub IsInHandOf : Config → Machine → ℕ → Type 0
-IsInHandOf c (mutating m) a = IsMutatorHand m.kept.command m.spot a
-IsInHandOf c (helping h) a = IsHelpHand c h.spot a
-IsInHandOf c (controlling k) a = IsControlHand c k.spot a
+IsInHandOf config (mutating m) a = IsMutatorHand m.kept.command m.spot a
+IsInHandOf config (helping h) a = IsHelpHand config h.spot a
+IsInHandOf config (controlling k) a = IsControlHand config k.spot a

@@ -14,24 +14,24 @@ use Rattle.cycle_steps.specs.Evacuation.Facts.{HasNothing}
 
 -- the world with another number of units claimed, and with a machine that works on a unit, or on none
 abbrev pub world_then : World → ℕ → ℕ → Option ℕ → World
-world_then w seat claim unit = record { memory = write w.memory Claim claim; block = w.block; ghost = with_working w.ghost (updated w.ghost.working seat unit); graph = w.graph }
+world_then world seat claim unit = record { memory = write world.memory Claim claim; block = world.block; ghost = with_working world.ghost (updated world.ghost.working seat unit); graph = world.graph }
 
 -- a unit is cared for still, where the machine that worked on it goes on with it or leaves it swept
-pub cared_still : (c : Config) (evac : ℕ) (block : Plot) (working : ℕ → Option ℕ) (seat : ℕ) (unit : Option ℕ) (region : ℕ)
-    → (working seat ≡ Some region → IsSweptTo c evac block region (base_of c (region + 1)) ⊎ (unit ≡ Some region))
-    → IsCaredFor c evac block working region → IsCaredFor c evac block (updated working seat unit) region
-cared_still c evac block working seat unit region own (inl swept) = inl swept
-cared_still c evac block working seat unit region own (inr worker) = ⊎_elim
+pub cared_still : (config : Config) (evac : ℕ) (block : Plot) (working : ℕ → Option ℕ) (seat : ℕ) (unit : Option ℕ) (region : ℕ)
+    → (working seat ≡ Some region → IsSweptTo config evac block region (base_of config (region + 1)) ⊎ (unit ≡ Some region))
+    → IsCaredFor config evac block working region → IsCaredFor config evac block (updated working seat unit) region
+cared_still config evac block working seat unit region own (inl swept) = inl swept
+cared_still config evac block working seat unit region own (inr worker) = ⊎_elim
     (λ (same : seat ≡ worker.0). ⊎_elim
-    (λ (swept : IsSweptTo c evac block region (base_of c (region + 1))). inl swept)
-    (λ (goes_on : unit ≡ Some region). inr (seat, subst (λ s. s < seat_count c.mutators c.helpers) (sym same) worker.1, updated_there working seat unit ∙ goes_on))
+    (λ (swept : IsSweptTo config evac block region (base_of config (region + 1))). inl swept)
+    (λ (goes_on : unit ≡ Some region). inr (seat, subst (λ s. s < seat_count config.mutators config.helpers) (sym same) worker.1, updated_there working seat unit ∙ goes_on))
     (own (ap working same ∙ worker.2)))
     (λ (other : seat ≢ worker.0). inr (worker.0, worker.1, updated_else working seat unit worker.0 other ∙ worker.2))
     (cases_eq seat worker.0)
 
-module _ (c : Config) (u w : World) (seat claim : ℕ) (unit : Option ℕ) (on : w.memory Phase ≡ 2) (most : w.memory Claim ≤ claim) where
+module _ (config : Config) (world other_world : World) (seat claim : ℕ) (unit : Option ℕ) (on : other_world.memory Phase ≡ 2) (most : other_world.memory Claim ≤ claim) where
   -- machines share what they should
-  shared_then : Shared c w → AreCaredFor c (w.memory Phase) (w.memory Cset) (w.memory Evac) claim w.block (updated w.ghost.working seat unit) → Shared c (world_then w seat claim unit)
+  shared_then : Shared config other_world → AreCaredFor config (other_world.memory Phase) (other_world.memory Cset) (other_world.memory Evac) claim other_world.block (updated other_world.ghost.working seat unit) → Shared config (world_then other_world seat claim unit)
   shared_then shared units = record {
     parsable = shared.parsable;
     contents = shared.contents;
@@ -51,7 +51,7 @@ module _ (c : Config) (u w : World) (seat claim : ℕ) (unit : Option ℕ) (on :
   }
 
   -- the facts of the seat's machine stand
-  keeps_then : Keeps c seat u w → Keeps c seat u (world_then w seat claim unit)
+  keeps_then : Keeps config seat world other_world → Keeps config seat world (world_then other_world seat claim unit)
   keeps_then keeps = record {
     names = keeps.names;
     targets = keeps.targets;
@@ -80,7 +80,7 @@ module _ (c : Config) (u w : World) (seat claim : ℕ) (unit : Option ℕ) (on :
   }
 
   -- others can rely on what they knew
-  others_then : (k : ℕ) → k ≢ seat → Rely c k u w → Rely c k u (world_then w seat claim unit)
+  others_then : (k : ℕ) → k ≢ seat → Rely config k world other_world → Rely config k world (world_then other_world seat claim unit)
   others_then k differs rely = record {
     names = rely.names;
     targets = rely.targets;
@@ -124,7 +124,7 @@ module _ (c : Config) (u w : World) (seat claim : ℕ) (unit : Option ℕ) (on :
         quiet = rely.copies.keeps.quiet;
       };
       copying = rely.copies.copying;
-      working = updated_else w.ghost.working seat unit k (λ e. differs (sym e)) ∙ rely.copies.working;
+      working = updated_else other_world.ghost.working seat unit k (λ e. differs (sym e)) ∙ rely.copies.working;
       words = rely.copies.words;
     };
     fields = record {
@@ -138,11 +138,11 @@ module _ (c : Config) (u w : World) (seat claim : ℕ) (unit : Option ℕ) (on :
   }
 
   -- what the step owes, that led to the world but for these two, is owed then
-  pub step_then : (t : Touch) (facts : World → Type 0) → write w.memory Claim claim ≡ touched u.memory t → w.graph ≡ u.graph → Shared c w → Keeps c seat u w → ((k : ℕ) → k ≢ seat → Rely c k u w)
-      → AreCaredFor c (w.memory Phase) (w.memory Cset) (w.memory Evac) claim w.block (updated w.ghost.working seat unit)
-      → facts (world_then w seat claim unit) → PartStep c u seat t facts
-  step_then t facts memory graph shared keeps others units own = record {
-    world = world_then w seat claim unit;
+  pub step_then : (touch : Touch) (facts : World → Type 0) → write other_world.memory Claim claim ≡ touched world.memory touch → other_world.graph ≡ world.graph → Shared config other_world → Keeps config seat world other_world → ((k : ℕ) → k ≢ seat → Rely config k world other_world)
+      → AreCaredFor config (other_world.memory Phase) (other_world.memory Cset) (other_world.memory Evac) claim other_world.block (updated other_world.ghost.working seat unit)
+      → facts (world_then other_world seat claim unit) → PartStep config world seat touch facts
+  step_then touch facts memory graph shared keeps others units own = record {
+    world = world_then other_world seat claim unit;
     memory = memory;
     graph = graph;
     shared = shared_then shared units;
@@ -152,5 +152,5 @@ module _ (c : Config) (u w : World) (seat claim : ℕ) (unit : Option ℕ) (on :
   }
 
 -- the machine has nothing still
-pub nothing_then : (w : World) (seat claim : ℕ) (unit : Option ℕ) → HasNothing w seat → HasNothing (world_then w seat claim unit) seat
-nothing_then w seat claim unit nothing = record { copying = nothing.copying; records_none = nothing.records_none; scans_none = nothing.scans_none; rooms = nothing.rooms }
+pub nothing_then : (world : World) (seat claim : ℕ) (unit : Option ℕ) → HasNothing world seat → HasNothing (world_then world seat claim unit) seat
+nothing_then world seat claim unit nothing = record { copying = nothing.copying; records_none = nothing.records_none; scans_none = nothing.scans_none; rooms = nothing.rooms }

@@ -27,8 +27,8 @@ use Rattle.cycle_steps.proofs.Evacuation.Walks.{before_end, next_base, placed, t
 use Rattle.cycle_steps.proofs.Evacuation.Units.{each_step}
 
 -- While others step, what a machine counts on stays.
-module _ (resolving : ResolvingSteps) (c : Config) (u w : World) (seat : ℕ) (shared : Shared c u) (rely : Rely c seat u w) where
-  nothing_stays : HasNothing u seat → HasNothing w seat
+module _ (resolving : ResolvingSteps) (config : Config) (world other_world : World) (seat : ℕ) (shared : Shared config world) (rely : Rely config seat world other_world) where
+  nothing_stays : HasNothing world seat → HasNothing other_world seat
   nothing_stays nothing = record {
     copying = rely.copies.copying ∙ nothing.copying;
     records_none = rely.marks.recording ∙ nothing.records_none;
@@ -36,18 +36,18 @@ module _ (resolving : ResolvingSteps) (c : Config) (u w : World) (seat : ℕ) (s
     rooms = λ a x is room. nothing.rooms a x (rely.no_rooms a x is room) room;
   }
 
-  facts_stay : (at : EvacSpot) → WorkFacts c u seat at → WorkFacts c w seat at
+  facts_stay : (at : EvacSpot) → WorkFacts config world seat at → WorkFacts config other_world seat at
   facts_stay LoadClaim facts = nothing_stays facts
   facts_stay (ClaimUnit unit) facts = (nothing_stays facts.0, facts.1)
   facts_stay (LoadTop region) facts = (nothing_stays facts.0, subst (λ set. IsIn set region) (sym rely.copies.keeps.cset) facts.1)
-  facts_stay (LoadFirst address end) facts = (nothing_stays facts.0, walked_stays c u w rely.copies.keeps address end facts.1)
-  facts_stay (LoadShape address end) facts = (nothing_stays facts.0, object_stays c u w rely.copies.keeps address end facts.1)
-  facts_stay (LoadMark address end next) facts = (nothing_stays facts.0, measured_stays c u w rely.copies.keeps address end next facts.1)
+  facts_stay (LoadFirst address end) facts = (nothing_stays facts.0, walked_stays config world other_world rely.copies.keeps address end facts.1)
+  facts_stay (LoadShape address end) facts = (nothing_stays facts.0, object_stays config world other_world rely.copies.keeps address end facts.1)
+  facts_stay (LoadMark address end next) facts = (nothing_stays facts.0, measured_stays config world other_world rely.copies.keeps address end next facts.1)
   facts_stay (Resolving address end next at) facts =
-      (facts.0, ((resolving.steps c seat address).stands u at shared facts.1).stays w rely, measured_stays c u w rely.copies.keeps address end next facts.2)
+      (facts.0, ((resolving.steps config seat address).stands world at shared facts.1).stays other_world rely, measured_stays config world other_world rely.copies.keeps address end next facts.2)
   facts_stay (Ended unit) facts = nothing_stays facts
 
-  pub can_evacuate_stays : (cset : ℕ) (at : EvacSpot) → CanEvacuate c u seat cset at → CanEvacuate c w seat cset at
+  pub can_evacuate_stays : (cset : ℕ) (at : EvacSpot) → CanEvacuate config world seat cset at → CanEvacuate config other_world seat cset at
   can_evacuate_stays cset at can = record {
     seated = can.seated;
     phase = rely.marks.keeps.phase ∙ can.phase;
@@ -57,47 +57,47 @@ module _ (resolving : ResolvingSteps) (c : Config) (u w : World) (seat : ℕ) (s
   }
 
 -- a word of the heap is one by test
-word_there : (c : Config) (a : ℕ) → IsWord c (Heap a) → is_word c (Heap a) ≡ true
-word_there c a is = and_from _ _ (le-leb _ _ is.0) (lt-ltb _ _ is.1)
+word_there : (config : Config) (address : ℕ) → IsWord config (Heap address) → is_word config (Heap address) ≡ true
+word_there config address is = and_from _ _ (le-leb _ _ is.0) (lt-ltb _ _ is.1)
 
 -- The numbers of the spot are in range.
-module _ (c : Config) (u : World) (seat : ℕ) (shared : Shared c u) where
+module _ (config : Config) (world : World) (seat : ℕ) (shared : Shared config world) where
   -- the first word of a piece is of the heap
-  header_there : (a : ℕ) (x : Block) → u.block a ≡ Some x → IsWord c (Heap a)
-  header_there a x is =
-      let inside = piece_inside c (λ r. u.memory (Top r)) u.block shared.parsable.plotted a x is in
-      let some = some_words c (λ r. u.memory (Top r)) u.block shared.parsable shared.owned.rooms a x is in
+  header_there : (address : ℕ) (piece : Block) → world.block address ≡ Some piece → IsWord config (Heap address)
+  header_there address piece is =
+      let inside = piece_inside config (λ r. world.memory (Top r)) world.block shared.parsable.plotted address piece is in
+      let some = some_words config (λ r. world.memory (Top r)) world.block shared.parsable shared.owned.rooms address piece is in
       (inside.0, omega (arith, inside.1, some))
 
   -- so is the second one, where the piece does not only fill
-  second_there : (address end : ℕ) (at : IsWalkedTo c u address end) → filling at.piece ≡ None → IsWord c (Heap (address + 1))
+  second_there : (address end : ℕ) (at : IsWalkedTo config world address end) → filling at.piece ≡ None → IsWord config (Heap (address + 1))
   second_there address end at solid =
-      let inside = piece_inside c (λ r. u.memory (Top r)) u.block shared.parsable.plotted address at.piece at.there in
-      let some = three_words c u shared address at.piece at.inside solid at.there in
+      let inside = piece_inside config (λ r. world.memory (Top r)) world.block shared.parsable.plotted address at.piece at.there in
+      let some = three_words config world shared address at.piece at.inside solid at.there in
       (omega (arith, inside.0), omega (arith, inside.1, some))
 
-  shape_there : (address end : ℕ) (at : IsWalkedTo c u address end) → filling at.piece ≡ None → has_shape c address ≡ true
-  shape_there address end at solid = and_from _ _ (word_there c address (header_there address at.piece at.there)) (word_there c (address + 1) (second_there address end at solid))
+  shape_there : (address end : ℕ) (at : IsWalkedTo config world address end) → filling at.piece ≡ None → has_shape config address ≡ true
+  shape_there address end at solid = and_from _ _ (word_there config address (header_there address at.piece at.there)) (word_there config (address + 1) (second_there address end at solid))
 
   -- behind a piece there is another one, or the end
-  walkable_there : (address end next : ℕ) → IsMeasured c u address end next → is_walkable c next end ≡ true
+  walkable_there : (address end next : ℕ) → IsMeasured config world address end next → is_walkable config next end ≡ true
   walkable_there address end next measured = ⊎_elim
       (λ (more : nat_lt next end ≡ true).
       let at = measured.at in
-      let within = (placed c u shared address at.piece at.there).within in
+      let within = (placed config world shared address at.piece at.there).within in
       let next_is = measured.next_is in
       let end_is = at.end_is in
       let less : next < end = ltb-true next end more in
-      let piece = shared.parsable.filled.next (region_with c address) address at.piece within at.from_base at.there (omega (arith, less, next_is, end_is)) in
-      cond-true (nat_lt next end) _ _ more ∙ word_there c next (header_there next piece.0 (ap u.block next_is ∙ piece.1)))
+      let piece = shared.parsable.filled.next (region_with config address) address at.piece within at.from_base at.there (omega (arith, less, next_is, end_is)) in
+      cond-true (nat_lt next end) _ _ more ∙ word_there config next (header_there next piece.0 (ap world.block next_is ∙ piece.1)))
       (λ (none : nat_lt next end ≡ false). cond-false (nat_lt next end) _ _ none)
       (cases_Bool (nat_lt next end))
 
-  ready_there : (at : EvacSpot) → WorkFacts c u seat at → is_ready c seat at ≡ true
+  ready_there : (at : EvacSpot) → WorkFacts config world seat at → is_ready config seat at ≡ true
   ready_there LoadClaim facts = refl
   ready_there (ClaimUnit unit) facts = lt-ltb _ _ facts.1
   ready_there (LoadTop region) facts = lt-ltb _ _ (shared.evacuated.aside.in_heap region facts.1)
-  ready_there (LoadFirst address end) facts = word_there c address (header_there address facts.1.piece facts.1.there)
+  ready_there (LoadFirst address end) facts = word_there config address (header_there address facts.1.piece facts.1.there)
   ready_there (LoadShape address end) facts = shape_there address end facts.1.at facts.1.solid
   ready_there (LoadMark address end next) facts = and_from _ _ (shape_there address end facts.1.at facts.1.solid) (walkable_there address end next facts.1)
   ready_there (Resolving address end next at) facts =
@@ -106,34 +106,34 @@ module _ (c : Config) (u : World) (seat : ℕ) (shared : Shared c u) where
   ready_there (Ended unit) facts = refl
 
 -- the next access is of the table
-pub unit_inside : (resolving : ResolvingSteps) (c : Config) (u : World) (seat cset : ℕ) (at : EvacSpot) → Shared c u → CanEvacuate c u seat cset at → IsWord c (touch_at c seat at).word
-unit_inside resolving c u seat cset LoadClaim shared can = tt
-unit_inside resolving c u seat cset (ClaimUnit unit) shared can = tt
-unit_inside resolving c u seat cset (LoadTop region) shared can = shared.evacuated.aside.in_heap region can.facts.1
-unit_inside resolving c u seat cset (LoadFirst address end) shared can = header_there c u seat shared address can.facts.1.piece can.facts.1.there
-unit_inside resolving c u seat cset (LoadShape address end) shared can = second_there c u seat shared address end can.facts.1.at can.facts.1.solid
-unit_inside resolving c u seat cset (LoadMark address end next) shared can = word_inside c address (header_there c u seat shared address can.facts.1.at.piece can.facts.1.at.there)
-unit_inside resolving c u seat cset (Resolving address end next at) shared can = ((resolving.steps c seat address).stands u at shared can.facts.1).inside
-unit_inside resolving c u seat cset (Ended unit) shared can = tt
+pub unit_inside : (resolving : ResolvingSteps) (config : Config) (world : World) (seat cset : ℕ) (at : EvacSpot) → Shared config world → CanEvacuate config world seat cset at → IsWord config (touch_at config seat at).word
+unit_inside resolving config world seat cset LoadClaim shared can = tt
+unit_inside resolving config world seat cset (ClaimUnit unit) shared can = tt
+unit_inside resolving config world seat cset (LoadTop region) shared can = shared.evacuated.aside.in_heap region can.facts.1
+unit_inside resolving config world seat cset (LoadFirst address end) shared can = header_there config world seat shared address can.facts.1.piece can.facts.1.there
+unit_inside resolving config world seat cset (LoadShape address end) shared can = second_there config world seat shared address end can.facts.1.at can.facts.1.solid
+unit_inside resolving config world seat cset (LoadMark address end next) shared can = word_inside config address (header_there config world seat shared address can.facts.1.at.piece can.facts.1.at.there)
+unit_inside resolving config world seat cset (Resolving address end next at) shared can = ((resolving.steps config seat address).stands world at shared can.facts.1).inside
+unit_inside resolving config world seat cset (Ended unit) shared can = tt
 
 -- of the words of copies only headers are accessed by more than loads
-unit_spares : (resolving : ResolvingSteps) (c : Config) (u : World) (seat cset : ℕ) (at : EvacSpot) (d k : ℕ) (b : Body) → Shared c u → CanEvacuate c u seat cset at → body_at (u.block d) ≡ Some b → k < body_words b
-    → (touch_at c seat at).word ≡ Heap (d + k) → ((touch_at c seat at).form ≡ loads) ⊎ (k ≡ 0)
-unit_spares resolving c u seat cset (ClaimUnit unit) d k b shared can is below word = absurd (cc (word))
-unit_spares resolving c u seat cset (Resolving address end next at) d k b shared can is below word =
-    ⊎_elim (λ loaded. inl loaded) (λ published. inr published.4) (resolving.spares c u seat address at d k b shared can.facts.1 is below word)
-unit_spares resolving c u seat cset _ d k b shared can is below word = inl refl
+unit_spares : (resolving : ResolvingSteps) (config : Config) (world : World) (seat cset : ℕ) (at : EvacSpot) (d k : ℕ) (body : Body) → Shared config world → CanEvacuate config world seat cset at → body_at (world.block d) ≡ Some body → k < body_words body
+    → (touch_at config seat at).word ≡ Heap (d + k) → ((touch_at config seat at).form ≡ loads) ⊎ (k ≡ 0)
+unit_spares resolving config world seat cset (ClaimUnit unit) d k body shared can is below word = absurd (cc (word))
+unit_spares resolving config world seat cset (Resolving address end next at) d k body shared can is below word =
+    ⊎_elim (λ loaded. inl loaded) (λ published. inr published.4) (resolving.spares config world seat address at d k body shared can.facts.1 is below word)
+unit_spares resolving config world seat cset _ d k body shared can is below word = inl refl
 
 -- the word that it finds is fit for the part
-part_fits : (resolving : ResolvingSteps) (c : Config) (u : World) (seat cset : ℕ) (at : EvacSpot) → Shared c u → CanEvacuate c u seat cset at → PartFit c seat at (u.memory (touch_at c seat at).word)
-part_fits resolving c u seat cset (LoadTop region) shared can = le-leb _ _ (shared.parsable.plotted.tops region (shared.evacuated.aside.in_heap region can.facts.1))
-part_fits resolving c u seat cset (Resolving address end next at) shared can = ((resolving.steps c seat address).goes u at can.facts.0 shared can.facts.1).fits
-part_fits resolving c u seat cset _ shared can = tt
+part_fits : (resolving : ResolvingSteps) (config : Config) (world : World) (seat cset : ℕ) (at : EvacSpot) → Shared config world → CanEvacuate config world seat cset at → PartFit config seat at (world.memory (touch_at config seat at).word)
+part_fits resolving config world seat cset (LoadTop region) shared can = le-leb _ _ (shared.parsable.plotted.tops region (shared.evacuated.aside.in_heap region can.facts.1))
+part_fits resolving config world seat cset (Resolving address end next at) shared can = ((resolving.steps config seat address).goes world at can.facts.0 shared can.facts.1).fits
+part_fits resolving config world seat cset _ shared can = tt
 
 module _ (resolving : ResolvingSteps) where
-  sweeps : (c : Config) (u : World) (seat cset : ℕ) (at : EvacSpot) → is_ended at ≡ false → Shared c u → CanEvacuate c u seat cset at → SweptStep c u seat cset at
-  sweeps c u seat cset at going shared can =
-      let step = each_step resolving c u seat cset at going shared can in
+  sweeps : (config : Config) (world : World) (seat cset : ℕ) (at : EvacSpot) → is_ended at ≡ false → Shared config world → CanEvacuate config world seat cset at → SweptStep config world seat cset at
+  sweeps config world seat cset at going shared can =
+      let step = each_step resolving config world seat cset at going shared can in
       record { world = step.world; memory = step.memory; graph = step.graph; shared = step.shared; own = step.own.swept; keeps = step.keeps; others = step.others }
 
   -- what the steps owe
@@ -182,9 +182,9 @@ swept_is_forwarded c u a shared on swept room low inside marked = by_copy ((shar
     by_copy (HasCopy.spent_copy words to is) = leads_is_forwarded _ to (shared.evacuated.moved.spents a words to is).header
 
 -- a region that is cared for and on which nobody works is swept
-swept_of : (c : Config) (u : World) (region : ℕ) → ((seat : ℕ) → seat < seat_count c.mutators c.helpers → u.ghost.working seat ≡ None) → IsCaredFor c (u.memory Evac) u.block u.ghost.working region → IsSwept c u region
-swept_of c u region idle (inl swept) = swept
-swept_of c u region idle (inr worker) = let none : None ≡ Some region = sym (idle worker.0 worker.1) ∙ worker.2 in absurd (cc (none))
+swept_of : (config : Config) (world : World) (region : ℕ) → ((seat : ℕ) → seat < seat_count config.mutators config.helpers → world.ghost.working seat ≡ None) → IsCaredFor config (world.memory Evac) world.block world.ghost.working region → IsSwept config world region
+swept_of config world region idle (inl swept) = swept
+swept_of config world region idle (inr worker) = let none : None ≡ Some region = sym (idle worker.0 worker.1) ∙ worker.2 in absurd (cc (none))
 
 pub all_is_forwarded : AllIsForwarded
 all_is_forwarded c u shared on idle all room a low inside marked =

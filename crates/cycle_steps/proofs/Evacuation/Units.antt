@@ -35,26 +35,26 @@ use Rattle.cycle_steps.proofs.Evacuation.Walks.{region_is, placed, header_tells,
 use Rattle.cycle_steps.proofs.Evacuation.Changes.{world_then, cared_still, step_then, nothing_then}
 
 -- what a machine counts on once it has made a step, and that a unit that it ended is swept
-pub record Evacuates (c : Config) (w : World) (seat cset : ℕ) (at next : EvacSpot) : Type 0 where
-  pub can : CanEvacuate c w seat cset next
-  pub swept : (region : ℕ) → working_of c at ≡ Some region → is_ended next ≡ true → IsSwept c w region
+pub record Evacuates (config : Config) (world : World) (seat cset : ℕ) (at next : EvacSpot) : Type 0 where
+  pub can : CanEvacuate config world seat cset next
+  pub swept : (region : ℕ) → working_of config at ≡ Some region → is_ended next ≡ true → IsSwept config world region
 
 -- what a step owes, this with it
 abbrev pub UnitStep : Config → World → ℕ → ℕ → EvacSpot → Type 0
-UnitStep c u seat cset at = PartStep c u seat (touch_at c seat at) (λ w. Evacuates c w seat cset at (spot_then c u seat cset at))
+UnitStep config world seat cset at = PartStep config world seat (touch_at config seat at) (λ w. Evacuates config w seat cset at (spot_then config world seat cset at))
 
 -- A walk of a region of the set has come to an address, at which a piece begins if it has not come to the end.
-pub record IsWalk (c : Config) (w : World) (region address end : ℕ) : Type 0 where
-  pub set : IsIn (w.memory Cset) region
-  pub from_base : base_of c region ≤ address
+pub record IsWalk (config : Config) (world : World) (region address end : ℕ) : Type 0 where
+  pub set : IsIn (world.memory Cset) region
+  pub from_base : base_of config region ≤ address
   pub to_end : address ≤ end
-  pub end_is : end ≡ base_of c region + w.memory (Top region)
-  pub swept : IsSweptTo c (w.memory Evac) w.block region address
-  pub piece : address < end → (x : Block) × (w.block address ≡ Some x)
+  pub end_is : end ≡ base_of config region + world.memory (Top region)
+  pub swept : IsSweptTo config (world.memory Evac) world.block region address
+  pub piece : address < end → (x : Block) × (world.block address ≡ Some x)
 
-module _ (c : Config) (w : World) (shared : Shared c w) where
+module _ (config : Config) (world : World) (shared : Shared config world) where
   -- a walk begins at the base
-  pub first_walk : (region : ℕ) → IsIn (w.memory Cset) region → IsWalk c w region (base_of c region) (base_of c region + w.memory (Top region))
+  pub first_walk : (region : ℕ) → IsIn (world.memory Cset) region → IsWalk config world region (base_of config region) (base_of config region + world.memory (Top region))
   first_walk region is = record {
     set = is;
     from_base = omega arith;
@@ -65,51 +65,51 @@ module _ (c : Config) (w : World) (shared : Shared c w) where
   }
 
   -- and goes on behind a piece that is not the current copy of an object
-  pub next_walk : (address end next : ℕ) (at : IsWalkedTo c w address end) → next ≡ address + words_of at.piece → ((refs nums : ℕ) (name : Name) → w.block address ≡ Some (thing name refs nums) → ⊥)
-      → IsWalk c w (region_with c address) next end
+  pub next_walk : (address end next : ℕ) (at : IsWalkedTo config world address end) → next ≡ address + words_of at.piece → ((refs nums : ℕ) (name : Name) → world.block address ≡ Some (thing name refs nums) → ⊥)
+      → IsWalk config world (region_with config address) next end
   next_walk address end next at next_is none =
-      let there = placed c w shared address at.piece at.there in
+      let there = placed config world shared address at.piece at.there in
       let end_is = at.end_is in
       record {
         set = at.inside;
         from_base = omega (arith, next_is, at.from_base);
         to_end = omega (arith, next_is, end_is, there.to_top);
         end_is = at.end_is;
-        swept = subst (λ a. IsSweptTo c (w.memory Evac) w.block (region_with c address) a) (sym next_is) (swept_past c w shared (region_with c address) address at.piece at.there none at.swept);
-        piece = λ less. subst (λ a. (x : Block) × (w.block a ≡ Some x)) (sym next_is)
-            (shared.parsable.filled.next (region_with c address) address at.piece there.within at.from_base at.there (omega (arith, less, next_is, end_is)));
+        swept = subst (λ a. IsSweptTo config (world.memory Evac) world.block (region_with config address) a) (sym next_is) (swept_past config world shared (region_with config address) address at.piece at.there none at.swept);
+        piece = λ less. subst (λ a. (piece : Block) × (world.block a ≡ Some piece)) (sym next_is)
+            (shared.parsable.filled.next (region_with config address) address at.piece there.within at.from_base at.there (omega (arith, less, next_is, end_is)));
       }
 
-module _ (c : Config) (u : World) (seat cset : ℕ) where
+module _ (config : Config) (world : World) (seat cset : ℕ) where
   -- a world to which the step leads, but for the unit on which the machine works
   record IsBase (at : EvacSpot) (w : World) : Type 0 where
-    memory : w.memory ≡ touched u.memory (touch_at c seat at)
-    graph : w.graph ≡ u.graph
-    shared : Shared c w
-    keeps : Keeps c seat u w
-    others : (k : ℕ) → k ≢ seat → Rely c k u w
-    working : w.ghost.working seat ≡ working_of c at
+    memory : w.memory ≡ touched world.memory (touch_at config seat at)
+    graph : w.graph ≡ world.graph
+    shared : Shared config w
+    keeps : Keeps config seat world w
+    others : (k : ℕ) → k ≢ seat → Rely config k world w
+    working : w.ghost.working seat ≡ working_of config at
 
   -- a load leads to the same world
-  loads_at : (at : EvacSpot) (word : Word) → touched u.memory (touch_at c seat at) ≡ write u.memory word (u.memory word) → Shared c u → CanEvacuate c u seat cset at → IsBase at u
+  loads_at : (at : EvacSpot) (word : Word) → touched world.memory (touch_at config seat at) ≡ write world.memory word (world.memory word) → Shared config world → CanEvacuate config world seat cset at → IsBase at world
   loads_at at word is shared can = record {
-    memory = load_keeps u.memory word ∙ sym is;
+    memory = load_keeps world.memory word ∙ sym is;
     graph = refl;
     shared = shared;
-    keeps = keeps_of c seat u u (rely_same c seat u);
-    others = λ k differs. rely_same c k u;
+    keeps = keeps_of config seat world world (rely_same config seat world);
+    others = λ k differs. rely_same config k world;
     working = can.working;
   }
 
   -- the machine goes on with its unit, if it has one
-  goes_on : (at next : EvacSpot) (w : World) → IsBase at w → CanEvacuate c u seat cset at → spot_then c u seat cset at ≡ next → working_of c at ≡ working_of c next → is_ended next ≡ false
-      → WorkFacts c w seat next → UnitStep c u seat cset at
+  goes_on : (at next : EvacSpot) (w : World) → IsBase at w → CanEvacuate config world seat cset at → spot_then config world seat cset at ≡ next → working_of config at ≡ working_of config next → is_ended next ≡ false
+      → WorkFacts config w seat next → UnitStep config world seat cset at
   goes_on at next w base can leads unit going facts = record {
     world = w;
     memory = base.memory;
     graph = base.graph;
     shared = base.shared;
-    own = subst (λ spot. Evacuates c w seat cset at spot) (sym leads) (record {
+    own = subst (λ spot. Evacuates config w seat cset at spot) (sym leads) (record {
       can = record {
         seated = can.seated;
         phase = base.keeps.marks.phase ∙ can.phase;
@@ -124,13 +124,13 @@ module _ (c : Config) (u : World) (seat cset : ℕ) where
   }
 
   -- the machine ends its unit
-  ends : (at : EvacSpot) (unit : Done) (w : World) → IsBase at w → CanEvacuate c u seat cset at → spot_then c u seat cset at ≡ Ended unit → HasNothing w seat
-      → ((region : ℕ) → working_of c at ≡ Some region → IsSwept c w region) → UnitStep c u seat cset at
+  ends : (at : EvacSpot) (unit : Done) (w : World) → IsBase at w → CanEvacuate config world seat cset at → spot_then config world seat cset at ≡ Ended unit → HasNothing w seat
+      → ((region : ℕ) → working_of config at ≡ Some region → IsSwept config w region) → UnitStep config world seat cset at
   ends at unit w base can leads nothing swept =
-      step_then c u w seat (w.memory Claim) None (base.keeps.marks.phase ∙ can.phase) (omega arith) (touch_at c seat at) (λ x. Evacuates c x seat cset at (spot_then c u seat cset at))
+      step_then config world w seat (w.memory Claim) None (base.keeps.marks.phase ∙ can.phase) (omega arith) (touch_at config seat at) (λ x. Evacuates config x seat cset at (spot_then config world seat cset at))
       (sym (load_keeps w.memory Claim) ∙ base.memory) base.graph base.shared base.keeps base.others
-      (λ on region below is. cared_still c (w.memory Evac) w.block w.ghost.working seat None region (λ own. inl (swept region (sym base.working ∙ own))) (base.shared.evacuated.units on region below is))
-      (subst (λ spot. Evacuates c (world_then w seat (w.memory Claim) None) seat cset at spot) (sym leads) (record {
+      (λ on region below is. cared_still config (w.memory Evac) w.block w.ghost.working seat None region (λ own. inl (swept region (sym base.working ∙ own))) (base.shared.evacuated.units on region below is))
+      (subst (λ spot. Evacuates config (world_then w seat (w.memory Claim) None) seat cset at spot) (sym leads) (record {
         can = record {
           seated = can.seated;
           phase = base.keeps.marks.phase ∙ can.phase;
@@ -142,194 +142,194 @@ module _ (c : Config) (u : World) (seat cset : ℕ) where
       }))
 
   -- the machine walks on, or has come to the end
-  walks : (at : EvacSpot) (w : World) (region address end : ℕ) → IsBase at w → CanEvacuate c u seat cset at → spot_then c u seat cset at ≡ walk_on address end → working_of c at ≡ Some region
-      → HasNothing w seat → IsWalk c w region address end → UnitStep c u seat cset at
+  walks : (at : EvacSpot) (w : World) (region address end : ℕ) → IsBase at w → CanEvacuate config world seat cset at → spot_then config world seat cset at ≡ walk_on address end → working_of config at ≡ Some region
+      → HasNothing w seat → IsWalk config w region address end → UnitStep config world seat cset at
   walks at w region address end base can leads unit nothing walk = ⊎_elim
       (λ (more : nat_lt address end ≡ true).
-      let short : w.memory (Top region) ≤ c.region_words = base.shared.parsable.plotted.tops region (base.shared.evacuated.aside.in_heap region walk.set) in
+      let short : w.memory (Top region) ≤ config.region_words = base.shared.parsable.plotted.tops region (base.shared.evacuated.aside.in_heap region walk.set) in
       let less : address < end = ltb-true address end more in
       let end_is = walk.end_is in
-      let here : region_with c address ≡ region = region_is c region address walk.from_base (omega (arith, less, end_is, short)) in
+      let here : region_with config address ≡ region = region_is config region address walk.from_base (omega (arith, less, end_is, short)) in
       let piece = walk.piece less in
       goes_on at (LoadFirst address end) w base can (leads ∙ cond-true (nat_lt address end) _ _ more) (unit ∙ ap Some (sym here)) refl (
         nothing,
         record {
           inside = subst (λ r. IsIn (w.memory Cset) r) (sym here) walk.set;
-          from_base = subst (λ r. base_of c r ≤ address) (sym here) walk.from_base;
+          from_base = subst (λ r. base_of config r ≤ address) (sym here) walk.from_base;
           before = less;
-          end_is = walk.end_is ∙ ap (λ r. base_of c r + w.memory (Top r)) (sym here);
+          end_is = walk.end_is ∙ ap (λ r. base_of config r + w.memory (Top r)) (sym here);
           piece = piece.0;
           there = piece.1;
-          swept = subst (λ r. IsSweptTo c (w.memory Evac) w.block r address) (sym here) walk.swept;
+          swept = subst (λ r. IsSweptTo config (w.memory Evac) w.block r address) (sym here) walk.swept;
         },
       ))
       (λ (none : nat_lt address end ≡ false).
       let past : end ≤ address = ltb-false address end none in
       let end_is = walk.end_is in
       ends at Worked w base can (leads ∙ cond-false (nat_lt address end) _ _ none) nothing
-      (λ r is. subst (IsSwept c w) (same_Some region r (sym unit ∙ is)) (swept_whole c w base.shared region address (omega (arith, past, end_is)) walk.swept)))
+      (λ r is. subst (IsSwept config w) (same_Some region r (sym unit ∙ is)) (swept_whole config w base.shared region address (omega (arith, past, end_is)) walk.swept)))
       (cases_Bool (nat_lt address end))
 
   -- the load of what is claimed
-  at_load_claim : Shared c u → CanEvacuate c u seat cset LoadClaim → UnitStep c u seat cset LoadClaim
+  at_load_claim : Shared config world → CanEvacuate config world seat cset LoadClaim → UnitStep config world seat cset LoadClaim
   at_load_claim shared can = ⊎_elim
-      (λ (some : nat_lt (u.memory Claim) c.regions ≡ true).
-      goes_on LoadClaim (ClaimUnit (u.memory Claim)) u (loads_at LoadClaim Claim refl shared can) can (cond-true (nat_lt (u.memory Claim) c.regions) _ _ some) refl refl (can.facts, ltb-true _ _ some))
-      (λ (none : nat_lt (u.memory Claim) c.regions ≡ false).
-      ends LoadClaim NoneLeft u (loads_at LoadClaim Claim refl shared can) can (cond-false (nat_lt (u.memory Claim) c.regions) _ _ none) can.facts (λ region is. absurd (cc (is))))
-      (cases_Bool (nat_lt (u.memory Claim) c.regions))
+      (λ (some : nat_lt (world.memory Claim) config.regions ≡ true).
+      goes_on LoadClaim (ClaimUnit (world.memory Claim)) world (loads_at LoadClaim Claim refl shared can) can (cond-true (nat_lt (world.memory Claim) config.regions) _ _ some) refl refl (can.facts, ltb-true _ _ some))
+      (λ (none : nat_lt (world.memory Claim) config.regions ≡ false).
+      ends LoadClaim NoneLeft world (loads_at LoadClaim Claim refl shared can) can (cond-false (nat_lt (world.memory Claim) config.regions) _ _ none) can.facts (λ region is. absurd (cc (is))))
+      (cases_Bool (nat_lt (world.memory Claim) config.regions))
 
   -- the claim is made: of a region of the set, or of another one, in which there is nothing to do
-  claims : (unit : ℕ) (next : EvacSpot) → u.memory Claim ≡ unit → Shared c u → CanEvacuate c u seat cset (ClaimUnit unit) → after_claim cset unit ≡ next
-      → (IsIn (u.memory Cset) unit → working_of c next ≡ Some unit) → WorkFacts c (world_then u seat (unit + 1) (working_of c next)) seat next → UnitStep c u seat cset (ClaimUnit unit)
+  claims : (unit : ℕ) (next : EvacSpot) → world.memory Claim ≡ unit → Shared config world → CanEvacuate config world seat cset (ClaimUnit unit) → after_claim cset unit ≡ next
+      → (IsIn (world.memory Cset) unit → working_of config next ≡ Some unit) → WorkFacts config (world_then world seat (unit + 1) (working_of config next)) seat next → UnitStep config world seat cset (ClaimUnit unit)
   claims unit next won shared can leads works facts =
-      step_then c u u seat (unit + 1) (working_of c next) can.phase (omega (arith, won)) (touch_at c seat (ClaimUnit unit)) (λ x. Evacuates c x seat cset (ClaimUnit unit) (spot_then c u seat cset (ClaimUnit unit)))
-      (ap (λ n. write u.memory Claim n) (sym (cond-true (u.memory Claim == unit) (unit + 1) (u.memory Claim) (eq-eqb _ _ won)))) refl shared (keeps_of c seat u u (rely_same c seat u)) (λ k differs. rely_same c k u)
+      step_then config world world seat (unit + 1) (working_of config next) can.phase (omega (arith, won)) (touch_at config seat (ClaimUnit unit)) (λ x. Evacuates config x seat cset (ClaimUnit unit) (spot_then config world seat cset (ClaimUnit unit)))
+      (ap (λ n. write world.memory Claim n) (sym (cond-true (world.memory Claim == unit) (unit + 1) (world.memory Claim) (eq-eqb _ _ won)))) refl shared (keeps_of config seat world world (rely_same config seat world)) (λ k differs. rely_same config k world)
       (λ on region below is. ⊎_elim
-      (λ (own : region ≡ unit). inr (seat, can.seated, updated_there u.ghost.working seat (working_of c next) ∙ works (subst (λ r. IsIn (u.memory Cset) r) own is) ∙ ap Some (sym own)))
-      (λ (other : region ≢ unit). cared_still c (u.memory Evac) u.block u.ghost.working seat (working_of c next) region
+      (λ (own : region ≡ unit). inr (seat, can.seated, updated_there world.ghost.working seat (working_of config next) ∙ works (subst (λ r. IsIn (world.memory Cset) r) own is) ∙ ap Some (sym own)))
+      (λ (other : region ≢ unit). cared_still config (world.memory Evac) world.block world.ghost.working seat (working_of config next) region
       (λ was. absurd (let none : None ≡ Some region = sym can.working ∙ was in cc (none)))
       (shared.evacuated.units on region (omega (arith, below, other, won)) is))
       (cases_eq region unit))
-      (subst (λ spot. Evacuates c (world_then u seat (unit + 1) (working_of c next)) seat cset (ClaimUnit unit) spot)
-      (sym (cond-true (u.memory Claim == unit) (after_claim cset unit) LoadClaim (eq-eqb _ _ won) ∙ leads)) (record {
+      (subst (λ spot. Evacuates config (world_then world seat (unit + 1) (working_of config next)) seat cset (ClaimUnit unit) spot)
+      (sym (cond-true (world.memory Claim == unit) (after_claim cset unit) LoadClaim (eq-eqb _ _ won) ∙ leads)) (record {
         can = record {
           seated = can.seated;
           phase = can.phase;
           set_is = can.set_is;
-          working = updated_there u.ghost.working seat (working_of c next);
+          working = updated_there world.ghost.working seat (working_of config next);
           facts = facts;
         };
         swept = λ region is ended. absurd (cc (is));
       }))
 
-  at_claim_unit : (unit : ℕ) → Shared c u → CanEvacuate c u seat cset (ClaimUnit unit) → UnitStep c u seat cset (ClaimUnit unit)
+  at_claim_unit : (unit : ℕ) → Shared config world → CanEvacuate config world seat cset (ClaimUnit unit) → UnitStep config world seat cset (ClaimUnit unit)
   at_claim_unit unit shared can = ⊎_elim
-      (λ (won : (u.memory Claim == unit) ≡ true). ⊎_elim
+      (λ (won : (world.memory Claim == unit) ≡ true). ⊎_elim
       (λ (is : is_in_set cset unit ≡ true).
-      let inside : IsIn (u.memory Cset) unit = subst (λ set. IsIn set unit) can.set_is (eqb-true (bit_at cset unit) 1 is) in
+      let inside : IsIn (world.memory Cset) unit = subst (λ set. IsIn set unit) can.set_is (eqb-true (bit_at cset unit) 1 is) in
       claims unit (LoadTop unit) (eqb-true _ _ won) shared can (cond-true (is_in_set cset unit) _ _ is) (λ there. refl)
-      (nothing_then u seat (unit + 1) (Some unit) can.facts.0, inside))
+      (nothing_then world seat (unit + 1) (Some unit) can.facts.0, inside))
       (λ (not_in : is_in_set cset unit ≡ false).
       claims unit (Ended Worked) (eqb-true _ _ won) shared can (cond-false (is_in_set cset unit) _ _ not_in)
       (λ there. absurd (false≢true (sym not_in ∙ eq-eqb (bit_at cset unit) 1 (subst (λ set. IsIn set unit) (sym can.set_is) there))))
-      (nothing_then u seat (unit + 1) None can.facts.0))
+      (nothing_then world seat (unit + 1) None can.facts.0))
       (cases_Bool (is_in_set cset unit)))
-      (λ (lost : (u.memory Claim == unit) ≡ false).
-      goes_on (ClaimUnit unit) LoadClaim u
-      (loads_at (ClaimUnit unit) Claim (ap (λ n. write u.memory Claim n) (cond-false (u.memory Claim == unit) (unit + 1) (u.memory Claim) lost)) shared can) can
-      (cond-false (u.memory Claim == unit) _ _ lost) refl refl can.facts.0)
-      (cases_Bool (u.memory Claim == unit))
+      (λ (lost : (world.memory Claim == unit) ≡ false).
+      goes_on (ClaimUnit unit) LoadClaim world
+      (loads_at (ClaimUnit unit) Claim (ap (λ n. write world.memory Claim n) (cond-false (world.memory Claim == unit) (unit + 1) (world.memory Claim) lost)) shared can) can
+      (cond-false (world.memory Claim == unit) _ _ lost) refl refl can.facts.0)
+      (cases_Bool (world.memory Claim == unit))
 
   -- the load of a region's top
-  at_load_top : (region : ℕ) → Shared c u → CanEvacuate c u seat cset (LoadTop region) → UnitStep c u seat cset (LoadTop region)
+  at_load_top : (region : ℕ) → Shared config world → CanEvacuate config world seat cset (LoadTop region) → UnitStep config world seat cset (LoadTop region)
   at_load_top region shared can =
-      walks (LoadTop region) u region (base_of c region) (base_of c region + u.memory (Top region)) (loads_at (LoadTop region) (Top region) refl shared can) can refl refl
-      can.facts.0 (first_walk c u shared region can.facts.1)
+      walks (LoadTop region) world region (base_of config region) (base_of config region + world.memory (Top region)) (loads_at (LoadTop region) (Top region) refl shared can) can refl refl
+      can.facts.0 (first_walk config world shared region can.facts.1)
 
   -- the load of a piece's header: the walk steps over words that only fill
-  at_load_first : (address end : ℕ) → Shared c u → CanEvacuate c u seat cset (LoadFirst address end) → UnitStep c u seat cset (LoadFirst address end)
+  at_load_first : (address end : ℕ) → Shared config world → CanEvacuate config world seat cset (LoadFirst address end) → UnitStep config world seat cset (LoadFirst address end)
   at_load_first address end shared can = by_piece (filling can.facts.1.piece) refl
     where
-      tells : filler_words_in (u.memory (Heap address)) ≡ filling can.facts.1.piece
-      tells = header_tells c u shared address can.facts.1.piece can.facts.1.inside can.facts.1.there
+      tells : filler_words_in (world.memory (Heap address)) ≡ filling can.facts.1.piece
+      tells = header_tells config world shared address can.facts.1.piece can.facts.1.inside can.facts.1.there
 
-      base : IsBase (LoadFirst address end) u
+      base : IsBase (LoadFirst address end) world
       base = loads_at (LoadFirst address end) (Heap address) refl shared can
 
-      by_piece : (filled : Option ℕ) → filling can.facts.1.piece ≡ filled → UnitStep c u seat cset (LoadFirst address end)
+      by_piece : (filled : Option ℕ) → filling can.facts.1.piece ≡ filled → UnitStep config world seat cset (LoadFirst address end)
       by_piece (Some words) is =
           let piece : can.facts.1.piece ≡ filler words = filling_is can.facts.1.piece words is in
-          walks (LoadFirst address end) u (region_with c address) (address + words) end base can (ap (after_words address end) (tells ∙ is)) refl can.facts.0
-          (next_walk c u shared address end (address + words) can.facts.1 (ap (λ x. address + words_of x) (sym piece))
+          walks (LoadFirst address end) world (region_with config address) (address + words) end base can (ap (after_words address end) (tells ∙ is)) refl can.facts.0
+          (next_walk config world shared address end (address + words) can.facts.1 (ap (λ x. address + words_of x) (sym piece))
           (λ refs nums name object. (let both : Some (filler words) ≡ Some (thing name refs nums) = ap (λ x. Some x) (sym piece) ∙ sym can.facts.1.there ∙ object in absurd (cc (both)))))
       by_piece None is =
-          goes_on (LoadFirst address end) (LoadShape address end) u base can (ap (after_words address end) (tells ∙ is)) refl refl (can.facts.0, record { at = can.facts.1; solid = is })
+          goes_on (LoadFirst address end) (LoadShape address end) world base can (ap (after_words address end) (tells ∙ is)) refl refl (can.facts.0, record { at = can.facts.1; solid = is })
 
   -- the load of a piece's shape
-  at_load_shape : (address end : ℕ) → Shared c u → CanEvacuate c u seat cset (LoadShape address end) → UnitStep c u seat cset (LoadShape address end)
+  at_load_shape : (address end : ℕ) → Shared config world → CanEvacuate config world seat cset (LoadShape address end) → UnitStep config world seat cset (LoadShape address end)
   at_load_shape address end shared can =
       let walked = can.facts.1.at in
-      goes_on (LoadShape address end) (LoadMark address end (address + object_words (u.memory (Heap (address + 1))))) u (loads_at (LoadShape address end) (Heap (address + 1)) refl shared can) can refl refl refl
-      (can.facts.0, record { at = walked; solid = can.facts.1.solid; next_is = ap (λ n. address + n) (words_there c u shared address walked.piece walked.inside can.facts.1.solid walked.there) })
+      goes_on (LoadShape address end) (LoadMark address end (address + object_words (world.memory (Heap (address + 1))))) world (loads_at (LoadShape address end) (Heap (address + 1)) refl shared can) can refl refl refl
+      (can.facts.0, record { at = walked; solid = can.facts.1.solid; next_is = ap (λ n. address + n) (words_there config world shared address walked.piece walked.inside can.facts.1.solid walked.there) })
 
   -- in the collection set an object that is not marked has no current copy
-  unmarked : (address end : ℕ) → Shared c u → u.memory Phase ≡ 2 → IsWalkedTo c u address end → (HasMark c (λ n. u.memory (Black n)) address → ⊥)
-      → (refs nums : ℕ) (name : Name) → u.block address ≡ Some (thing name refs nums) → ⊥
+  unmarked : (address end : ℕ) → Shared config world → world.memory Phase ≡ 2 → IsWalkedTo config world address end → (HasMark config (λ n. world.memory (Black n)) address → ⊥)
+      → (refs nums : ℕ) (name : Name) → world.block address ≡ Some (thing name refs nums) → ⊥
   unmarked address end shared on walked white refs nums name is = ⊎_elim
-      (λ (black : HasMark c (λ n. u.memory (Black n)) address). white black)
-      (λ (young : IsYoung c (λ r. u.memory (Tams r)) address).
-      let old = shared.evacuated.aside.no_new (region_with c address) walked.inside in
+      (λ (black : HasMark config (λ n. world.memory (Black n)) address). white black)
+      (λ (young : IsYoung config (λ r. world.memory (Tams r)) address).
+      let old = shared.evacuated.aside.no_new (region_with config address) walked.inside in
       let end_is = walked.end_is in
       omega (arith, young, old, end_is, walked.before))
       ((shared.evacuated.kept (omega (arith, on))).objects address (IsMarkable.object name refs nums is))
 
-module _ (resolving : ResolvingSteps) (c : Config) (u : World) (seat cset : ℕ) where
+module _ (resolving : ResolvingSteps) (config : Config) (world : World) (seat cset : ℕ) where
   -- the load of a piece's mark
-  at_load_mark : (address end next : ℕ) → Shared c u → CanEvacuate c u seat cset (LoadMark address end next) → UnitStep c u seat cset (LoadMark address end next)
+  at_load_mark : (address end next : ℕ) → Shared config world → CanEvacuate config world seat cset (LoadMark address end next) → UnitStep config world seat cset (LoadMark address end next)
   at_load_mark address end next shared can =
       let at : EvacSpot = LoadMark address end next in
-      let got : ℕ = u.memory (Black (mark_word c address)) in
+      let got : ℕ = world.memory (Black (mark_word config address)) in
       let nothing = can.facts.0 in
       let measured = can.facts.1 in
-      let base = loads_at c u seat cset at (Black (mark_word c address)) refl shared can in
-      let low = (piece_inside c (λ r. u.memory (Top r)) u.block shared.parsable.plotted address measured.at.piece measured.at.there).0 in
+      let base = loads_at config world seat cset at (Black (mark_word config address)) refl shared can in
+      let low = (piece_inside config (λ r. world.memory (Top r)) world.block shared.parsable.plotted address measured.at.piece measured.at.there).0 in
       ⊎_elim
-      (λ (black : (bit_at got (mark_bit c address) == 1) ≡ true).
-      goes_on c u seat cset at (Resolving address end next LoadHeader) u base can (cond-true (bit_at got (mark_bit c address) == 1) _ _ black) refl refl (
+      (λ (black : (bit_at got (mark_bit config address) == 1) ≡ true).
+      goes_on config world seat cset at (Resolving address end next LoadHeader) world base can (cond-true (bit_at got (mark_bit config address) == 1) _ _ black) refl refl (
         refl,
-        resolving.begins c u seat address can.seated can.phase measured.at.inside ((shared.evacuated.kept (omega (arith, can.phase))).only address low (eqb-true _ _ black) measured.at.inside)
+        resolving.begins config world seat address can.seated can.phase measured.at.inside ((shared.evacuated.kept (omega (arith, can.phase))).only address low (eqb-true _ _ black) measured.at.inside)
             nothing.copying nothing.records_none nothing.scans_none nothing.rooms,
         measured,
       ))
-      (λ (white : (bit_at got (mark_bit c address) == 1) ≡ false).
-      walks c u seat cset at u (region_with c address) next end base can (cond-false (bit_at got (mark_bit c address) == 1) _ _ white) refl nothing
-      (next_walk c u shared address end next measured.at measured.next_is
-      (unmarked c u seat cset address end shared can.phase measured.at (λ marked. false≢true (sym white ∙ eq-eqb (bit_at got (mark_bit c address)) 1 marked)))))
-      (cases_Bool (bit_at got (mark_bit c address) == 1))
+      (λ (white : (bit_at got (mark_bit config address) == 1) ≡ false).
+      walks config world seat cset at world (region_with config address) next end base can (cond-false (bit_at got (mark_bit config address) == 1) _ _ white) refl nothing
+      (next_walk config world shared address end next measured.at measured.next_is
+      (unmarked config world seat cset address end shared can.phase measured.at (λ marked. false≢true (sym white ∙ eq-eqb (bit_at got (mark_bit config address)) 1 marked)))))
+      (cases_Bool (bit_at got (mark_bit config address) == 1))
 
   -- The address is resolved: with an answer in the set there was no room, and with another the object is forwarded.
-  answered : (address end next : ℕ) (at : ResolveSpot) (answer : ℕ) (w : World) → IsBase c u seat cset (Resolving address end next at) w → CanEvacuate c u seat cset (Resolving address end next at)
-      → resolves.next_at c address evacuation_phase at (u.memory (resolves.touch_at c seat address at).word) ≡ Resolved answer → CanResolve c w seat address (Resolved answer)
-      → UnitStep c u seat cset (Resolving address end next at)
+  answered : (address end next : ℕ) (at : ResolveSpot) (answer : ℕ) (w : World) → IsBase config world seat cset (Resolving address end next at) w → CanEvacuate config world seat cset (Resolving address end next at)
+      → resolves.next_at config address evacuation_phase at (world.memory (resolves.touch_at config seat address at).word) ≡ Resolved answer → CanResolve config w seat address (Resolved answer)
+      → UnitStep config world seat cset (Resolving address end next at)
   answered address end next at answer w base can leads resolved =
       let spot : EvacSpot = Resolving address end next at in
-      let measured = measured_stays c u w base.keeps.copies address end next can.facts.2 in
-      let answers = resolving.answers c w seat address answer resolved in
+      let measured = measured_stays config world w base.keeps.copies address end next can.facts.2 in
+      let answers = resolving.answers config w seat address answer resolved in
       let set_is : cset ≡ w.memory Cset = can.set_is ∙ sym base.keeps.copies.cset in
       let nothing : HasNothing w seat = record { copying = resolved.copying; records_none = resolved.records_none; scans_none = resolved.scans_none; rooms = resolved.rooms } in
       ⊎_elim
-      (λ (is : lies_in_set c cset answer ≡ true).
-      ends c u seat cset spot Worked w base can (ap (after_resolve c cset address end next) leads ∙ cond-true (lies_in_set c cset answer) _ _ is) nothing
-      (λ region own. inl (answers.stopped (subst (λ set. IsCollected c set answer) set_is (eqb-true _ _ is)))))
-      (λ (not_in : lies_in_set c cset answer ≡ false).
-      walks c u seat cset spot w (region_with c address) next end base can (ap (after_resolve c cset address end next) leads ∙ cond-false (lies_in_set c cset answer) _ _ not_in) refl nothing
-      (next_walk c w base.shared address end next measured.at measured.next_is
-      (answers.passed (λ inside. false≢true (sym not_in ∙ eq-eqb _ 1 (subst (λ set. IsCollected c set answer) (sym set_is) inside))))))
-      (cases_Bool (lies_in_set c cset answer))
+      (λ (is : lies_in_set config cset answer ≡ true).
+      ends config world seat cset spot Worked w base can (ap (after_resolve config cset address end next) leads ∙ cond-true (lies_in_set config cset answer) _ _ is) nothing
+      (λ region own. inl (answers.stopped (subst (λ set. IsCollected config set answer) set_is (eqb-true _ _ is)))))
+      (λ (not_in : lies_in_set config cset answer ≡ false).
+      walks config world seat cset spot w (region_with config address) next end base can (ap (after_resolve config cset address end next) leads ∙ cond-false (lies_in_set config cset answer) _ _ not_in) refl nothing
+      (next_walk config w base.shared address end next measured.at measured.next_is
+      (answers.passed (λ inside. false≢true (sym not_in ∙ eq-eqb _ 1 (subst (λ set. IsCollected config set answer) (sym set_is) inside))))))
+      (cases_Bool (lies_in_set config cset answer))
 
   -- a step of the resolving
-  resolves_on : (address end next : ℕ) (at more : ResolveSpot) (w : World) → IsBase c u seat cset (Resolving address end next at) w → CanEvacuate c u seat cset (Resolving address end next at)
-      → resolves.next_at c address evacuation_phase at (u.memory (resolves.touch_at c seat address at).word) ≡ more → CanResolve c w seat address more
-      → UnitStep c u seat cset (Resolving address end next at)
+  resolves_on : (address end next : ℕ) (at more : ResolveSpot) (w : World) → IsBase config world seat cset (Resolving address end next at) w → CanEvacuate config world seat cset (Resolving address end next at)
+      → resolves.next_at config address evacuation_phase at (world.memory (resolves.touch_at config seat address at).word) ≡ more → CanResolve config w seat address more
+      → UnitStep config world seat cset (Resolving address end next at)
   resolves_on address end next at (Resolved answer) w base can leads resolves = answered address end next at answer w base can leads resolves
   resolves_on address end next at more w base can leads resolves =
-      goes_on c u seat cset (Resolving address end next at) (Resolving address end next more) w base can (ap (after_resolve c cset address end next) leads) refl refl
-      (refl, resolves, measured_stays c u w base.keeps.copies address end next can.facts.2)
+      goes_on config world seat cset (Resolving address end next at) (Resolving address end next more) w base can (ap (after_resolve config cset address end next) leads) refl refl
+      (refl, resolves, measured_stays config world w base.keeps.copies address end next can.facts.2)
 
-  at_resolving : (address end next : ℕ) (at : ResolveSpot) → Shared c u → CanEvacuate c u seat cset (Resolving address end next at) → UnitStep c u seat cset (Resolving address end next at)
+  at_resolving : (address end next : ℕ) (at : ResolveSpot) → Shared config world → CanEvacuate config world seat cset (Resolving address end next at) → UnitStep config world seat cset (Resolving address end next at)
   at_resolving address end next at shared can =
-      let step = ((resolving.steps c seat address).goes u at can.facts.0 shared can.facts.1).step in
-      resolves_on address end next at (resolves.next_at c address evacuation_phase at (u.memory (resolves.touch_at c seat address at).word)) step.world
+      let step = ((resolving.steps config seat address).goes world at can.facts.0 shared can.facts.1).step in
+      resolves_on address end next at (resolves.next_at config address evacuation_phase at (world.memory (resolves.touch_at config seat address at).word)) step.world
       (record { memory = step.memory; graph = step.graph; shared = step.shared; keeps = step.keeps; others = step.others; working = step.own.1 ∙ can.working }) can refl step.own.0
 
   -- each step
-  pub each_step : (at : EvacSpot) → is_ended at ≡ false → Shared c u → CanEvacuate c u seat cset at → UnitStep c u seat cset at
-  each_step LoadClaim going shared can = at_load_claim c u seat cset shared can
-  each_step (ClaimUnit unit) going shared can = at_claim_unit c u seat cset unit shared can
-  each_step (LoadTop region) going shared can = at_load_top c u seat cset region shared can
-  each_step (LoadFirst address end) going shared can = at_load_first c u seat cset address end shared can
-  each_step (LoadShape address end) going shared can = at_load_shape c u seat cset address end shared can
+  pub each_step : (at : EvacSpot) → is_ended at ≡ false → Shared config world → CanEvacuate config world seat cset at → UnitStep config world seat cset at
+  each_step LoadClaim going shared can = at_load_claim config world seat cset shared can
+  each_step (ClaimUnit unit) going shared can = at_claim_unit config world seat cset unit shared can
+  each_step (LoadTop region) going shared can = at_load_top config world seat cset region shared can
+  each_step (LoadFirst address end) going shared can = at_load_first config world seat cset address end shared can
+  each_step (LoadShape address end) going shared can = at_load_shape config world seat cset address end shared can
   each_step (LoadMark address end next) going shared can = at_load_mark address end next shared can
   each_step (Resolving address end next at) going shared can = at_resolving address end next at shared can
   each_step (Ended unit) going shared can = absurd (cc (going))

@@ -44,9 +44,9 @@ evac_written memory value = fun_ext same
     same _ = refl
 
 -- In other phases than that of marking all that marking counts on holds, for there is no snapshot.
-pub unmarked : (c : Config) (phase : ℕ) (grey black count : ℕ → ℕ) (buffer : ℕ → ℕ → ℕ) (top tams heap : ℕ → ℕ) (block : Plot) (s : Snapshot) (recording : ℕ → Option ℕ) (scanning : ℕ → Option Scan)
-    → phase ≢ 1 → s ≡ no_snapshot → KeepsSnapshot c phase grey black count buffer top tams heap block s recording scanning
-unmarked c phase grey black count buffer top tams heap block s recording scanning other none = subst (λ x. KeepsSnapshot c phase grey black count buffer top tams heap block x recording scanning) (sym none) (record {
+pub unmarked : (config : Config) (phase : ℕ) (grey black count : ℕ → ℕ) (buffer : ℕ → ℕ → ℕ) (top tams heap : ℕ → ℕ) (block : Plot) (snapshot : Snapshot) (recording : ℕ → Option ℕ) (scanning : ℕ → Option Scan)
+    → phase ≢ 1 → snapshot ≡ no_snapshot → KeepsSnapshot config phase grey black count buffer top tams heap block snapshot recording scanning
+unmarked config phase grey black count buffer top tams heap block snapshot recording scanning other none = subst (λ x. KeepsSnapshot config phase grey black count buffer top tams heap block x recording scanning) (sym none) (record {
   empty = λ is. refl;
   traced = record {
     edges = λ a refs nums k name there. absurd (none-some _ there);
@@ -59,81 +59,81 @@ unmarked c phase grey black count buffer top tams heap block s recording scannin
   marking = λ on. absurd (other on);
 })
 
-module _ (c : Config) (u : World) (seat : ℕ) (heap top : ℕ → ℕ) (evac : ℕ) (block : Plot) (copying : ℕ → Bool) where
+module _ (config : Config) (world : World) (seat : ℕ) (heap top : ℕ → ℕ) (evac : ℕ) (block : Plot) (copying : ℕ → Bool) where
   -- the world after such a step
   abbrev pub world_after : World
-  world_after = record { memory = with_words u.memory heap top evac; block = block; ghost = with_copying u.ghost copying; graph = u.graph }
+  world_after = record { memory = with_words world.memory heap top evac; block = block; ghost = with_copying world.ghost copying; graph = world.graph }
 
   -- What such a step of the seat's machine keeps: copies stay copies, and usable ones usable; nothing in the collection set becomes a
   -- current copy; what is another seat's stays; and words are written only in the seat's own room, or are the headers of copies.
   pub record IsCopyingStep : Type 0 where
-    pub parsable : IsParsable c top block
-    pub objects : AreObjects heap block u.graph.object
-    pub owned : AreOwned c top (u.memory Share) (u.memory Free) (u.memory Cset) (λ s. u.memory (Current s)) block u.ghost.owner
-    pub moved_are : HaveMoved c (u.memory Cset) heap block
-    pub counted : IsCounted c evac copying
-    pub kept : 2 ≤ u.memory Phase → AreKept c (u.memory Cset) (λ n. u.memory (Black n)) top (λ r. u.memory (Tams r)) block
-    pub bodies : (a : ℕ) (b : Body) → body_at (u.block a) ≡ Some b → body_at (block a) ≡ Some b
-    pub targets : (a refs nums : ℕ) (name : Name) → Target c (u.memory Cset) (u.memory Evac) u.block a refs nums name → Target c (u.memory Cset) evac block a refs nums name
-    pub moveds : (a refs nums to : ℕ) (name : Name) → u.block a ≡ Some (moved name refs nums to) → block a ≡ Some (moved name refs nums to)
-    pub spents : (a words to : ℕ) → u.block a ≡ Some (spent words to) → block a ≡ Some (spent words to)
-    pub pieces : (a : ℕ) (x : Block) → IsCollected c (u.memory Cset) a → u.block a ≡ Some x → (y : Block) × (block a ≡ Some y) × (words_of y ≡ words_of x) × (filling y ≡ filling x)
-    pub no_new : (a refs nums : ℕ) (name : Name) → IsCollected c (u.memory Cset) a → block a ≡ Some (thing name refs nums) → u.block a ≡ Some (thing name refs nums)
-    pub set_tops : (r : ℕ) → IsIn (u.memory Cset) r → top r ≡ u.memory (Top r)
-    pub out : is_out_of_room (u.memory Evac) ≡ true → is_out_of_room evac ≡ true
-    pub quiet : IsQuiet (u.memory Evac) → IsQuiet evac
-    pub rooms : (j a : ℕ) (x : Block) → j ≢ seat → u.block a ≡ Some x → room_of x ≡ Some j → block a ≡ Some x
-    pub no_rooms : (j a : ℕ) (x : Block) → block a ≡ Some x → room_of x ≡ Some j → u.block a ≡ Some x
-    pub promises : (a j words : ℕ) → u.block a ≡ Some (promised j words) → block a ≡ Some (promised j words)
-    pub no_promises : (a j words : ℕ) → block a ≡ Some (promised j words) → u.block a ≡ Some (promised j words)
-    pub deads : (a words : ℕ) → u.block a ≡ Some (dead words) → block a ≡ Some (dead words)
-    pub fillers : (a words : ℕ) → u.block a ≡ Some (filler words) → block a ≡ Some (filler words)
-    pub no_deads : (a words : ℕ) → block a ≡ Some (dead words) → u.block a ≡ Some (dead words)
-    pub no_fillers : (a words : ℕ) → block a ≡ Some (filler words) → u.block a ≡ Some (filler words)
-    pub words : (a k : ℕ) (x : Block) → u.block a ≡ Some x → k < words_of x → room_of x ≢ Some seat → (1 ≤ k) ⊎ (name_at (Some x) ≡ None) → heap (a + k) ≡ u.memory (Heap (a + k))
-    pub own_tops : (r j : ℕ) → j ≢ seat → u.ghost.owner r ≡ Some j → top r ≡ u.memory (Top r)
-    pub copiers_else : (j : ℕ) → j ≢ seat → copying j ≡ u.ghost.copying j
+    pub parsable : IsParsable config top block
+    pub objects : AreObjects heap block world.graph.object
+    pub owned : AreOwned config top (world.memory Share) (world.memory Free) (world.memory Cset) (λ s. world.memory (Current s)) block world.ghost.owner
+    pub moved_are : HaveMoved config (world.memory Cset) heap block
+    pub counted : IsCounted config evac copying
+    pub kept : 2 ≤ world.memory Phase → AreKept config (world.memory Cset) (λ n. world.memory (Black n)) top (λ region. world.memory (Tams region)) block
+    pub bodies : (address : ℕ) (body : Body) → body_at (world.block address) ≡ Some body → body_at (block address) ≡ Some body
+    pub targets : (address refs nums : ℕ) (name : Name) → Target config (world.memory Cset) (world.memory Evac) world.block address refs nums name → Target config (world.memory Cset) evac block address refs nums name
+    pub moveds : (address refs nums to : ℕ) (name : Name) → world.block address ≡ Some (moved name refs nums to) → block address ≡ Some (moved name refs nums to)
+    pub spents : (address words to : ℕ) → world.block address ≡ Some (spent words to) → block address ≡ Some (spent words to)
+    pub pieces : (address : ℕ) (piece : Block) → IsCollected config (world.memory Cset) address → world.block address ≡ Some piece → (other_piece : Block) × (block address ≡ Some other_piece) × (words_of other_piece ≡ words_of piece) × (filling other_piece ≡ filling piece)
+    pub no_new : (address refs nums : ℕ) (name : Name) → IsCollected config (world.memory Cset) address → block address ≡ Some (thing name refs nums) → world.block address ≡ Some (thing name refs nums)
+    pub set_tops : (region : ℕ) → IsIn (world.memory Cset) region → top region ≡ world.memory (Top region)
+    pub out : is_out_of_room (world.memory Evac) ≡ true → is_out_of_room evac ≡ true
+    pub quiet : IsQuiet (world.memory Evac) → IsQuiet evac
+    pub rooms : (j address : ℕ) (piece : Block) → j ≢ seat → world.block address ≡ Some piece → room_of piece ≡ Some j → block address ≡ Some piece
+    pub no_rooms : (j address : ℕ) (piece : Block) → block address ≡ Some piece → room_of piece ≡ Some j → world.block address ≡ Some piece
+    pub promises : (address j words : ℕ) → world.block address ≡ Some (promised j words) → block address ≡ Some (promised j words)
+    pub no_promises : (address j words : ℕ) → block address ≡ Some (promised j words) → world.block address ≡ Some (promised j words)
+    pub deads : (address words : ℕ) → world.block address ≡ Some (dead words) → block address ≡ Some (dead words)
+    pub fillers : (address words : ℕ) → world.block address ≡ Some (filler words) → block address ≡ Some (filler words)
+    pub no_deads : (address words : ℕ) → block address ≡ Some (dead words) → world.block address ≡ Some (dead words)
+    pub no_fillers : (address words : ℕ) → block address ≡ Some (filler words) → world.block address ≡ Some (filler words)
+    pub words : (address k : ℕ) (piece : Block) → world.block address ≡ Some piece → k < words_of piece → room_of piece ≢ Some seat → (1 ≤ k) ⊎ (name_at (Some piece) ≡ None) → heap (address + k) ≡ world.memory (Heap (address + k))
+    pub own_tops : (region j : ℕ) → j ≢ seat → world.ghost.owner region ≡ Some j → top region ≡ world.memory (Top region)
+    pub copiers_else : (j : ℕ) → j ≢ seat → copying j ≡ world.ghost.copying j
 
-  module _ (shared : Shared c u) (on : u.memory Phase ≡ 2) (step : IsCopyingStep) where
+  module _ (shared : Shared config world) (on : world.memory Phase ≡ 2) (step : IsCopyingStep) where
     -- what stands for an object still does
-    names_after : (a : ℕ) (name : Name) → name_at (u.block a) ≡ Some name → name_at (block a) ≡ Some name
-    names_after a name is = let body = named_body (u.block a) name is in body_named (block a) (body_of name body.0 body.1) (step.bodies a (body_of name body.0 body.1) body.2)
+    names_after : (address : ℕ) (name : Name) → name_at (world.block address) ≡ Some name → name_at (block address) ≡ Some name
+    names_after address name is = let body = named_body (world.block address) name is in body_named (block address) (body_of name body.0 body.1) (step.bodies address (body_of name body.0 body.1) body.2)
 
     -- a dead object has its header still
-    dead_header : (a words : ℕ) → u.block a ≡ Some (dead words) → heap a ≡ u.memory (Heap a)
-    dead_header a words is =
-        let there : a + 0 ≡ a = omega arith in
-        subst (λ x. heap x ≡ u.memory (Heap x)) there
-        (step.words a 0 (dead words) is (let long = shared.parsable.deads a words is in omega (arith, long)) (λ own. none-some seat own) (inr refl))
+    dead_header : (address words : ℕ) → world.block address ≡ Some (dead words) → heap address ≡ world.memory (Heap address)
+    dead_header address words is =
+        let there : address + 0 ≡ address = omega arith in
+        subst (λ x. heap x ≡ world.memory (Heap x)) there
+        (step.words address 0 (dead words) is (let long = shared.parsable.deads address words is in omega (arith, long)) (λ own. none-some seat own) (inr refl))
 
     -- and its length
-    dead_shape : (a words : ℕ) → u.block a ≡ Some (dead words) → heap (a + 1) ≡ u.memory (Heap (a + 1))
-    dead_shape a words is =
-        step.words a 1 (dead words) is (let long = shared.parsable.deads a words is in omega (arith, long)) (λ own. none-some seat own) (inr refl)
+    dead_shape : (address words : ℕ) → world.block address ≡ Some (dead words) → heap (address + 1) ≡ world.memory (Heap (address + 1))
+    dead_shape address words is =
+        step.words address 1 (dead words) is (let long = shared.parsable.deads address words is in omega (arith, long)) (λ own. none-some seat own) (inr refl)
 
     -- words that only fill have their header still
-    filler_header_stays : (a words : ℕ) → u.block a ≡ Some (filler words) → heap a ≡ u.memory (Heap a)
-    filler_header_stays a words is =
-        let there : a + 0 ≡ a = omega arith in
-        subst (λ x. heap x ≡ u.memory (Heap x)) there (step.words a 0 (filler words) is (shared.parsable.fillers a words is) (λ own. none-some seat own) (inr refl))
+    filler_header_stays : (address words : ℕ) → world.block address ≡ Some (filler words) → heap address ≡ world.memory (Heap address)
+    filler_header_stays address words is =
+        let there : address + 0 ≡ address = omega arith in
+        subst (λ x. heap x ≡ world.memory (Heap x)) there (step.words address 0 (filler words) is (shared.parsable.fillers address words is) (λ own. none-some seat own) (inr refl))
 
     -- the words of a promised object stay
-    promise_after : (a j words k : ℕ) → u.block a ≡ Some (promised j words) → k < words → heap (a + k) ≡ u.memory (Heap (a + k))
-    promise_after a j words k is below = step.words a k (promised j words) is below (λ own. none-some seat own) (inr refl)
+    promise_after : (address j words k : ℕ) → world.block address ≡ Some (promised j words) → k < words → heap (address + k) ≡ world.memory (Heap (address + k))
+    promise_after address j words k is below = step.words address k (promised j words) is below (λ own. none-some seat own) (inr refl)
 
     -- machines share what they should
-    pub shared_after : Shared c world_after
+    pub shared_after : Shared config world_after
     shared_after = record {
       parsable = step.parsable;
       contents = record { objects = step.objects; given = shared.contents.given };
       owned = step.owned;
       phased = record { phase_is = shared.phased.phase_is; cset_is = λ early. absurd (omega (arith, early, on)); evac_is = λ other. absurd (other on) };
-      unwritten = unwritten_stays (λ a. u.memory (Heap a)) heap u.block block
-          (λ a j words is. let was = step.no_promises a j words is in (was, λ k below. promise_after a j words k was below))
-          (λ a words is. let was = step.no_deads a words is in (was, dead_header a words was, dead_shape a words was))
-          (λ a words is. let was = step.no_fillers a words is in (was, filler_header_stays a words was))
+      unwritten = unwritten_stays (λ address. world.memory (Heap address)) heap world.block block
+          (λ address j words is. let was = step.no_promises address j words is in (was, λ k below. promise_after address j words k was below))
+          (λ address words is. let was = step.no_deads address words is in (was, dead_header address words was, dead_shape address words was))
+          (λ address words is. let was = step.no_fillers address words is in (was, filler_header_stays address words was))
           shared.unwritten;
-      marked = unmarked c (u.memory Phase) (λ n. u.memory (Grey n)) (λ n. u.memory (Black n)) (λ t. u.memory (Count t)) (λ t k. u.memory (Buffer t k)) top (λ r. u.memory (Tams r)) heap block u.ghost.snapshot u.ghost.recording u.ghost.scanning
+      marked = unmarked config (world.memory Phase) (λ n. world.memory (Grey n)) (λ n. world.memory (Black n)) (λ t. world.memory (Count t)) (λ t k. world.memory (Buffer t k)) top (λ region. world.memory (Tams region)) heap block world.ghost.snapshot world.ghost.recording world.ghost.scanning
           (λ marking. omega (arith, marking, on)) (shared.marked.empty (λ marking. omega (arith, marking, on)));
       evacuated = record {
         moved = step.moved_are;
@@ -142,42 +142,42 @@ module _ (c : Config) (u : World) (seat : ℕ) (heap top : ℕ → ℕ) (evac : 
           in_heap = shared.evacuated.aside.in_heap;
           in_use = shared.evacuated.aside.in_use;
           nobodys = shared.evacuated.aside.nobodys;
-          no_new = λ r is. step.set_tops r is ∙ shared.evacuated.aside.no_new r is;
-          no_promises = λ a j words is. shared.evacuated.aside.no_promises a j words (step.no_promises a j words is);
-          no_rooms = λ a j x is room. shared.evacuated.aside.no_rooms a j x (step.no_rooms j a x is room) room;
+          no_new = λ region is. step.set_tops region is ∙ shared.evacuated.aside.no_new region is;
+          no_promises = λ address j words is. shared.evacuated.aside.no_promises address j words (step.no_promises address j words is);
+          no_rooms = λ address j x is room. shared.evacuated.aside.no_rooms address j x (step.no_rooms j address x is room) room;
         };
         kept = step.kept;
-        units = λ still r claimed is. ⊎_elim
+        units = λ still region claimed is. ⊎_elim
             (λ swept. inl (⊎_elim
             (λ out. inl (step.out out))
-            (λ none. inr (λ a refs nums name from to there. none a refs nums name from to (step.no_new a refs nums name (of_region r a is from to) there)))
+            (λ none. inr (λ address refs nums name from to there. none address refs nums name from to (step.no_new address refs nums name (of_region region address is from to) there)))
             swept))
             (λ works. inr works)
-            (shared.evacuated.units on r claimed is);
+            (shared.evacuated.units on region claimed is);
       };
       updated = λ updating. absurd (omega (arith, updating, on));
-      pinned = pins_stay c (u.memory Cset) (u.memory Evac) (u.memory Cset) evac u.block block (λ t i. u.memory (Pin t i)) u.graph.pin step.targets shared.pinned;
+      pinned = pins_stay config (world.memory Cset) (world.memory Evac) (world.memory Cset) evac world.block block (λ t i. world.memory (Pin t i)) world.graph.pin step.targets shared.pinned;
     }
       where
-        of_region : (r a : ℕ) → IsIn (u.memory Cset) r → base_of c r ≤ a → a < base_of c (r + 1) → IsCollected c (u.memory Cset) a
-        of_region r a is from to = subst (λ s. IsIn (u.memory Cset) s) (sym (regions_tile.of_no_other c r a (record { from = from; before = omega (arith, to) }))) is
+        of_region : (region address : ℕ) → IsIn (world.memory Cset) region → base_of config region ≤ address → address < base_of config (region + 1) → IsCollected config (world.memory Cset) address
+        of_region region address is from to = subst (λ s. IsIn (world.memory Cset) s) (sym (regions_tile.of_no_other config region address (record { from = from; before = omega (arith, to) }))) is
 
     -- what holds of marking holds
-    marks_kept : KeepsMarks c u world_after
+    marks_kept : KeepsMarks config world world_after
     marks_kept = record {
       phase = refl;
       snapshot = refl;
       markable = λ other. absurd (other on);
       shapes = shapes;
-      noted = noted_same c u world_after (λ n. refl) (λ t. refl) (λ t k. refl) (λ t. refl);
+      noted = noted_same config world world_after (λ n. refl) (λ t. refl) (λ t k. refl) (λ t. refl);
     }
       where
-        shapes : (a : ℕ) → IsMarkable u.block a → heap (a + 1) ≡ u.memory (Heap (a + 1))
-        shapes a (IsMarkable.object name refs nums is) = step.words a 1 (thing name refs nums) is (omega arith) (λ own. none-some seat own) (inl (omega arith))
-        shapes a (IsMarkable.to_come j words is) = promise_after a j words 1 is (let long = shared.parsable.promises a j words is in omega (arith, long))
+        shapes : (address : ℕ) → IsMarkable world.block address → heap (address + 1) ≡ world.memory (Heap (address + 1))
+        shapes address (IsMarkable.object name refs nums is) = step.words address 1 (thing name refs nums) is (omega arith) (λ own. none-some seat own) (inl (omega arith))
+        shapes address (IsMarkable.to_come j words is) = promise_after address j words 1 is (let long = shared.parsable.promises address j words is in omega (arith, long))
 
     -- and what holds of evacuation
-    copies_kept : KeepsCopies c u world_after
+    copies_kept : KeepsCopies config world world_after
     copies_kept = record {
       cset = refl;
       bodies = step.bodies;
@@ -191,7 +191,7 @@ module _ (c : Config) (u : World) (seat : ℕ) (heap top : ℕ → ℕ) (evac : 
     }
 
     -- the facts of the seat's machine stand
-    pub keeps_after : Keeps c seat u world_after
+    pub keeps_after : Keeps config seat world world_after
     keeps_after = record {
       names = names_after;
       targets = step.targets;
@@ -210,7 +210,7 @@ module _ (c : Config) (u : World) (seat : ℕ) (heap top : ℕ → ℕ) (evac : 
     }
 
     -- others can rely on what they knew
-    pub others_after : (j : ℕ) → j ≢ seat → Rely c j u world_after
+    pub others_after : (j : ℕ) → j ≢ seat → Rely config j world world_after
     others_after j differs = record {
       names = names_after;
       targets = step.targets;
@@ -245,11 +245,11 @@ module _ (c : Config) (u : World) (seat : ℕ) (heap top : ℕ → ℕ) (evac : 
         keeps = copies_kept;
         copying = step.copiers_else j differs;
         working = refl;
-        words = λ a k b seated counted inside is from below. let piece = body_piece (u.block a) b is in step.words a k piece.0 piece.1 (omega (arith, below, piece.2)) (λ own. none-some b.name (sym (room_unnamed piece.0 seat own) ∙ body_named (Some piece.0) b (ap body_at (sym piece.1) ∙ is))) (inl from);
+        words = λ a k b seated counted inside is from below. let piece = body_piece (world.block a) b is in step.words a k piece.0 piece.1 (omega (arith, below, piece.2)) (λ own. none-some b.name (sym (room_unnamed piece.0 seat own) ∙ body_named (Some piece.0) b (ap body_at (sym piece.1) ∙ is))) (inl from);
       };
       fields = record { tams = λ r. refl; limits = λ r. refl; deads = step.deads; fillers = step.fillers; claims = λ all. all; fields = λ updating. absurd (omega (arith, updating, on)) };
     }
 
     -- the step owes no more
-    pub step_after : (t : Touch) (facts : World → Type 0) → with_words u.memory heap top evac ≡ touched u.memory t → facts world_after → PartStep c u seat t facts
-    step_after t facts memory own = record { world = world_after; memory = memory; graph = refl; shared = shared_after; own = own; keeps = keeps_after; others = others_after }
+    pub step_after : (touch : Touch) (facts : World → Type 0) → with_words world.memory heap top evac ≡ touched world.memory touch → facts world_after → PartStep config world seat touch facts
+    step_after touch facts memory own = record { world = world_after; memory = memory; graph = refl; shared = shared_after; own = own; keeps = keeps_after; others = others_after }

@@ -41,43 +41,43 @@ use Rattle.cycle_steps.proofs.Resolving.Forwarded as forwarded
 use Rattle.alloc_buffers.proofs.GivingBack.{CanGiveBack, fixed_stays, all_spare, back_step}
 
 -- a buffer out of which room was taken ends low
-taken_small : (c : Config) (w : World) (seat words copy end : ℕ) → Shared c w → 1 ≤ words → HasTakenRoom c w seat words copy end → end < 2 ^ 32
-taken_small c w seat words copy end shared some taken =
+taken_small : (config : Config) (world : World) (seat words copy end : ℕ) → Shared config world → 1 ≤ words → HasTakenRoom config world seat words copy end → end < 2 ^ 32
+taken_small config world seat words copy end shared some taken =
     let used = shared.parsable.plotted.in_use copy (hand seat words) taken.here in
     let most = shared.parsable.plotted.tops used.region used.within in
     let to = used.to_top in
-    let here : region_with c copy ≡ used.region = regions_tile.of_no_other c used.region copy (record { from = used.from_base; before = omega (arith, to, most, some) }) in
-    let high : end ≤ base_of c used.region + c.region_words = subst (λ r. end ≤ base_of c r + c.region_words) here taken.within in
-    let few = c.in_range.most_regions in
-    let long = c.in_range.most_words in
+    let here : region_with config copy ≡ used.region = regions_tile.of_no_other config used.region copy (record { from = used.from_base; before = omega (arith, to, most, some) }) in
+    let high : end ≤ base_of config used.region + config.region_words = subst (λ r. end ≤ base_of config r + config.region_words) here taken.within in
+    let few = config.in_range.most_regions in
+    let long = config.in_range.most_words in
     let within = used.within in
-    let rows : (used.region + 1) * c.region_words ≤ 64 * c.region_words = mul-le-mul_right c.region_words (omega (arith, few, within)) in
+    let rows : (used.region + 1) * config.region_words ≤ 64 * config.region_words = mul-le-mul_right config.region_words (omega (arith, few, within)) in
     omega (arith, rows, long, high)
 
 -- A taking of room goes on, or has ended: with room for a copy, or without it.
-module _ (c : Config) (u w : World) (seat a words : ℕ) (unit : Option ℕ) (at : TakeSpot) (shared : Shared c w) (can : CanResolveFor c u seat a unit (Taking words at)) (keeps : Keeps c seat u w) (same : SameWork u w seat) where
+module _ (config : Config) (world other_world : World) (seat address words : ℕ) (unit : Option ℕ) (at : TakeSpot) (shared : Shared config other_world) (can : CanResolveFor config world seat address unit (Taking words at)) (keeps : Keeps config seat world other_world) (same : SameWork world other_world seat) where
   -- the object
   abbrev body : Body
   body = can.resolves.facts.0
 
-  body_there : body_at (w.block a) ≡ Some body
-  body_there = keeps.copies.bodies a body can.resolves.facts.1
+  body_there : body_at (other_world.block address) ≡ Some body
+  body_there = keeps.copies.bodies address body can.resolves.facts.1
 
   long : words ≡ body_words body
   long = can.resolves.facts.2.0
 
   -- the object lies in the heap
-  lies : is_object c a words ≡ true
-  lies = subst (λ n. is_object c a n ≡ true) (sym long) (body_lies c w shared a body body_there)
+  lies : is_object config address words ≡ true
+  lies = subst (λ n. is_object config address n ≡ true) (sym long) (body_lies config other_world shared address body body_there)
 
   -- what it counts on, by where it stands
-  after_taking : (next : ResolveSpot) → is_copier next ≡ true → ((b : ℕ) (x : Block) → w.block b ≡ Some x → room_of x ≡ Some seat → IsResolvingRoom seat next b x) → is_ready c seat a next ≡ true → ResolveFacts c w seat a next
-      → w.ghost.recording seat ≡ None → w.ghost.scanning seat ≡ None → CanResolveFor c w seat a unit next
+  after_taking : (next : ResolveSpot) → is_copier next ≡ true → ((b : ℕ) (piece : Block) → other_world.block b ≡ Some piece → room_of piece ≡ Some seat → IsResolvingRoom seat next b piece) → is_ready config seat address next ≡ true → ResolveFacts config other_world seat address next
+      → other_world.ghost.recording seat ≡ None → other_world.ghost.scanning seat ≡ None → CanResolveFor config other_world seat address unit next
   after_taking next copies rooms ready facts records_none scans_none = record {
     resolves = record {
       seated = can.resolves.seated;
       phase = keeps.marks.phase ∙ can.resolves.phase;
-      inside = subst (λ set. IsCollected c set a) (sym keeps.copies.cset) can.resolves.inside;
+      inside = subst (λ set. IsCollected config set address) (sym keeps.copies.cset) can.resolves.inside;
       there = HasCopy.copy body body_there;
       copying = same.copying ∙ can.resolves.copying ∙ sym copies;
       records_none = records_none;
@@ -90,17 +90,17 @@ module _ (c : Config) (u w : World) (seat a words : ℕ) (unit : Option ℕ) (at
   }
 
   -- while it has not ended
-  goes_on : (next : TakeSpot) → takes.is_ended next ≡ false → CanTake c w seat words next → CanResolveFor c w seat a unit (Taking words next)
+  goes_on : (next : TakeSpot) → takes.is_ended next ≡ false → CanTake config other_world seat words next → CanResolveFor config other_world seat address unit (Taking words next)
   goes_on next going can_take = after_taking (Taking words next) refl can_take.rooms
       (and_from _ _ lies (and_from _ _ (ap is_busy going) can_take.ready)) (body, body_there, (long, can_take)) can_take.records_none can_take.scans_none
 
-  pub taken : (next : TakeSpot) → CanTake c w seat words next → CanResolveFor c w seat a unit (after_take words next)
+  pub taken : (next : TakeSpot) → CanTake config other_world seat words next → CanResolveFor config other_world seat address unit (after_take words next)
   taken (take.Ended (At copy) end) can_take =
       let room = can_take.facts in
       after_taking (Copying copy end (LoadWord words 1)) refl (λ b x is own. ⊎_elim (λ spare. inl spare) (λ here. inr here.0) (can_take.rooms b x is own))
       (and_from _ _
-      (and_from _ _ lies (and_from _ _ (piece_lies c w shared copy (hand seat words) room.here) (lt-ltb 1 words (let least = can_take.least in omega (arith, least)))))
-      (lt-ltb end (2 ^ 32) (taken_small c w seat words copy end shared (let least = can_take.least in omega (arith, least)) room))) (
+      (and_from _ _ lies (and_from _ _ (piece_lies config other_world shared copy (hand seat words) room.here) (lt-ltb 1 words (let least = can_take.least in omega (arith, least)))))
+      (lt-ltb end (2 ^ 32) (taken_small config other_world seat words copy end shared (let least = can_take.least in omega (arith, least)) room))) (
         body,
         body_there,
         (
@@ -108,7 +108,7 @@ module _ (c : Config) (u w : World) (seat a words : ℕ) (unit : Option ℕ) (at
           omega arith,
           (let least = can_take.least in omega (arith, least)),
           record {
-            taken = subst (λ n. HasTakenRoom c w seat n copy end) long room;
+            taken = subst (λ n. HasTakenRoom config other_world seat n copy end) long room;
             same = λ k some below. absurd (omega (arith, some, below));
           },
         ),
@@ -116,18 +116,18 @@ module _ (c : Config) (u w : World) (seat a words : ℕ) (unit : Option ℕ) (at
   taken (take.Ended NoRoom end) can_take = after_taking (Stopping Ask) refl can_take.rooms refl (body, body_there, tt) can_take.records_none can_take.scans_none
   taken next can_take = goes_on next refl can_take
 
-module _ (c : Config) (u : World) (seat a : ℕ) (unit : Option ℕ) (shared : Shared c u) where
+module _ (config : Config) (world : World) (seat address : ℕ) (unit : Option ℕ) (shared : Shared config world) where
   -- a step of a taking of room
-  pub at_taking : (words : ℕ) (at : TakeSpot) → CanResolveFor c u seat a unit (Taking words at) → ResolveStep c u seat a unit (Taking words at)
+  pub at_taking : (words : ℕ) (at : TakeSpot) → CanResolveFor config world seat address unit (Taking words at) → ResolveStep config world seat address unit (Taking words at)
   at_taking words at can =
-      let going : takes.is_ended at ≡ false = not_busy (takes.is_ended at) (and_parts _ _ (and_parts (is_object c a words) _ can.resolves.ready).1).0 in
-      let step = each_take c u seat words Evacuated at going shared can.resolves.facts.2.1 in
+      let going : takes.is_ended at ≡ false = not_busy (takes.is_ended at) (and_parts _ _ (and_parts (is_object config address words) _ can.resolves.ready).1).0 in
+      let step = each_take config world seat words Evacuated at going shared can.resolves.facts.2.1 in
       record {
         world = step.world;
         memory = step.memory;
         graph = step.graph;
         shared = step.shared;
-        own = taken c u step.world seat a words unit at step.shared can step.keeps step.own.1 (take_next c words at (u.memory (takes.touch_at seat words at).word)) step.own.0;
+        own = taken config world step.world seat address words unit at step.shared can step.keeps step.own.1 (take_next config words at (world.memory (takes.touch_at seat words at).word)) step.own.0;
         keeps = step.keeps;
         others = step.others;
       }
@@ -137,43 +137,43 @@ module _ (c : Config) (u : World) (seat a : ℕ) (unit : Option ℕ) (shared : S
       not_busy false is = refl
 
   -- the load of a word of the object
-  pub at_load_word : (copy end words index : ℕ) → CanResolveFor c u seat a unit (Copying copy end (LoadWord words index)) → ResolveStep c u seat a unit (Copying copy end (LoadWord words index))
+  pub at_load_word : (copy end words index : ℕ) → CanResolveFor config world seat address unit (Copying copy end (LoadWord words index)) → ResolveStep config world seat address unit (Copying copy end (LoadWord words index))
   at_load_word copy end words index can =
       let facts = can.resolves.facts in
-      steps.looked c u seat a unit shared (Copying copy end (LoadWord words index)) (Copying copy end (StoreWord words index (u.memory (Heap (a + index))))) (load_keeps u.memory (Heap (a + index)))
-      (steps.can_at c u seat a unit shared (Copying copy end (LoadWord words index)) (Copying copy end (StoreWord words index (u.memory (Heap (a + index))))) can refl (λ d x room. room) can.resolves.ready
+      steps.looked config world seat address unit shared (Copying copy end (LoadWord words index)) (Copying copy end (StoreWord words index (world.memory (Heap (address + index))))) (load_keeps world.memory (Heap (address + index)))
+      (steps.can_at config world seat address unit shared (Copying copy end (LoadWord words index)) (Copying copy end (StoreWord words index (world.memory (Heap (address + index))))) can refl (λ d x room. room) can.resolves.ready
       (facts.0, facts.1, (facts.2.0, facts.2.1, facts.2.2, facts.2.3, refl)))
 
   -- what it counts on after a word of its room was written
-  module _ (at : ResolveSpot) (b : Body) (copy index place value : ℕ) (can : CanResolveFor c u seat a unit at) (is : body_at (u.block a) ≡ Some b) (room : u.block copy ≡ Some (hand seat (body_words b))) (below : index < body_words b) (place_is : copy + index ≡ place)
-      (touches : touch_at c seat a at ≡ touch (Heap place) (stores value)) where
+  module _ (at : ResolveSpot) (b : Body) (copy index place value : ℕ) (can : CanResolveFor config world seat address unit at) (is : body_at (world.block address) ≡ Some b) (room : world.block copy ≡ Some (hand seat (body_words b))) (below : index < body_words b) (place_is : copy + index ≡ place)
+      (touches : touch_at config seat address at ≡ touch (Heap place) (stores value)) where
     abbrev worded_then : World
-    worded_then = worded.worded_world c u seat copy (body_words b) index place value shared can.resolves.phase room below place_is
+    worded_then = worded.worded_world config world seat copy (body_words b) index place value shared can.resolves.phase room below place_is
 
     -- the object is no room
-    object_else : a ≢ copy
-    object_else same = (let both = sym is ∙ ap (λ x. body_at (u.block x)) same ∙ ap body_at room in cc)
+    object_else : address ≢ copy
+    object_else same = (let both = sym is ∙ ap (λ x. body_at (world.block x)) same ∙ ap body_at room in cc)
 
     -- its words stay
-    object_stays : (k : ℕ) → k < body_words b → worded_then.memory (Heap (a + k)) ≡ u.memory (Heap (a + k))
+    object_stays : (k : ℕ) → k < body_words b → worded_then.memory (Heap (address + k)) ≡ world.memory (Heap (address + k))
     object_stays k within =
-        let piece = body_piece (u.block a) b is in
+        let piece = body_piece (world.block address) b is in
         let same = piece.2 in
-        worded.else_stays c u seat copy (body_words b) index place value shared can.resolves.phase room below place_is a k piece.0 piece.1 object_else (omega (arith, within, same))
+        worded.else_stays config world seat copy (body_words b) index place value shared can.resolves.phase room below place_is address k piece.0 piece.1 object_else (omega (arith, within, same))
 
     -- and so do other words of the room
-    room_stays : (k : ℕ) → index ≢ k → worded_then.memory (Heap (copy + k)) ≡ u.memory (Heap (copy + k))
-    room_stays k other = updated_else (λ d. u.memory (Heap d)) place value (copy + k) (λ same. other (let where_is = place_is in omega (arith, same, where_is)))
+    room_stays : (k : ℕ) → index ≢ k → worded_then.memory (Heap (copy + k)) ≡ world.memory (Heap (copy + k))
+    room_stays k other = updated_else (λ d. world.memory (Heap d)) place value (copy + k) (λ same. other (let where_is = place_is in omega (arith, same, where_is)))
 
     -- the word is what was written
     word_now : worded_then.memory (Heap place) ≡ value
-    word_now = updated_there (λ d. u.memory (Heap d)) place value
+    word_now = updated_there (λ d. world.memory (Heap d)) place value
 
-    word_moves : (next : ResolveSpot) → is_copier next ≡ is_copier at → ((d : ℕ) (x : Block) → IsResolvingRoom seat at d x → IsResolvingRoom seat next d x) → is_ready c seat a next ≡ true → ResolveFacts c worded_then seat a next
-        → steps.StepTo c u seat a unit shared at next
+    word_moves : (next : ResolveSpot) → is_copier next ≡ is_copier at → ((d : ℕ) (piece : Block) → IsResolvingRoom seat at d piece → IsResolvingRoom seat next d piece) → is_ready config seat address next ≡ true → ResolveFacts config worded_then seat address next
+        → steps.StepTo config world seat address unit shared at next
     word_moves next copies rooms_stay ready facts =
-        subst (λ t. PartStep c u seat t (λ w. CanResolveFor c w seat a unit next)) (sym touches)
-        (worded.word_step c u seat copy (body_words b) index place value shared can.resolves.phase room below place_is (λ w. CanResolveFor c w seat a unit next) (record {
+        subst (λ t. PartStep config world seat t (λ w. CanResolveFor config w seat address unit next)) (sym touches)
+        (worded.word_step config world seat copy (body_words b) index place value shared can.resolves.phase room below place_is (λ w. CanResolveFor config w seat address unit next) (record {
           resolves = record {
             seated = can.resolves.seated;
             phase = can.resolves.phase;
@@ -182,7 +182,7 @@ module _ (c : Config) (u : World) (seat a : ℕ) (unit : Option ℕ) (shared : S
             copying = can.resolves.copying ∙ sym copies;
             records_none = can.resolves.records_none;
             scans_none = can.resolves.scans_none;
-            rooms = λ d x there own. rooms_stay d x (can.resolves.rooms d x there own);
+            rooms = λ d piece there own. rooms_stay d piece (can.resolves.rooms d piece there own);
             ready = ready;
             facts = facts;
           };
@@ -190,14 +190,14 @@ module _ (c : Config) (u : World) (seat a : ℕ) (unit : Option ℕ) (shared : S
         }))
 
   -- the store of a word into the copy
-  module _ (copy end words index found : ℕ) (can : CanResolveFor c u seat a unit (Copying copy end (StoreWord words index found))) where
+  module _ (copy end words index found : ℕ) (can : CanResolveFor config world seat address unit (Copying copy end (StoreWord words index found))) where
     abbrev here : ResolveSpot
     here = Copying copy end (StoreWord words index found)
 
     abbrev object : Body
     object = can.resolves.facts.0
 
-    is : body_at (u.block a) ≡ Some object
+    is : body_at (world.block address) ≡ Some object
     is = can.resolves.facts.1
 
     all_words : words ≡ body_words object
@@ -206,19 +206,19 @@ module _ (c : Config) (u : World) (seat a : ℕ) (unit : Option ℕ) (shared : S
     below : index < body_words object
     below = (let less = can.resolves.facts.2.2 in let all = all_words in omega (arith, less, all))
 
-    copied : IsCopied c u seat a copy end object index
+    copied : IsCopied config world seat address copy end object index
     copied = can.resolves.facts.2.3
 
     abbrev then_world : World
     then_world = worded_then here object copy index (copy + index) found can is copied.taken.here below refl refl
 
     -- one word more is copied
-    copied_then : IsCopied c then_world seat a copy end object (index + 1)
+    copied_then : IsCopied config then_world seat address copy end object (index + 1)
     copied_then = record {
       taken = record { here = copied.taken.here; next = copied.taken.next; end_is = copied.taken.end_is; ordered = copied.taken.ordered; within = copied.taken.within };
       same = λ k some less. ⊎_elim
           (λ (now : index ≡ k).
-          subst (λ i. then_world.memory (Heap (copy + i)) ≡ then_world.memory (Heap (a + i))) now
+          subst (λ i. then_world.memory (Heap (copy + i)) ≡ then_world.memory (Heap (address + i))) now
           (word_now here object copy index (copy + index) found can is copied.taken.here below refl refl
           ∙ can.resolves.facts.2.4
           ∙ sym (object_stays here object copy index (copy + index) found can is copied.taken.here below refl refl index below)))
@@ -229,26 +229,26 @@ module _ (c : Config) (u : World) (seat a : ℕ) (unit : Option ℕ) (shared : S
           (cases_eq index k);
     }
 
-    by_end : (more : Bool) → nat_lt (index + 1) words ≡ more → steps.StepTo c u seat a unit shared here (Copying copy end (if more then LoadWord words (index + 1) else StoreHeader))
+    by_end : (more : Bool) → nat_lt (index + 1) words ≡ more → steps.StepTo config world seat address unit shared here (Copying copy end (if more then LoadWord words (index + 1) else StoreHeader))
     by_end true less =
-        let parts = and_parts (is_object c a words) _ (and_parts _ _ can.resolves.ready).0 in
+        let parts = and_parts (is_object config address words) _ (and_parts _ _ can.resolves.ready).0 in
         word_moves here object copy index (copy + index) found can is copied.taken.here below refl refl
         (Copying copy end (LoadWord words (index + 1))) refl (λ d x room. room)
-        (and_from _ _ (and_from _ _ parts.0 (and_from _ _ (and_parts (has_words c copy words) _ parts.1).0 less)) (and_parts _ _ can.resolves.ready).1)
+        (and_from _ _ (and_from _ _ parts.0 (and_from _ _ (and_parts (has_words config copy words) _ parts.1).0 less)) (and_parts _ _ can.resolves.ready).1)
         (object, is, (all_words, omega arith, ltb-true _ _ less, copied_then))
     by_end false last =
         let most : words ≤ index + 1 = ltb-false _ _ last in
         let all : index + 1 ≡ body_words object = (let within = below in let same = all_words in omega (arith, most, within, same)) in
         word_moves here object copy index (copy + index) found can is copied.taken.here below refl refl
         (Copying copy end StoreHeader) refl (λ d x room. room)
-        (and_from _ _ (piece_begins c u shared copy (hand seat (body_words object)) copied.taken.here (omega arith)) (and_parts _ _ can.resolves.ready).1)
-        (object, is, subst (λ n. IsCopied c then_world seat a copy end object n) all copied_then)
+        (and_from _ _ (piece_begins config world shared copy (hand seat (body_words object)) copied.taken.here (omega arith)) (and_parts _ _ can.resolves.ready).1)
+        (object, is, subst (λ n. IsCopied config then_world seat address copy end object n) all copied_then)
 
-    pub at_store_word : ResolveStep c u seat a unit (Copying copy end (StoreWord words index found))
+    pub at_store_word : ResolveStep config world seat address unit (Copying copy end (StoreWord words index found))
     at_store_word = by_end (nat_lt (index + 1) words) refl
 
   -- the store of the copy's header
-  pub at_store_header : (copy end : ℕ) → CanResolveFor c u seat a unit (Copying copy end StoreHeader) → ResolveStep c u seat a unit (Copying copy end StoreHeader)
+  pub at_store_header : (copy end : ℕ) → CanResolveFor config world seat address unit (Copying copy end StoreHeader) → ResolveStep config world seat address unit (Copying copy end StoreHeader)
   at_store_header copy end can =
       let b = can.resolves.facts.0 in
       let is = can.resolves.facts.1 in
@@ -273,68 +273,68 @@ module _ (c : Config) (u : World) (seat a : ℕ) (unit : Option ℕ) (shared : S
       )
 
   -- the exchange that publishes the copy: it is won where the object has not moved, and else the room is given back
-  pub at_publish : (copy end : ℕ) → CanResolveFor c u seat a unit (Copying copy end Publish) → ResolveStep c u seat a unit (Copying copy end Publish)
-  at_publish copy end can = ⊎_elim won lost (copy_cases (u.block a) b is)
+  pub at_publish : (copy end : ℕ) → CanResolveFor config world seat address unit (Copying copy end Publish) → ResolveStep config world seat address unit (Copying copy end Publish)
+  at_publish copy end can = ⊎_elim won lost (copy_cases (world.block address) b is)
     where
       b : Body
       b = can.resolves.facts.0
 
-      is : body_at (u.block a) ≡ Some can.resolves.facts.0
+      is : body_at (world.block address) ≡ Some can.resolves.facts.0
       is = can.resolves.facts.1
 
-      copied : IsCopied c u seat a copy end can.resolves.facts.0 (body_words can.resolves.facts.0)
+      copied : IsCopied config world seat address copy end can.resolves.facts.0 (body_words can.resolves.facts.0)
       copied = can.resolves.facts.2.0
 
-      won : u.block a ≡ Some (thing can.resolves.facts.0.name can.resolves.facts.0.refs can.resolves.facts.0.nums) → ResolveStep c u seat a unit (Copying copy end Publish)
+      won : world.block address ≡ Some (thing can.resolves.facts.0.name can.resolves.facts.0.refs can.resolves.facts.0.nums) → ResolveStep config world seat address unit (Copying copy end Publish)
       won current =
-          let plain = steps.header_plain c u seat a unit shared can.resolves.facts.0 current in
-          steps.leads_to c u seat a unit shared (Copying copy end Publish) (Leaving copy) (cond-true (u.memory (Heap a) == plain_header) _ _ (eq-eqb _ _ plain))
-          (forwarded.publish_step c u seat a copy b.refs b.nums b.name shared can.resolves.phase can.resolves.inside current copied.taken.here copied.same can.resolves.facts.2.1 can.resolves.seated can.resolves.copying
-          (λ w. CanResolveFor c w seat a unit (Leaving copy)) plain (record {
+          let plain = steps.header_plain config world seat address unit shared can.resolves.facts.0 current in
+          steps.leads_to config world seat address unit shared (Copying copy end Publish) (Leaving copy) (cond-true (world.memory (Heap address) == plain_header) _ _ (eq-eqb _ _ plain))
+          (forwarded.publish_step config world seat address copy b.refs b.nums b.name shared can.resolves.phase can.resolves.inside current copied.taken.here copied.same can.resolves.facts.2.1 can.resolves.seated can.resolves.copying
+          (λ w. CanResolveFor config w seat address unit (Leaving copy)) plain (record {
             resolves = record {
               seated = can.resolves.seated;
               phase = can.resolves.phase;
               inside = can.resolves.inside;
-              there = HasCopy.copy b (ap body_at (forwarded.old_there c u seat a copy b.refs b.nums b.name shared can.resolves.phase can.resolves.inside current copied.taken.here copied.same can.resolves.facts.2.1 can.resolves.seated can.resolves.copying));
+              there = HasCopy.copy b (ap body_at (forwarded.old_there config world seat address copy b.refs b.nums b.name shared can.resolves.phase can.resolves.inside current copied.taken.here copied.same can.resolves.facts.2.1 can.resolves.seated can.resolves.copying));
               copying = can.resolves.copying;
               records_none = can.resolves.records_none;
               scans_none = can.resolves.scans_none;
               rooms = λ d x there own.
-                  let left = forwarded.room_left c u seat a copy b.refs b.nums b.name shared can.resolves.phase can.resolves.inside current copied.taken.here copied.same can.resolves.facts.2.1 can.resolves.seated can.resolves.copying d seat x there own in
+                  let left = forwarded.room_left config world seat address copy b.refs b.nums b.name shared can.resolves.phase can.resolves.inside current copied.taken.here copied.same can.resolves.facts.2.1 can.resolves.seated can.resolves.copying d seat x there own in
                   ⊎_elim (λ spare. spare) (λ here. absurd (left.0 here)) (can.resolves.rooms d x left.1 own);
-              ready = piece_begins c u shared copy (hand seat (body_words b)) copied.taken.here (omega arith);
+              ready = piece_begins config world shared copy (hand seat (body_words b)) copied.taken.here (omega arith);
               facts = (
                 b,
-                ap body_at (forwarded.old_there c u seat a copy b.refs b.nums b.name shared can.resolves.phase can.resolves.inside current copied.taken.here copied.same can.resolves.facts.2.1 can.resolves.seated can.resolves.copying),
-                forwarded.old_there c u seat a copy b.refs b.nums b.name shared can.resolves.phase can.resolves.inside current copied.taken.here copied.same can.resolves.facts.2.1 can.resolves.seated can.resolves.copying,
+                ap body_at (forwarded.old_there config world seat address copy b.refs b.nums b.name shared can.resolves.phase can.resolves.inside current copied.taken.here copied.same can.resolves.facts.2.1 can.resolves.seated can.resolves.copying),
+                forwarded.old_there config world seat address copy b.refs b.nums b.name shared can.resolves.phase can.resolves.inside current copied.taken.here copied.same can.resolves.facts.2.1 can.resolves.seated can.resolves.copying,
               );
             };
             working = can.working;
           }))
 
-      lost : (to : ℕ) × (u.block a ≡ Some (moved can.resolves.facts.0.name can.resolves.facts.0.refs can.resolves.facts.0.nums to)) → ResolveStep c u seat a unit (Copying copy end Publish)
+      lost : (to : ℕ) × (world.block address ≡ Some (moved can.resolves.facts.0.name can.resolves.facts.0.refs can.resolves.facts.0.nums to)) → ResolveStep config world seat address unit (Copying copy end Publish)
       lost old =
-          let header = steps.header_leads c u seat a unit shared can.resolves.facts.0 old.0 old.1 in
-          let other : (u.memory (Heap a) == plain_header) ≡ false = ne_eqb _ _ (λ plain. omega (arith, header, plain)) in
-          steps.leads_to c u seat a unit shared (Copying copy end Publish) (Copying copy end (GiveBack old.0))
-          (cond-false (u.memory (Heap a) == plain_header) _ _ other ∙ ap (λ h. Copying copy end (GiveBack (forwardee_in h))) header ∙ ap (λ x. Copying copy end (GiveBack x)) (header_names old.0))
-          (steps.looked c u seat a unit shared (Copying copy end Publish) (Copying copy end (GiveBack old.0))
-          (load_keeps u.memory (Heap a) ∙ ap (λ v. write u.memory (Heap a) v) (sym (cond-false (u.memory (Heap a) == plain_header) (header_word copy) (u.memory (Heap a)) other)))
-          (steps.can_at c u seat a unit shared (Copying copy end Publish) (Copying copy end (GiveBack old.0)) can refl (λ d x room. room)
-          (and_from _ _ (and_from _ _ (and_parts (is_word c (Heap copy)) (nat_lt end (2 ^ 32)) can.resolves.ready).0 (steps.answer_word c u seat a unit shared can.resolves.facts.0 old.0 old.1)) (and_parts (is_word c (Heap copy)) (nat_lt end (2 ^ 32)) can.resolves.ready).1)
+          let header = steps.header_leads config world seat address unit shared can.resolves.facts.0 old.0 old.1 in
+          let other : (world.memory (Heap address) == plain_header) ≡ false = ne_eqb _ _ (λ plain. omega (arith, header, plain)) in
+          steps.leads_to config world seat address unit shared (Copying copy end Publish) (Copying copy end (GiveBack old.0))
+          (cond-false (world.memory (Heap address) == plain_header) _ _ other ∙ ap (λ h. Copying copy end (GiveBack (forwardee_in h))) header ∙ ap (λ x. Copying copy end (GiveBack x)) (header_names old.0))
+          (steps.looked config world seat address unit shared (Copying copy end Publish) (Copying copy end (GiveBack old.0))
+          (load_keeps world.memory (Heap address) ∙ ap (λ v. write world.memory (Heap address) v) (sym (cond-false (world.memory (Heap address) == plain_header) (header_word copy) (world.memory (Heap address)) other)))
+          (steps.can_at config world seat address unit shared (Copying copy end Publish) (Copying copy end (GiveBack old.0)) can refl (λ d x room. room)
+          (and_from _ _ (and_from _ _ (and_parts (is_word config (Heap copy)) (nat_lt end (2 ^ 32)) can.resolves.ready).0 (steps.answer_word config world seat address unit shared can.resolves.facts.0 old.0 old.1)) (and_parts (is_word config (Heap copy)) (nat_lt end (2 ^ 32)) can.resolves.ready).1)
           (b, is, (copied.taken, old.1))))
 
   -- the store of the buffer that gives the room back
-  at_give_back : (copy end answer : ℕ) → CanResolveFor c u seat a unit (Copying copy end (GiveBack answer)) → ResolveStep c u seat a unit (Copying copy end (GiveBack answer))
+  at_give_back : (copy end answer : ℕ) → CanResolveFor config world seat address unit (Copying copy end (GiveBack answer)) → ResolveStep config world seat address unit (Copying copy end (GiveBack answer))
   at_give_back copy end answer can =
       let b = can.resolves.facts.0 in
       let taken = can.resolves.facts.2.0 in
-      let gives : CanGiveBack c u seat (body_words b) copy end = record {
+      let gives : CanGiveBack config world seat (body_words b) copy end = record {
         taken = taken;
-        rooms = λ d x there own. ⊎_elim (λ spare. inl spare) (λ here. inr (here, same_Some x (hand seat (body_words b)) (sym there ∙ ap u.block here ∙ taken.here))) (can.resolves.rooms d x there own);
+        rooms = λ d x there own. ⊎_elim (λ spare. inl spare) (λ here. inr (here, same_Some x (hand seat (body_words b)) (sym there ∙ ap world.block here ∙ taken.here))) (can.resolves.rooms d x there own);
       } in
-      let old = fixed_stays c u seat (body_words b) copy end shared gives a (moved b.name b.refs b.nums answer) refl can.resolves.facts.2.1 in
-      back_step c u seat (body_words b) copy end shared gives (λ w. CanResolveFor c w seat a unit (Leaving answer)) (record {
+      let old = fixed_stays config world seat (body_words b) copy end shared gives address (moved b.name b.refs b.nums answer) refl can.resolves.facts.2.1 in
+      back_step config world seat (body_words b) copy end shared gives (λ w. CanResolveFor config w seat address unit (Leaving answer)) (record {
         resolves = record {
           seated = can.resolves.seated;
           phase = can.resolves.phase;
@@ -343,15 +343,15 @@ module _ (c : Config) (u : World) (seat a : ℕ) (unit : Option ℕ) (shared : S
           copying = can.resolves.copying;
           records_none = can.resolves.records_none;
           scans_none = can.resolves.scans_none;
-          rooms = λ d x there own. all_spare c u seat (body_words b) copy end shared gives d x there own;
-          ready = (and_parts (is_word c (Heap copy)) _ (and_parts _ _ can.resolves.ready).0).1;
+          rooms = λ d x there own. all_spare config world seat (body_words b) copy end shared gives d x there own;
+          ready = (and_parts (is_word config (Heap copy)) _ (and_parts _ _ can.resolves.ready).0).1;
           facts = (b, ap body_at old, old);
         };
         working = can.working;
       })
 
   -- each step of a copying
-  pub at_copying : (copy end : ℕ) (at : CopySpot) → CanResolveFor c u seat a unit (Copying copy end at) → ResolveStep c u seat a unit (Copying copy end at)
+  pub at_copying : (copy end : ℕ) (at : CopySpot) → CanResolveFor config world seat address unit (Copying copy end at) → ResolveStep config world seat address unit (Copying copy end at)
   at_copying copy end (LoadWord words index) can = at_load_word copy end words index can
   at_copying copy end (StoreWord words index found) can = at_store_word copy end words index found can
   at_copying copy end StoreHeader can = at_store_header copy end can

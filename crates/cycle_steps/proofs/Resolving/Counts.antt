@@ -18,7 +18,7 @@ use Rattle.cycle_steps.proofs.Resolving.Changes.{world_after, evac_written, IsCo
 
 -- what a seat adds to the count
 abbrev tally : Bool → ℕ
-tally b = cond b 1 0
+tally holds = cond holds 1 0
 
 -- as many copy where the same seats do
 copiers_same : (copying then_copying : ℕ → Bool) (n : ℕ) → ((s : ℕ) → s < n → then_copying s ≡ copying s) → copiers then_copying n ≡ copiers copying n
@@ -35,72 +35,72 @@ unfolding copiers
 copiers_most copying zero = omega arith
 copiers_most copying (suc n) = let rest = copiers_most copying n in let one = cond_most (copying n) in omega (arith, rest, one)
   where
-    cond_most : (b : Bool) → tally b ≤ 1
+    cond_most : (holds : Bool) → tally holds ≤ 1
     cond_most true = omega arith
     cond_most false = omega arith
 
 -- one seat copies now, or does not
-copiers_moved : (copying : ℕ → Bool) (seat n : ℕ) (v : Bool) → seat < n → copiers (updated copying seat v) n + tally (copying seat) ≡ copiers copying n + tally v
+copiers_moved : (copying : ℕ → Bool) (seat n : ℕ) (holds : Bool) → seat < n → copiers (updated copying seat holds) n + tally (copying seat) ≡ copiers copying n + tally holds
 unfolding copiers
-copiers_moved copying seat zero v below = absurd (omega (arith, below))
-copiers_moved copying seat (suc n) v below = ⊎_elim
+copiers_moved copying seat zero holds below = absurd (omega (arith, below))
+copiers_moved copying seat (suc n) holds below = ⊎_elim
     (λ (same : seat ≡ n).
-    let rest = copiers_same copying (updated copying seat v) n (λ s less. updated_else copying seat v s (λ e. omega (arith, e, same, less))) in
-    let own : tally (updated copying seat v n) ≡ tally v = ap tally (updated_same copying seat v n same) in
+    let rest = copiers_same copying (updated copying seat holds) n (λ s less. updated_else copying seat holds s (λ e. omega (arith, e, same, less))) in
+    let own : tally (updated copying seat holds n) ≡ tally holds = ap tally (updated_same copying seat holds n same) in
     let was : tally (copying seat) ≡ tally (copying n) = ap (λ s. tally (copying s)) same in
     omega (arith, rest, own, was))
     (λ (other : seat ≢ n).
-    let rest = copiers_moved copying seat n v (omega (arith, below, other)) in
-    let own : tally (updated copying seat v n) ≡ tally (copying n) = ap tally (updated_else copying seat v n other) in
+    let rest = copiers_moved copying seat n holds (omega (arith, below, other)) in
+    let own : tally (updated copying seat holds n) ≡ tally (copying n) = ap tally (updated_else copying seat holds n other) in
     omega (arith, rest, own))
     (cases_eq seat n)
 
-module _ (c : Config) (u : World) (seat : ℕ) (spot : RoomSpot) (shared : Shared c u) (on : u.memory Phase ≡ 2) (seated : seat < seat_count c.mutators c.helpers)
-    (going : is_ended spot ≡ false) (copying : u.ghost.copying seat ≡ is_counted spot) (mine : Mine (u.memory Evac) spot) where
+module _ (config : Config) (world : World) (seat : ℕ) (spot : RoomSpot) (shared : Shared config world) (on : world.memory Phase ≡ 2) (seated : seat < seat_count config.mutators config.helpers)
+    (going : is_ended spot ≡ false) (copying : world.ghost.copying seat ≡ is_counted spot) (mine : Mine (world.memory Evac) spot) where
   -- the copier can step
-  pub can_step : CanStep (u.memory Evac) spot
+  pub can_step : CanStep (world.memory Evac) spot
   can_step = record {
     going = going;
     is_word = shared.evacuated.counted.is_word;
     few = (let counts = shared.evacuated.counted.counts in
-        let most = copiers_most u.ghost.copying (seat_count c.mutators c.helpers) in
-        let few_mutators = c.in_range.most_mutators in
-        let few_helpers = c.in_range.most_helpers in
+        let most = copiers_most world.ghost.copying (seat_count config.mutators config.helpers) in
+        let few_mutators = config.in_range.most_mutators in
+        let few_helpers = config.in_range.most_helpers in
         omega (arith, counts, most, few_mutators, few_helpers));
     is_in = λ counted. (let counts = shared.evacuated.counted.counts in
-        let some = counted_one u.ghost.copying (seat_count c.mutators c.helpers) seat seated (copying ∙ counted) in
+        let some = counted_one world.ghost.copying (seat_count config.mutators config.helpers) seat seated (copying ∙ counted) in
         omega (arith, counts, some));
     mine = mine;
   }
 
   -- what its step keeps
-  pub counter_kept : IsKept (u.memory Evac) spot (after (u.memory Evac) spot) (next_at spot (u.memory Evac))
-  counter_kept = each_keeps (u.memory Evac) spot can_step
+  pub counter_kept : IsKept (world.memory Evac) spot (after (world.memory Evac) spot) (next_at spot (world.memory Evac))
+  counter_kept = each_keeps (world.memory Evac) spot can_step
 
   -- who copies then
   abbrev pub copying_then : ℕ → Bool
-  copying_then = updated u.ghost.copying seat (is_counted (next_at spot (u.memory Evac)))
+  copying_then = updated world.ghost.copying seat (is_counted (next_at spot (world.memory Evac)))
 
   -- the world then
   abbrev pub counted_world : World
-  counted_world = world_after c u seat (λ a. u.memory (Heap a)) (λ r. u.memory (Top r)) (after (u.memory Evac) spot) u.block copying_then
+  counted_world = world_after config world seat (λ a. world.memory (Heap a)) (λ r. world.memory (Top r)) (after (world.memory Evac) spot) world.block copying_then
 
   -- the counter counts them
-  counted_then : IsCounted c (after (u.memory Evac) spot) copying_then
+  counted_then : IsCounted config (after (world.memory Evac) spot) copying_then
   counted_then = record {
     is_word = counter_kept.is_word;
     counts = (let counts = shared.evacuated.counted.counts in
         let kept = counter_kept.counts in
-        let moves = copiers_moved u.ghost.copying seat (seat_count c.mutators c.helpers) (is_counted (next_at spot (u.memory Evac))) seated in
-        let was : tally (u.ghost.copying seat) ≡ tally (is_counted spot) = ap tally copying in
+        let moves = copiers_moved world.ghost.copying seat (seat_count config.mutators config.helpers) (is_counted (next_at spot (world.memory Evac))) seated in
+        let was : tally (world.ghost.copying seat) ≡ tally (is_counted spot) = ap tally copying in
         omega (arith, counts, kept, moves, was));
   }
 
   -- once nobody copies any more, it stays so
-  quiet_then : IsQuiet (u.memory Evac) → IsQuiet (after (u.memory Evac) spot)
+  quiet_then : IsQuiet (world.memory Evac) → IsQuiet (after (world.memory Evac) spot)
   quiet_then quiet = subst IsQuiet (sym (counter_kept.quiet_stays quiet)) quiet
 
-  counting : IsCopyingStep c u seat (λ a. u.memory (Heap a)) (λ r. u.memory (Top r)) (after (u.memory Evac) spot) u.block copying_then
+  counting : IsCopyingStep config world seat (λ a. world.memory (Heap a)) (λ r. world.memory (Top r)) (after (world.memory Evac) spot) world.block copying_then
   counting = record {
     parsable = shared.parsable;
     objects = shared.contents.objects;
@@ -127,14 +127,14 @@ module _ (c : Config) (u : World) (seat : ℕ) (spot : RoomSpot) (shared : Share
     no_fillers = λ a words is. is;
     words = λ a k x is below no_room which. refl;
     own_tops = λ r j differs is. refl;
-    copiers_else = λ j differs. updated_else u.ghost.copying seat (is_counted (next_at spot (u.memory Evac))) j (λ same. differs (sym same));
+    copiers_else = λ j differs. updated_else world.ghost.copying seat (is_counted (next_at spot (world.memory Evac))) j (λ same. differs (sym same));
   }
 
   -- who copies is as the spot says
-  pub copying_now : copying_then seat ≡ is_counted (next_at spot (u.memory Evac))
-  copying_now = updated_there u.ghost.copying seat (is_counted (next_at spot (u.memory Evac)))
+  pub copying_now : copying_then seat ≡ is_counted (next_at spot (world.memory Evac))
+  copying_now = updated_there world.ghost.copying seat (is_counted (next_at spot (world.memory Evac)))
 
   -- the step of the counter owes no more
-  pub counts_step : (facts : World → Type 0) → facts counted_world → PartStep c u seat (touch Evac (form_at spot)) facts
-  counts_step facts own = step_after c u seat (λ a. u.memory (Heap a)) (λ r. u.memory (Top r)) (after (u.memory Evac) spot) u.block copying_then shared on counting
-      (touch Evac (form_at spot)) facts (evac_written u.memory (formed (form_at spot) (u.memory Evac))) own
+  pub counts_step : (facts : World → Type 0) → facts counted_world → PartStep config world seat (touch Evac (form_at spot)) facts
+  counts_step facts own = step_after config world seat (λ a. world.memory (Heap a)) (λ r. world.memory (Top r)) (after (world.memory Evac) spot) world.block copying_then shared on counting
+      (touch Evac (form_at spot)) facts (evac_written world.memory (formed (form_at spot) (world.memory Evac))) own

@@ -21,71 +21,71 @@ use Rattle.cycle_steps.proofs.Resolving.Bodies.{body_long, body_small, body_lies
 use Rattle.cycle_steps.proofs.Resolving.Common as steps
 use Rattle.cycle_steps.proofs.Resolving.Common.{CanResolveFor, ResolveStep, moved_answer, spent_answer}
 
-module _ (c : Config) (u : World) (seat a : ℕ) (unit : Option ℕ) (shared : Shared c u) where
+module _ (config : Config) (world : World) (seat address : ℕ) (unit : Option ℕ) (shared : Shared config world) where
   -- the first load of the header
-  pub at_load_header : CanResolveFor c u seat a unit LoadHeader → ResolveStep c u seat a unit LoadHeader
+  pub at_load_header : CanResolveFor config world seat address unit LoadHeader → ResolveStep config world seat address unit LoadHeader
   at_load_header can = by_copy can.resolves.there
     where
-      answered : (to : ℕ) → u.memory (Heap a) ≡ header_word to → is_word c (Heap to) ≡ true → IsAnswer c u a to → ResolveStep c u seat a unit LoadHeader
+      answered : (to : ℕ) → world.memory (Heap address) ≡ header_word to → is_word config (Heap to) ≡ true → IsAnswer config world address to → ResolveStep config world seat address unit LoadHeader
       answered to header inside answer =
-          steps.leads_to c u seat a unit shared LoadHeader (Resolved to) (ap (after_header a evacuation_phase) header ∙ steps.leads_header c u seat a unit shared to)
-          (steps.looked c u seat a unit shared LoadHeader (Resolved to) (load_keeps u.memory (Heap a)) (steps.can_at c u seat a unit shared LoadHeader (Resolved to) can refl (λ d x room. room) inside answer))
+          steps.leads_to config world seat address unit shared LoadHeader (Resolved to) (ap (after_header address evacuation_phase) header ∙ steps.leads_header config world seat address unit shared to)
+          (steps.looked config world seat address unit shared LoadHeader (Resolved to) (load_keeps world.memory (Heap address)) (steps.can_at config world seat address unit shared LoadHeader (Resolved to) can refl (λ d x room. room) inside answer))
 
-      by_copy : HasCopy u.block a → ResolveStep c u seat a unit LoadHeader
+      by_copy : HasCopy world.block address → ResolveStep config world seat address unit LoadHeader
       by_copy (HasCopy.copy b is) = ⊎_elim
           (λ current.
-          steps.leads_to c u seat a unit shared LoadHeader (Entering Look) (ap (after_header a evacuation_phase) (steps.header_plain c u seat a unit shared b current))
-          (steps.looked c u seat a unit shared LoadHeader (Entering Look) (load_keeps u.memory (Heap a)) (steps.can_at c u seat a unit shared LoadHeader (Entering Look) can refl (λ d x room. room) refl (b, is, tt))))
-          (λ old. answered old.0 (steps.header_leads c u seat a unit shared b old.0 old.1) (steps.answer_word c u seat a unit shared b old.0 old.1) (moved_answer c u a old.0 b shared old.1))
-          (copy_cases (u.block a) b is)
+          steps.leads_to config world seat address unit shared LoadHeader (Entering Look) (ap (after_header address evacuation_phase) (steps.header_plain config world seat address unit shared b current))
+          (steps.looked config world seat address unit shared LoadHeader (Entering Look) (load_keeps world.memory (Heap address)) (steps.can_at config world seat address unit shared LoadHeader (Entering Look) can refl (λ d x room. room) refl (b, is, tt))))
+          (λ old. answered old.0 (steps.header_leads config world seat address unit shared b old.0 old.1) (steps.answer_word config world seat address unit shared b old.0 old.1) (moved_answer config world address old.0 b shared old.1))
+          (copy_cases (world.block address) b is)
       by_copy (HasCopy.spent_copy words to is) =
-          let leads = shared.evacuated.moved.spents a words to is in
-          let piece = markable_piece c u shared to leads.copy in
-          answered to leads.header (piece_begins c u shared to piece.0 piece.1 (let long = piece.2 in omega (arith, long))) (spent_answer c u a words to shared is)
+          let leads = shared.evacuated.moved.spents address words to is in
+          let piece = markable_piece config world shared to leads.copy in
+          answered to leads.header (piece_begins config world shared to piece.0 piece.1 (let long = piece.2 in omega (arith, long))) (spent_answer config world address words to shared is)
 
   -- the load of the counter on the way in
-  pub at_look : CanResolveFor c u seat a unit (Entering Look) → ResolveStep c u seat a unit (Entering Look)
-  at_look can = by_bit (is_out_of_room (u.memory Evac)) (count_of (u.memory Evac) == 0) refl refl
+  pub at_look : CanResolveFor config world seat address unit (Entering Look) → ResolveStep config world seat address unit (Entering Look)
+  at_look can = by_bit (is_out_of_room (world.memory Evac)) (count_of (world.memory Evac) == 0) refl refl
     where
-      body : (b : Body) × (body_at (u.block a) ≡ Some b)
+      body : (b : Body) × (body_at (world.block address) ≡ Some b)
       body = (can.resolves.facts.0, can.resolves.facts.1)
 
-      by_bit : (b z : Bool) → is_out_of_room (u.memory Evac) ≡ b → (count_of (u.memory Evac) == 0) ≡ z → steps.StepTo c u seat a unit shared (Entering Look) (after_enter (if b then (if z then Stopped else Look) else Raise (u.memory Evac)))
+      by_bit : (b holds : Bool) → is_out_of_room (world.memory Evac) ≡ b → (count_of (world.memory Evac) == 0) ≡ holds → steps.StepTo config world seat address unit shared (Entering Look) (after_enter (if b then (if holds then Stopped else Look) else Raise (world.memory Evac)))
       by_bit true true out none =
-          steps.looked c u seat a unit shared (Entering Look) LoadAgain (load_keeps u.memory Evac) (steps.can_at c u seat a unit shared (Entering Look) LoadAgain can refl (λ d x room. room) refl (body.0, body.1, record { out_of_room = out; nobody = grind (arith, nat_tests) }))
+          steps.looked config world seat address unit shared (Entering Look) LoadAgain (load_keeps world.memory Evac) (steps.can_at config world seat address unit shared (Entering Look) LoadAgain can refl (λ d x room. room) refl (body.0, body.1, record { out_of_room = out; nobody = grind (arith, nat_tests) }))
       by_bit true false out none =
-          steps.looked c u seat a unit shared (Entering Look) (Entering Look) (load_keeps u.memory Evac) (steps.can_at c u seat a unit shared (Entering Look) (Entering Look) can refl (λ d x room. room) refl (body.0, body.1, tt))
-      by_bit false z out none =
-          steps.looked c u seat a unit shared (Entering Look) (Entering (Raise (u.memory Evac))) (load_keeps u.memory Evac)
-          (steps.can_at c u seat a unit shared (Entering Look) (Entering (Raise (u.memory Evac))) can refl (λ d x room. room) (let clear : nat_lt (u.memory Evac) (2 ^ 63) ≡ true = grind (arith, nat_tests) in and_from true _ refl (and_from _ true clear refl)) (body.0, body.1, tt))
+          steps.looked config world seat address unit shared (Entering Look) (Entering Look) (load_keeps world.memory Evac) (steps.can_at config world seat address unit shared (Entering Look) (Entering Look) can refl (λ d x room. room) refl (body.0, body.1, tt))
+      by_bit false holds out none =
+          steps.looked config world seat address unit shared (Entering Look) (Entering (Raise (world.memory Evac))) (load_keeps world.memory Evac)
+          (steps.can_at config world seat address unit shared (Entering Look) (Entering (Raise (world.memory Evac))) can refl (λ d x room. room) (let clear : nat_lt (world.memory Evac) (2 ^ 63) ≡ true = grind (arith, nat_tests) in and_from true _ refl (and_from _ true clear refl)) (body.0, body.1, tt))
 
   -- the exchange of the counter on the way in
-  pub at_raise : (found : ℕ) → CanResolveFor c u seat a unit (Entering (Raise found)) → ResolveStep c u seat a unit (Entering (Raise found))
-  at_raise found can = by_found (u.memory Evac == found) refl
+  pub at_raise : (found : ℕ) → CanResolveFor config world seat address unit (Entering (Raise found)) → ResolveStep config world seat address unit (Entering (Raise found))
+  at_raise found can = by_found (world.memory Evac == found) refl
     where
       clear : found < 2 ^ 63
       clear = ltb-true _ _ (and_parts (nat_lt found (2 ^ 63)) true can.resolves.ready).0
 
-      by_found : (b : Bool) → (u.memory Evac == found) ≡ b → steps.StepTo c u seat a unit shared (Entering (Raise found)) (after_enter (if b then Inside else Look))
-      by_found true is = steps.counter_moves c u seat a unit shared (Entering (Raise found)) (Raise found) can refl refl clear refl LoadShape
-          (sym (ap is_counted (cond-true (u.memory Evac == found) Inside Look is))) (λ d x room. room) (shape_word_ready) (can.resolves.facts.0, can.resolves.facts.1, tt)
+      by_found : (holds : Bool) → (world.memory Evac == found) ≡ holds → steps.StepTo config world seat address unit shared (Entering (Raise found)) (after_enter (if holds then Inside else Look))
+      by_found true is = steps.counter_moves config world seat address unit shared (Entering (Raise found)) (Raise found) can refl refl clear refl LoadShape
+          (sym (ap is_counted (cond-true (world.memory Evac == found) Inside Look is))) (λ d x room. room) (shape_word_ready) (can.resolves.facts.0, can.resolves.facts.1, tt)
         where
-          shape_word_ready : is_word c (Heap (a + 1)) ≡ true
-          shape_word_ready = let piece = copy_piece c u shared a can.resolves.there in piece_word_is c u shared a 1 piece.0 piece.1 (let long = piece.2 in omega (arith, long))
-      by_found false is = steps.counter_moves c u seat a unit shared (Entering (Raise found)) (Raise found) can refl refl clear refl (Entering Look)
-          (sym (ap is_counted (cond-false (u.memory Evac == found) Inside Look is))) (λ d x room. room) refl (can.resolves.facts.0, can.resolves.facts.1, tt)
+          shape_word_ready : is_word config (Heap (address + 1)) ≡ true
+          shape_word_ready = let piece = copy_piece config world shared address can.resolves.there in piece_word_is config world shared address 1 piece.0 piece.1 (let long = piece.2 in omega (arith, long))
+      by_found false is = steps.counter_moves config world seat address unit shared (Entering (Raise found)) (Raise found) can refl refl clear refl (Entering Look)
+          (sym (ap is_counted (cond-false (world.memory Evac == found) Inside Look is))) (λ d x room. room) refl (can.resolves.facts.0, can.resolves.facts.1, tt)
 
   -- the load of the shape
-  pub at_load_shape : CanResolveFor c u seat a unit LoadShape → ResolveStep c u seat a unit LoadShape
+  pub at_load_shape : CanResolveFor config world seat address unit LoadShape → ResolveStep config world seat address unit LoadShape
   at_load_shape can =
       let b = can.resolves.facts.0 in
       let is = can.resolves.facts.1 in
-      let long = body_long c u shared a b is in
-      let small = body_small c u shared a b is in
+      let long = body_long config world shared address b is in
+      let small = body_small config world shared address b is in
       let seated = can.resolves.seated in
-      steps.leads_to c u seat a unit shared LoadShape (Taking (body_words b) take.LoadBuffer) (ap (λ n. Taking n take.LoadBuffer) long)
-      (steps.looked c u seat a unit shared LoadShape (Taking (body_words b) take.LoadBuffer) (load_keeps u.memory (Heap (a + 1))) (steps.can_at c u seat a unit shared LoadShape (Taking (body_words b) take.LoadBuffer) can refl (λ d x room. room)
-      (and_from _ _ (body_lies c u shared a b is) (and_from _ _ (and_from _ _ (lt-ltb _ _ seated) refl) refl)) (
+      steps.leads_to config world seat address unit shared LoadShape (Taking (body_words b) take.LoadBuffer) (ap (λ n. Taking n take.LoadBuffer) long)
+      (steps.looked config world seat address unit shared LoadShape (Taking (body_words b) take.LoadBuffer) (load_keeps world.memory (Heap (address + 1))) (steps.can_at config world seat address unit shared LoadShape (Taking (body_words b) take.LoadBuffer) can refl (λ d x room. room)
+      (and_from _ _ (body_lies config world shared address b is) (and_from _ _ (and_from _ _ (lt-ltb _ _ seated) refl) refl)) (
         b,
         is,
         (

@@ -8,20 +8,20 @@ use Rattle.heap_world.proofs.Pointing.{copy_cases}
 use Rattle.load_barrier.proofs.Knows.{header_forwarded, header_names}
 use Rattle.cycle_steps.specs.Resolving.Laws.{HeadersLead}
 
-module _ (c : Config) (w : World) (shared : Shared c w) (a : ℕ) (b : Body) where
+module _ (config : Config) (world : World) (shared : Shared config world) (address : ℕ) (body : Body) where
   -- the header of a current copy
-  plain : w.block a ≡ Some (thing b.name b.refs b.nums) → w.memory (Heap a) ≡ plain_header
-  plain is = (shared.contents.objects.each a b.refs b.nums b.name is).2.header
+  plain : world.block address ≡ Some (thing body.name body.refs body.nums) → world.memory (Heap address) ≡ plain_header
+  plain is = (shared.contents.objects.each address body.refs body.nums body.name is).2.header
 
   -- that of an old one
-  led : (to : ℕ) → w.block a ≡ Some (moved b.name b.refs b.nums to) → w.memory (Heap a) ≡ header_word to
-  led to is = (shared.evacuated.moved.moveds a b.refs b.nums to b.name is).header
+  led : (to : ℕ) → world.block address ≡ Some (moved body.name body.refs body.nums to) → world.memory (Heap address) ≡ header_word to
+  led to is = (shared.evacuated.moved.moveds address body.refs body.nums to body.name is).header
 
   -- where it leads
-  leads_to : (to : ℕ) → w.block a ≡ Some (moved b.name b.refs b.nums to) → TargetIn c w to b.refs b.nums b.name × (w.memory (Heap to) ≡ plain_header)
+  leads_to : (to : ℕ) → world.block address ≡ Some (moved body.name body.refs body.nums to) → TargetIn config world to body.refs body.nums body.name × (world.memory (Heap to) ≡ plain_header)
   leads_to to is =
-      let old = shared.evacuated.moved.moveds a b.refs b.nums to b.name is in
-      (record { piece = old.copy; safe = λ inside. absurd (old.outside inside) }, (shared.contents.objects.each to b.refs b.nums b.name old.copy).2.header)
+      let old = shared.evacuated.moved.moveds address body.refs body.nums to body.name is in
+      (record { piece = old.copy; safe = λ inside. absurd (old.outside inside) }, (shared.contents.objects.each to body.refs body.nums body.name old.copy).2.header)
 
 pub headers_lead : HeadersLead
 headers_lead = record {

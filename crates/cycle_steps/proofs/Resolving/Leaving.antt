@@ -26,72 +26,72 @@ use Rattle.cycle_steps.proofs.Resolving.Common.{CanResolveFor, ResolveStep, move
 use Rattle.cycle_steps.proofs.Resolving.Entering.{at_load_header, at_look, at_raise, at_load_shape}
 use Rattle.cycle_steps.proofs.Resolving.Copying.{at_taking, at_copying}
 
-module _ (c : Config) (u : World) (seat a : ℕ) (unit : Option ℕ) (shared : Shared c u) where
+module _ (config : Config) (world : World) (seat address : ℕ) (unit : Option ℕ) (shared : Shared config world) where
   -- the subtraction from the counter on the way out
-  at_leaving : (answer : ℕ) → CanResolveFor c u seat a unit (Leaving answer) → ResolveStep c u seat a unit (Leaving answer)
+  at_leaving : (answer : ℕ) → CanResolveFor config world seat address unit (Leaving answer) → ResolveStep config world seat address unit (Leaving answer)
   at_leaving answer can =
-      let right = moved_answer c u a answer can.resolves.facts.0 shared can.resolves.facts.2 in
-      let kept = counter_kept c u seat Lower shared can.resolves.phase can.resolves.seated refl can.resolves.copying tt in
-      steps.counter_moves c u seat a unit shared (Leaving answer) Lower can refl refl tt refl (Resolved answer) refl (λ d x room. room) can.resolves.ready (record {
+      let right = moved_answer config world address answer can.resolves.facts.0 shared can.resolves.facts.2 in
+      let kept = counter_kept config world seat Lower shared can.resolves.phase can.resolves.seated refl can.resolves.copying tt in
+      steps.counter_moves config world seat address unit shared (Leaving answer) Lower can refl refl tt refl (Resolved answer) refl (λ d x room. room) can.resolves.ready (record {
         named = λ b is. let target = right.named b is in record { piece = target.piece; safe = λ inside. subst IsQuiet (sym (kept.quiet_stays (target.safe inside))) (target.safe inside) };
         passed = right.passed;
         stopped = λ inside. kept.bit_stays (right.stopped inside);
       })
 
   -- the load of the counter where there was no room
-  at_ask : CanResolveFor c u seat a unit (Stopping Ask) → ResolveStep c u seat a unit (Stopping Ask)
+  at_ask : CanResolveFor config world seat address unit (Stopping Ask) → ResolveStep config world seat address unit (Stopping Ask)
   at_ask can =
-      steps.looked c u seat a unit shared (Stopping Ask) (Stopping (Mark (u.memory Evac))) (load_keeps u.memory Evac)
-      (steps.can_at c u seat a unit shared (Stopping Ask) (Stopping (Mark (u.memory Evac))) can refl (λ d x room. room) refl (can.resolves.facts.0, can.resolves.facts.1, tt))
+      steps.looked config world seat address unit shared (Stopping Ask) (Stopping (Mark (world.memory Evac))) (load_keeps world.memory Evac)
+      (steps.can_at config world seat address unit shared (Stopping Ask) (Stopping (Mark (world.memory Evac))) can refl (λ d x room. room) refl (can.resolves.facts.0, can.resolves.facts.1, tt))
 
   -- the exchange that marks it
-  at_mark : (found : ℕ) → CanResolveFor c u seat a unit (Stopping (Mark found)) → ResolveStep c u seat a unit (Stopping (Mark found))
-  at_mark found can = by_found (u.memory Evac == found) refl
+  at_mark : (found : ℕ) → CanResolveFor config world seat address unit (Stopping (Mark found)) → ResolveStep config world seat address unit (Stopping (Mark found))
+  at_mark found can = by_found (world.memory Evac == found) refl
     where
-      by_found : (b : Bool) → (u.memory Evac == found) ≡ b → steps.StepTo c u seat a unit shared (Stopping (Mark found)) (after_stop (if b then Wait else Ask))
+      by_found : (holds : Bool) → (world.memory Evac == found) ≡ holds → steps.StepTo config world seat address unit shared (Stopping (Mark found)) (after_stop (if holds then Wait else Ask))
       by_found true is =
-          let kept = counter_kept c u seat (Mark found) shared can.resolves.phase can.resolves.seated refl can.resolves.copying tt in
-          let leads : rooms.next_at (Mark found) (u.memory Evac) ≡ Wait = cond-true (u.memory Evac == found) Wait Ask is in
-          steps.counter_moves c u seat a unit shared (Stopping (Mark found)) (Mark found) can refl refl tt refl (Stopping Wait) (sym (ap is_counted leads)) (λ d x room. room) refl
-          (can.resolves.facts.0, can.resolves.facts.1, subst (λ s. Mine (after (u.memory Evac) (Mark found)) s) leads kept.mine)
+          let kept = counter_kept config world seat (Mark found) shared can.resolves.phase can.resolves.seated refl can.resolves.copying tt in
+          let leads : rooms.next_at (Mark found) (world.memory Evac) ≡ Wait = cond-true (world.memory Evac == found) Wait Ask is in
+          steps.counter_moves config world seat address unit shared (Stopping (Mark found)) (Mark found) can refl refl tt refl (Stopping Wait) (sym (ap is_counted leads)) (λ d x room. room) refl
+          (can.resolves.facts.0, can.resolves.facts.1, subst (λ s. Mine (after (world.memory Evac) (Mark found)) s) leads kept.mine)
       by_found false is =
-          steps.counter_moves c u seat a unit shared (Stopping (Mark found)) (Mark found) can refl refl tt refl (Stopping Ask) (sym (ap is_counted (cond-false (u.memory Evac == found) Wait Ask is))) (λ d x room. room) refl
+          steps.counter_moves config world seat address unit shared (Stopping (Mark found)) (Mark found) can refl refl tt refl (Stopping Ask) (sym (ap is_counted (cond-false (world.memory Evac == found) Wait Ask is))) (λ d x room. room) refl
           (can.resolves.facts.0, can.resolves.facts.1, tt)
 
   -- the load of the counter while it waits
-  at_wait : CanResolveFor c u seat a unit (Stopping Wait) → ResolveStep c u seat a unit (Stopping Wait)
-  at_wait can = by_count (count_of (u.memory Evac) == 0) refl
+  at_wait : CanResolveFor config world seat address unit (Stopping Wait) → ResolveStep config world seat address unit (Stopping Wait)
+  at_wait can = by_count (count_of (world.memory Evac) == 0) refl
     where
-      by_count : (z : Bool) → (count_of (u.memory Evac) == 0) ≡ z → steps.StepTo c u seat a unit shared (Stopping Wait) (after_stop (if z then Stopped else Wait))
+      by_count : (holds : Bool) → (count_of (world.memory Evac) == 0) ≡ holds → steps.StepTo config world seat address unit shared (Stopping Wait) (after_stop (if holds then Stopped else Wait))
       by_count true none =
-          steps.looked c u seat a unit shared (Stopping Wait) LoadAgain (load_keeps u.memory Evac)
-          (steps.can_at c u seat a unit shared (Stopping Wait) LoadAgain can refl (λ d x room. room) refl (can.resolves.facts.0, can.resolves.facts.1, record { out_of_room = can.resolves.facts.2; nobody = grind (arith, nat_tests) }))
+          steps.looked config world seat address unit shared (Stopping Wait) LoadAgain (load_keeps world.memory Evac)
+          (steps.can_at config world seat address unit shared (Stopping Wait) LoadAgain can refl (λ d x room. room) refl (can.resolves.facts.0, can.resolves.facts.1, record { out_of_room = can.resolves.facts.2; nobody = grind (arith, nat_tests) }))
       by_count false none =
-          steps.looked c u seat a unit shared (Stopping Wait) (Stopping Wait) (load_keeps u.memory Evac)
-          (steps.can_at c u seat a unit shared (Stopping Wait) (Stopping Wait) can refl (λ d x room. room) refl can.resolves.facts)
+          steps.looked config world seat address unit shared (Stopping Wait) (Stopping Wait) (load_keeps world.memory Evac)
+          (steps.can_at config world seat address unit shared (Stopping Wait) (Stopping Wait) can refl (λ d x room. room) refl can.resolves.facts)
 
   -- the last load of the header
-  at_load_again : CanResolveFor c u seat a unit LoadAgain → ResolveStep c u seat a unit LoadAgain
+  at_load_again : CanResolveFor config world seat address unit LoadAgain → ResolveStep config world seat address unit LoadAgain
   at_load_again can =
       let b = can.resolves.facts.0 in
       let quiet = can.resolves.facts.2 in
       ⊎_elim
       (λ current.
-      steps.leads_to c u seat a unit shared LoadAgain (Resolved a) (ap (λ h. Resolved (current_copy a h)) (steps.header_plain c u seat a unit shared b current))
-      (steps.looked c u seat a unit shared LoadAgain (Resolved a) (load_keeps u.memory (Heap a))
-      (steps.can_at c u seat a unit shared LoadAgain (Resolved a) can refl (λ d x room. room) (let piece = copy_piece c u shared a can.resolves.there in piece_begins c u shared a piece.0 piece.1 (let long = piece.2 in omega (arith, long)))
-      (still_answer c u a b can.resolves.inside quiet current))))
+      steps.leads_to config world seat address unit shared LoadAgain (Resolved address) (ap (λ h. Resolved (current_copy address h)) (steps.header_plain config world seat address unit shared b current))
+      (steps.looked config world seat address unit shared LoadAgain (Resolved address) (load_keeps world.memory (Heap address))
+      (steps.can_at config world seat address unit shared LoadAgain (Resolved address) can refl (λ d x room. room) (let piece = copy_piece config world shared address can.resolves.there in piece_begins config world shared address piece.0 piece.1 (let long = piece.2 in omega (arith, long)))
+      (still_answer config world address b can.resolves.inside quiet current))))
       (λ old.
-      steps.leads_to c u seat a unit shared LoadAgain (Resolved old.0)
-      (ap (λ h. Resolved (current_copy a h)) (steps.header_leads c u seat a unit shared b old.0 old.1)
-      ∙ ap (λ x. Resolved x) (cond-true (is_forwarded (header_word old.0)) (forwardee_in (header_word old.0)) a (header_forwarded old.0) ∙ header_names old.0))
-      (steps.looked c u seat a unit shared LoadAgain (Resolved old.0) (load_keeps u.memory (Heap a))
-      (steps.can_at c u seat a unit shared LoadAgain (Resolved old.0) can refl (λ d x room. room) (steps.answer_word c u seat a unit shared b old.0 old.1) (moved_answer c u a old.0 b shared old.1))))
-      (copy_cases (u.block a) b can.resolves.facts.1)
+      steps.leads_to config world seat address unit shared LoadAgain (Resolved old.0)
+      (ap (λ h. Resolved (current_copy address h)) (steps.header_leads config world seat address unit shared b old.0 old.1)
+      ∙ ap (λ x. Resolved x) (cond-true (is_forwarded (header_word old.0)) (forwardee_in (header_word old.0)) address (header_forwarded old.0) ∙ header_names old.0))
+      (steps.looked config world seat address unit shared LoadAgain (Resolved old.0) (load_keeps world.memory (Heap address))
+      (steps.can_at config world seat address unit shared LoadAgain (Resolved old.0) can refl (λ d x room. room) (steps.answer_word config world seat address unit shared b old.0 old.1) (moved_answer config world address old.0 b shared old.1))))
+      (copy_cases (world.block address) b can.resolves.facts.1)
 
-  at_entering : (at : RoomSpot) → CanResolveFor c u seat a unit (Entering at) → ResolveStep c u seat a unit (Entering at)
-  at_entering Look can = at_look c u seat a unit shared can
-  at_entering (Raise found) can = at_raise c u seat a unit shared found can
+  at_entering : (at : RoomSpot) → CanResolveFor config world seat address unit (Entering at) → ResolveStep config world seat address unit (Entering at)
+  at_entering Look can = at_look config world seat address unit shared can
+  at_entering (Raise found) can = at_raise config world seat address unit shared found can
   at_entering Outside can = absurd (let ready = can.resolves.ready in cc)
   at_entering Inside can = absurd (let ready = can.resolves.ready in cc)
   at_entering Lower can = absurd (let ready = can.resolves.ready in cc)
@@ -100,7 +100,7 @@ module _ (c : Config) (u : World) (seat a : ℕ) (unit : Option ℕ) (shared : S
   at_entering Wait can = absurd (let ready = can.resolves.ready in cc)
   at_entering Stopped can = absurd (let ready = can.resolves.ready in cc)
 
-  at_stopping : (at : RoomSpot) → CanResolveFor c u seat a unit (Stopping at) → ResolveStep c u seat a unit (Stopping at)
+  at_stopping : (at : RoomSpot) → CanResolveFor config world seat address unit (Stopping at) → ResolveStep config world seat address unit (Stopping at)
   at_stopping Ask can = at_ask can
   at_stopping (Mark found) can = at_mark found can
   at_stopping Wait can = at_wait can
@@ -112,12 +112,12 @@ module _ (c : Config) (u : World) (seat a : ℕ) (unit : Option ℕ) (shared : S
   at_stopping Stopped can = absurd (let ready = can.resolves.ready in cc)
 
   -- each step of a resolving
-  pub each_resolve : (at : ResolveSpot) → is_ended at ≡ false → CanResolveFor c u seat a unit at → ResolveStep c u seat a unit at
-  each_resolve LoadHeader going can = at_load_header c u seat a unit shared can
+  pub each_resolve : (at : ResolveSpot) → is_ended at ≡ false → CanResolveFor config world seat address unit at → ResolveStep config world seat address unit at
+  each_resolve LoadHeader going can = at_load_header config world seat address unit shared can
   each_resolve (Entering at) going can = at_entering at can
-  each_resolve LoadShape going can = at_load_shape c u seat a unit shared can
-  each_resolve (Taking words at) going can = at_taking c u seat a unit shared words at can
-  each_resolve (Copying copy end at) going can = at_copying c u seat a unit shared copy end at can
+  each_resolve LoadShape going can = at_load_shape config world seat address unit shared can
+  each_resolve (Taking words at) going can = at_taking config world seat address unit shared words at can
+  each_resolve (Copying copy end at) going can = at_copying config world seat address unit shared copy end at can
   each_resolve (Leaving answer) going can = at_leaving answer can
   each_resolve (Stopping at) going can = at_stopping at can
   each_resolve LoadAgain going can = at_load_again can

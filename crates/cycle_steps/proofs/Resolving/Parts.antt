@@ -22,12 +22,12 @@ use Rattle.cycle_steps.proofs.Resolving.Bodies.{copy_piece, piece_begins, room_n
 use Rattle.cycle_steps.proofs.Resolving.Stays.{can_resolve_stays}
 use Rattle.cycle_steps.proofs.Resolving.Leaving.{each_resolve}
 
-module _ (c : Config) (u : World) (seat a : ℕ) (shared : Shared c u) where
+module _ (config : Config) (world : World) (seat a : ℕ) (shared : Shared config world) where
   -- who leaves is counted
-  leaves_fit : (at : ResolveSpot) → CanResolve c u seat a at → LeavesFit at (u.memory (touch_at c seat a at).word)
+  leaves_fit : (at : ResolveSpot) → CanResolve config world seat a at → LeavesFit at (world.memory (touch_at config seat a at).word)
   leaves_fit (Leaving answer) can = λ none.
       let counts = shared.evacuated.counted.counts in
-      let some = counted_one u.ghost.copying (seat_count c.mutators c.helpers) seat can.seated can.copying in
+      let some = counted_one world.ghost.copying (seat_count config.mutators config.helpers) seat can.seated can.copying in
       omega (arith, none, counts, some)
   leaves_fit LoadHeader can = tt
   leaves_fit (Entering at) can = tt
@@ -39,57 +39,57 @@ module _ (c : Config) (u : World) (seat a : ℕ) (shared : Shared c u) where
   leaves_fit (Resolved answer) can = tt
 
   -- the next access is of the table
-  inside_at : (at : ResolveSpot) → CanResolve c u seat a at → IsWord c (touch_at c seat a at).word
+  inside_at : (at : ResolveSpot) → CanResolve config world seat a at → IsWord config (touch_at config seat a at).word
   inside_at at can =
-      let piece = copy_piece c u shared a can.there in
-      resolve_inside c seat a at can.seated (piece_begins c u shared a piece.0 piece.1 (let long = piece.2 in omega (arith, long))) can.ready
+      let piece = copy_piece config world shared a can.there in
+      resolve_inside config seat a at can.seated (piece_begins config world shared a piece.0 piece.1 (let long = piece.2 in omega (arith, long))) can.ready
 
-module _ (c : Config) (u : World) (seat a d k : ℕ) (b : Body) (shared : Shared c u) (is : body_at (u.block d) ≡ Some b) (below : k < body_words b) where
+module _ (config : Config) (world : World) (seat a address k : ℕ) (body : Body) (shared : Shared config world) (is : body_at (world.block address) ≡ Some body) (below : k < body_words body) where
   -- what it accesses of copies
   abbrev IsSpared : ResolveSpot → Type 0
-  IsSpared at = (touch_at c seat a at).word ≡ Heap (d + k) → ((touch_at c seat a at).form ≡ loads) ⊎ ((copy : ℕ) × (end : ℕ) × (at ≡ Copying copy end Publish) × (d ≡ a) × (k ≡ 0))
+  IsSpared at = (touch_at config seat a at).word ≡ Heap (address + k) → ((touch_at config seat a at).form ≡ loads) ⊎ ((copy : ℕ) × (end : ℕ) × (at ≡ Copying copy end Publish) × (address ≡ a) × (k ≡ 0))
 
   -- no word of its room is one of a copy
-  room_far : (copy index words : ℕ) → u.block copy ≡ Some (hand seat words) → index < words → copy + index ≢ d + k
+  room_far : (copy index words : ℕ) → world.block copy ≡ Some (hand seat words) → index < words → copy + index ≢ address + k
   room_far copy index words room inside =
-      let piece = body_piece (u.block d) b is in
+      let piece = body_piece (world.block address) body is in
       let long = piece.2 in
-      far c (λ r. u.memory (Top r)) u.block shared.parsable.plotted copy d index k (hand seat words) piece.0 room piece.1
-      (λ same. room_no_copy c u shared copy seat words room b (ap (λ x. body_at (u.block x)) same ∙ is)) inside (omega (arith, below, long))
+      far config (λ r. world.memory (Top r)) world.block shared.parsable.plotted copy address index k (hand seat words) piece.0 room piece.1
+      (λ same. room_no_copy config world shared copy seat words room body (ap (λ x. body_at (world.block x)) same ∙ is)) inside (omega (arith, below, long))
 
   -- no free words of its buffer begin within a copy
-  spare_far : (more : ℕ) → u.block (d + k) ≡ Some (spare seat more) → 1 ≤ more → ⊥
+  spare_far : (more : ℕ) → world.block (address + k) ≡ Some (spare seat more) → 1 ≤ more → ⊥
   spare_far more there some =
-      let piece = body_piece (u.block d) b is in
+      let piece = body_piece (world.block address) body is in
       let long = piece.2 in
-      far c (λ r. u.memory (Top r)) u.block shared.parsable.plotted (d + k) d 0 k (spare seat more) piece.0 there piece.1
-      (λ same. (let both = sym (ap (λ x. body_at (u.block x)) same ∙ is) ∙ ap body_at there in cc)) (omega (arith, some)) (omega (arith, below, long)) (omega arith)
+      far config (λ r. world.memory (Top r)) world.block shared.parsable.plotted (address + k) address 0 k (spare seat more) piece.0 there piece.1
+      (λ same. (let both = sym (ap (λ x. body_at (world.block x)) same ∙ is) ∙ ap body_at there in cc)) (omega (arith, some)) (omega (arith, below, long)) (omega arith)
 
   -- one word of the heap has one address
-  one_address : (x y : ℕ) → Heap x ≡ Heap y → x ≡ y
-  one_address x y same = cc
+  one_address : (address other_address : ℕ) → Heap address ≡ Heap other_address → address ≡ other_address
+  one_address address other_address same = cc
 
-  copy_spares : (copy end : ℕ) (at : CopySpot) → CanResolve c u seat a (Copying copy end at) → IsSpared (Copying copy end at)
+  copy_spares : (copy end : ℕ) (at : CopySpot) → CanResolve config world seat a (Copying copy end at) → IsSpared (Copying copy end at)
   copy_spares copy end (LoadWord words index) can word = inl refl
   copy_spares copy end (StoreWord words index found) can word =
       absurd (room_far copy index (body_words can.facts.0) can.facts.2.3.taken.here (let less = can.facts.2.2 in let long = can.facts.2.0 in omega (arith, less, long)) (one_address _ _ word))
   copy_spares copy end StoreHeader can word =
-      absurd (room_far copy 0 (body_words can.facts.0) can.facts.2.taken.here (omega arith) (let same = one_address copy (d + k) word in omega (arith, same)))
+      absurd (room_far copy 0 (body_words can.facts.0) can.facts.2.taken.here (omega arith) (let same = one_address copy (address + k) word in omega (arith, same)))
   copy_spares copy end Publish can word =
-      let there = copy_piece c u shared a can.there in
-      let piece = body_piece (u.block d) b is in
+      let there = copy_piece config world shared a can.there in
+      let piece = body_piece (world.block address) body is in
       let long = piece.2 in
-      let same = one_address a (d + k) word in
+      let same = one_address a (address + k) word in
       let some = there.2 in
-      let one : d ≡ a = one_piece c (λ r. u.memory (Top r)) u.block shared.parsable.plotted d a a piece.0 there.0 piece.1 there.1 (omega (arith, same)) (omega (arith, same, below, long)) (omega arith) (omega (arith, some)) in
+      let one : address ≡ a = one_piece config (λ r. world.memory (Top r)) world.block shared.parsable.plotted address a a piece.0 there.0 piece.1 there.1 (omega (arith, same)) (omega (arith, same, below, long)) (omega arith) (omega (arith, some)) in
       inr (copy, end, refl, one, omega (arith, same, one))
   copy_spares copy end (GiveBack answer) can word = absurd (cc (word))
 
-  spares_at : (at : ResolveSpot) → CanResolve c u seat a at → IsSpared at
+  spares_at : (at : ResolveSpot) → CanResolve config world seat a at → IsSpared at
   spares_at LoadHeader can word = inl refl
   spares_at (Entering at) can word = absurd (cc (word))
   spares_at LoadShape can word = inl refl
-  spares_at (Taking words at) can word = (let there = writes_spare c u seat words at can.facts.2.1 (d + k) word in absurd (spare_far there.0 there.1 there.2))
+  spares_at (Taking words at) can word = (let there = writes_spare config world seat words at can.facts.2.1 (address + k) word in absurd (spare_far there.0 there.1 there.2))
   spares_at (Copying copy end at) can word = copy_spares copy end at can word
   spares_at (Leaving answer) can word = absurd (cc (word))
   spares_at (Stopping at) can word = absurd (cc (word))

@@ -12,29 +12,29 @@ use Rattle.heap_world.proofs.Apart.{far}
 use Rattle.heap_world.proofs.Pieces.{object_reads}
 use Rattle.cycle_steps.proofs.Resolving.Changes.{world_after, heap_written, IsCopyingStep, step_after}
 
-module _ (c : Config) (u : World) (seat copy words at place value : ℕ) (shared : Shared c u) (on : u.memory Phase ≡ 2) (room : u.block copy ≡ Some (hand seat words)) (below : at < words) (place_is : copy + at ≡ place) where
+module _ (config : Config) (world : World) (seat copy words at place value : ℕ) (shared : Shared config world) (on : world.memory Phase ≡ 2) (room : world.block copy ≡ Some (hand seat words)) (below : at < words) (place_is : copy + at ≡ place) where
   -- the words of the heap then
   abbrev pub heap_then : ℕ → ℕ
-  heap_then = updated (λ a. u.memory (Heap a)) place value
+  heap_then = updated (λ a. world.memory (Heap a)) place value
 
   -- the world then
   abbrev pub worded_world : World
-  worded_world = world_after c u seat heap_then (λ r. u.memory (Top r)) (u.memory Evac) u.block u.ghost.copying
+  worded_world = world_after config world seat heap_then (λ r. world.memory (Top r)) (world.memory Evac) world.block world.ghost.copying
 
   -- a word of another piece stays
-  pub else_stays : (a k : ℕ) (x : Block) → u.block a ≡ Some x → a ≢ copy → k < words_of x → heap_then (a + k) ≡ u.memory (Heap (a + k))
-  else_stays a k x is other inside = updated_else (λ b. u.memory (Heap b)) place value (a + k)
-      (λ same. far c (λ r. u.memory (Top r)) u.block shared.parsable.plotted copy a at k (hand seat words) x room is (λ e. other (sym e)) below inside (place_is ∙ same))
+  pub else_stays : (address k : ℕ) (piece : Block) → world.block address ≡ Some piece → address ≢ copy → k < words_of piece → heap_then (address + k) ≡ world.memory (Heap (address + k))
+  else_stays address k piece is other inside = updated_else (λ b. world.memory (Heap b)) place value (address + k)
+      (λ same. far config (λ r. world.memory (Top r)) world.block shared.parsable.plotted copy address at k (hand seat words) piece room is (λ e. other (sym e)) below inside (place_is ∙ same))
 
   -- its first word too
-  first_stays : (a : ℕ) (x : Block) → u.block a ≡ Some x → a ≢ copy → 1 ≤ words_of x → heap_then a ≡ u.memory (Heap a)
-  first_stays a x is other some = let there : a + 0 ≡ a = omega arith in subst (λ b. heap_then b ≡ u.memory (Heap b)) there (else_stays a 0 x is other (omega (arith, some)))
+  first_stays : (address : ℕ) (piece : Block) → world.block address ≡ Some piece → address ≢ copy → 1 ≤ words_of piece → heap_then address ≡ world.memory (Heap address)
+  first_stays address piece is other some = let there : address + 0 ≡ address = omega arith in subst (λ b. heap_then b ≡ world.memory (Heap b)) there (else_stays address 0 piece is other (omega (arith, some)))
 
   -- what is no room is elsewhere
-  elsewhere : (a : ℕ) (x : Block) → u.block a ≡ Some x → (hand seat words ≡ x → ⊥) → a ≢ copy
-  elsewhere a x is differs same = differs (same_Some (hand seat words) x (sym room ∙ ap u.block (sym same) ∙ is))
+  elsewhere : (address : ℕ) (piece : Block) → world.block address ≡ Some piece → (hand seat words ≡ piece → ⊥) → address ≢ copy
+  elsewhere address piece is differs same = differs (same_Some (hand seat words) piece (sym room ∙ ap world.block (sym same) ∙ is))
 
-  wording : IsCopyingStep c u seat heap_then (λ r. u.memory (Top r)) (u.memory Evac) u.block u.ghost.copying
+  wording : IsCopyingStep config world seat heap_then (λ r. world.memory (Top r)) (world.memory Evac) world.block world.ghost.copying
   wording = record {
     parsable = shared.parsable;
     objects = record {
@@ -42,7 +42,7 @@ module _ (c : Config) (u : World) (seat copy words at place value : ℕ) (shared
           let o = shared.contents.objects.each a refs nums name is in (
             o.0,
             o.1,
-            object_reads (λ b. u.memory (Heap b)) heap_then u.block u.block a refs nums name o.0
+            object_reads (λ b. world.memory (Heap b)) heap_then world.block world.block a refs nums name o.0
                 (λ k inside. else_stays a k (thing name refs nums) is (elsewhere a (thing name refs nums) is (λ same. (let differ = same in cc))) inside) (λ b n there. there) o.2,
           );
       once = shared.contents.objects.once;
@@ -64,7 +64,7 @@ module _ (c : Config) (u : World) (seat copy words at place value : ℕ) (shared
             references = λ k less.
                 let there = was.references k less in
                 let place : a + (3 + k) ≡ a + 3 + k = omega arith in
-                (there.0, subst (λ v. Points u.block v there.0) (sym (subst (λ b. heap_then b ≡ u.memory (Heap b)) place (else_stays a (3 + k) (moved name refs nums to) is other (omega (arith, less))))) there.1);
+                (there.0, subst (λ v. Points world.block v there.0) (sym (subst (λ b. heap_then b ≡ world.memory (Heap b)) place (else_stays a (3 + k) (moved name refs nums to) is other (omega (arith, less))))) there.1);
           };
       spents = λ a more to is.
           let was = shared.evacuated.moved.spents a more to is in
@@ -106,6 +106,6 @@ module _ (c : Config) (u : World) (seat copy words at place value : ℕ) (shared
   }
 
   -- the store of the word owes no more
-  pub word_step : (facts : World → Type 0) → facts worded_world → PartStep c u seat (touch (Heap place) (stores value)) facts
-  word_step facts own = step_after c u seat heap_then (λ r. u.memory (Top r)) (u.memory Evac) u.block u.ghost.copying shared on wording
-      (touch (Heap place) (stores value)) facts (heap_written u.memory place value) own
+  pub word_step : (facts : World → Type 0) → facts worded_world → PartStep config world seat (touch (Heap place) (stores value)) facts
+  word_step facts own = step_after config world seat heap_then (λ r. world.memory (Top r)) (world.memory Evac) world.block world.ghost.copying shared on wording
+      (touch (Heap place) (stores value)) facts (heap_written world.memory place value) own

@@ -11,27 +11,27 @@ use Rattle.heap_world.proofs.Updates.{updated, updated_else}
 
 -- the world with another number of units claimed, and with a machine that stands elsewhere
 abbrev pub world_then : World → ℕ → ℕ → Option Scan → World
-world_then w seat claim pass = record { memory = write w.memory Claim claim; block = w.block; ghost = with_scanning w.ghost (updated w.ghost.scanning seat pass); graph = w.graph }
+world_then world seat claim pass = record { memory = write world.memory Claim claim; block = world.block; ghost = with_scanning world.ghost (updated world.ghost.scanning seat pass); graph = world.graph }
 
-module _ (c : Config) (u w : World) (seat claim : ℕ) (pass : Option Scan) where
+module _ (config : Config) (world other_world : World) (seat claim : ℕ) (pass : Option Scan) where
   -- of what is updated, with these two
   abbrev pub UpdatingThen : Type 0
-  UpdatingThen = IsUpdating c (w.memory Cset) claim (λ r. w.memory (Top r)) (λ r. w.memory (Limit r)) (λ a. w.memory (Heap a)) w.block (updated w.ghost.scanning seat pass)
+  UpdatingThen = IsUpdating config (other_world.memory Cset) claim (λ r. other_world.memory (Top r)) (λ r. other_world.memory (Limit r)) (λ a. other_world.memory (Heap a)) other_world.block (updated other_world.ghost.scanning seat pass)
 
   -- machines share what they should
-  shared_then : Shared c w → w.memory Phase ≡ 3 → UpdatingThen → Shared c (world_then w seat claim pass)
+  shared_then : Shared config other_world → other_world.memory Phase ≡ 3 → UpdatingThen → Shared config (world_then other_world seat claim pass)
   shared_then shared on updating =
-      let other : w.memory Phase ≢ 1 = λ one. (omega (arith, on, one)) in
+      let other : other_world.memory Phase ≢ 1 = λ one. (omega (arith, on, one)) in
       record {
         parsable = shared.parsable;
         contents = shared.contents;
         owned = shared.owned;
         phased = shared.phased;
         unwritten = shared.unwritten;
-        marked = subst (λ s. KeepsSnapshot c (w.memory Phase) (λ n. w.memory (Grey n)) (λ n. w.memory (Black n)) (λ t. w.memory (Count t)) (λ t k. w.memory (Buffer t k)) (λ r. w.memory (Top r)) (λ r. w.memory (Tams r))
-            (λ a. w.memory (Heap a)) w.block s w.ghost.recording (updated w.ghost.scanning seat pass)) (sym (shared.marked.empty other))
-            (none_marked_in c (w.memory Phase) (λ n. w.memory (Grey n)) (λ n. w.memory (Black n)) (λ t. w.memory (Count t)) (λ t k. w.memory (Buffer t k)) (λ r. w.memory (Top r)) (λ r. w.memory (Tams r))
-            (λ a. w.memory (Heap a)) w.block w.ghost.recording (updated w.ghost.scanning seat pass) other);
+        marked = subst (λ s. KeepsSnapshot config (other_world.memory Phase) (λ n. other_world.memory (Grey n)) (λ n. other_world.memory (Black n)) (λ t. other_world.memory (Count t)) (λ t k. other_world.memory (Buffer t k)) (λ r. other_world.memory (Top r)) (λ r. other_world.memory (Tams r))
+            (λ a. other_world.memory (Heap a)) other_world.block s other_world.ghost.recording (updated other_world.ghost.scanning seat pass)) (sym (shared.marked.empty other))
+            (none_marked_in config (other_world.memory Phase) (λ n. other_world.memory (Grey n)) (λ n. other_world.memory (Black n)) (λ t. other_world.memory (Count t)) (λ t k. other_world.memory (Buffer t k)) (λ r. other_world.memory (Top r)) (λ r. other_world.memory (Tams r))
+            (λ a. other_world.memory (Heap a)) other_world.block other_world.ghost.recording (updated other_world.ghost.scanning seat pass) other);
         evacuated = record {
           moved = shared.evacuated.moved;
           counted = shared.evacuated.counted;
@@ -44,7 +44,7 @@ module _ (c : Config) (u w : World) (seat claim : ℕ) (pass : Option Scan) wher
       }
 
   -- the facts of the seat's machine stand
-  pub keeps_then : Keeps c seat u w → Keeps c seat u (world_then w seat claim pass)
+  pub keeps_then : Keeps config seat world other_world → Keeps config seat world (world_then other_world seat claim pass)
   keeps_then keeps = record {
     names = keeps.names;
     targets = keeps.targets;
@@ -73,11 +73,11 @@ module _ (c : Config) (u w : World) (seat claim : ℕ) (pass : Option Scan) wher
   }
 
   -- so do those of updating
-  pub fields_then : (c.regions ≤ u.memory Claim → c.regions ≤ claim) → KeepsFields c u w → KeepsFields c u (world_then w seat claim pass)
+  pub fields_then : (config.regions ≤ world.memory Claim → config.regions ≤ claim) → KeepsFields config world other_world → KeepsFields config world (world_then other_world seat claim pass)
   fields_then claims fields = record { tams = fields.tams; limits = fields.limits; deads = fields.deads; fillers = fields.fillers; claims = claims; fields = fields.fields }
 
   -- others can rely on what they knew
-  others_then : (c.regions ≤ u.memory Claim → c.regions ≤ claim) → (k : ℕ) → k ≢ seat → Rely c k u w → Rely c k u (world_then w seat claim pass)
+  others_then : (config.regions ≤ world.memory Claim → config.regions ≤ claim) → (k : ℕ) → k ≢ seat → Rely config k world other_world → Rely config k world (world_then other_world seat claim pass)
   others_then claims k differs rely = record {
     names = rely.names;
     targets = rely.targets;
@@ -103,7 +103,7 @@ module _ (c : Config) (u w : World) (seat claim : ℕ) (pass : Option Scan) wher
     marks = record {
       keeps = record { phase = rely.marks.keeps.phase; snapshot = rely.marks.keeps.snapshot; markable = rely.marks.keeps.markable; shapes = rely.marks.keeps.shapes; noted = rely.marks.keeps.noted };
       recording = rely.marks.recording;
-      scanning = updated_else w.ghost.scanning seat pass k (λ e. differs (sym e)) ∙ rely.marks.scanning;
+      scanning = updated_else other_world.ghost.scanning seat pass k (λ e. differs (sym e)) ∙ rely.marks.scanning;
       entries = rely.marks.entries;
       buffer = rely.marks.buffer;
       greys = rely.marks.greys;
@@ -128,10 +128,10 @@ module _ (c : Config) (u w : World) (seat claim : ℕ) (pass : Option Scan) wher
   }
 
   -- what the step owes, that led to the world but for these two, is owed then
-  pub step_then : (t : Touch) (facts : World → Type 0) → write w.memory Claim claim ≡ touched u.memory t → w.graph ≡ u.graph → Shared c w → w.memory Phase ≡ 3 → (c.regions ≤ u.memory Claim → c.regions ≤ claim)
-      → Keeps c seat u w → ((k : ℕ) → k ≢ seat → Rely c k u w) → UpdatingThen → facts (world_then w seat claim pass) → PartStep c u seat t facts
-  step_then t facts memory graph shared on claims keeps others updating own = record {
-    world = world_then w seat claim pass;
+  pub step_then : (touch : Touch) (facts : World → Type 0) → write other_world.memory Claim claim ≡ touched world.memory touch → other_world.graph ≡ world.graph → Shared config other_world → other_world.memory Phase ≡ 3 → (config.regions ≤ world.memory Claim → config.regions ≤ claim)
+      → Keeps config seat world other_world → ((k : ℕ) → k ≢ seat → Rely config k world other_world) → UpdatingThen → facts (world_then other_world seat claim pass) → PartStep config world seat touch facts
+  step_then touch facts memory graph shared on claims keeps others updating own = record {
+    world = world_then other_world seat claim pass;
     memory = memory;
     graph = graph;
     shared = shared_then shared on updating;

@@ -7,9 +7,9 @@ use Rattle.heap_world.proofs.Units as units
 use Rattle.cycle_steps.specs.Updating.Laws.{UnitsAreUpdated, AllIsUpdated}
 
 -- a word that is current names nothing in the set
-current_outside : (c : Config) (w : World) (v : ℕ) → Shared c w → w.memory Phase ≡ 3 → IsCurrent w.block v → v ≢ 0 → IsCollected c (w.memory Cset) v → ⊥
-current_outside c w v shared on (IsCurrent.null null) some inside = some null
-current_outside c w v shared on (IsCurrent.names refs nums name is) some inside = (shared.updated on).outside v refs nums name is inside
+current_outside : (config : Config) (world : World) (address : ℕ) → Shared config world → world.memory Phase ≡ 3 → IsCurrent world.block address → address ≢ 0 → IsCollected config (world.memory Cset) address → ⊥
+current_outside config world address shared on (IsCurrent.null null) some inside = some null
+current_outside config world address shared on (IsCurrent.names refs nums name is) some inside = (shared.updated on).outside address refs nums name is inside
 
 -- no field in a unit that is done names the set
 pub units_are_updated : UnitsAreUpdated

@@ -16,13 +16,13 @@ use Rattle.unit_part.specs.declared.update_spot.UpdateSpot.TheVariants.{LoadClai
 use Rattle.cycle_steps.specs.Updating.Facts.{IsUnit, HasComeTo, IsPiece, HasPiece, HasShape, HasField, HasFound, UpdateFacts, CanUpdate}
 
 -- Outside pauses, whoever steps: what holds by where a machine stands does so then.
-module _ (c : Config) (u w : World) (seat : ℕ) (shared : Shared c u) (on : u.memory Phase ≡ 3) (keeps : Keeps c seat u w) (fields : KeepsFields c u w) where
+module _ (config : Config) (world other_world : World) (seat : ℕ) (shared : Shared config world) (on : world.memory Phase ≡ 3) (keeps : Keeps config seat world other_world) (fields : KeepsFields config world other_world) where
   -- a region that can be a unit
-  unit_stays : (region : ℕ) → IsUnit c u region → IsUnit c w region
+  unit_stays : (region : ℕ) → IsUnit config world region → IsUnit config other_world region
   unit_stays region unit = (unit.0, λ is. unit.1 (subst (λ set. IsIn set region) keeps.copies.cset is))
 
   -- a walk of it
-  walked_stays : (walk : Walk) (address : ℕ) → HasComeTo c u walk address → HasComeTo c w walk address
+  walked_stays : (walk : Walk) (address : ℕ) → HasComeTo config world walk address → HasComeTo config other_world walk address
   walked_stays walk address walked = record {
     unit = unit_stays walk.region walked.unit;
     limit_is = walked.limit_is ∙ sym (fields.limits walk.region);
@@ -32,26 +32,26 @@ module _ (c : Config) (u w : World) (seat : ℕ) (shared : Shared c u) (on : u.m
   }
 
   -- an object, of the graph or promised
-  alive_stays : (a : ℕ) → IsMarkable u.block a → IsMarkable w.block a
+  alive_stays : (address : ℕ) → IsMarkable world.block address → IsMarkable other_world.block address
   alive_stays = keeps.marks.markable (λ two. omega (arith, on, two))
 
   -- a piece
-  piece_stays : (a : ℕ) → IsPiece u a → IsPiece w a
+  piece_stays : (a : ℕ) → IsPiece world a → IsPiece other_world a
   piece_stays a (inl alive) = inl (alive_stays a alive)
   piece_stays a (inr fills) = inr (fills.0, fields.deads a fills.0 fills.1)
 
   -- or words that only fill
-  any_stays : (a : ℕ) → HasPiece u a → HasPiece w a
+  any_stays : (a : ℕ) → HasPiece world a → HasPiece other_world a
   any_stays a (inl piece) = inl (piece_stays a piece)
   any_stays a (inr fills) = inr (fills.0, fields.fillers a fills.0 fills.1)
 
   -- the shape word of a piece
-  shape_stays : (a shape : ℕ) → HasShape u a shape → HasShape w a shape
+  shape_stays : (a shape : ℕ) → HasShape world a shape → HasShape other_world a shape
   shape_stays a shape (inl object) = inl (alive_stays a object.0, object.1 ∙ sym (keeps.marks.shapes a object.0))
   shape_stays a shape (inr fills) = inr (fills.0, fields.deads a fills.0 fills.1, fills.2)
 
   -- a reference of an object
-  pub field_stays : (at : Visit) (field : ℕ) → HasField c u at field → HasField c w at field
+  pub field_stays : (at : Visit) (field : ℕ) → HasField config world at field → HasField config other_world at field
   field_stays at field has = record {
     walked = walked_stays at.walk at.address has.walked;
     alive = alive_stays at.address has.alive;
@@ -60,11 +60,11 @@ module _ (c : Config) (u w : World) (seat : ℕ) (shared : Shared c u) (on : u.m
   }
 
   -- an object of the graph lies outside of the collection set, so that it stays where it is
-  thing_stays : (a refs nums : ℕ) (name : Name) → u.block a ≡ Some (thing name refs nums) → w.block a ≡ Some (thing name refs nums)
-  thing_stays a refs nums name is = (keeps.targets a refs nums name (record { piece = is; safe = λ inside. absurd ((shared.updated on).outside a refs nums name is inside) })).piece
+  thing_stays : (address refs nums : ℕ) (name : Name) → world.block address ≡ Some (thing name refs nums) → other_world.block address ≡ Some (thing name refs nums)
+  thing_stays address refs nums name is = (keeps.targets address refs nums name (record { piece = is; safe = λ inside. absurd ((shared.updated on).outside address refs nums name is inside) })).piece
 
   -- what the reference was found to be
-  found_stays : (at : Visit) (field found to : ℕ) → HasField c u at field → HasFound u at field found to → HasFound w at field found to
+  found_stays : (at : Visit) (field found to : ℕ) → HasField config world at field → HasFound world at field found to → HasFound other_world at field found to
   found_stays at field found to has finds =
       let holder = finds.holder in
       let there = (shared.contents.objects.each at.address holder.1 holder.2 holder.0 holder.3).2 in
@@ -77,16 +77,16 @@ module _ (c : Config) (u w : World) (seat : ℕ) (shared : Shared c u) (on : u.m
         name = finds.name;
         old = keeps.copies.moveds found finds.refs finds.nums to finds.name finds.old;
         still = ⊎_elim
-            (λ (same : w.memory (Heap (at.address + 3 + field)) ≡ u.memory (Heap (at.address + 3 + field))). ⊎_elim
-            (λ (is : u.memory (Heap (at.address + 3 + field)) ≡ found). inl (same ∙ is))
-            (λ (current : IsCurrent u.block (u.memory (Heap (at.address + 3 + field)))). inr (subst (IsCurrent w.block) (sym same) (current_stays u.block w.block thing_stays _ current)))
+            (λ (same : other_world.memory (Heap (at.address + 3 + field)) ≡ world.memory (Heap (at.address + 3 + field))). ⊎_elim
+            (λ (is : world.memory (Heap (at.address + 3 + field)) ≡ found). inl (same ∙ is))
+            (λ (current : IsCurrent world.block (world.memory (Heap (at.address + 3 + field)))). inr (subst (IsCurrent other_world.block) (sym same) (current_stays world.block other_world.block thing_stays _ current)))
             finds.still)
-            (λ (current : IsCurrent w.block (w.memory (Heap (at.address + 3 + field)))). inr current)
+            (λ (current : IsCurrent other_world.block (other_world.memory (Heap (at.address + 3 + field)))). inr current)
             (fields.fields on at.address holder.1 holder.2 field holder.0 holder.3 (omega (arith, below, all)));
       }
 
   -- so do all of them
-  pub facts_stay : (at : UpdateSpot) → UpdateFacts c u at → UpdateFacts c w at
+  pub facts_stay : (at : UpdateSpot) → UpdateFacts config world at → UpdateFacts config other_world at
   facts_stay LoadClaim facts = tt
   facts_stay (ClaimUnit unit) facts = facts
   facts_stay (LoadLimit region) facts = unit_stays region facts
@@ -100,8 +100,8 @@ module _ (c : Config) (u w : World) (seat : ℕ) (shared : Shared c u) (on : u.m
   facts_stay (Ended unit) facts = tt
 
 -- While others step, what it counts on stays.
-pub can_update_stays : (c : Config) (u w : World) (seat cset : ℕ) (at : UpdateSpot) → Shared c u → Keeps c seat u w → Rely c seat u w → CanUpdate c u seat cset at → CanUpdate c w seat cset at
-can_update_stays c u w seat cset at shared keeps rely can = record {
+pub can_update_stays : (config : Config) (world other_world : World) (seat cset : ℕ) (at : UpdateSpot) → Shared config world → Keeps config seat world other_world → Rely config seat world other_world → CanUpdate config world seat cset at → CanUpdate config other_world seat cset at
+can_update_stays config world other_world seat cset at shared keeps rely can = record {
   seated = can.seated;
   phase = rely.marks.keeps.phase ∙ can.phase;
   set_is = can.set_is ∙ sym rely.copies.keeps.cset;
@@ -110,5 +110,5 @@ can_update_stays c u w seat cset at shared keeps rely can = record {
   records_none = rely.marks.recording ∙ can.records_none;
   scanning = rely.marks.scanning ∙ can.scanning;
   rooms = λ a x is room. can.rooms a x (rely.no_rooms a x is room) room;
-  facts = facts_stay c u w seat shared can.phase keeps rely.fields at can.facts;
+  facts = facts_stay config world other_world seat shared can.phase keeps rely.fields at can.facts;
 }

@@ -29,30 +29,30 @@ use Rattle.cycle_steps.specs.Updating.Laws.{FollowingSteps}
 
 -- what a step of a machine that resolves an address owes then
 abbrev FollowStep : Config → World → (seat a : ℕ) → ResolveSpot → Type 0
-FollowStep c u seat a at = PartStep c u seat (touch_at c seat a at) (λ w. CanFollow c w seat a (next_at c a updating_phase at (u.memory (touch_at c seat a at).word)))
+FollowStep config world seat a at = PartStep config world seat (touch_at config seat a at) (λ w. CanFollow config w seat a (next_at config a updating_phase at (world.memory (touch_at config seat a at).word)))
 
-module _ (c : Config) (u : World) (seat a : ℕ) (shared : Shared c u) where
+module _ (config : Config) (world : World) (seat address : ℕ) (shared : Shared config world) where
   -- a copy in the set is an old one
-  old_copy : (b : Body) → u.memory Phase ≡ 3 → IsCollected c (u.memory Cset) a → body_at (u.block a) ≡ Some b → (to : ℕ) × HasMovedTo u a b to
-  old_copy b on inside is = ⊎_elim
-      (λ (now : u.block a ≡ Some (thing b.name b.refs b.nums)). absurd ((shared.updated on).outside a b.refs b.nums b.name now inside))
-      (λ (was : (to : ℕ) × HasMovedTo u a b to). was)
-      (copy_cases (u.block a) b is)
+  old_copy : (body : Body) → world.memory Phase ≡ 3 → IsCollected config (world.memory Cset) address → body_at (world.block address) ≡ Some body → (to : ℕ) × HasMovedTo world address body to
+  old_copy body on inside is = ⊎_elim
+      (λ (now : world.block address ≡ Some (thing body.name body.refs body.nums)). absurd ((shared.updated on).outside address body.refs body.nums body.name now inside))
+      (λ (was : (to : ℕ) × HasMovedTo world address body to). was)
+      (copy_cases (world.block address) body is)
 
   -- where its header leads
-  leads_there : (b : Body) (to : ℕ) → HasMovedTo u a b to → after_header a updating_phase (u.memory (Heap a)) ≡ Resolved to
-  leads_there b to is =
-      ap (after_header a updating_phase) (shared.evacuated.moved.moveds a b.refs b.nums to b.name is).header
-      ∙ cond-true (is_forwarded (header_word to)) (Resolved (forwardee_in (header_word to))) (if updating_phase == 3 then Resolved a else Entering Look) (header_forwarded to)
+  leads_there : (body : Body) (to : ℕ) → HasMovedTo world address body to → after_header address updating_phase (world.memory (Heap address)) ≡ Resolved to
+  leads_there body to is =
+      ap (after_header address updating_phase) (shared.evacuated.moved.moveds address body.refs body.nums to body.name is).header
+      ∙ cond-true (is_forwarded (header_word to)) (Resolved (forwardee_in (header_word to))) (if updating_phase == 3 then Resolved address else Entering Look) (header_forwarded to)
       ∙ ap (λ x. Resolved x) (header_names to)
 
   -- the load of the header
-  at_load_header : CanFollow c u seat a LoadHeader → FollowStep c u seat a LoadHeader
+  at_load_header : CanFollow config world seat address LoadHeader → FollowStep config world seat address LoadHeader
   at_load_header can =
       let old = old_copy can.body can.phase can.inside can.there in
-      subst (λ next. PartStep c u seat (touch_at c seat a LoadHeader) (λ w. CanFollow c w seat a next)) (sym (leads_there can.body old.0 old.1)) (record {
-        world = u;
-        memory = load_keeps u.memory (Heap a);
+      subst (λ next. PartStep config world seat (touch_at config seat address LoadHeader) (λ w. CanFollow config w seat address next)) (sym (leads_there can.body old.0 old.1)) (record {
+        world = world;
+        memory = load_keeps world.memory (Heap address);
         graph = refl;
         shared = shared;
         own = record {
@@ -63,14 +63,14 @@ module _ (c : Config) (u : World) (seat a : ℕ) (shared : Shared c u) where
           there = can.there;
           working = can.working;
           nothing = can.nothing;
-          facts = moved_answer c u a old.0 can.body shared old.1;
+          facts = moved_answer config world address old.0 can.body shared old.1;
         };
-        keeps = keeps_of c seat u u (rely_same c seat u);
-        others = λ j differs. rely_same c j u;
+        keeps = keeps_of config seat world world (rely_same config seat world);
+        others = λ j differs. rely_same config j world;
       })
 
   -- each step
-  pub each_follow : (at : ResolveSpot) → is_ended at ≡ false → CanFollow c u seat a at → FollowStep c u seat a at
+  pub each_follow : (at : ResolveSpot) → is_ended at ≡ false → CanFollow config world seat address at → FollowStep config world seat address at
   each_follow LoadHeader going can = at_load_header can
   each_follow (Resolved answer) going can = absurd (cc (going))
   each_follow (Entering at) going can = absurd can.facts
@@ -82,11 +82,11 @@ module _ (c : Config) (u : World) (seat a : ℕ) (shared : Shared c u) where
   each_follow LoadAgain going can = absurd can.facts
 
   -- the numbers of the spot are in range
-  pub follow_ready : (at : ResolveSpot) → CanFollow c u seat a at → resolve.is_ready c seat a at ≡ true
+  pub follow_ready : (at : ResolveSpot) → CanFollow config world seat address at → resolve.is_ready config seat address at ≡ true
   follow_ready LoadHeader can = refl
   follow_ready (Resolved answer) can =
       let target = can.facts.named can.body can.there in
-      piece_begins c u shared answer (thing can.body.name can.body.refs can.body.nums) target.piece (omega arith)
+      piece_begins config world shared answer (thing can.body.name can.body.refs can.body.nums) target.piece (omega arith)
   follow_ready (Entering at) can = absurd can.facts
   follow_ready LoadShape can = absurd can.facts
   follow_ready (Taking words at) can = absurd can.facts
@@ -96,7 +96,7 @@ module _ (c : Config) (u : World) (seat a : ℕ) (shared : Shared c u) where
   follow_ready LoadAgain can = absurd can.facts
 
   -- nobody leaves who is not counted
-  leaves_fit : (at : ResolveSpot) (got : ℕ) → CanFollow c u seat a at → resolve.LeavesFit at got
+  leaves_fit : (at : ResolveSpot) (got : ℕ) → CanFollow config world seat address at → resolve.LeavesFit at got
   leaves_fit (Leaving answer) got can = absurd can.facts
   leaves_fit LoadHeader got can = tt
   leaves_fit (Resolved answer) got can = tt
@@ -108,16 +108,16 @@ module _ (c : Config) (u : World) (seat a : ℕ) (shared : Shared c u) where
   leaves_fit LoadAgain got can = tt
 
   -- the next access is of the table
-  follow_inside : (at : ResolveSpot) → CanFollow c u seat a at → IsWord c (touch_at c seat a at).word
+  follow_inside : (at : ResolveSpot) → CanFollow config world seat address at → IsWord config (touch_at config seat address at).word
   follow_inside at can =
-      let piece = copy_piece c u shared a (HasCopy.copy can.body can.there) in
-      resolve_inside c seat a at can.seated (piece_begins c u shared a piece.0 piece.1 (let long = piece.2 in omega (arith, long))) (follow_ready at can)
+      let piece = copy_piece config world shared address (HasCopy.copy can.body can.there) in
+      resolve_inside config seat address at can.seated (piece_begins config world shared address piece.0 piece.1 (let long = piece.2 in omega (arith, long))) (follow_ready at can)
 
 -- While others step, what a machine counts on stays.
-module _ (c : Config) (u w : World) (seat a : ℕ) (shared : Shared c u) (rely : Rely c seat u w) where
-  facts_stay : (at : ResolveSpot) → CanFollow c u seat a at → FollowFacts c w a at
+module _ (config : Config) (world other_world : World) (seat address : ℕ) (shared : Shared config world) (rely : Rely config seat world other_world) where
+  facts_stay : (at : ResolveSpot) → CanFollow config world seat address at → FollowFacts config other_world address at
   facts_stay LoadHeader can = tt
-  facts_stay (Resolved answer) can = answer_stays c u w seat a shared rely answer (HasCopy.copy can.body can.there) can.inside can.facts
+  facts_stay (Resolved answer) can = answer_stays config world other_world seat address shared rely answer (HasCopy.copy can.body can.there) can.inside can.facts
   facts_stay (Entering at) can = absurd can.facts
   facts_stay LoadShape can = absurd can.facts
   facts_stay (Taking words at) can = absurd can.facts
@@ -126,13 +126,13 @@ module _ (c : Config) (u w : World) (seat a : ℕ) (shared : Shared c u) (rely :
   facts_stay (Stopping at) can = absurd can.facts
   facts_stay LoadAgain can = absurd can.facts
 
-  can_follow_stays : (at : ResolveSpot) → CanFollow c u seat a at → CanFollow c w seat a at
+  can_follow_stays : (at : ResolveSpot) → CanFollow config world seat address at → CanFollow config other_world seat address at
   can_follow_stays at can = record {
     seated = can.seated;
     phase = rely.marks.keeps.phase ∙ can.phase;
-    inside = subst (λ set. IsCollected c set a) (sym rely.copies.keeps.cset) can.inside;
+    inside = subst (λ set. IsCollected config set address) (sym rely.copies.keeps.cset) can.inside;
     body = can.body;
-    there = rely.copies.keeps.bodies a can.body can.there;
+    there = rely.copies.keeps.bodies address can.body can.there;
     working = rely.copies.working ∙ can.working;
     nothing = record {
       copying = rely.copies.copying ∙ can.nothing.copying;
@@ -144,28 +144,28 @@ module _ (c : Config) (u w : World) (seat a : ℕ) (shared : Shared c u) (rely :
   }
 
 -- who resolves so does not copy
-follows_uncounted : (c : Config) (u : World) (seat a : ℕ) (at : ResolveSpot) → CanFollow c u seat a at → is_copier at ≡ false
-follows_uncounted c u seat a LoadHeader can = refl
-follows_uncounted c u seat a (Resolved answer) can = refl
-follows_uncounted c u seat a (Entering at) can = absurd can.facts
-follows_uncounted c u seat a LoadShape can = absurd can.facts
-follows_uncounted c u seat a (Taking words at) can = absurd can.facts
-follows_uncounted c u seat a (Copying copy end at) can = absurd can.facts
-follows_uncounted c u seat a (Leaving answer) can = absurd can.facts
-follows_uncounted c u seat a (Stopping at) can = absurd can.facts
-follows_uncounted c u seat a LoadAgain can = absurd can.facts
+follows_uncounted : (config : Config) (world : World) (seat a : ℕ) (at : ResolveSpot) → CanFollow config world seat a at → is_copier at ≡ false
+follows_uncounted config world seat a LoadHeader can = refl
+follows_uncounted config world seat a (Resolved answer) can = refl
+follows_uncounted config world seat a (Entering at) can = absurd can.facts
+follows_uncounted config world seat a LoadShape can = absurd can.facts
+follows_uncounted config world seat a (Taking words at) can = absurd can.facts
+follows_uncounted config world seat a (Copying copy end at) can = absurd can.facts
+follows_uncounted config world seat a (Leaving answer) can = absurd can.facts
+follows_uncounted config world seat a (Stopping at) can = absurd can.facts
+follows_uncounted config world seat a LoadAgain can = absurd can.facts
 
 -- and makes loads alone
-follows_loads : (c : Config) (u : World) (seat a : ℕ) (at : ResolveSpot) → CanFollow c u seat a at → (touch_at c seat a at).form ≡ loads
-follows_loads c u seat a LoadHeader can = refl
-follows_loads c u seat a (Resolved answer) can = refl
-follows_loads c u seat a (Entering at) can = absurd can.facts
-follows_loads c u seat a LoadShape can = absurd can.facts
-follows_loads c u seat a (Taking words at) can = absurd can.facts
-follows_loads c u seat a (Copying copy end at) can = absurd can.facts
-follows_loads c u seat a (Leaving answer) can = absurd can.facts
-follows_loads c u seat a (Stopping at) can = absurd can.facts
-follows_loads c u seat a LoadAgain can = absurd can.facts
+follows_loads : (config : Config) (world : World) (seat a : ℕ) (at : ResolveSpot) → CanFollow config world seat a at → (touch_at config seat a at).form ≡ loads
+follows_loads config world seat a LoadHeader can = refl
+follows_loads config world seat a (Resolved answer) can = refl
+follows_loads config world seat a (Entering at) can = absurd can.facts
+follows_loads config world seat a LoadShape can = absurd can.facts
+follows_loads config world seat a (Taking words at) can = absurd can.facts
+follows_loads config world seat a (Copying copy end at) can = absurd can.facts
+follows_loads config world seat a (Leaving answer) can = absurd can.facts
+follows_loads config world seat a (Stopping at) can = absurd can.facts
+follows_loads config world seat a LoadAgain can = absurd can.facts
 
 -- what the steps of such a resolving owe
 pub following_steps : FollowingSteps

@@ -23,107 +23,107 @@ use Rattle.cycle_steps.proofs.Updating.Pieces.{limit_short, tams_short, piece_sh
 use Rattle.cycle_steps.proofs.Updating.UnitSteps.{spot_then, each_updates}
 
 -- a word of the heap is one by test
-word_there : (c : Config) (a : ℕ) → IsWord c (Heap a) → is_word c (Heap a) ≡ true
-word_there c a is = and_from _ _ (le-leb _ _ is.0) (lt-ltb _ _ is.1)
+word_there : (config : Config) (address : ℕ) → IsWord config (Heap address) → is_word config (Heap address) ≡ true
+word_there config address is = and_from _ _ (le-leb _ _ is.0) (lt-ltb _ _ is.1)
 
-module _ (c : Config) (u : World) (shared : Shared c u) (on : u.memory Phase ≡ 3) where
+module _ (config : Config) (world : World) (shared : Shared config world) (on : world.memory Phase ≡ 3) where
   -- a word of a piece is one of the heap
-  piece_heap : (a at : ℕ) (x : Block) → u.block a ≡ Some x → a ≤ at → at < a + words_of x → IsWord c (Heap at)
-  piece_heap a at x is from to =
-      let inside = piece_inside c (λ r. u.memory (Top r)) u.block shared.parsable.plotted a x is in
+  piece_heap : (address at : ℕ) (piece : Block) → world.block address ≡ Some piece → address ≤ at → at < address + words_of piece → IsWord config (Heap at)
+  piece_heap address at piece is from to =
+      let inside = piece_inside config (λ r. world.memory (Top r)) world.block shared.parsable.plotted address piece is in
       (omega (arith, inside.0, from), omega (arith, inside.1, to))
 
   -- so is one of a piece with a shape word, up to its last reference
-  shape_heap : (a shape k : ℕ) → HasShape u a shape → k < 3 + refs_in shape → IsWord c (Heap (a + k))
-  shape_heap a shape k has below =
-      let piece = shape_words c u shared on a shape has in
-      piece_heap a (a + k) piece.0 piece.1 (omega arith) (let long = piece.2 in omega (arith, below, long))
+  shape_heap : (address shape k : ℕ) → HasShape world address shape → k < 3 + refs_in shape → IsWord config (Heap (address + k))
+  shape_heap address shape k has below =
+      let piece = shape_words config world shared on address shape has in
+      piece_heap address (address + k) piece.0 piece.1 (omega arith) (let long = piece.2 in omega (arith, below, long))
 
   -- the first word of what a walk comes to
-  any_heap : (a : ℕ) → HasPiece u a → IsWord c (Heap a)
-  any_heap a (inl piece) = subst (λ x. IsWord c (Heap x)) (omega arith) (shape_heap a (u.memory (Heap (a + 1))) 0 (piece_shape c u shared on a piece) (omega arith))
-  any_heap a (inr fills) = piece_heap a a (filler fills.0) fills.1 (omega arith) (let some = shared.parsable.fillers a fills.0 fills.1 in omega (arith, some))
+  any_heap : (address : ℕ) → HasPiece world address → IsWord config (Heap address)
+  any_heap address (inl piece) = subst (λ x. IsWord config (Heap x)) (omega arith) (shape_heap address (world.memory (Heap (address + 1))) 0 (piece_shape config world shared on address piece) (omega arith))
+  any_heap address (inr fills) = piece_heap address address (filler fills.0) fills.1 (omega arith) (let some = shared.parsable.fillers address fills.0 fills.1 in omega (arith, some))
 
   -- the numbers of a walk are in range
-  walk_there : (walk : Walk) (address : ℕ) → HasComeTo c u walk address → walk_fits c walk ≡ true
+  walk_there : (walk : Walk) (address : ℕ) → HasComeTo config world walk address → walk_fits config walk ≡ true
   walk_there walk address walked =
       let within = walked.unit.0 in
       let limit_is = walked.limit_is in
       let tams_is = walked.tams_is in
-      let short = limit_short c u shared on walk.region within in
-      let low = tams_short c u shared on walk.region within in
-      and_from _ _ (lt-ltb _ _ within) (and_from _ _ (le-leb walk.limit c.region_words (omega (arith, limit_is, short))) (le-leb walk.tams c.region_words (omega (arith, tams_is, low))))
+      let short = limit_short config world shared on walk.region within in
+      let low = tams_short config world shared on walk.region within in
+      and_from _ _ (lt-ltb _ _ within) (and_from _ _ (le-leb walk.limit config.region_words (omega (arith, limit_is, short))) (le-leb walk.tams config.region_words (omega (arith, tams_is, low))))
 
   -- so are those of an object
-  visit_there : (at : Visit) → HasComeTo c u at.walk at.address → HasShape u at.address at.shape → visit_fits c at ≡ true
+  visit_there : (at : Visit) → HasComeTo config world at.walk at.address → HasShape world at.address at.shape → visit_fits config at ≡ true
   visit_there at walked has =
-      let first : IsWord c (Heap at.address) = subst (λ a. IsWord c (Heap a)) (omega arith) (shape_heap at.address at.shape 0 has (omega arith)) in
-      let last : IsWord c (Heap (at.address + 2 + refs_in at.shape)) = subst (λ a. IsWord c (Heap a)) (omega arith) (shape_heap at.address at.shape (2 + refs_in at.shape) has (omega arith)) in
-      and_from _ _ (walk_there at.walk at.address walked) (and_from _ _ (word_there c at.address first) (word_there c (at.address + 2 + refs_in at.shape) last))
+      let first : IsWord config (Heap at.address) = subst (λ a. IsWord config (Heap a)) (omega arith) (shape_heap at.address at.shape 0 has (omega arith)) in
+      let last : IsWord config (Heap (at.address + 2 + refs_in at.shape)) = subst (λ a. IsWord config (Heap a)) (omega arith) (shape_heap at.address at.shape (2 + refs_in at.shape) has (omega arith)) in
+      and_from _ _ (walk_there at.walk at.address walked) (and_from _ _ (word_there config at.address first) (word_there config (at.address + 2 + refs_in at.shape) last))
 
   -- and those of one with a reference
-  field_there : (at : Visit) (field : ℕ) → HasField c u at field → has_field c at field ≡ true
+  field_there : (at : Visit) (field : ℕ) → HasField config world at field → has_field config at field ≡ true
   field_there at field has = and_from _ _ (visit_there at has.walked (inl (has.alive, has.shape_is))) (lt-ltb _ _ has.below)
 
   -- the word of a reference
-  field_heap : (at : Visit) (field : ℕ) → HasField c u at field → IsWord c (Heap (at.address + 3 + field))
+  field_heap : (at : Visit) (field : ℕ) → HasField config world at field → IsWord config (Heap (at.address + 3 + field))
   field_heap at field has =
       let below = has.below in
-      subst (λ a. IsWord c (Heap a)) (omega arith) (shape_heap at.address at.shape (3 + field) (inl (has.alive, has.shape_is)) (omega (arith, below)))
+      subst (λ a. IsWord config (Heap a)) (omega arith) (shape_heap at.address at.shape (3 + field) (inl (has.alive, has.shape_is)) (omega (arith, below)))
 
   -- the header of an old copy
-  found_heap : (found refs nums to : ℕ) (name : Name) → u.block found ≡ Some (moved name refs nums to) → IsWord c (Heap found)
+  found_heap : (found refs nums to : ℕ) (name : Name) → world.block found ≡ Some (moved name refs nums to) → IsWord config (Heap found)
   found_heap found refs nums to name is = piece_heap found found (moved name refs nums to) is (omega arith) (omega arith)
 
   -- the numbers of the spot are in range
-  pub ready_there : (at : UpdateSpot) → UpdateFacts c u at → is_ready c at ≡ true
+  pub ready_there : (at : UpdateSpot) → UpdateFacts config world at → is_ready config at ≡ true
   ready_there LoadClaim facts = refl
   ready_there (ClaimUnit unit) facts = lt-ltb _ _ facts
   ready_there (LoadLimit region) facts = lt-ltb _ _ facts.0
   ready_there (LoadTams region limit) facts =
       let limit_is = facts.1 in
-      let short = limit_short c u shared on region facts.0.0 in
-      and_from _ _ (lt-ltb _ _ facts.0.0) (le-leb limit c.region_words (omega (arith, limit_is, short)))
-  ready_there (LoadFirst walk address) facts = and_from _ _ (walk_there walk address facts.0) (word_there c address (any_heap address facts.1))
+      let short = limit_short config world shared on region facts.0.0 in
+      and_from _ _ (lt-ltb _ _ facts.0.0) (le-leb limit config.region_words (omega (arith, limit_is, short)))
+  ready_there (LoadFirst walk address) facts = and_from _ _ (walk_there walk address facts.0) (word_there config address (any_heap address facts.1))
   ready_there (LoadShape walk address) facts =
-      let has = piece_shape c u shared on address facts.1 in
-      let first : IsWord c (Heap address) = subst (λ a. IsWord c (Heap a)) (omega arith) (shape_heap address (u.memory (Heap (address + 1))) 0 has (omega arith)) in
-      and_from _ _ (walk_there walk address facts.0) (and_from _ _ (word_there c address first) (word_there c (address + 1) (shape_heap address (u.memory (Heap (address + 1))) 1 has (omega arith))))
+      let has = piece_shape config world shared on address facts.1 in
+      let first : IsWord config (Heap address) = subst (λ a. IsWord config (Heap a)) (omega arith) (shape_heap address (world.memory (Heap (address + 1))) 0 has (omega arith)) in
+      and_from _ _ (walk_there walk address facts.0) (and_from _ _ (word_there config address first) (word_there config (address + 1) (shape_heap address (world.memory (Heap (address + 1))) 1 has (omega arith))))
   ready_there (LoadBlack at) facts = visit_there at facts.0 facts.1
   ready_there (LoadField at field) facts = field_there at field facts
-  ready_there (LoadHeader at field found) facts = and_from _ _ (field_there at field facts.0) (word_there c found (found_heap found facts.1.1.refs facts.1.1.nums facts.1.0 facts.1.1.name facts.1.1.old))
+  ready_there (LoadHeader at field found) facts = and_from _ _ (field_there at field facts.0) (word_there config found (found_heap found facts.1.1.refs facts.1.1.nums facts.1.0 facts.1.1.name facts.1.1.old))
   ready_there (ExchangeField at field found copy) facts = field_there at field facts.0
   ready_there (Ended unit) facts = refl
 
   -- the next access is of the table
-  pub update_inside : (at : UpdateSpot) → UpdateFacts c u at → IsWord c (touch_at c at).word
+  pub update_inside : (at : UpdateSpot) → UpdateFacts config world at → IsWord config (touch_at config at).word
   update_inside LoadClaim facts = tt
   update_inside (ClaimUnit unit) facts = tt
   update_inside (LoadLimit region) facts = facts.0
   update_inside (LoadTams region limit) facts = facts.0.0
   update_inside (LoadFirst walk address) facts = any_heap address facts.1
-  update_inside (LoadShape walk address) facts = shape_heap address (u.memory (Heap (address + 1))) 1 (piece_shape c u shared on address facts.1) (omega arith)
-  update_inside (LoadBlack at) facts = word_inside c at.address (subst (λ a. IsWord c (Heap a)) (omega arith) (shape_heap at.address at.shape 0 facts.1 (omega arith)))
+  update_inside (LoadShape walk address) facts = shape_heap address (world.memory (Heap (address + 1))) 1 (piece_shape config world shared on address facts.1) (omega arith)
+  update_inside (LoadBlack at) facts = word_inside config at.address (subst (λ a. IsWord config (Heap a)) (omega arith) (shape_heap at.address at.shape 0 facts.1 (omega arith)))
   update_inside (LoadField at field) facts = field_heap at field facts
   update_inside (LoadHeader at field found) facts = found_heap found facts.1.1.refs facts.1.1.nums facts.1.0 facts.1.1.name facts.1.1.old
   update_inside (ExchangeField at field found copy) facts = field_heap at field facts.0
   update_inside (Ended unit) facts = tt
 
   -- of the words of copies in the collection set none is accessed by more than loads, for the objects of a unit lie outside
-  pub update_spares : (at : UpdateSpot) (d k : ℕ) (b : Body) → UpdateFacts c u at → body_at (u.block d) ≡ Some b → IsCollected c (u.memory Cset) d → k < body_words b → (touch_at c at).word ≡ Heap (d + k)
-      → (touch_at c at).form ≡ loads
-  update_spares (ClaimUnit unit) d k b facts is inside below word = absurd (cc (word))
-  update_spares (ExchangeField at field found copy) d k b facts is inside below word =
-      let same : at.address + 3 + field ≡ d + k = cc in
+  pub update_spares : (at : UpdateSpot) (address k : ℕ) (body : Body) → UpdateFacts config world at → body_at (world.block address) ≡ Some body → IsCollected config (world.memory Cset) address → k < body_words body → (touch_at config at).word ≡ Heap (address + k)
+      → (touch_at config at).form ≡ loads
+  update_spares (ClaimUnit unit) address k body facts is inside below word = absurd (cc (word))
+  update_spares (ExchangeField at field found copy) address k body facts is inside below word =
+      let same : at.address + 3 + field ≡ address + k = cc in
       let has = facts.0 in
       let holder = facts.1.holder in
-      let piece = shape_words c u shared on at.address at.shape (inl (has.alive, has.shape_is)) in
-      let copied = body_piece (u.block d) b is in
+      let piece = shape_words config world shared on at.address at.shape (inl (has.alive, has.shape_is)) in
+      let copied = body_piece (world.block address) body is in
       let less = has.below in
-      let here : at.address ≡ d = one_piece c (λ r. u.memory (Top r)) u.block shared.parsable.plotted at.address d (at.address + 3 + field) piece.0 copied.0 piece.1 copied.1
+      let here : at.address ≡ address = one_piece config (λ r. world.memory (Top r)) world.block shared.parsable.plotted at.address address (at.address + 3 + field) piece.0 copied.0 piece.1 copied.1
       (omega arith) (let long = piece.2 in omega (arith, long, less)) (omega (arith, same)) (let long = copied.2 in omega (arith, same, long, below)) in
-      absurd ((shared.updated on).outside at.address holder.1 holder.2 holder.0 holder.3 (subst (λ a. IsCollected c (u.memory Cset) a) (sym here) inside))
-  update_spares _ d k b facts is inside below word = refl
+      absurd ((shared.updated on).outside at.address holder.1 holder.2 holder.0 holder.3 (subst (λ a. IsCollected config (world.memory Cset) a) (sym here) inside))
+  update_spares _ address k body facts is inside below word = refl
 
 -- what the steps owe
 pub updating_steps : UpdatingSteps

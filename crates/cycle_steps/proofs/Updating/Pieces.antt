@@ -25,116 +25,116 @@ use Rattle.cycle_steps.specs.Updating.Facts.{IsUnit, HasComeTo, IsPiece, HasPiec
 shaped : (refs nums : ℕ) → refs ≤ 16 → nums ≤ 16 → object_words (shape_word refs nums) ≡ 3 + refs + nums
 shaped refs nums few_refs few_nums = omega arith
 
-module _ (c : Config) (w : World) (shared : Shared c w) (on : w.memory Phase ≡ 3) where
+module _ (config : Config) (world : World) (shared : Shared config world) (on : world.memory Phase ≡ 3) where
   -- a limit is no more than the top, and so not past the region
-  pub limit_short : (region : ℕ) → region < c.regions → w.memory (Limit region) ≤ c.region_words
+  pub limit_short : (region : ℕ) → region < config.regions → world.memory (Limit region) ≤ config.region_words
   limit_short region within =
       let low = (shared.updated on).limits region within in
       let most = shared.parsable.plotted.tops region within in
       omega (arith, low, most)
 
   -- nor is the top at mark start
-  pub tams_short : (region : ℕ) → region < c.regions → w.memory (Tams region) ≤ c.region_words
+  pub tams_short : (region : ℕ) → region < config.regions → world.memory (Tams region) ≤ config.region_words
   tams_short region within =
       let low = (shared.evacuated.kept (omega (arith, on))).floors region within in
       let most = shared.parsable.plotted.tops region within in
       omega (arith, low, most)
 
   -- a walk stays in its region
-  pub walked_region : (walk : Walk) (address : ℕ) → HasComeTo c w walk address → region_with c address ≡ walk.region
+  pub walked_region : (walk : Walk) (address : ℕ) → HasComeTo config world walk address → region_with config address ≡ walk.region
   walked_region walk address walked =
       let less = walked.before in
       let limit_is = walked.limit_is in
       let short = limit_short walk.region walked.unit.0 in
-      region_is c walk.region address walked.from_base (omega (arith, less, limit_is, short))
+      region_is config walk.region address walked.from_base (omega (arith, less, limit_is, short))
 
   -- no piece of a unit below its limit is room
-  no_room_below : (region a seat : ℕ) (x : Block) → region_with c a ≡ region → a < base_of c region + w.memory (Limit region) → w.block a ≡ Some x → room_of x ≡ Some seat → ⊥
-  no_room_below region a seat x here below is room =
-      let young : base_of c region + w.memory (Limit region) ≤ a = subst (λ r. base_of c r + w.memory (Limit r) ≤ a) here ((shared.updated on).young a seat x is room) in
+  no_room_below : (region address seat : ℕ) (piece : Block) → region_with config address ≡ region → address < base_of config region + world.memory (Limit region) → world.block address ≡ Some piece → room_of piece ≡ Some seat → ⊥
+  no_room_below region address seat piece here below is room =
+      let young : base_of config region + world.memory (Limit region) ≤ address = subst (λ r. base_of config r + world.memory (Limit r) ≤ address) here ((shared.updated on).young address seat piece is room) in
       omega (arith, below, young)
 
   -- it is an object, a promised one, or a dead one, or only fills
-  pub piece_of_unit : (region a : ℕ) (x : Block) → IsUnit c w region → region_with c a ≡ region → a < base_of c region + w.memory (Limit region) → w.block a ≡ Some x → HasPiece w a
-  piece_of_unit region a (thing name refs nums) unit here below is = inl (inl (IsMarkable.object name refs nums is))
-  piece_of_unit region a (moved name refs nums to) unit here below is =
-      absurd (unit.1 (subst (λ r. IsIn (w.memory Cset) r) here (shared.evacuated.moved.moveds a refs nums to name is).inside))
-  piece_of_unit region a (spent words to) unit here below is =
-      absurd (unit.1 (subst (λ r. IsIn (w.memory Cset) r) here (shared.evacuated.moved.spents a words to is).inside))
-  piece_of_unit region a (hand seat words) unit here below is = absurd (no_room_below region a seat (hand seat words) here below is refl)
-  piece_of_unit region a (promised seat words) unit here below is = inl (inl (IsMarkable.to_come seat words is))
-  piece_of_unit region a (dead words) unit here below is = inl (inr (words, is))
-  piece_of_unit region a (filler words) unit here below is = inr (words, is)
-  piece_of_unit region a (spare seat words) unit here below is = absurd (no_room_below region a seat (spare seat words) here below is refl)
-  piece_of_unit region a (carved seat words) unit here below is = absurd (no_room_below region a seat (carved seat words) here below is refl)
+  pub piece_of_unit : (region address : ℕ) (piece : Block) → IsUnit config world region → region_with config address ≡ region → address < base_of config region + world.memory (Limit region) → world.block address ≡ Some piece → HasPiece world address
+  piece_of_unit region address (thing name refs nums) unit here below is = inl (inl (IsMarkable.object name refs nums is))
+  piece_of_unit region address (moved name refs nums to) unit here below is =
+      absurd (unit.1 (subst (λ r. IsIn (world.memory Cset) r) here (shared.evacuated.moved.moveds address refs nums to name is).inside))
+  piece_of_unit region address (spent words to) unit here below is =
+      absurd (unit.1 (subst (λ r. IsIn (world.memory Cset) r) here (shared.evacuated.moved.spents address words to is).inside))
+  piece_of_unit region address (hand seat words) unit here below is = absurd (no_room_below region address seat (hand seat words) here below is refl)
+  piece_of_unit region address (promised seat words) unit here below is = inl (inl (IsMarkable.to_come seat words is))
+  piece_of_unit region address (dead words) unit here below is = inl (inr (words, is))
+  piece_of_unit region address (filler words) unit here below is = inr (words, is)
+  piece_of_unit region address (spare seat words) unit here below is = absurd (no_room_below region address seat (spare seat words) here below is refl)
+  piece_of_unit region address (carved seat words) unit here below is = absurd (no_room_below region address seat (carved seat words) here below is refl)
 
   -- a walk comes to a piece below the limit
-  pub walks_to : (walk : Walk) (address : ℕ) (x : Block) → IsUnit c w walk.region → walk.limit ≡ w.memory (Limit walk.region) → walk.tams ≡ w.memory (Tams walk.region)
-      → base_of c walk.region ≤ address → address < limit_of c walk → w.block address ≡ Some x → HasComeTo c w walk address × HasPiece w address
-  walks_to walk address x unit limit_is tams_is from_base before there =
-      let walked : HasComeTo c w walk address = record { unit = unit; limit_is = limit_is; tams_is = tams_is; from_base = from_base; before = before } in
-      (walked, piece_of_unit walk.region address x unit (walked_region walk address walked) (omega (arith, before, limit_is)) there)
+  pub walks_to : (walk : Walk) (address : ℕ) (piece : Block) → IsUnit config world walk.region → walk.limit ≡ world.memory (Limit walk.region) → walk.tams ≡ world.memory (Tams walk.region)
+      → base_of config walk.region ≤ address → address < limit_of config walk → world.block address ≡ Some piece → HasComeTo config world walk address × HasPiece world address
+  walks_to walk address piece unit limit_is tams_is from_base before there =
+      let walked : HasComeTo config world walk address = record { unit = unit; limit_is = limit_is; tams_is = tams_is; from_base = from_base; before = before } in
+      (walked, piece_of_unit walk.region address piece unit (walked_region walk address walked) (omega (arith, before, limit_is)) there)
 
   -- behind a piece of a walk there is another one, if the limit is not reached
-  pub walks_on : (walk : Walk) (address : ℕ) (x : Block) → HasComeTo c w walk address → w.block address ≡ Some x → address + words_of x < limit_of c walk
-      → HasComeTo c w walk (address + words_of x) × HasPiece w (address + words_of x)
-  walks_on walk address x walked there less =
+  pub walks_on : (walk : Walk) (address : ℕ) (piece : Block) → HasComeTo config world walk address → world.block address ≡ Some piece → address + words_of piece < limit_of config walk
+      → HasComeTo config world walk (address + words_of piece) × HasPiece world (address + words_of piece)
+  walks_on walk address piece walked there less =
       let limit_is = walked.limit_is in
       let low = (shared.updated on).limits walk.region walked.unit.0 in
-      let next = shared.parsable.filled.next walk.region address x walked.unit.0 walked.from_base there (omega (arith, less, limit_is, low)) in
-      walks_to walk (address + words_of x) next.0 walked.unit walked.limit_is walked.tams_is (let from = walked.from_base in omega (arith, from)) less next.1
+      let next = shared.parsable.filled.next walk.region address piece walked.unit.0 walked.from_base there (omega (arith, less, limit_is, low)) in
+      walks_to walk (address + words_of piece) next.0 walked.unit walked.limit_is walked.tams_is (let from = walked.from_base in omega (arith, from)) less next.1
 
   -- the header of a piece is none of words that only fill
-  pub piece_header : (a : ℕ) → IsPiece w a → filler_words_in (w.memory (Heap a)) ≡ None
-  piece_header a (inl (IsMarkable.object name refs nums is)) = ap filler_words_in (shared.contents.objects.each a refs nums name is).2.header
-  piece_header a (inl (IsMarkable.to_come seat words is)) = ap filler_words_in (shared.unwritten.blanks a seat words is).header
-  piece_header a (inr fills) = ap filler_words_in (shared.unwritten.headers a fills.0 fills.1)
+  pub piece_header : (address : ℕ) → IsPiece world address → filler_words_in (world.memory (Heap address)) ≡ None
+  piece_header address (inl (IsMarkable.object name refs nums is)) = ap filler_words_in (shared.contents.objects.each address refs nums name is).2.header
+  piece_header address (inl (IsMarkable.to_come seat words is)) = ap filler_words_in (shared.unwritten.blanks address seat words is).header
+  piece_header address (inr fills) = ap filler_words_in (shared.unwritten.headers address fills.0 fills.1)
 
   -- and that of such words tells how many they are
-  pub filler_tells : (a words : ℕ) → w.block a ≡ Some (filler words) → filler_words_in (w.memory (Heap a)) ≡ Some words
-  filler_tells a words is = filler_fills (w.memory (Heap a)) words (shared.unwritten.fillers a words is)
+  pub filler_tells : (address words : ℕ) → world.block address ≡ Some (filler words) → filler_words_in (world.memory (Heap address)) ≡ Some words
+  filler_tells address words is = filler_fills (world.memory (Heap address)) words (shared.unwritten.fillers address words is)
 
   -- the shape word of a piece
-  pub piece_shape : (a : ℕ) → IsPiece w a → HasShape w a (w.memory (Heap (a + 1)))
-  piece_shape a (inl alive) = inl (alive, refl)
-  piece_shape a (inr fills) = inr (fills.0, fills.1, shared.unwritten.lengths a fills.0 fills.1)
+  pub piece_shape : (address : ℕ) → IsPiece world address → HasShape world address (world.memory (Heap (address + 1)))
+  piece_shape address (inl alive) = inl (alive, refl)
+  piece_shape address (inr fills) = inr (fills.0, fills.1, shared.unwritten.lengths address fills.0 fills.1)
 
   -- says how many words it has
-  pub shape_words : (a shape : ℕ) → HasShape w a shape → (x : Block) × (w.block a ≡ Some x) × (object_words shape ≡ words_of x)
-  shape_words a shape (inl (IsMarkable.object name refs nums is, same)) =
-      let there = (shared.contents.objects.each a refs nums name is).2 in
+  pub shape_words : (address shape : ℕ) → HasShape world address shape → (piece : Block) × (world.block address ≡ Some piece) × (object_words shape ≡ words_of piece)
+  shape_words address shape (inl (IsMarkable.object name refs nums is, same)) =
+      let there = (shared.contents.objects.each address refs nums name is).2 in
       (thing name refs nums, is, ap object_words (same ∙ there.shape) ∙ shaped refs nums there.few_refs there.few_nums)
-  shape_words a shape (inl (IsMarkable.to_come seat words is, same)) =
-      let blank = shared.unwritten.blanks a seat words is in
+  shape_words address shape (inl (IsMarkable.to_come seat words is, same)) =
+      let blank = shared.unwritten.blanks address seat words is in
       (promised seat words, is, ap object_words (same ∙ blank.shape) ∙ shaped blank.refs blank.nums blank.few_refs blank.few_nums ∙ sym blank.long)
-  shape_words a shape (inr fills) = (dead fills.0, fills.1, fills.2)
+  shape_words address shape (inr fills) = (dead fills.0, fills.1, fills.2)
 
   -- and that of an object how many references
-  pub shape_refs : (a shape refs nums : ℕ) (name : Name) → w.block a ≡ Some (thing name refs nums) → HasShape w a shape → refs_in shape ≡ refs
-  shape_refs a shape refs nums name is (inl object) =
-      let there = (shared.contents.objects.each a refs nums name is).2 in
+  pub shape_refs : (address shape refs nums : ℕ) (name : Name) → world.block address ≡ Some (thing name refs nums) → HasShape world address shape → refs_in shape ≡ refs
+  shape_refs address shape refs nums name is (inl object) =
+      let there = (shared.contents.objects.each address refs nums name is).2 in
       ap refs_in (object.1 ∙ there.shape) ∙ refs_in-shape_word refs nums there.few_refs there.few_nums
-  shape_refs a shape refs nums name is (inr fills) = (let both : Some (dead fills.0) ≡ Some (thing name refs nums) = sym fills.1 ∙ is in absurd (cc (both)))
+  shape_refs address shape refs nums name is (inr fills) = (let both : Some (dead fills.0) ≡ Some (thing name refs nums) = sym fills.1 ∙ is in absurd (cc (both)))
 
   -- a word that stands for a reference, of an object of the graph, is current, or an old copy's address
-  reference_word : (at : Visit) (field : ℕ) (name : Name) (refs nums : ℕ) → w.block at.address ≡ Some (thing name refs nums) → (r : Reference) → Points w.block (w.memory (Heap (at.address + 3 + field))) r
-      → IsCurrent w.block (w.memory (Heap (at.address + 3 + field))) ⊎ ((to : ℕ) × HasFound w at field (w.memory (Heap (at.address + 3 + field))) to)
+  reference_word : (at : Visit) (field : ℕ) (name : Name) (refs nums : ℕ) → world.block at.address ≡ Some (thing name refs nums) → (reference : Reference) → Points world.block (world.memory (Heap (at.address + 3 + field))) reference
+      → IsCurrent world.block (world.memory (Heap (at.address + 3 + field))) ⊎ ((to : ℕ) × HasFound world at field (world.memory (Heap (at.address + 3 + field))) to)
   reference_word at field name refs nums there None points = inl (IsCurrent.null points)
   reference_word at field name refs nums there (Some n) points =
-      let word : ℕ = w.memory (Heap (at.address + 3 + field)) in
-      let body = named_body (w.block word) n points in
+      let word : ℕ = world.memory (Heap (at.address + 3 + field)) in
+      let body = named_body (world.block word) n points in
       ⊎_elim
-      (λ (now : w.block word ≡ Some (thing n body.0 body.1)). inl (IsCurrent.names body.0 body.1 n now))
-      (λ (was : (to : ℕ) × (w.block word ≡ Some (moved n body.0 body.1 to))).
+      (λ (now : world.block word ≡ Some (thing n body.0 body.1)). inl (IsCurrent.names body.0 body.1 n now))
+      (λ (was : (to : ℕ) × (world.block word ≡ Some (moved n body.0 body.1 to))).
       inr (was.0, record { holder = (name, refs, nums, there); refs = body.0; nums = body.1; name = n; old = was.1; still = inl refl }))
-      (copy_cases (w.block word) (body_of n body.0 body.1) body.2)
+      (copy_cases (world.block word) (body_of n body.0 body.1) body.2)
 
   -- so is each reference to which a walk comes
-  pub field_word : (at : Visit) (field : ℕ) → HasField c w at field
-      → IsCurrent w.block (w.memory (Heap (at.address + 3 + field))) ⊎ ((to : ℕ) × HasFound w at field (w.memory (Heap (at.address + 3 + field))) to)
+  pub field_word : (at : Visit) (field : ℕ) → HasField config world at field
+      → IsCurrent world.block (world.memory (Heap (at.address + 3 + field))) ⊎ ((to : ℕ) × HasFound world at field (world.memory (Heap (at.address + 3 + field))) to)
   field_word at field has = by_object has.alive
     where
-      by_object : IsMarkable w.block at.address → IsCurrent w.block (w.memory (Heap (at.address + 3 + field))) ⊎ ((to : ℕ) × HasFound w at field (w.memory (Heap (at.address + 3 + field))) to)
+      by_object : IsMarkable world.block at.address → IsCurrent world.block (world.memory (Heap (at.address + 3 + field))) ⊎ ((to : ℕ) × HasFound world at field (world.memory (Heap (at.address + 3 + field))) to)
       by_object (IsMarkable.object name refs nums is) =
           let of_graph = shared.contents.objects.each at.address refs nums name is in
           let there = of_graph.2 in
@@ -147,17 +147,17 @@ module _ (c : Config) (w : World) (shared : Shared c w) (on : w.memory Phase ≡
           inl (IsCurrent.null (blank.nulls field (let below = has.below in omega (arith, below, all))))
 
   -- a word that is current does not name the set
-  pub current_names_none : (v : ℕ) → IsCurrent w.block v → names_set c (w.memory Cset) v ≡ false
-  current_names_none v (IsCurrent.null is) =
-      let some = c.in_range.least_words in
-      and_left (is_word c (Heap v)) _ (grind (arith, nat_tests, is, some))
-  current_names_none v (IsCurrent.names refs nums name is) = and_right (is_word c (Heap v)) _ (⊎_elim
-      (λ (inside : (bit_at (w.memory Cset) (region_with c v) == 1) ≡ true). absurd ((shared.updated on).outside v refs nums name is (eqb-true _ _ inside)))
-      (λ (outside : (bit_at (w.memory Cset) (region_with c v) == 1) ≡ false). outside)
-      (cases_Bool (bit_at (w.memory Cset) (region_with c v) == 1)))
+  pub current_names_none : (address : ℕ) → IsCurrent world.block address → names_set config (world.memory Cset) address ≡ false
+  current_names_none address (IsCurrent.null is) =
+      let some = config.in_range.least_words in
+      and_left (is_word config (Heap address)) _ (grind (arith, nat_tests, is, some))
+  current_names_none address (IsCurrent.names refs nums name is) = and_right (is_word config (Heap address)) _ (⊎_elim
+      (λ (inside : (bit_at (world.memory Cset) (region_with config address) == 1) ≡ true). absurd ((shared.updated on).outside address refs nums name is (eqb-true _ _ inside)))
+      (λ (outside : (bit_at (world.memory Cset) (region_with config address) == 1) ≡ false). outside)
+      (cases_Bool (bit_at (world.memory Cset) (region_with config address) == 1)))
 
   -- and an address of an old copy does
-  pub old_names_set : (v refs nums to : ℕ) (name : Name) → w.block v ≡ Some (moved name refs nums to) → names_set c (w.memory Cset) v ≡ true
-  old_names_set v refs nums to name is = and_from (is_word c (Heap v)) (bit_at (w.memory Cset) (region_with c v) == 1)
-      (ap (λ a. is_word c (Heap a)) (omega arith) ∙ piece_word c (λ r. w.memory (Top r)) w.block shared.parsable.plotted v 0 (moved name refs nums to) is (omega arith))
-      (eq-eqb _ _ (shared.evacuated.moved.moveds v refs nums to name is).inside)
+  pub old_names_set : (address refs nums to : ℕ) (name : Name) → world.block address ≡ Some (moved name refs nums to) → names_set config (world.memory Cset) address ≡ true
+  old_names_set address refs nums to name is = and_from (is_word config (Heap address)) (bit_at (world.memory Cset) (region_with config address) == 1)
+      (ap (λ a. is_word config (Heap a)) (omega arith) ∙ piece_word config (λ r. world.memory (Top r)) world.block shared.parsable.plotted address 0 (moved name refs nums to) is (omega arith))
+      (eq-eqb _ _ (shared.evacuated.moved.moveds address refs nums to name is).inside)

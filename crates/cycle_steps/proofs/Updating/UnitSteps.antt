@@ -32,11 +32,11 @@ use Rattle.cycle_steps.proofs.Updating.Stored.{renewed_world, shared_renewed, re
 
 -- where a machine stands after a step
 abbrev pub spot_then : Config → World → ℕ → UpdateSpot → UpdateSpot
-spot_then c u cset at = next_at c cset at (u.memory (touch_at c at).word)
+spot_then config world cset at = next_at config cset at (world.memory (touch_at config at).word)
 
 -- what a step of a machine that updates owes
 abbrev pub UpdateStep : Config → World → ℕ → ℕ → UpdateSpot → Type 0
-UpdateStep c u seat cset at = PartStep c u seat (touch_at c at) (λ w. CanUpdate c w seat cset (spot_then c u cset at))
+UpdateStep config world seat cset at = PartStep config world seat (touch_at config at) (λ w. CanUpdate config w seat cset (spot_then config world cset at))
 
 -- a place of a unit
 abbrev stand : ℕ → ℕ → Scan
@@ -44,11 +44,11 @@ stand object field = record { object = object; field = field }
 
 -- each field to which a machine comes from where it stands it comes to from another stand, in a world, or the field is current
 abbrev IsPassedIn : Config → World → (from to : Option Scan) → Type 0
-IsPassedIn c w from to = IsPassed c (λ r. w.memory (Limit r)) (λ a. w.memory (Heap a)) w.block from to
+IsPassedIn config world from to = IsPassed config (λ r. world.memory (Limit r)) (λ a. world.memory (Heap a)) world.block from to
 
 -- the base of a region is of the region
-base_region : (c : Config) (region : ℕ) → region_with c (base_of c region) ≡ region
-base_region c region = region_is c region (base_of c region) (omega arith) (let some = c.in_range.least_words in omega (arith, some))
+base_region : (config : Config) (region : ℕ) → region_with config (base_of config region) ≡ region
+base_region config region = region_is config region (base_of config region) (omega arith) (let some = config.in_range.least_words in omega (arith, some))
 
 -- a header that leads to a copy is one of an object that is forwarded
 leads_is_forwarded : (header to : ℕ) → header ≡ header_word to → is_forwarded header ≡ true
@@ -58,105 +58,105 @@ leads_is_forwarded header to is = ap is_forwarded is ∙ eq-eqb ((4 * to + 3) % 
 header_leads : (to : ℕ) → forwardee_in (header_word to) ≡ to
 header_leads to = omega arith
 
-module _ (c : Config) (u : World) (seat cset : ℕ) where
+module _ (config : Config) (world : World) (seat cset : ℕ) where
   -- a world to which the step leads, but for where the machine stands
   record IsBase (at : UpdateSpot) (w : World) : Type 0 where
-    memory : w.memory ≡ touched u.memory (touch_at c at)
-    graph : w.graph ≡ u.graph
-    shared : Shared c w
-    rely : (k : ℕ) → Rely c k u w
+    memory : w.memory ≡ touched world.memory (touch_at config at)
+    graph : w.graph ≡ world.graph
+    shared : Shared config w
+    rely : (k : ℕ) → Rely config k world w
 
   -- a load leads to the same world
-  loads_at : (at : UpdateSpot) (word : Word) → touched u.memory (touch_at c at) ≡ write u.memory word (u.memory word) → Shared c u → IsBase at u
-  loads_at at word is shared = record { memory = load_keeps u.memory word ∙ sym is; graph = refl; shared = shared; rely = λ k. rely_same c k u }
+  loads_at : (at : UpdateSpot) (word : Word) → touched world.memory (touch_at config at) ≡ write world.memory word (world.memory word) → Shared config world → IsBase at world
+  loads_at at word is shared = record { memory = load_keeps world.memory word ∙ sym is; graph = refl; shared = shared; rely = λ k. rely_same config k world }
 
   -- what a machine counts on once it stands elsewhere
-  stands_then : (w : World) (claim : ℕ) (at next : UpdateSpot) → Shared c w → CanUpdate c w seat cset at → (c.regions ≤ w.memory Claim → c.regions ≤ claim) → UpdateFacts c w next
-      → CanUpdate c (world_then w seat claim (pass_of c next)) seat cset next
-  stands_then w claim at next shared can claims facts = record {
+  stands_then : (world : World) (claim : ℕ) (at next : UpdateSpot) → Shared config world → CanUpdate config world seat cset at → (config.regions ≤ world.memory Claim → config.regions ≤ claim) → UpdateFacts config world next
+      → CanUpdate config (world_then world seat claim (pass_of config next)) seat cset next
+  stands_then world claim at next shared can claims facts = record {
     seated = can.seated;
     phase = can.phase;
     set_is = can.set_is;
     copying = can.copying;
     working = can.working;
     records_none = can.records_none;
-    scanning = updated_there w.ghost.scanning seat (pass_of c next);
+    scanning = updated_there world.ghost.scanning seat (pass_of config next);
     rooms = can.rooms;
-    facts = facts_stay c w (world_then w seat claim (pass_of c next)) seat shared can.phase
-        (keeps_then c w w seat claim (pass_of c next) (keeps_of c seat w w (rely_same c seat w)))
-        (fields_then c w w seat claim (pass_of c next) claims (rely_same c seat w).fields) next facts;
+    facts = facts_stay config world (world_then world seat claim (pass_of config next)) seat shared can.phase
+        (keeps_then config world world seat claim (pass_of config next) (keeps_of config seat world world (rely_same config seat world)))
+        (fields_then config world world seat claim (pass_of config next) claims (rely_same config seat world).fields) next facts;
   }
 
   -- the machine goes on
-  goes_on : (at next : UpdateSpot) (w : World) → IsBase at w → CanUpdate c w seat cset at → spot_then c u cset at ≡ next → IsPassedIn c w (pass_of c at) (pass_of c next) → UpdateFacts c w next
-      → UpdateStep c u seat cset at
+  goes_on : (at next : UpdateSpot) (w : World) → IsBase at w → CanUpdate config w seat cset at → spot_then config world cset at ≡ next → IsPassedIn config w (pass_of config at) (pass_of config next) → UpdateFacts config w next
+      → UpdateStep config world seat cset at
   goes_on at next w base can leads passed facts =
-      step_then c u w seat (w.memory Claim) (pass_of c next) (touch_at c at) (λ x. CanUpdate c x seat cset (spot_then c u cset at))
+      step_then config world w seat (w.memory Claim) (pass_of config next) (touch_at config at) (λ x. CanUpdate config x seat cset (spot_then config world cset at))
       (sym (load_keeps w.memory Claim) ∙ base.memory) base.graph base.shared can.phase (base.rely seat).fields.claims
-      (keeps_of c seat u w (base.rely seat)) (λ k differs. base.rely k)
-      (updating_passed c (w.memory Cset) (w.memory Claim) (λ r. w.memory (Top r)) (λ r. w.memory (Limit r)) (λ a. w.memory (Heap a)) w.block w.ghost.scanning seat can.seated
-      (base.shared.updated can.phase) (pass_of c next) (subst (λ from. IsPassedIn c w from (pass_of c next)) (sym can.scanning) passed))
-      (subst (λ spot. CanUpdate c (world_then w seat (w.memory Claim) (pass_of c next)) seat cset spot) (sym leads)
+      (keeps_of config seat world w (base.rely seat)) (λ k differs. base.rely k)
+      (updating_passed config (w.memory Cset) (w.memory Claim) (λ r. w.memory (Top r)) (λ r. w.memory (Limit r)) (λ a. w.memory (Heap a)) w.block w.ghost.scanning seat can.seated
+      (base.shared.updated can.phase) (pass_of config next) (subst (λ from. IsPassedIn config w from (pass_of config next)) (sym can.scanning) passed))
+      (subst (λ spot. CanUpdate config (world_then w seat (w.memory Claim) (pass_of config next)) seat cset spot) (sym leads)
       (stands_then w (w.memory Claim) at next base.shared can (λ all. all) facts))
 
   -- it stays where it stands
-  stays_there : (at next : UpdateSpot) (w : World) → IsBase at w → CanUpdate c w seat cset at → spot_then c u cset at ≡ next → pass_of c at ≡ pass_of c next → UpdateFacts c w next → UpdateStep c u seat cset at
+  stays_there : (at next : UpdateSpot) (w : World) → IsBase at w → CanUpdate config w seat cset at → spot_then config world cset at ≡ next → pass_of config at ≡ pass_of config next → UpdateFacts config w next → UpdateStep config world seat cset at
   stays_there at next w base can leads same facts =
-      goes_on at next w base can leads (subst (λ to. IsPassedIn c w (pass_of c at) to) same (passed_same c (λ r. w.memory (Limit r)) (λ a. w.memory (Heap a)) w.block (pass_of c at))) facts
+      goes_on at next w base can leads (subst (λ to. IsPassedIn config w (pass_of config at) to) same (passed_same config (λ r. w.memory (Limit r)) (λ a. w.memory (Heap a)) w.block (pass_of config at))) facts
 
   -- It goes behind a piece whose references are current from where it stands on.
-  goes_behind : (at : UpdateSpot) (w : World) (walk : Walk) (address field : ℕ) (x : Block) → IsBase at w → CanUpdate c w seat cset at → HasComeTo c w walk address → w.block address ≡ Some x
-      → pass_of c at ≡ Some (stand address field)
+  goes_behind : (at : UpdateSpot) (w : World) (walk : Walk) (address field : ℕ) (piece : Block) → IsBase at w → CanUpdate config w seat cset at → HasComeTo config w walk address → w.block address ≡ Some piece
+      → pass_of config at ≡ Some (stand address field)
       → ((refs nums k : ℕ) (name : Name) → w.block address ≡ Some (thing name refs nums) → k < refs → field ≤ k → IsCurrent w.block (w.memory (Heap (address + 3 + k))))
-      → spot_then c u cset at ≡ next_object c walk (address + words_of x) → UpdateStep c u seat cset at
-  goes_behind at w walk address field x base can walked there stands current leads = ⊎_elim
-      (λ (more : nat_lt (address + words_of x) (limit_of c walk) ≡ true).
-      let next = walks_on c w base.shared can.phase walk address x walked there (ltb-true _ _ more) in
-      let next_region = walked_region c w base.shared can.phase walk (address + words_of x) next.0 in
-      goes_on at (LoadFirst walk (address + words_of x)) w base can (leads ∙ cond-true (nat_lt (address + words_of x) (limit_of c walk)) _ _ more)
+      → spot_then config world cset at ≡ next_object config walk (address + words_of piece) → UpdateStep config world seat cset at
+  goes_behind at w walk address field piece base can walked there stands current leads = ⊎_elim
+      (λ (more : nat_lt (address + words_of piece) (limit_of config walk) ≡ true).
+      let next = walks_on config w base.shared can.phase walk address piece walked there (ltb-true _ _ more) in
+      let next_region = walked_region config w base.shared can.phase walk (address + words_of piece) next.0 in
+      goes_on at (LoadFirst walk (address + words_of piece)) w base can (leads ∙ cond-true (nat_lt (address + words_of piece) (limit_of config walk)) _ _ more)
       (λ a refs nums k name is below old comes.
-      let from = comes_at c (pass_of c at) (stand address field) a k stands comes in
+      let from = comes_at config (pass_of config at) (stand address field) a k stands comes in
       ⊎_elim
       (λ (less : address < a).
-      let apart = base.shared.parsable.plotted.apart address a x (thing name refs nums) there is less in
+      let apart = base.shared.parsable.plotted.apart address a piece (thing name refs nums) there is less in
       inr (
-        stand (address + words_of x) 0,
+        stand (address + words_of piece) 0,
         refl,
         next_region ∙ sym here ∙ from.0,
         ⊎_elim
-            (λ (same : address + words_of x ≡ a). inr (same, omega arith))
-            (λ (differs : address + words_of x ≢ a). inl (omega (arith, apart, differs)))
-            (cases_eq (address + words_of x) a),
+            (λ (same : address + words_of piece ≡ a). inr (same, omega arith))
+            (λ (differs : address + words_of piece ≢ a). inl (omega (arith, apart, differs)))
+            (cases_eq (address + words_of piece) a),
       ))
       (λ (same : (address ≡ a) × (field ≤ k)). inl (subst (λ b. IsCurrent w.block (w.memory (Heap (b + 3 + k)))) same.0 (current refs nums k name (ap w.block same.0 ∙ is) below same.1)))
       from.1)
       next)
-      (λ (none : nat_lt (address + words_of x) (limit_of c walk) ≡ false).
-      let past : limit_of c walk ≤ address + words_of x = ltb-false _ _ none in
+      (λ (none : nat_lt (address + words_of piece) (limit_of config walk) ≡ false).
+      let past : limit_of config walk ≤ address + words_of piece = ltb-false _ _ none in
       let limit_is = walked.limit_is in
-      goes_on at (Ended Worked) w base can (leads ∙ cond-false (nat_lt (address + words_of x) (limit_of c walk)) _ _ none)
+      goes_on at (Ended Worked) w base can (leads ∙ cond-false (nat_lt (address + words_of piece) (limit_of config walk)) _ _ none)
       (λ a refs nums k name is below old comes.
-      let from = comes_at c (pass_of c at) (stand address field) a k stands comes in
+      let from = comes_at config (pass_of config at) (stand address field) a k stands comes in
       ⊎_elim
       (λ (less : address < a).
-      let apart = base.shared.parsable.plotted.apart address a x (thing name refs nums) there is less in
-      absurd (old (subst (λ r. base_of c r + w.memory (Limit r) ≤ a) (sym here ∙ from.0) (omega (arith, apart, past, limit_is)))))
+      let apart = base.shared.parsable.plotted.apart address a piece (thing name refs nums) there is less in
+      absurd (old (subst (λ r. base_of config r + w.memory (Limit r) ≤ a) (sym here ∙ from.0) (omega (arith, apart, past, limit_is)))))
       (λ (same : (address ≡ a) × (field ≤ k)). inl (subst (λ b. IsCurrent w.block (w.memory (Heap (b + 3 + k)))) same.0 (current refs nums k name (ap w.block same.0 ∙ is) below same.1)))
       from.1)
       tt)
-      (cases_Bool (nat_lt (address + words_of x) (limit_of c walk)))
+      (cases_Bool (nat_lt (address + words_of piece) (limit_of config walk)))
     where
-      here : region_with c address ≡ walk.region
-      here = walked_region c w base.shared can.phase walk address walked
+      here : region_with config address ≡ walk.region
+      here = walked_region config w base.shared can.phase walk address walked
 
   -- It goes past a reference that is current.
-  goes_past : (at : UpdateSpot) (w : World) (visit : Visit) (field : ℕ) → IsBase at w → CanUpdate c w seat cset at → HasField c w visit field → pass_of c at ≡ Some (stand visit.address field)
-      → IsCurrent w.block (w.memory (Heap (visit.address + 3 + field))) → spot_then c u cset at ≡ next_field c visit (field + 1) → UpdateStep c u seat cset at
+  goes_past : (at : UpdateSpot) (w : World) (visit : Visit) (field : ℕ) → IsBase at w → CanUpdate config w seat cset at → HasField config w visit field → pass_of config at ≡ Some (stand visit.address field)
+      → IsCurrent w.block (w.memory (Heap (visit.address + 3 + field))) → spot_then config world cset at ≡ next_field config visit (field + 1) → UpdateStep config world seat cset at
   goes_past at w visit field base can has stands current leads = ⊎_elim
       (λ (more : nat_lt (field + 1) (refs_in visit.shape) ≡ true).
       goes_on at (LoadField visit (field + 1)) w base can (leads ∙ cond-true (nat_lt (field + 1) (refs_in visit.shape)) _ _ more)
       (λ a refs nums k name is below old comes.
-      let from = comes_at c (pass_of c at) (stand visit.address field) a k stands comes in
+      let from = comes_at config (pass_of config at) (stand visit.address field) a k stands comes in
       ⊎_elim
       (λ (less : visit.address < a). inr (stand visit.address (field + 1), refl, from.0, inl less))
       (λ (same : (visit.address ≡ a) × (field ≤ k)). ⊎_elim
@@ -167,243 +167,243 @@ module _ (c : Config) (u : World) (seat cset : ℕ) where
       (record { walked = has.walked; alive = has.alive; shape_is = has.shape_is; below = ltb-true _ _ more }))
       (λ (none : nat_lt (field + 1) (refs_in visit.shape) ≡ false).
       let shape : HasShape w visit.address visit.shape = inl (has.alive, has.shape_is) in
-      let piece = shape_words c w base.shared can.phase visit.address visit.shape shape in
+      let piece = shape_words config w base.shared can.phase visit.address visit.shape shape in
       goes_behind at w visit.walk visit.address field piece.0 base can has.walked piece.1 stands
       (λ refs nums k name is below from.
-      let all = shape_refs c w base.shared can.phase visit.address visit.shape refs nums name is shape in
+      let all = shape_refs config w base.shared can.phase visit.address visit.shape refs nums name is shape in
       let past : refs_in visit.shape ≤ field + 1 = ltb-false _ _ none in
       at_field k (omega (arith, all, past, below, from)))
-      (leads ∙ cond-false (nat_lt (field + 1) (refs_in visit.shape)) _ _ none ∙ ap (λ n. next_object c visit.walk (visit.address + n)) piece.2))
+      (leads ∙ cond-false (nat_lt (field + 1) (refs_in visit.shape)) _ _ none ∙ ap (λ n. next_object config visit.walk (visit.address + n)) piece.2))
       (cases_Bool (nat_lt (field + 1) (refs_in visit.shape)))
     where
       at_field : (k : ℕ) → field ≡ k → IsCurrent w.block (w.memory (Heap (visit.address + 3 + k)))
       at_field k same = subst (λ i. IsCurrent w.block (w.memory (Heap (visit.address + 3 + i)))) same current
 
   -- the load of what is claimed
-  at_load_claim : Shared c u → CanUpdate c u seat cset LoadClaim → UpdateStep c u seat cset LoadClaim
+  at_load_claim : Shared config world → CanUpdate config world seat cset LoadClaim → UpdateStep config world seat cset LoadClaim
   at_load_claim shared can = ⊎_elim
-      (λ (some : nat_lt (u.memory Claim) c.regions ≡ true).
-      stays_there LoadClaim (ClaimUnit (u.memory Claim)) u (loads_at LoadClaim Claim refl shared) can (cond-true (nat_lt (u.memory Claim) c.regions) _ _ some) refl (ltb-true _ _ some))
-      (λ (none : nat_lt (u.memory Claim) c.regions ≡ false).
-      stays_there LoadClaim (Ended NoneLeft) u (loads_at LoadClaim Claim refl shared) can (cond-false (nat_lt (u.memory Claim) c.regions) _ _ none) refl tt)
-      (cases_Bool (nat_lt (u.memory Claim) c.regions))
+      (λ (some : nat_lt (world.memory Claim) config.regions ≡ true).
+      stays_there LoadClaim (ClaimUnit (world.memory Claim)) world (loads_at LoadClaim Claim refl shared) can (cond-true (nat_lt (world.memory Claim) config.regions) _ _ some) refl (ltb-true _ _ some))
+      (λ (none : nat_lt (world.memory Claim) config.regions ≡ false).
+      stays_there LoadClaim (Ended NoneLeft) world (loads_at LoadClaim Claim refl shared) can (cond-false (nat_lt (world.memory Claim) config.regions) _ _ none) refl tt)
+      (cases_Bool (nat_lt (world.memory Claim) config.regions))
 
   -- the claim is made: of a region of the set, in which there is nothing to do, or of another one
-  claims : (unit : ℕ) (next : UpdateSpot) → u.memory Claim ≡ unit → Shared c u → CanUpdate c u seat cset (ClaimUnit unit) → spot_then c u cset (ClaimUnit unit) ≡ next
-      → ((a refs nums k : ℕ) (name : Name) → u.block a ≡ Some (thing name refs nums) → region_with c a ≡ unit → Comes c (pass_of c next) a k)
-      → UpdateFacts c u next → UpdateStep c u seat cset (ClaimUnit unit)
+  claims : (unit : ℕ) (next : UpdateSpot) → world.memory Claim ≡ unit → Shared config world → CanUpdate config world seat cset (ClaimUnit unit) → spot_then config world cset (ClaimUnit unit) ≡ next
+      → ((address refs nums k : ℕ) (name : Name) → world.block address ≡ Some (thing name refs nums) → region_with config address ≡ unit → Comes config (pass_of config next) address k)
+      → UpdateFacts config world next → UpdateStep config world seat cset (ClaimUnit unit)
   claims unit next won shared can leads first facts =
-      let more : c.regions ≤ u.memory Claim → c.regions ≤ unit + 1 = λ all. omega (arith, all, won) in
-      step_then c u u seat (unit + 1) (pass_of c next) (touch_at c (ClaimUnit unit)) (λ x. CanUpdate c x seat cset (spot_then c u cset (ClaimUnit unit)))
-      (ap (λ n. write u.memory Claim n) (sym (cond-true (u.memory Claim == unit) (unit + 1) (u.memory Claim) (eq-eqb _ _ won)))) refl shared can.phase more
-      (keeps_of c seat u u (rely_same c seat u)) (λ k differs. rely_same c k u)
-      (subst (λ n. IsUpdating c (u.memory Cset) (n + 1) (λ r. u.memory (Top r)) (λ r. u.memory (Limit r)) (λ a. u.memory (Heap a)) u.block (updated u.ghost.scanning seat (pass_of c next))) won
-      (updating_claimed c (u.memory Cset) (u.memory Claim) (λ r. u.memory (Top r)) (λ r. u.memory (Limit r)) (λ a. u.memory (Heap a)) u.block u.ghost.scanning seat can.seated
-      (shared.updated can.phase) (pass_of c next) can.scanning (λ a refs nums k name is there. first a refs nums k name is (there ∙ won))))
-      (subst (λ spot. CanUpdate c (world_then u seat (unit + 1) (pass_of c next)) seat cset spot) (sym leads) (stands_then u (unit + 1) (ClaimUnit unit) next shared can more facts))
+      let more : config.regions ≤ world.memory Claim → config.regions ≤ unit + 1 = λ all. omega (arith, all, won) in
+      step_then config world world seat (unit + 1) (pass_of config next) (touch_at config (ClaimUnit unit)) (λ x. CanUpdate config x seat cset (spot_then config world cset (ClaimUnit unit)))
+      (ap (λ n. write world.memory Claim n) (sym (cond-true (world.memory Claim == unit) (unit + 1) (world.memory Claim) (eq-eqb _ _ won)))) refl shared can.phase more
+      (keeps_of config seat world world (rely_same config seat world)) (λ k differs. rely_same config k world)
+      (subst (λ n. IsUpdating config (world.memory Cset) (n + 1) (λ r. world.memory (Top r)) (λ r. world.memory (Limit r)) (λ address. world.memory (Heap address)) world.block (updated world.ghost.scanning seat (pass_of config next))) won
+      (updating_claimed config (world.memory Cset) (world.memory Claim) (λ r. world.memory (Top r)) (λ r. world.memory (Limit r)) (λ address. world.memory (Heap address)) world.block world.ghost.scanning seat can.seated
+      (shared.updated can.phase) (pass_of config next) can.scanning (λ address refs nums k name is there. first address refs nums k name is (there ∙ won))))
+      (subst (λ spot. CanUpdate config (world_then world seat (unit + 1) (pass_of config next)) seat cset spot) (sym leads) (stands_then world (unit + 1) (ClaimUnit unit) next shared can more facts))
 
-  at_claim_unit : (unit : ℕ) → Shared c u → CanUpdate c u seat cset (ClaimUnit unit) → UpdateStep c u seat cset (ClaimUnit unit)
+  at_claim_unit : (unit : ℕ) → Shared config world → CanUpdate config world seat cset (ClaimUnit unit) → UpdateStep config world seat cset (ClaimUnit unit)
   at_claim_unit unit shared can = ⊎_elim
-      (λ (won : (u.memory Claim == unit) ≡ true). ⊎_elim
+      (λ (won : (world.memory Claim == unit) ≡ true). ⊎_elim
       (λ (is : (bit_at cset unit == 1) ≡ true).
-      let inside : IsIn (u.memory Cset) unit = subst (λ set. IsIn set unit) can.set_is (eqb-true (bit_at cset unit) 1 is) in
-      claims unit (Ended Worked) (eqb-true _ _ won) shared can (cond-true (u.memory Claim == unit) _ _ won ∙ cond-true (bit_at cset unit == 1) _ _ is)
-      (λ a refs nums k name there here. absurd ((shared.updated can.phase).outside a refs nums name there (subst (λ r. IsIn (u.memory Cset) r) (sym here) inside)))
+      let inside : IsIn (world.memory Cset) unit = subst (λ set. IsIn set unit) can.set_is (eqb-true (bit_at cset unit) 1 is) in
+      claims unit (Ended Worked) (eqb-true _ _ won) shared can (cond-true (world.memory Claim == unit) _ _ won ∙ cond-true (bit_at cset unit == 1) _ _ is)
+      (λ a refs nums k name there here. absurd ((shared.updated can.phase).outside a refs nums name there (subst (λ r. IsIn (world.memory Cset) r) (sym here) inside)))
       tt)
       (λ (not_in : (bit_at cset unit == 1) ≡ false).
-      claims unit (LoadLimit unit) (eqb-true _ _ won) shared can (cond-true (u.memory Claim == unit) _ _ won ∙ cond-false (bit_at cset unit == 1) _ _ not_in)
+      claims unit (LoadLimit unit) (eqb-true _ _ won) shared can (cond-true (world.memory Claim == unit) _ _ won ∙ cond-false (bit_at cset unit == 1) _ _ not_in)
       (λ a refs nums k name there here.
-      let at = placed c u shared a (thing name refs nums) there in
-      let low : base_of c unit ≤ a = subst (λ r. base_of c r ≤ a) here at.from_base in (
-        stand (base_of c unit) 0,
+      let at = placed config world shared a (thing name refs nums) there in
+      let low : base_of config unit ≤ a = subst (λ r. base_of config r ≤ a) here at.from_base in (
+        stand (base_of config unit) 0,
         refl,
-        base_region c unit ∙ sym here,
+        base_region config unit ∙ sym here,
         ⊎_elim
-            (λ (same : base_of c unit ≡ a). inr (same, omega arith))
-            (λ (differs : base_of c unit ≢ a). inl (omega (arith, low, differs)))
-            (cases_eq (base_of c unit) a),
+            (λ (same : base_of config unit ≡ a). inr (same, omega arith))
+            (λ (differs : base_of config unit ≢ a). inl (omega (arith, low, differs)))
+            (cases_eq (base_of config unit) a),
       ))
       (can.facts, λ inside. false≢true (sym not_in ∙ eq-eqb (bit_at cset unit) 1 (subst (λ set. IsIn set unit) (sym can.set_is) inside))))
       (cases_Bool (bit_at cset unit == 1)))
-      (λ (lost : (u.memory Claim == unit) ≡ false).
-      stays_there (ClaimUnit unit) LoadClaim u
-      (loads_at (ClaimUnit unit) Claim (ap (λ n. write u.memory Claim n) (cond-false (u.memory Claim == unit) (unit + 1) (u.memory Claim) lost)) shared) can
-      (cond-false (u.memory Claim == unit) _ _ lost) refl tt)
-      (cases_Bool (u.memory Claim == unit))
+      (λ (lost : (world.memory Claim == unit) ≡ false).
+      stays_there (ClaimUnit unit) LoadClaim world
+      (loads_at (ClaimUnit unit) Claim (ap (λ n. write world.memory Claim n) (cond-false (world.memory Claim == unit) (unit + 1) (world.memory Claim) lost)) shared) can
+      (cond-false (world.memory Claim == unit) _ _ lost) refl tt)
+      (cases_Bool (world.memory Claim == unit))
 
   -- the load of a region's limit: where it is 0, no object there was made before updating began
-  at_load_limit : (region : ℕ) → Shared c u → CanUpdate c u seat cset (LoadLimit region) → UpdateStep c u seat cset (LoadLimit region)
+  at_load_limit : (region : ℕ) → Shared config world → CanUpdate config world seat cset (LoadLimit region) → UpdateStep config world seat cset (LoadLimit region)
   at_load_limit region shared can = ⊎_elim
-      (λ (none : (u.memory (Limit region) == 0) ≡ true).
-      let zero : u.memory (Limit region) ≡ 0 = eqb-true _ _ none in
-      goes_on (LoadLimit region) (Ended Worked) u (loads_at (LoadLimit region) (Limit region) refl shared) can (cond-true (u.memory (Limit region) == 0) _ _ none)
+      (λ (none : (world.memory (Limit region) == 0) ≡ true).
+      let zero : world.memory (Limit region) ≡ 0 = eqb-true _ _ none in
+      goes_on (LoadLimit region) (Ended Worked) world (loads_at (LoadLimit region) (Limit region) refl shared) can (cond-true (world.memory (Limit region) == 0) _ _ none)
       (λ a refs nums k name is below old comes.
-      let from = comes_at c (pass_of c (LoadLimit region)) (stand (base_of c region) 0) a k refl comes in
-      let here : region ≡ region_with c a = sym (base_region c region) ∙ from.0 in
-      let low : base_of c region ≤ a = subst (λ r. base_of c r ≤ a) (sym here) (placed c u shared a (thing name refs nums) is).from_base in
-      absurd (old (subst (λ r. base_of c r + u.memory (Limit r) ≤ a) here (omega (arith, low, zero)))))
+      let from = comes_at config (pass_of config (LoadLimit region)) (stand (base_of config region) 0) a k refl comes in
+      let here : region ≡ region_with config a = sym (base_region config region) ∙ from.0 in
+      let low : base_of config region ≤ a = subst (λ r. base_of config r ≤ a) (sym here) (placed config world shared a (thing name refs nums) is).from_base in
+      absurd (old (subst (λ r. base_of config r + world.memory (Limit r) ≤ a) here (omega (arith, low, zero)))))
       tt)
-      (λ (some : (u.memory (Limit region) == 0) ≡ false).
-      stays_there (LoadLimit region) (LoadTams region (u.memory (Limit region))) u (loads_at (LoadLimit region) (Limit region) refl shared) can (cond-false (u.memory (Limit region) == 0) _ _ some) refl
+      (λ (some : (world.memory (Limit region) == 0) ≡ false).
+      stays_there (LoadLimit region) (LoadTams region (world.memory (Limit region))) world (loads_at (LoadLimit region) (Limit region) refl shared) can (cond-false (world.memory (Limit region) == 0) _ _ some) refl
       (can.facts, refl, eqb-false _ _ some))
-      (cases_Bool (u.memory (Limit region) == 0))
+      (cases_Bool (world.memory (Limit region) == 0))
 
   -- the load of its top at mark start
-  at_load_tams : (region limit : ℕ) → Shared c u → CanUpdate c u seat cset (LoadTams region limit) → UpdateStep c u seat cset (LoadTams region limit)
+  at_load_tams : (region limit : ℕ) → Shared config world → CanUpdate config world seat cset (LoadTams region limit) → UpdateStep config world seat cset (LoadTams region limit)
   at_load_tams region limit shared can =
-      let walk : Walk = record { region = region; limit = limit; tams = u.memory (Tams region) } in
+      let walk : Walk = record { region = region; limit = limit; tams = world.memory (Tams region) } in
       let unit = can.facts.0 in
       let limit_is = can.facts.1 in
       let some = can.facts.2 in
       let low = (shared.updated can.phase).limits region unit.0 in
       let first = shared.parsable.filled.first region unit.0 (omega (arith, limit_is, some, low)) in
-      stays_there (LoadTams region limit) (LoadFirst walk (base_of c region)) u (loads_at (LoadTams region limit) (Tams region) refl shared) can refl refl
-      (walks_to c u shared can.phase walk (base_of c region) first.0 unit limit_is refl (omega arith) (omega (arith, some)) first.1)
+      stays_there (LoadTams region limit) (LoadFirst walk (base_of config region)) world (loads_at (LoadTams region limit) (Tams region) refl shared) can refl refl
+      (walks_to config world shared can.phase walk (base_of config region) first.0 unit limit_is refl (omega arith) (omega (arith, some)) first.1)
 
   -- the load of a header: the walk steps over words that only fill
-  at_load_first : (walk : Walk) (address : ℕ) → Shared c u → CanUpdate c u seat cset (LoadFirst walk address) → UpdateStep c u seat cset (LoadFirst walk address)
+  at_load_first : (walk : Walk) (address : ℕ) → Shared config world → CanUpdate config world seat cset (LoadFirst walk address) → UpdateStep config world seat cset (LoadFirst walk address)
   at_load_first walk address shared can = ⊎_elim
-      (λ (piece : IsPiece u address).
-      stays_there (LoadFirst walk address) (LoadShape walk address) u base can (ap (after_words c walk address) (piece_header c u shared can.phase address piece)) refl (can.facts.0, piece))
-      (λ (fills : (words : ℕ) × (u.block address ≡ Some (filler words))).
-      goes_behind (LoadFirst walk address) u walk address 0 (filler fills.0) base can can.facts.0 fills.1 refl
+      (λ (piece : IsPiece world address).
+      stays_there (LoadFirst walk address) (LoadShape walk address) world base can (ap (after_words config walk address) (piece_header config world shared can.phase address piece)) refl (can.facts.0, piece))
+      (λ (fills : (words : ℕ) × (world.block address ≡ Some (filler words))).
+      goes_behind (LoadFirst walk address) world walk address 0 (filler fills.0) base can can.facts.0 fills.1 refl
       (λ refs nums k name is below from. (let both : Some (filler fills.0) ≡ Some (thing name refs nums) = sym fills.1 ∙ is in absurd (cc (both))))
-      (ap (after_words c walk address) (filler_tells c u shared can.phase address fills.0 fills.1)))
+      (ap (after_words config walk address) (filler_tells config world shared can.phase address fills.0 fills.1)))
       can.facts.1
     where
-      base : IsBase (LoadFirst walk address) u
+      base : IsBase (LoadFirst walk address) world
       base = loads_at (LoadFirst walk address) (Heap address) refl shared
 
   -- an object above the top at mark start is not dead
-  alive_above : (walk : Walk) (address : ℕ) → Shared c u → u.memory Phase ≡ 3 → HasComeTo c u walk address → IsPiece u address → tams_of c walk ≤ address → IsMarkable u.block address
+  alive_above : (walk : Walk) (address : ℕ) → Shared config world → world.memory Phase ≡ 3 → HasComeTo config world walk address → IsPiece world address → tams_of config walk ≤ address → IsMarkable world.block address
   alive_above walk address shared on walked (inl alive) above = alive
   alive_above walk address shared on walked (inr fills) above =
       let tams_is = walked.tams_is in
       absurd ((shared.evacuated.kept (omega (arith, on))).deads address fills.0 fills.1
-      (subst (λ r. base_of c r + u.memory (Tams r) ≤ address) (sym (walked_region c u shared on walk address walked)) (omega (arith, above, tams_is))))
+      (subst (λ r. base_of config r + world.memory (Tams r) ≤ address) (sym (walked_region config world shared on walk address walked)) (omega (arith, above, tams_is))))
 
   -- the load of a shape
-  at_load_shape : (walk : Walk) (address : ℕ) → Shared c u → CanUpdate c u seat cset (LoadShape walk address) → UpdateStep c u seat cset (LoadShape walk address)
+  at_load_shape : (walk : Walk) (address : ℕ) → Shared config world → CanUpdate config world seat cset (LoadShape walk address) → UpdateStep config world seat cset (LoadShape walk address)
   at_load_shape walk address shared can =
-      let got : ℕ = u.memory (Heap (address + 1)) in
+      let got : ℕ = world.memory (Heap (address + 1)) in
       let at : Visit = record { walk = walk; address = address; shape = got } in
       let base = loads_at (LoadShape walk address) (Heap (address + 1)) refl shared in
-      let shape = piece_shape c u shared can.phase address can.facts.1 in
-      let piece = shape_words c u shared can.phase address got shape in
+      let shape = piece_shape config world shared can.phase address can.facts.1 in
+      let piece = shape_words config world shared can.phase address got shape in
       ⊎_elim
       (λ (none : (refs_in got == 0) ≡ true).
-      goes_behind (LoadShape walk address) u walk address 0 piece.0 base can can.facts.0 piece.1 refl
+      goes_behind (LoadShape walk address) world walk address 0 piece.0 base can can.facts.0 piece.1 refl
       (λ refs nums k name is below from.
-      let all = shape_refs c u shared can.phase address got refs nums name is shape in
+      let all = shape_refs config world shared can.phase address got refs nums name is shape in
       let zero : refs_in got ≡ 0 = eqb-true _ _ none in
       absurd (omega (arith, all, zero, below)))
-      (cond-true (refs_in got == 0) _ _ none ∙ ap (λ n. next_object c walk (address + n)) piece.2))
+      (cond-true (refs_in got == 0) _ _ none ∙ ap (λ n. next_object config walk (address + n)) piece.2))
       (λ (some : (refs_in got == 0) ≡ false).
       let more : refs_in got ≢ 0 = eqb-false _ _ some in
       ⊎_elim
-      (λ (old : nat_lt address (tams_of c walk) ≡ true).
-      stays_there (LoadShape walk address) (LoadBlack at) u base can (cond-false (refs_in got == 0) _ _ some ∙ cond-true (nat_lt address (tams_of c walk)) _ _ old) refl
+      (λ (old : nat_lt address (tams_of config walk) ≡ true).
+      stays_there (LoadShape walk address) (LoadBlack at) world base can (cond-false (refs_in got == 0) _ _ some ∙ cond-true (nat_lt address (tams_of config walk)) _ _ old) refl
       (can.facts.0, shape, more, ltb-true _ _ old))
-      (λ (young : nat_lt address (tams_of c walk) ≡ false).
-      stays_there (LoadShape walk address) (LoadField at 0) u base can (cond-false (refs_in got == 0) _ _ some ∙ cond-false (nat_lt address (tams_of c walk)) _ _ young) refl
+      (λ (young : nat_lt address (tams_of config walk) ≡ false).
+      stays_there (LoadShape walk address) (LoadField at 0) world base can (cond-false (refs_in got == 0) _ _ some ∙ cond-false (nat_lt address (tams_of config walk)) _ _ young) refl
       (record { walked = can.facts.0; alive = alive_above walk address shared can.phase can.facts.0 can.facts.1 (ltb-false _ _ young); shape_is = refl; below = omega (arith, more) }))
-      (cases_Bool (nat_lt address (tams_of c walk))))
+      (cases_Bool (nat_lt address (tams_of config walk))))
       (cases_Bool (refs_in got == 0))
 
   -- a marked object is not dead
-  alive_marked : (at : Visit) → Shared c u → u.memory Phase ≡ 3 → HasComeTo c u at.walk at.address → HasShape u at.address at.shape → refs_in at.shape ≢ 0 → HasMark c (λ n. u.memory (Black n)) at.address
-      → HasField c u at 0
+  alive_marked : (at : Visit) → Shared config world → world.memory Phase ≡ 3 → HasComeTo config world at.walk at.address → HasShape world at.address at.shape → refs_in at.shape ≢ 0 → HasMark config (λ n. world.memory (Black n)) at.address
+      → HasField config world at 0
   alive_marked at shared on walked (inl object) some mark = record { walked = walked; alive = object.0; shape_is = object.1; below = omega (arith, some) }
   alive_marked at shared on walked (inr fills) some mark = absurd ((shared.evacuated.kept (omega (arith, on))).unmarked at.address fills.0 fills.1 mark)
 
   -- the load of a mark
-  at_load_black : (at : Visit) → Shared c u → CanUpdate c u seat cset (LoadBlack at) → UpdateStep c u seat cset (LoadBlack at)
+  at_load_black : (at : Visit) → Shared config world → CanUpdate config world seat cset (LoadBlack at) → UpdateStep config world seat cset (LoadBlack at)
   at_load_black at shared can =
-      let got : ℕ = u.memory (Black (mark_word c at.address)) in
-      let base = loads_at (LoadBlack at) (Black (mark_word c at.address)) refl shared in
+      let got : ℕ = world.memory (Black (mark_word config at.address)) in
+      let base = loads_at (LoadBlack at) (Black (mark_word config at.address)) refl shared in
       let walked = can.facts.0 in
       let shape = can.facts.1 in
       let old = can.facts.3 in
-      let piece = shape_words c u shared can.phase at.address at.shape shape in
+      let piece = shape_words config world shared can.phase at.address at.shape shape in
       ⊎_elim
-      (λ (black : (bit_at got (mark_bit c at.address) == 1) ≡ true).
-      stays_there (LoadBlack at) (LoadField at 0) u base can (cond-true (bit_at got (mark_bit c at.address) == 1) _ _ black) refl
+      (λ (black : (bit_at got (mark_bit config at.address) == 1) ≡ true).
+      stays_there (LoadBlack at) (LoadField at 0) world base can (cond-true (bit_at got (mark_bit config at.address) == 1) _ _ black) refl
       (alive_marked at shared can.phase walked shape can.facts.2 (eqb-true _ _ black)))
-      (λ (white : (bit_at got (mark_bit c at.address) == 1) ≡ false).
-      goes_behind (LoadBlack at) u at.walk at.address 0 piece.0 base can walked piece.1 refl
+      (λ (white : (bit_at got (mark_bit config at.address) == 1) ≡ false).
+      goes_behind (LoadBlack at) world at.walk at.address 0 piece.0 base can walked piece.1 refl
       (λ refs nums k name is below from. ⊎_elim
-      (λ (mark : HasMark c (λ n. u.memory (Black n)) at.address). absurd (false≢true (sym white ∙ eq-eqb _ _ mark)))
-      (λ (young : IsYoung c (λ r. u.memory (Tams r)) at.address).
+      (λ (mark : HasMark config (λ n. world.memory (Black n)) at.address). absurd (false≢true (sym white ∙ eq-eqb _ _ mark)))
+      (λ (young : IsYoung config (λ r. world.memory (Tams r)) at.address).
       let tams_is = walked.tams_is in
-      let above : base_of c at.walk.region + u.memory (Tams at.walk.region) ≤ at.address =
-      subst (λ r. base_of c r + u.memory (Tams r) ≤ at.address) (walked_region c u shared can.phase at.walk at.address walked) young in
+      let above : base_of config at.walk.region + world.memory (Tams at.walk.region) ≤ at.address =
+      subst (λ r. base_of config r + world.memory (Tams r) ≤ at.address) (walked_region config world shared can.phase at.walk at.address walked) young in
       absurd (omega (arith, old, tams_is, above)))
       ((shared.evacuated.kept (let on = can.phase in omega (arith, on))).objects at.address (IsMarkable.object name refs nums is)))
-      (cond-false (bit_at got (mark_bit c at.address) == 1) _ _ white ∙ ap (λ n. next_object c at.walk (at.address + n)) piece.2))
-      (cases_Bool (bit_at got (mark_bit c at.address) == 1))
+      (cond-false (bit_at got (mark_bit config at.address) == 1) _ _ white ∙ ap (λ n. next_object config at.walk (at.address + n)) piece.2))
+      (cases_Bool (bit_at got (mark_bit config at.address) == 1))
 
   -- the load of a reference
-  at_load_field : (at : Visit) (field : ℕ) → Shared c u → CanUpdate c u seat cset (LoadField at field) → UpdateStep c u seat cset (LoadField at field)
+  at_load_field : (at : Visit) (field : ℕ) → Shared config world → CanUpdate config world seat cset (LoadField at field) → UpdateStep config world seat cset (LoadField at field)
   at_load_field at field shared can =
-      let got : ℕ = u.memory (Heap (at.address + 3 + field)) in
+      let got : ℕ = world.memory (Heap (at.address + 3 + field)) in
       let base = loads_at (LoadField at field) (Heap (at.address + 3 + field)) refl shared in
       ⊎_elim
-      (λ (current : IsCurrent u.block got).
-      goes_past (LoadField at field) u at field base can can.facts refl current
-      (cond-false (names_set c cset got) _ _ (subst (λ set. names_set c set got ≡ false) (sym can.set_is) (current_names_none c u shared can.phase got current))))
-      (λ (finds : (to : ℕ) × HasFound u at field got to).
-      let old = old_names_set c u shared can.phase got finds.1.refs finds.1.nums finds.0 finds.1.name finds.1.old in
-      stays_there (LoadField at field) (LoadHeader at field got) u base can (cond-true (names_set c cset got) _ _ (subst (λ set. names_set c set got ≡ true) (sym can.set_is) old)) refl
+      (λ (current : IsCurrent world.block got).
+      goes_past (LoadField at field) world at field base can can.facts refl current
+      (cond-false (names_set config cset got) _ _ (subst (λ set. names_set config set got ≡ false) (sym can.set_is) (current_names_none config world shared can.phase got current))))
+      (λ (finds : (to : ℕ) × HasFound world at field got to).
+      let old = old_names_set config world shared can.phase got finds.1.refs finds.1.nums finds.0 finds.1.name finds.1.old in
+      stays_there (LoadField at field) (LoadHeader at field got) world base can (cond-true (names_set config cset got) _ _ (subst (λ set. names_set config set got ≡ true) (sym can.set_is) old)) refl
       (can.facts, finds))
-      (field_word c u shared can.phase at field can.facts)
+      (field_word config world shared can.phase at field can.facts)
 
   -- the load of the header of an old copy, which leads to the current one
-  at_load_header : (at : Visit) (field found : ℕ) → Shared c u → CanUpdate c u seat cset (LoadHeader at field found) → UpdateStep c u seat cset (LoadHeader at field found)
+  at_load_header : (at : Visit) (field found : ℕ) → Shared config world → CanUpdate config world seat cset (LoadHeader at field found) → UpdateStep config world seat cset (LoadHeader at field found)
   at_load_header at field found shared can =
-      let got : ℕ = u.memory (Heap found) in
+      let got : ℕ = world.memory (Heap found) in
       let to = can.facts.1.0 in
       let finds = can.facts.1.1 in
       let header : got ≡ header_word to = (shared.evacuated.moved.moveds found finds.refs finds.nums to finds.name finds.old).header in
-      stays_there (LoadHeader at field found) (ExchangeField at field found (forwardee_in got)) u (loads_at (LoadHeader at field found) (Heap found) refl shared) can
+      stays_there (LoadHeader at field found) (ExchangeField at field found (forwardee_in got)) world (loads_at (LoadHeader at field found) (Heap found) refl shared) can
       (cond-true (is_forwarded got) _ _ (leads_is_forwarded got to header)) refl
-      (can.facts.0, subst (HasFound u at field found) (sym (ap forwardee_in header ∙ header_leads to)) finds)
+      (can.facts.0, subst (HasFound world at field found) (sym (ap forwardee_in header ∙ header_leads to)) finds)
 
   -- the reference is exchanged for one to the current copy, if it is still the one that was found; else it is current
-  at_exchange_field : (at : Visit) (field found copy : ℕ) → Shared c u → CanUpdate c u seat cset (ExchangeField at field found copy) → UpdateStep c u seat cset (ExchangeField at field found copy)
+  at_exchange_field : (at : Visit) (field found copy : ℕ) → Shared config world → CanUpdate config world seat cset (ExchangeField at field found copy) → UpdateStep config world seat cset (ExchangeField at field found copy)
   at_exchange_field at field found copy shared can =
-      let got : ℕ = u.memory (Heap (at.address + 3 + field)) in
+      let got : ℕ = world.memory (Heap (at.address + 3 + field)) in
       let spot : UpdateSpot = ExchangeField at field found copy in
       let has = can.facts.0 in
       let finds = can.facts.1 in
       let holder = finds.holder in
       ⊎_elim
       (λ (won : (got == found) ≡ true).
-      let all = shape_refs c u shared can.phase at.address at.shape holder.1 holder.2 holder.0 holder.3 (inl (has.alive, has.shape_is)) in
+      let all = shape_refs config world shared can.phase at.address at.shape holder.1 holder.2 holder.0 holder.3 (inl (has.alive, has.shape_is)) in
       let below : field < holder.1 = (let less = has.below in omega (arith, all, less)) in
-      let w : World = renewed_world c u shared can.phase at.address holder.1 holder.2 field found finds.refs finds.nums copy holder.0 finds.name holder.3 below (eqb-true _ _ won) finds.old in
-      let rely : (k : ℕ) → Rely c k u w = rely_renewed c u shared can.phase at.address holder.1 holder.2 field found finds.refs finds.nums copy holder.0 finds.name holder.3 below (eqb-true _ _ won) finds.old in
-      let keeps = keeps_of c seat u w (rely seat) in
+      let w : World = renewed_world config world shared can.phase at.address holder.1 holder.2 field found finds.refs finds.nums copy holder.0 finds.name holder.3 below (eqb-true _ _ won) finds.old in
+      let rely : (k : ℕ) → Rely config k world w = rely_renewed config world shared can.phase at.address holder.1 holder.2 field found finds.refs finds.nums copy holder.0 finds.name holder.3 below (eqb-true _ _ won) finds.old in
+      let keeps = keeps_of config seat world w (rely seat) in
       goes_past spot w at field (record {
-        memory = ap (λ v. write u.memory (Heap (at.address + 3 + field)) v) (sym (cond-true (got == found) copy got won));
+        memory = ap (λ v. write world.memory (Heap (at.address + 3 + field)) v) (sym (cond-true (got == found) copy got won));
         graph = refl;
-        shared = shared_renewed c u shared can.phase at.address holder.1 holder.2 field found finds.refs finds.nums copy holder.0 finds.name holder.3 below (eqb-true _ _ won) finds.old;
+        shared = shared_renewed config world shared can.phase at.address holder.1 holder.2 field found finds.refs finds.nums copy holder.0 finds.name holder.3 below (eqb-true _ _ won) finds.old;
         rely = rely;
-      }) (can_update_stays c u w seat cset spot shared keeps (rely seat) can) (field_stays c u w seat shared can.phase keeps (rely seat).fields at field has) refl
-      (subst (IsCurrent u.block) (sym (updated_there (λ b. u.memory (Heap b)) (at.address + 3 + field) copy))
+      }) (can_update_stays config world w seat cset spot shared keeps (rely seat) can) (field_stays config world w seat shared can.phase keeps (rely seat).fields at field has) refl
+      (subst (IsCurrent world.block) (sym (updated_there (λ b. world.memory (Heap b)) (at.address + 3 + field) copy))
       (IsCurrent.names finds.refs finds.nums finds.name (shared.evacuated.moved.moveds found finds.refs finds.nums copy finds.name finds.old).copy))
       refl)
       (λ (lost : (got == found) ≡ false).
-      goes_past spot u at field
-      (loads_at spot (Heap (at.address + 3 + field)) (ap (λ v. write u.memory (Heap (at.address + 3 + field)) v) (cond-false (got == found) copy got lost)) shared) can has refl
+      goes_past spot world at field
+      (loads_at spot (Heap (at.address + 3 + field)) (ap (λ v. write world.memory (Heap (at.address + 3 + field)) v) (cond-false (got == found) copy got lost)) shared) can has refl
       (⊎_elim
       (λ (same : got ≡ found). absurd (eqb-false _ _ lost same))
-      (λ (current : IsCurrent u.block got). current)
+      (λ (current : IsCurrent world.block got). current)
       finds.still)
       refl)
       (cases_Bool (got == found))
 
   -- each step
-  pub each_updates : (at : UpdateSpot) → is_ended at ≡ false → Shared c u → CanUpdate c u seat cset at → UpdateStep c u seat cset at
+  pub each_updates : (at : UpdateSpot) → is_ended at ≡ false → Shared config world → CanUpdate config world seat cset at → UpdateStep config world seat cset at
   each_updates LoadClaim going shared can = at_load_claim shared can
   each_updates (ClaimUnit unit) going shared can = at_claim_unit unit shared can
   each_updates (LoadLimit region) going shared can = at_load_limit region shared can

@@ -21,43 +21,43 @@ use Rattle.cycle_steps.specs.Evacuation.Facts.{working_of, IsSwept, HasNothing, 
 
 -- where a machine stands after a step
 abbrev pub spot_then : Config → World → ℕ → ℕ → EvacSpot → EvacSpot
-spot_then c u seat cset at = next_at c cset at (u.memory (touch_at c seat at).word)
+spot_then config world seat cset at = next_at config cset at (world.memory (touch_at config seat at).word)
 
 -- a machine that evacuates
 abbrev pub evacuating_part : Config → (seat cset : ℕ) → Part
-evacuating_part c seat cset = record {
+evacuating_part config seat cset = record {
   Spot = EvacSpot;
   is_ended = is_ended;
-  touch = touch_at c seat;
-  next = next_at c cset;
-  IsFit = IsFit c seat cset;
-  Can = λ w at. CanEvacuate c w seat cset at;
-  Then = λ u w at. CanEvacuate c w seat cset at;
+  touch = touch_at config seat;
+  next = next_at config cset;
+  IsFit = IsFit config seat cset;
+  Can = λ w at. CanEvacuate config w seat cset at;
+  Then = λ u w at. CanEvacuate config w seat cset at;
 }
 
 -- once it ends a unit, the region on which it worked is swept
 abbrev pub SweptStep : Config → World → ℕ → ℕ → EvacSpot → Type 0
-SweptStep c u seat cset at = PartStep c u seat (touch_at c seat at)
-    (λ w. (region : ℕ) → working_of c at ≡ Some region → is_ended (spot_then c u seat cset at) ≡ true → IsSwept c w region)
+SweptStep config world seat cset at = PartStep config world seat (touch_at config seat at)
+    (λ w. (region : ℕ) → working_of config at ≡ Some region → is_ended (spot_then config world seat cset at) ≡ true → IsSwept config w region)
 
 -- A machine that evacuates claims regions of the collection set, and sees to it that their objects are copied: a region on which it has
 -- worked is swept, and stays so. Of the words of copies only headers are accessed by more than loads.
 pub record EvacuatingSteps : Type 0 where
-  pub begins : (c : Config) (u : World) (seat : ℕ) → seat < seat_count c.mutators c.helpers → u.memory Phase ≡ evacuation_phase → u.ghost.working seat ≡ None → HasNothing u seat
-      → CanEvacuate c u seat (u.memory Cset) LoadClaim
-  pub steps : (c : Config) (seat cset : ℕ) → PartSteps c seat (evacuating_part c seat cset) (Shared c)
-  pub sweeps : (c : Config) (u : World) (seat cset : ℕ) (at : EvacSpot) → is_ended at ≡ false → Shared c u → CanEvacuate c u seat cset at → SweptStep c u seat cset at
-  pub stays_swept : (c : Config) (u w : World) (region : ℕ) → KeepsCopies c u w → IsIn (u.memory Cset) region → IsSwept c u region → IsSwept c w region
-  pub spares : (c : Config) (u : World) (seat cset : ℕ) (at : EvacSpot) (d k : ℕ) (b : Body) → Shared c u → CanEvacuate c u seat cset at → body_at (u.block d) ≡ Some b → k < body_words b
-      → (touch_at c seat at).word ≡ Heap (d + k) → ((touch_at c seat at).form ≡ loads) ⊎ (k ≡ 0)
+  pub begins : (config : Config) (world : World) (seat : ℕ) → seat < seat_count config.mutators config.helpers → world.memory Phase ≡ evacuation_phase → world.ghost.working seat ≡ None → HasNothing world seat
+      → CanEvacuate config world seat (world.memory Cset) LoadClaim
+  pub steps : (config : Config) (seat cset : ℕ) → PartSteps config seat (evacuating_part config seat cset) (Shared config)
+  pub sweeps : (config : Config) (world : World) (seat cset : ℕ) (at : EvacSpot) → is_ended at ≡ false → Shared config world → CanEvacuate config world seat cset at → SweptStep config world seat cset at
+  pub stays_swept : (config : Config) (world after : World) (region : ℕ) → KeepsCopies config world after → IsIn (world.memory Cset) region → IsSwept config world region → IsSwept config after region
+  pub spares : (config : Config) (world : World) (seat cset : ℕ) (at : EvacSpot) (address k : ℕ) (body : Body) → Shared config world → CanEvacuate config world seat cset at → body_at (world.block address) ≡ Some body → k < body_words body
+      → (touch_at config seat at).word ≡ Heap (address + k) → ((touch_at config seat at).form ≡ loads) ⊎ (k ≡ 0)
 
 -- In a region that is swept each marked object is forwarded, if there was always room.
 abbrev pub SweptIsForwarded : Type 0
-SweptIsForwarded = (c : Config) (u : World) (a : ℕ) → Shared c u → u.memory Phase ≡ evacuation_phase → IsSwept c u (region_with c a) → is_out_of_room (u.memory Evac) ≡ false
-    → c.region_words ≤ a → IsCollected c (u.memory Cset) a → HasMark c (λ n. u.memory (Black n)) a → is_forwarded (u.memory (Heap a)) ≡ true
+SweptIsForwarded = (config : Config) (world : World) (address : ℕ) → Shared config world → world.memory Phase ≡ evacuation_phase → IsSwept config world (region_with config address) → is_out_of_room (world.memory Evac) ≡ false
+    → config.region_words ≤ address → IsCollected config (world.memory Cset) address → HasMark config (λ n. world.memory (Black n)) address → is_forwarded (world.memory (Heap address)) ≡ true
 
 -- Where all units are claimed, nobody works on one, and there was always room, each marked object of the collection set is forwarded.
 abbrev pub AllIsForwarded : Type 0
-AllIsForwarded = (c : Config) (u : World) → Shared c u → u.memory Phase ≡ evacuation_phase → ((seat : ℕ) → seat < seat_count c.mutators c.helpers → u.ghost.working seat ≡ None)
-    → c.regions ≤ u.memory Claim → is_out_of_room (u.memory Evac) ≡ false
-    → (a : ℕ) → c.region_words ≤ a → IsCollected c (u.memory Cset) a → HasMark c (λ n. u.memory (Black n)) a → is_forwarded (u.memory (Heap a)) ≡ true
+AllIsForwarded = (config : Config) (world : World) → Shared config world → world.memory Phase ≡ evacuation_phase → ((seat : ℕ) → seat < seat_count config.mutators config.helpers → world.ghost.working seat ≡ None)
+    → config.regions ≤ world.memory Claim → is_out_of_room (world.memory Evac) ≡ false
+    → (address : ℕ) → config.region_words ≤ address → IsCollected config (world.memory Cset) address → HasMark config (λ n. world.memory (Black n)) address → is_forwarded (world.memory (Heap address)) ≡ true

@@ -21,29 +21,29 @@ use Rattle.load_barrier.specs.Alone.{is_copier}
 
 -- What is answered for an address of the collection set: the current copy of the object of which the address is a copy, and it may be
 -- used. If it lies outside the set, the address is an old copy; and if it lies in the set, there was no room.
-pub record IsAnswer (c : Config) (w : World) (a to : ℕ) : Type 0 where
-  pub named : (b : Body) → body_at (w.block a) ≡ Some b → TargetIn c w to b.refs b.nums b.name
-  pub passed : (IsCollected c (w.memory Cset) to → ⊥) → (refs nums : ℕ) (name : Name) → w.block a ≡ Some (thing name refs nums) → ⊥
-  pub stopped : IsCollected c (w.memory Cset) to → is_out_of_room (w.memory Evac) ≡ true
+pub record IsAnswer (config : Config) (world : World) (address to : ℕ) : Type 0 where
+  pub named : (body : Body) → body_at (world.block address) ≡ Some body → TargetIn config world to body.refs body.nums body.name
+  pub passed : (IsCollected config (world.memory Cset) to → ⊥) → (refs nums : ℕ) (name : Name) → world.block address ≡ Some (thing name refs nums) → ⊥
+  pub stopped : IsCollected config (world.memory Cset) to → is_out_of_room (world.memory Evac) ≡ true
 
 -- an old copy of an object, whose current copy is at another address
 abbrev pub HasMovedTo : World → ℕ → Body → ℕ → Type 0
-HasMovedTo w a b to = w.block a ≡ Some (moved b.name b.refs b.nums to)
+HasMovedTo world address body to = world.block address ≡ Some (moved body.name body.refs body.nums to)
 
 -- Room for a copy of an object is in hand, as it was taken out of a buffer with an end, and its words below an index are those of the object,
 -- but for the header.
-pub record IsCopied (c : Config) (w : World) (seat a copy end : ℕ) (b : Body) (index : ℕ) : Type 0 where
-  pub taken : HasTakenRoom c w seat (body_words b) copy end
-  pub same : (k : ℕ) → 1 ≤ k → k < index → w.memory (Heap (copy + k)) ≡ w.memory (Heap (a + k))
+pub record IsCopied (config : Config) (world : World) (seat address copy end : ℕ) (body : Body) (index : ℕ) : Type 0 where
+  pub taken : HasTakenRoom config world seat (body_words body) copy end
+  pub same : (k : ℕ) → 1 ≤ k → k < index → world.memory (Heap (copy + k)) ≡ world.memory (Heap (address + k))
 
 -- what holds while it copies an object into room that begins at another address
-abbrev pub CopyFacts : Config → World → (seat a copy end : ℕ) → Body → CopySpot → Type 0
-CopyFacts c w seat a copy end b (LoadWord words index) = (words ≡ body_words b) × (1 ≤ index) × (index < words) × IsCopied c w seat a copy end b index
-CopyFacts c w seat a copy end b (StoreWord words index found) =
-    (words ≡ body_words b) × (1 ≤ index) × (index < words) × IsCopied c w seat a copy end b index × (found ≡ w.memory (Heap (a + index)))
-CopyFacts c w seat a copy end b StoreHeader = IsCopied c w seat a copy end b (body_words b)
-CopyFacts c w seat a copy end b Publish = IsCopied c w seat a copy end b (body_words b) × (w.memory (Heap copy) ≡ plain_header)
-CopyFacts c w seat a copy end b (GiveBack answer) = HasTakenRoom c w seat (body_words b) copy end × HasMovedTo w a b answer
+abbrev pub CopyFacts : Config → World → (seat address copy end : ℕ) → Body → CopySpot → Type 0
+CopyFacts config world seat address copy end body (LoadWord words index) = (words ≡ body_words body) × (1 ≤ index) × (index < words) × IsCopied config world seat address copy end body index
+CopyFacts config world seat address copy end body (StoreWord words index found) =
+    (words ≡ body_words body) × (1 ≤ index) × (index < words) × IsCopied config world seat address copy end body index × (found ≡ world.memory (Heap (address + index)))
+CopyFacts config world seat address copy end body StoreHeader = IsCopied config world seat address copy end body (body_words body)
+CopyFacts config world seat address copy end body Publish = IsCopied config world seat address copy end body (body_words body) × (world.memory (Heap copy) ≡ plain_header)
+CopyFacts config world seat address copy end body (GiveBack answer) = HasTakenRoom config world seat (body_words body) copy end × HasMovedTo world address body answer
 
 -- what holds while it stops all copying: once it waits, the counter says that there was no room
 abbrev pub StopFacts : ℕ → RoomSpot → Type 0
@@ -52,36 +52,36 @@ StopFacts word _ = ⊤
 
 -- what holds of the object, current copy or old, by where the machine stands
 abbrev pub BodyFacts : Config → World → (seat a : ℕ) → Body → ResolveSpot → Type 0
-BodyFacts c w seat a b (Taking words at) = (words ≡ body_words b) × CanTake c w seat words at
-BodyFacts c w seat a b (Copying copy end at) = CopyFacts c w seat a copy end b at
-BodyFacts c w seat a b (Leaving answer) = HasMovedTo w a b answer
-BodyFacts c w seat a b (Stopping at) = StopFacts (w.memory Evac) at
-BodyFacts c w seat a b LoadAgain = IsQuiet (w.memory Evac)
-BodyFacts c w seat a b _ = ⊤
+BodyFacts config world seat a body (Taking words at) = (words ≡ body_words body) × CanTake config world seat words at
+BodyFacts config world seat a body (Copying copy end at) = CopyFacts config world seat a copy end body at
+BodyFacts config world seat a body (Leaving answer) = HasMovedTo world a body answer
+BodyFacts config world seat a body (Stopping at) = StopFacts (world.memory Evac) at
+BodyFacts config world seat a body LoadAgain = IsQuiet (world.memory Evac)
+BodyFacts config world seat a body _ = ⊤
 
 -- what holds by where it stands: beyond the first load of the header the address is a copy of an object of the graph, and in the end
 -- there is the answer
-abbrev pub ResolveFacts : Config → World → (seat a : ℕ) → ResolveSpot → Type 0
-ResolveFacts c w seat a LoadHeader = ⊤
-ResolveFacts c w seat a (Resolved answer) = IsAnswer c w a answer
-ResolveFacts c w seat a at = (b : Body) × (body_at (w.block a) ≡ Some b) × BodyFacts c w seat a b at
+abbrev pub ResolveFacts : Config → World → (seat address : ℕ) → ResolveSpot → Type 0
+ResolveFacts config world seat address LoadHeader = ⊤
+ResolveFacts config world seat address (Resolved answer) = IsAnswer config world address answer
+ResolveFacts config world seat address at = (body : Body) × (body_at (world.block address) ≡ Some body) × BodyFacts config world seat address body at
 
 -- What room the machine has: free words of its buffer; besides, what a taking says, and the room for its copy.
 abbrev pub IsResolvingRoom : ℕ → ResolveSpot → ℕ → Block → Type 0
-IsResolvingRoom seat (Taking words at) a x = takes.IsRoomAt seat words at a x
-IsResolvingRoom seat (Copying copy end at) a x = IsSpare seat x ⊎ (a ≡ copy)
-IsResolvingRoom seat _ a x = IsSpare seat x
+IsResolvingRoom seat (Taking words at) a piece = takes.IsRoomAt seat words at a piece
+IsResolvingRoom seat (Copying copy end at) a piece = IsSpare seat piece ⊎ (a ≡ copy)
+IsResolvingRoom seat _ a piece = IsSpare seat piece
 
 -- Objects are evacuated, and the address lies in the collection set and is that of a copy, current or old. The counter counts the
 -- machine where it copies; all its room is what the spot says, and it neither records nor scans.
-pub record CanResolve (c : Config) (w : World) (seat a : ℕ) (at : ResolveSpot) : Type 0 where
-  pub seated : seat < seat_count c.mutators c.helpers
-  pub phase : w.memory Phase ≡ evacuation_phase
-  pub inside : IsCollected c (w.memory Cset) a
-  pub there : HasCopy w.block a
-  pub copying : w.ghost.copying seat ≡ is_copier at
-  pub records_none : w.ghost.recording seat ≡ None
-  pub scans_none : w.ghost.scanning seat ≡ None
-  pub rooms : (b : ℕ) (x : Block) → w.block b ≡ Some x → room_of x ≡ Some seat → IsResolvingRoom seat at b x
-  pub ready : is_ready c seat a at ≡ true
-  pub facts : ResolveFacts c w seat a at
+pub record CanResolve (config : Config) (world : World) (seat address : ℕ) (at : ResolveSpot) : Type 0 where
+  pub seated : seat < seat_count config.mutators config.helpers
+  pub phase : world.memory Phase ≡ evacuation_phase
+  pub inside : IsCollected config (world.memory Cset) address
+  pub there : HasCopy world.block address
+  pub copying : world.ghost.copying seat ≡ is_copier at
+  pub records_none : world.ghost.recording seat ≡ None
+  pub scans_none : world.ghost.scanning seat ≡ None
+  pub rooms : (other_address : ℕ) (piece : Block) → world.block other_address ≡ Some piece → room_of piece ≡ Some seat → IsResolvingRoom seat at other_address piece
+  pub ready : is_ready config seat address at ≡ true
+  pub facts : ResolveFacts config world seat address at

@@ -19,30 +19,30 @@ use Rattle.alloc_buffers.specs.Facts.{OnlySpares}
 
 -- A machine that resolves an address. A step leaves the unit on which it works as it is.
 abbrev pub resolving_part : Config → (seat a : ℕ) → Part
-resolving_part c seat a = record {
+resolving_part config seat a = record {
   Spot = ResolveSpot;
   is_ended = is_resolved;
-  touch = touch_at c seat a;
-  next = next_at c a evacuation_phase;
-  IsFit = IsFit c seat a evacuation_phase;
-  Can = λ w at. CanResolve c w seat a at;
-  Then = λ u w at. CanResolve c w seat a at × (w.ghost.working seat ≡ u.ghost.working seat);
+  touch = touch_at config seat a;
+  next = next_at config a evacuation_phase;
+  IsFit = IsFit config seat a evacuation_phase;
+  Can = λ w at. CanResolve config w seat a at;
+  Then = λ u w at. CanResolve config w seat a at × (w.ghost.working seat ≡ u.ghost.working seat);
 }
 
 -- A machine that resolves an address finds the object's current copy, or makes it. Its accesses to words of copies are loads, but for the
 -- exchange that publishes a copy, on the object's header.
 pub record ResolvingSteps : Type 0 where
-  pub begins : (c : Config) (u : World) (seat a : ℕ) → seat < seat_count c.mutators c.helpers → u.memory Phase ≡ evacuation_phase → IsCollected c (u.memory Cset) a → HasCopy u.block a
-      → u.ghost.copying seat ≡ false → u.ghost.recording seat ≡ None → u.ghost.scanning seat ≡ None → OnlySpares u seat → CanResolve c u seat a LoadHeader
-  pub steps : (c : Config) (seat a : ℕ) → PartSteps c seat (resolving_part c seat a) (Shared c)
-  pub spares : (c : Config) (u : World) (seat a : ℕ) (at : ResolveSpot) (d k : ℕ) (b : Body) → Shared c u → CanResolve c u seat a at → body_at (u.block d) ≡ Some b → k < body_words b
-      → (touch_at c seat a at).word ≡ Heap (d + k) → ((touch_at c seat a at).form ≡ loads) ⊎ ((copy : ℕ) × (end : ℕ) × (at ≡ Copying copy end Publish) × (d ≡ a) × (k ≡ 0))
-  pub answers : (c : Config) (u : World) (seat a answer : ℕ) → CanResolve c u seat a (Resolved answer) → IsAnswer c u a answer
+  pub begins : (config : Config) (world : World) (seat address : ℕ) → seat < seat_count config.mutators config.helpers → world.memory Phase ≡ evacuation_phase → IsCollected config (world.memory Cset) address → HasCopy world.block address
+      → world.ghost.copying seat ≡ false → world.ghost.recording seat ≡ None → world.ghost.scanning seat ≡ None → OnlySpares world seat → CanResolve config world seat address LoadHeader
+  pub steps : (config : Config) (seat address : ℕ) → PartSteps config seat (resolving_part config seat address) (Shared config)
+  pub spares : (config : Config) (world : World) (seat address : ℕ) (at : ResolveSpot) (other_address k : ℕ) (body : Body) → Shared config world → CanResolve config world seat address at → body_at (world.block other_address) ≡ Some body → k < body_words body
+      → (touch_at config seat address at).word ≡ Heap (other_address + k) → ((touch_at config seat address at).form ≡ loads) ⊎ ((copy : ℕ) × (end : ℕ) × (at ≡ Copying copy end Publish) × (other_address ≡ address) × (k ≡ 0))
+  pub answers : (config : Config) (world : World) (seat address answer : ℕ) → CanResolve config world seat address (Resolved answer) → IsAnswer config world address answer
 
 -- A header that is forwarded leads to the object's current copy, which is not. Where a step keeps copies, the header of each copy stays, or it
 -- was plain and is forwarded then.
 pub record HeadersLead : Type 0 where
-  pub leads : (c : Config) (w : World) (a : ℕ) (b : Body) → Shared c w → body_at (w.block a) ≡ Some b → is_forwarded (w.memory (Heap a)) ≡ true
-      → TargetIn c w (forwardee_in (w.memory (Heap a))) b.refs b.nums b.name × (w.memory (Heap (forwardee_in (w.memory (Heap a)))) ≡ plain_header)
-  pub once : (c : Config) (u w : World) (a : ℕ) (b : Body) → Shared c u → Shared c w → KeepsCopies c u w → body_at (u.block a) ≡ Some b
-      → (w.memory (Heap a) ≡ u.memory (Heap a)) ⊎ ((u.memory (Heap a) ≡ plain_header) × (is_forwarded (w.memory (Heap a)) ≡ true))
+  pub leads : (config : Config) (world : World) (address : ℕ) (body : Body) → Shared config world → body_at (world.block address) ≡ Some body → is_forwarded (world.memory (Heap address)) ≡ true
+      → TargetIn config world (forwardee_in (world.memory (Heap address))) body.refs body.nums body.name × (world.memory (Heap (forwardee_in (world.memory (Heap address)))) ≡ plain_header)
+  pub once : (config : Config) (earlier world : World) (address : ℕ) (body : Body) → Shared config earlier → Shared config world → KeepsCopies config earlier world → body_at (earlier.block address) ≡ Some body
+      → (world.memory (Heap address) ≡ earlier.memory (Heap address)) ⊎ ((earlier.memory (Heap address) ≡ plain_header) × (is_forwarded (world.memory (Heap address)) ≡ true))

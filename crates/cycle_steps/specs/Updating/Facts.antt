@@ -19,84 +19,84 @@ use Rattle.unit_part.specs.UpdateRows.{limit_of, tams_of}
 
 -- where a machine stands in its unit, by its spot: at the first reference with which it has not dealt, of an object to which it has come
 abbrev pub pass_of : Config → UpdateSpot → Option Scan
-pass_of c (LoadLimit region) = Some (record { object = base_of c region; field = 0 })
-pass_of c (LoadTams region limit) = Some (record { object = base_of c region; field = 0 })
-pass_of c (LoadFirst walk address) = Some (record { object = address; field = 0 })
-pass_of c (LoadShape walk address) = Some (record { object = address; field = 0 })
-pass_of c (LoadBlack at) = Some (record { object = at.address; field = 0 })
-pass_of c (LoadField at field) = Some (record { object = at.address; field = field })
-pass_of c (LoadHeader at field found) = Some (record { object = at.address; field = field })
-pass_of c (ExchangeField at field found copy) = Some (record { object = at.address; field = field })
-pass_of c _ = None
+pass_of config (LoadLimit region) = Some (record { object = base_of config region; field = 0 })
+pass_of config (LoadTams region limit) = Some (record { object = base_of config region; field = 0 })
+pass_of config (LoadFirst walk address) = Some (record { object = address; field = 0 })
+pass_of config (LoadShape walk address) = Some (record { object = address; field = 0 })
+pass_of config (LoadBlack at) = Some (record { object = at.address; field = 0 })
+pass_of config (LoadField at field) = Some (record { object = at.address; field = field })
+pass_of config (LoadHeader at field found) = Some (record { object = at.address; field = field })
+pass_of config (ExchangeField at field found copy) = Some (record { object = at.address; field = field })
+pass_of config _ = None
 
 -- a region that can be a unit: it is one of the heap, and not of the collection set
 abbrev pub IsUnit : Config → World → ℕ → Type 0
-IsUnit c w region = (region < c.regions) × (IsIn (w.memory Cset) region → ⊥)
+IsUnit config world region = (region < config.regions) × (IsIn (world.memory Cset) region → ⊥)
 
 -- A walk of such a region, with its limit and its tams, has come to an address below the limit at which a piece begins.
-pub record HasComeTo (c : Config) (w : World) (walk : Walk) (address : ℕ) : Type 0 where
-  pub unit : IsUnit c w walk.region
-  pub limit_is : walk.limit ≡ w.memory (Limit walk.region)
-  pub tams_is : walk.tams ≡ w.memory (Tams walk.region)
-  pub from_base : base_of c walk.region ≤ address
-  pub before : address < limit_of c walk
+pub record HasComeTo (config : Config) (world : World) (walk : Walk) (address : ℕ) : Type 0 where
+  pub unit : IsUnit config world walk.region
+  pub limit_is : walk.limit ≡ world.memory (Limit walk.region)
+  pub tams_is : walk.tams ≡ world.memory (Tams walk.region)
+  pub from_base : base_of config walk.region ≤ address
+  pub before : address < limit_of config walk
 
 -- the piece there is an object, a promised one, or a dead one
 abbrev pub IsPiece : World → ℕ → Type 0
-IsPiece w a = IsMarkable w.block a ⊎ ((words : ℕ) × (w.block a ≡ Some (dead words)))
+IsPiece world address = IsMarkable world.block address ⊎ ((words : ℕ) × (world.block address ≡ Some (dead words)))
 
 -- or words that only fill
 abbrev pub HasPiece : World → ℕ → Type 0
-HasPiece w a = IsPiece w a ⊎ ((words : ℕ) × (w.block a ≡ Some (filler words)))
+HasPiece world address = IsPiece world address ⊎ ((words : ℕ) × (world.block address ≡ Some (filler words)))
 
 -- a shape word tells how long an object is: that of the object, or one of as many words as the dead one has
-abbrev pub HasShape : World → (a shape : ℕ) → Type 0
-HasShape w a shape =
-    (IsMarkable w.block a × (shape ≡ w.memory (Heap (a + 1)))) ⊎ ((words : ℕ) × (w.block a ≡ Some (dead words)) × (object_words shape ≡ words))
+abbrev pub HasShape : World → (address shape : ℕ) → Type 0
+HasShape world address shape =
+    (IsMarkable world.block address × (shape ≡ world.memory (Heap (address + 1)))) ⊎ ((words : ℕ) × (world.block address ≡ Some (dead words)) × (object_words shape ≡ words))
 
 -- the object that it visits is not dead, and has a reference of this number
-pub record HasField (c : Config) (w : World) (at : Visit) (field : ℕ) : Type 0 where
-  pub walked : HasComeTo c w at.walk at.address
-  pub alive : IsMarkable w.block at.address
-  pub shape_is : at.shape ≡ w.memory (Heap (at.address + 1))
+pub record HasField (config : Config) (world : World) (at : Visit) (field : ℕ) : Type 0 where
+  pub walked : HasComeTo config world at.walk at.address
+  pub alive : IsMarkable world.block at.address
+  pub shape_is : at.shape ≡ world.memory (Heap (at.address + 1))
   pub below : field < refs_in at.shape
 
 -- an object of the graph has its current copy there
 abbrev pub HasThing : World → ℕ → Type 0
-HasThing w a = (name : Name) × (refs : ℕ) × (nums : ℕ) × (w.block a ≡ Some (thing name refs nums))
+HasThing world address = (name : Name) × (refs : ℕ) × (nums : ℕ) × (world.block address ≡ Some (thing name refs nums))
 
 -- The reference, of an object of the graph, was found to be that of an old copy, whose current copy is at an address, and still is, or is
 -- current by now.
-pub record HasFound (w : World) (at : Visit) (field found to : ℕ) : Type 0 where
-  pub holder : HasThing w at.address
+pub record HasFound (world : World) (at : Visit) (field found to : ℕ) : Type 0 where
+  pub holder : HasThing world at.address
   pub refs : ℕ
   pub nums : ℕ
   pub name : Name
-  pub old : w.block found ≡ Some (moved name refs nums to)
-  pub still : (w.memory (Heap (at.address + 3 + field)) ≡ found) ⊎ IsCurrent w.block (w.memory (Heap (at.address + 3 + field)))
+  pub old : world.block found ≡ Some (moved name refs nums to)
+  pub still : (world.memory (Heap (at.address + 3 + field)) ≡ found) ⊎ IsCurrent world.block (world.memory (Heap (at.address + 3 + field)))
 
 -- what holds by where it stands
 abbrev pub UpdateFacts : Config → World → UpdateSpot → Type 0
-UpdateFacts c w (ClaimUnit unit) = unit < c.regions
-UpdateFacts c w (LoadLimit region) = IsUnit c w region
-UpdateFacts c w (LoadTams region limit) = IsUnit c w region × (limit ≡ w.memory (Limit region)) × (limit ≢ 0)
-UpdateFacts c w (LoadFirst walk address) = HasComeTo c w walk address × HasPiece w address
-UpdateFacts c w (LoadShape walk address) = HasComeTo c w walk address × IsPiece w address
-UpdateFacts c w (LoadBlack at) = HasComeTo c w at.walk at.address × HasShape w at.address at.shape × (refs_in at.shape ≢ 0) × (at.address < tams_of c at.walk)
-UpdateFacts c w (LoadField at field) = HasField c w at field
-UpdateFacts c w (LoadHeader at field found) = HasField c w at field × ((to : ℕ) × HasFound w at field found to)
-UpdateFacts c w (ExchangeField at field found copy) = HasField c w at field × HasFound w at field found copy
-UpdateFacts c w _ = ⊤
+UpdateFacts config world (ClaimUnit unit) = unit < config.regions
+UpdateFacts config world (LoadLimit region) = IsUnit config world region
+UpdateFacts config world (LoadTams region limit) = IsUnit config world region × (limit ≡ world.memory (Limit region)) × (limit ≢ 0)
+UpdateFacts config world (LoadFirst walk address) = HasComeTo config world walk address × HasPiece world address
+UpdateFacts config world (LoadShape walk address) = HasComeTo config world walk address × IsPiece world address
+UpdateFacts config world (LoadBlack at) = HasComeTo config world at.walk at.address × HasShape world at.address at.shape × (refs_in at.shape ≢ 0) × (at.address < tams_of config at.walk)
+UpdateFacts config world (LoadField at field) = HasField config world at field
+UpdateFacts config world (LoadHeader at field found) = HasField config world at field × ((to : ℕ) × HasFound world at field found to)
+UpdateFacts config world (ExchangeField at field found copy) = HasField config world at field × HasFound world at field found copy
+UpdateFacts config world _ = ⊤
 
 -- References are updated, the machine knows the collection set, and stands in its unit where its spot says. It copies and records nothing,
 -- and all its room is free words of its buffer.
-pub record CanUpdate (c : Config) (w : World) (seat cset : ℕ) (at : UpdateSpot) : Type 0 where
-  pub seated : seat < seat_count c.mutators c.helpers
-  pub phase : w.memory Phase ≡ updating_phase
-  pub set_is : cset ≡ w.memory Cset
-  pub copying : w.ghost.copying seat ≡ false
-  pub working : w.ghost.working seat ≡ None
-  pub records_none : w.ghost.recording seat ≡ None
-  pub scanning : w.ghost.scanning seat ≡ pass_of c at
-  pub rooms : OnlySpares w seat
-  pub facts : UpdateFacts c w at
+pub record CanUpdate (config : Config) (world : World) (seat cset : ℕ) (at : UpdateSpot) : Type 0 where
+  pub seated : seat < seat_count config.mutators config.helpers
+  pub phase : world.memory Phase ≡ updating_phase
+  pub set_is : cset ≡ world.memory Cset
+  pub copying : world.ghost.copying seat ≡ false
+  pub working : world.ghost.working seat ≡ None
+  pub records_none : world.ghost.recording seat ≡ None
+  pub scanning : world.ghost.scanning seat ≡ pass_of config at
+  pub rooms : OnlySpares world seat
+  pub facts : UpdateFacts config world at

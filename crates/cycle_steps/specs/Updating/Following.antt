@@ -13,18 +13,18 @@ use Rattle.cycle_steps.specs.Evacuation.Facts.{HasNothing}
 
 -- it is about to load the header, or has the answer
 abbrev pub FollowFacts : Config → World → ℕ → ResolveSpot → Type 0
-FollowFacts c w a LoadHeader = ⊤
-FollowFacts c w a (Resolved answer) = IsAnswer c w a answer
-FollowFacts c w a _ = ⊥
+FollowFacts config world a LoadHeader = ⊤
+FollowFacts config world a (Resolved answer) = IsAnswer config world a answer
+FollowFacts config world a _ = ⊥
 
 -- References are updated, and the address lies in the collection set and is that of a copy of an object of the graph. The machine works on
 -- no unit, neither copies nor records nor scans, and has no room in hand.
-pub record CanFollow (c : Config) (w : World) (seat a : ℕ) (at : ResolveSpot) : Type 0 where
-  pub seated : seat < seat_count c.mutators c.helpers
-  pub phase : w.memory Phase ≡ updating_phase
-  pub inside : IsCollected c (w.memory Cset) a
+pub record CanFollow (config : Config) (world : World) (seat address : ℕ) (at : ResolveSpot) : Type 0 where
+  pub seated : seat < seat_count config.mutators config.helpers
+  pub phase : world.memory Phase ≡ updating_phase
+  pub inside : IsCollected config (world.memory Cset) address
   pub body : Body
-  pub there : body_at (w.block a) ≡ Some body
-  pub working : w.ghost.working seat ≡ None
-  pub nothing : HasNothing w seat
-  pub facts : FollowFacts c w a at
+  pub there : body_at (world.block address) ≡ Some body
+  pub working : world.ghost.working seat ≡ None
+  pub nothing : HasNothing world seat
+  pub facts : FollowFacts config world address at

@@ -25,63 +25,63 @@ use Rattle.cycle_steps.specs.Updating.Following.{CanFollow}
 
 -- a machine that updates
 abbrev pub updating_part : Config → (seat cset : ℕ) → Part
-updating_part c seat cset = record {
+updating_part config seat cset = record {
   Spot = UpdateSpot;
   is_ended = is_ended;
-  touch = touch_at c;
-  next = next_at c cset;
-  IsFit = IsFit c cset;
-  Can = λ w at. CanUpdate c w seat cset at;
-  Then = λ u w at. CanUpdate c w seat cset at;
+  touch = touch_at config;
+  next = next_at config cset;
+  IsFit = IsFit config cset;
+  Can = λ w at. CanUpdate config w seat cset at;
+  Then = λ u w at. CanUpdate config w seat cset at;
 }
 
 -- A machine that updates claims regions outside of the collection set, and sees to it that their fields become current. Of the words of
 -- copies in the set it only loads.
 pub record UpdatingSteps : Type 0 where
-  pub begins : (c : Config) (u : World) (seat : ℕ) → seat < seat_count c.mutators c.helpers → u.memory Phase ≡ updating_phase → u.ghost.working seat ≡ None → HasNothing u seat
-      → CanUpdate c u seat (u.memory Cset) LoadClaim
-  pub steps : (c : Config) (seat cset : ℕ) → PartSteps c seat (updating_part c seat cset) (Shared c)
-  pub ready : (c : Config) (u : World) (seat cset : ℕ) (at : UpdateSpot) → Shared c u → CanUpdate c u seat cset at → is_ready c at ≡ true
-  pub spares : (c : Config) (u : World) (seat cset : ℕ) (at : UpdateSpot) (d k : ℕ) (b : Body) → Shared c u → CanUpdate c u seat cset at → body_at (u.block d) ≡ Some b
-      → IsCollected c (u.memory Cset) d → k < body_words b → (touch_at c at).word ≡ Heap (d + k) → (touch_at c at).form ≡ loads
+  pub begins : (config : Config) (world : World) (seat : ℕ) → seat < seat_count config.mutators config.helpers → world.memory Phase ≡ updating_phase → world.ghost.working seat ≡ None → HasNothing world seat
+      → CanUpdate config world seat (world.memory Cset) LoadClaim
+  pub steps : (config : Config) (seat cset : ℕ) → PartSteps config seat (updating_part config seat cset) (Shared config)
+  pub ready : (config : Config) (world : World) (seat cset : ℕ) (at : UpdateSpot) → Shared config world → CanUpdate config world seat cset at → is_ready config at ≡ true
+  pub spares : (config : Config) (world : World) (seat cset : ℕ) (at : UpdateSpot) (address k : ℕ) (body : Body) → Shared config world → CanUpdate config world seat cset at → body_at (world.block address) ≡ Some body
+      → IsCollected config (world.memory Cset) address → k < body_words body → (touch_at config at).word ≡ Heap (address + k) → (touch_at config at).form ≡ loads
 
 -- a machine that resolves an address then
 abbrev pub following_part : Config → (seat a : ℕ) → Part
-following_part c seat a = record {
+following_part config seat a = record {
   Spot = ResolveSpot;
   is_ended = resolves.is_ended;
-  touch = resolves.touch_at c seat a;
-  next = resolves.next_at c a updating_phase;
-  IsFit = resolve.IsFit c seat a updating_phase;
-  Can = λ w at. CanFollow c w seat a at;
-  Then = λ u w at. CanFollow c w seat a at;
+  touch = resolves.touch_at config seat a;
+  next = resolves.next_at config a updating_phase;
+  IsFit = resolve.IsFit config seat a updating_phase;
+  Can = λ w at. CanFollow config w seat a at;
+  Then = λ u w at. CanFollow config w seat a at;
 }
 
 -- A machine that resolves an address while references are updated finds the object's current copy by one load of the header, and makes no
 -- other access.
 pub record FollowingSteps : Type 0 where
-  pub begins : (c : Config) (u : World) (seat a : ℕ) (b : Body) → seat < seat_count c.mutators c.helpers → u.memory Phase ≡ updating_phase → IsCollected c (u.memory Cset) a → body_at (u.block a) ≡ Some b
-      → u.ghost.working seat ≡ None → HasNothing u seat → CanFollow c u seat a LoadHeader
-  pub steps : (c : Config) (seat a : ℕ) → PartSteps c seat (following_part c seat a) (Shared c)
-  pub ready : (c : Config) (u : World) (seat a : ℕ) (at : ResolveSpot) → Shared c u → CanFollow c u seat a at → resolve.is_ready c seat a at ≡ true
-  pub copies_none : (c : Config) (u : World) (seat a : ℕ) (at : ResolveSpot) → CanFollow c u seat a at → is_copier at ≡ false
-  pub only_loads : (c : Config) (u : World) (seat a : ℕ) (at : ResolveSpot) → CanFollow c u seat a at → (resolves.touch_at c seat a at).form ≡ loads
-  pub answers : (c : Config) (u : World) (seat a answer : ℕ) → CanFollow c u seat a (Resolved answer) → IsAnswer c u a answer
+  pub begins : (config : Config) (world : World) (seat address : ℕ) (body : Body) → seat < seat_count config.mutators config.helpers → world.memory Phase ≡ updating_phase → IsCollected config (world.memory Cset) address → body_at (world.block address) ≡ Some body
+      → world.ghost.working seat ≡ None → HasNothing world seat → CanFollow config world seat address LoadHeader
+  pub steps : (config : Config) (seat address : ℕ) → PartSteps config seat (following_part config seat address) (Shared config)
+  pub ready : (config : Config) (world : World) (seat address : ℕ) (at : ResolveSpot) → Shared config world → CanFollow config world seat address at → resolve.is_ready config seat address at ≡ true
+  pub copies_none : (config : Config) (world : World) (seat address : ℕ) (at : ResolveSpot) → CanFollow config world seat address at → is_copier at ≡ false
+  pub only_loads : (config : Config) (world : World) (seat address : ℕ) (at : ResolveSpot) → CanFollow config world seat address at → (resolves.touch_at config seat address at).form ≡ loads
+  pub answers : (config : Config) (world : World) (seat address answer : ℕ) → CanFollow config world seat address (Resolved answer) → IsAnswer config world address answer
 
 -- nobody stands in the unit of a region
 abbrev pub NobodyUpdates : Config → World → ℕ → Type 0
-NobodyUpdates c w region = (seat : ℕ) (at : Scan) → seat < seat_count c.mutators c.helpers → w.ghost.scanning seat ≡ Some at → region_with c at.object ≡ region → ⊥
+NobodyUpdates config world region = (seat : ℕ) (at : Scan) → seat < seat_count config.mutators config.helpers → world.ghost.scanning seat ≡ Some at → region_with config at.object ≡ region → ⊥
 
 -- A unit is done that is claimed and in which nobody stands: then no field of a current copy there names the collection set, nor does
 -- one at or above its region's limit.
 pub record UnitsAreUpdated : Type 0 where
-  pub done : (c : Config) (w : World) (a refs nums k : ℕ) (name : Name) → Shared c w → w.memory Phase ≡ updating_phase → region_with c a < w.memory Claim → NobodyUpdates c w (region_with c a)
-      → w.block a ≡ Some (thing name refs nums) → k < refs → IsCurrent w.block (w.memory (Heap (a + 3 + k)))
-  pub above : (c : Config) (w : World) (a refs nums k : ℕ) (name : Name) → Shared c w → w.memory Phase ≡ updating_phase → IsYoung c (λ r. w.memory (Limit r)) a
-      → w.block a ≡ Some (thing name refs nums) → k < refs → IsCurrent w.block (w.memory (Heap (a + 3 + k)))
-  pub outside : (c : Config) (w : World) (v : ℕ) → Shared c w → w.memory Phase ≡ updating_phase → IsCurrent w.block v → v ≢ 0 → IsCollected c (w.memory Cset) v → ⊥
+  pub done : (config : Config) (world : World) (address refs nums k : ℕ) (name : Name) → Shared config world → world.memory Phase ≡ updating_phase → region_with config address < world.memory Claim → NobodyUpdates config world (region_with config address)
+      → world.block address ≡ Some (thing name refs nums) → k < refs → IsCurrent world.block (world.memory (Heap (address + 3 + k)))
+  pub above : (config : Config) (world : World) (address refs nums k : ℕ) (name : Name) → Shared config world → world.memory Phase ≡ updating_phase → IsYoung config (λ r. world.memory (Limit r)) address
+      → world.block address ≡ Some (thing name refs nums) → k < refs → IsCurrent world.block (world.memory (Heap (address + 3 + k)))
+  pub outside : (config : Config) (world : World) (value : ℕ) → Shared config world → world.memory Phase ≡ updating_phase → IsCurrent world.block value → value ≢ 0 → IsCollected config (world.memory Cset) value → ⊥
 
 -- Where all regions are claimed and nobody stands in a unit, all fields of current copies are current.
 abbrev pub AllIsUpdated : Type 0
-AllIsUpdated = (c : Config) (w : World) → Shared c w → w.memory Phase ≡ updating_phase → ((seat : ℕ) → seat < seat_count c.mutators c.helpers → w.ghost.scanning seat ≡ None)
-    → c.regions ≤ w.memory Claim → (a refs nums k : ℕ) (name : Name) → w.block a ≡ Some (thing name refs nums) → k < refs → IsCurrent w.block (w.memory (Heap (a + 3 + k)))
+AllIsUpdated = (config : Config) (world : World) → Shared config world → world.memory Phase ≡ updating_phase → ((seat : ℕ) → seat < seat_count config.mutators config.helpers → world.ghost.scanning seat ≡ None)
+    → config.regions ≤ world.memory Claim → (address refs nums k : ℕ) (name : Name) → world.block address ≡ Some (thing name refs nums) → k < refs → IsCurrent world.block (world.memory (Heap (address + 3 + k)))

@@ -46,50 +46,50 @@ object_can_be_copied c m block owner p g holds sized a object inside =
     }
 
 -- where a region has room, and where none has
-module _ (c : Config) (m : Word → ℕ) (a : ℕ) (above : c.region_words ≤ a) (inside : IsIn (m Cset) (region_with c a)) (block : Plot) (owner : ℕ → Option ℕ) (p : Promises) (g : Graph)
-    (holds : HoldsBy c m block owner p g) (sized : AreSized m block) (b : Block) (here : block a ≡ Some b) (fixed : is_loose b ≡ false) (plain : is_forwarded (m (Heap a)) ≡ false)
-    (unpinned : IsUnpinned c m a) where
-  size : words_at m a ≡ words_of b
-  size = sized.objects a b here fixed
+module _ (config : Config) (memory : Word → ℕ) (address : ℕ) (above : config.region_words ≤ address) (inside : IsIn (memory Cset) (region_with config address)) (block : Plot) (owner : ℕ → Option ℕ) (promises : Promises) (graph : Graph)
+    (holds : HoldsBy config memory block owner promises graph) (sized : AreSized memory block) (piece : Block) (here : block address ≡ Some piece) (fixed : is_loose piece ≡ false) (plain : is_forwarded (memory (Heap address)) ≡ false)
+    (unpinned : IsUnpinned config memory address) where
+  size : words_at memory address ≡ words_of piece
+  size = sized.objects address piece here fixed
 
-  with_room : IsCopiedOut c m (copied_out c m a) a → HoldsCopied c m (copied_out c m a) block owner p g
+  with_room : IsCopiedOut config memory (copied_out config memory address) address → HoldsCopied config memory (copied_out config memory address) block owner promises graph
   with_room out = record {
     still = record {
-      pieces = copy.plot c m block owner p g holds a b here fixed inside plain unpinned size out;
-      stay = copy.stays c m block owner p g holds a b here fixed inside plain unpinned size out;
-      holds = copy.copied_holds c m block owner p g holds a b here fixed inside plain unpinned size out;
-      sized = copy.copied_sized c m block owner p g holds a b here fixed inside plain unpinned size out;
+      pieces = copy.plot config memory block owner promises graph holds address piece here fixed inside plain unpinned size out;
+      stay = copy.stays config memory block owner promises graph holds address piece here fixed inside plain unpinned size out;
+      holds = copy.copied_holds config memory block owner promises graph holds address piece here fixed inside plain unpinned size out;
+      sized = copy.copied_sized config memory block owner promises graph holds address piece here fixed inside plain unpinned size out;
     };
-    set = copy.set_same c m block owner p g holds a b here fixed inside plain unpinned size out;
-    collecting = copy.collecting_still c m block owner p g holds a b here fixed inside plain unpinned size out;
+    set = copy.set_same config memory block owner promises graph holds address piece here fixed inside plain unpinned size out;
+    collecting = copy.collecting_still config memory block owner promises graph holds address piece here fixed inside plain unpinned size out;
   }
 
-  by_room : (o : Option ℕ) → copy_room c m a ≡ o → HoldsCopied c m (copied_out c m a) block owner p g
+  by_room : (o : Option ℕ) → copy_room config memory address ≡ o → HoldsCopied config memory (copied_out config memory address) block owner promises graph
   by_room None none =
-      let same : m ≡ copied_out c m a = sym (ap (copied_in c m a) none) in
-      subst (λ n. HoldsCopied c m n block owner p g) same
+      let same : memory ≡ copied_out config memory address = sym (ap (copied_in config memory address) none) in
+      subst (λ n. HoldsCopied config memory n block owner promises graph) same
       (record { still = record { pieces = block; stay = λ q z is. is; holds = holds; sized = λ k. k }; set = refl; collecting = λ while. while })
-  by_room (Some r) found = with_room (copies_out c m a above inside (λ none. absurd (differ r (sym none ∙ found))))
+  by_room (Some r) found = with_room (copies_out config memory address above inside (λ none. absurd (differ r (sym none ∙ found))))
     where
       differ : (k : ℕ) → ◌≡◌ {A = Option ℕ} None (Some k) → ⊥
       differ k is = cc
 
-  pub still_holds : HoldsCopied c m (copied_out c m a) block owner p g
-  still_holds = by_room (copy_room c m a) refl
+  pub still_holds : HoldsCopied config memory (copied_out config memory address) block owner promises graph
+  still_holds = by_room (copy_room config memory address) refl
 
-pub copying_holds : (c : Config) (m : Word → ℕ) (a : ℕ) → CanCopyOut c m a → CopyingHolds c m (copied_out c m a) a
-copying_holds c m a can block owner p g holds sized object plain unpinned = still_holds c m a can.above can.in_set block owner p g holds sized object.0 object.1 object.2 plain unpinned
+pub copying_holds : (config : Config) (memory : Word → ℕ) (a : ℕ) → CanCopyOut config memory a → CopyingHolds config memory (copied_out config memory a) a
+copying_holds config memory a can block owner p g holds sized object plain unpinned = still_holds config memory a can.above can.in_set block owner p g holds sized object.0 object.1 object.2 plain unpinned
 
 pub live_is_marked : LiveIsMarked
 live_is_marked c m r block sized marked = sum_same (λ k. marked_words c m (base_of c r + k)) (λ k. marked_in c m block (base_of c r + k)) c.region_words (λ k below. each (base_of c r + k))
   where
-    each : (a : ℕ) → marked_words c m a ≡ marked_in c m block a
-    each a = ⊎_elim
-        (λ (yes : is_black c m a ≡ true).
-        let piece = marked a yes in
-        cond-true (is_black c m a) (words_at m a) 0 yes ∙ sized.objects a piece.0 piece.1 piece.2 ∙ sym (ap piece_words piece.1) ∙ sym (cond-true (is_black c m a) (piece_words (block a)) 0 yes))
-        (λ (no : is_black c m a ≡ false). cond-false (is_black c m a) (words_at m a) 0 no ∙ sym (cond-false (is_black c m a) (piece_words (block a)) 0 no))
-        (cases_Bool (is_black c m a))
+    each : (address : ℕ) → marked_words c m address ≡ marked_in c m block address
+    each address = ⊎_elim
+        (λ (yes : is_black c m address ≡ true).
+        let piece = marked address yes in
+        cond-true (is_black c m address) (words_at m address) 0 yes ∙ sized.objects address piece.0 piece.1 piece.2 ∙ sym (ap piece_words piece.1) ∙ sym (cond-true (is_black c m address) (piece_words (block address)) 0 yes))
+        (λ (no : is_black c m address ≡ false). cond-false (is_black c m address) (words_at m address) 0 no ∙ sym (cond-false (is_black c m address) (piece_words (block address)) 0 no))
+        (cases_Bool (is_black c m address))
 
 pub chosen_are_live : ChosenAreLive
 chosen_are_live c m block owner p g holds through a reached inside = ⊎_elim

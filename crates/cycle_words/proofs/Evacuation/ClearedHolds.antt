@@ -49,111 +49,111 @@ use Rattle.cycle_words.proofs.Marking.Bits.{bits_small}
 use Rattle.regions.specs.Sets.{IsIn}
 
 -- the words hold the graph still, and what holds of the set does; pin slots are as they were
-record StillSo (c : Config) (before after : Word → ℕ) (block : Plot) (owner : ℕ → Option ℕ) (p : Promises) (g : Graph) : Type 0 where
+record StillSo (config : Config) (before after : Word → ℕ) (block : Plot) (owner : ℕ → Option ℕ) (promises : Promises) (graph : Graph) : Type 0 where
   pieces : Plot
   stay : PiecesStay block pieces
   set : after Cset ≡ before Cset
-  holds : HoldsBy c after pieces owner p g
+  holds : HoldsBy config after pieces owner promises graph
   sized : AreSized before block → AreSized after pieces
-  order : IsInOrder c before block → IsInOrder c after pieces
-  pins : (t i : ℕ) → after (Pin t i) ≡ before (Pin t i)
+  order : IsInOrder config before block → IsInOrder config after pieces
+  pins : (mutator index : ℕ) → after (Pin mutator index) ≡ before (Pin mutator index)
 
-module _ (c : Config) (m : Word → ℕ) (block : Plot) (owner : ℕ → Option ℕ) (p : Promises) (g : Graph) (holds : HoldsBy c m block owner p g) (apart : PinsOutside c m) where
+module _ (config : Config) (memory : Word → ℕ) (block : Plot) (owner : ℕ → Option ℕ) (promises : Promises) (graph : Graph) (holds : HoldsBy config memory block owner promises graph) (apart : PinsOutside config memory) where
   abbrev top : ℕ → ℕ
-  top r = m (Top r)
+  top region = memory (Top region)
 
   abbrev IsLed : ℕ → Type 0
-  IsLed = IsLedTo (now_in m) (λ a. m (Heap a)) (IsAmong (held_words c m))
+  IsLed = IsLedTo (now_in memory) (λ address. memory (Heap address)) (IsAmong (held_words config memory))
 
   -- what held stays where nothing changes
-  as_it_is : StillSo c m m block owner p g
-  as_it_is = record { pieces = block; stay = λ a b is. is; set = refl; holds = holds; sized = λ sized. sized; order = λ order. order; pins = λ t i. refl }
+  as_it_is : StillSo config memory memory block owner promises graph
+  as_it_is = record { pieces = block; stay = λ address b is. is; set = refl; holds = holds; sized = λ sized. sized; order = λ order. order; pins = λ t i. refl }
 
   -- an object of the set to which a root or an answer leads is copied out, unless it was before
-  module _ (a refs nums : ℕ) (name : Name) (here : block a ≡ Some (thing name refs nums)) (led : IsLed (now_in m a)) (collected : is_collected c m a ≡ true) (can : CanClear c m a) where
-    above : c.region_words ≤ a
-    above = leb-true c.region_words a (and_parts (nat_le c.region_words a) (bit_at (m Cset) (region_with c a) == 1) collected).0
+  module _ (address refs nums : ℕ) (name : Name) (here : block address ≡ Some (thing name refs nums)) (led : IsLed (now_in memory address)) (collected : is_collected config memory address ≡ true) (can : CanClear config memory address) where
+    above : config.region_words ≤ address
+    above = leb-true config.region_words address (and_parts (nat_le config.region_words address) (bit_at (memory Cset) (region_with config address) == 1) collected).0
 
-    inside : IsCollected c (m Cset) a
-    inside = eqb-true (bit_at (m Cset) (region_with c a)) 1 (and_parts (nat_le c.region_words a) (bit_at (m Cset) (region_with c a) == 1) collected).1
+    inside : IsCollected config (memory Cset) address
+    inside = eqb-true (bit_at (memory Cset) (region_with config address)) 1 (and_parts (nat_le config.region_words address) (bit_at (memory Cset) (region_with config address) == 1) collected).1
 
     -- no pin slot holds it
-    unpinned : IsUnpinned c m a
-    unpinned = unpinned_inside c m apart a collected
+    unpinned : IsUnpinned config memory address
+    unpinned = unpinned_inside config memory apart address collected
 
-    module _ (plain : is_forwarded (m (Heap a)) ≡ false) where
-      size : words_at m a ≡ 3 + refs + nums
+    module _ (plain : is_forwarded (memory (Heap address)) ≡ false) where
+      size : words_at memory address ≡ 3 + refs + nums
       size =
-          let own : now_in m a ≡ a = cond-false (is_forwarded (m (Heap a))) (forwardee_in (m (Heap a))) a plain in
-          let object = holds.objects.each a refs nums name (subst IsLed own led) here in
+          let own : now_in memory address ≡ address = cond-false (is_forwarded (memory (Heap address))) (forwardee_in (memory (Heap address))) address plain in
+          let object = holds.objects.each address refs nums name (subst IsLed own led) here in
           ap object_words object.2.shape ∙ words_read refs nums object.2.few_refs object.2.few_nums
 
-      out : IsCopiedOut c m (copied_out c m a) a
-      out = copies_out c m a above inside (can.room collected plain)
+      out : IsCopiedOut config memory (copied_out config memory address) address
+      out = copies_out config memory address above inside (can.room collected plain)
 
-      copied : StillSo c m (copied_out c m a) block owner p g
+      copied : StillSo config memory (copied_out config memory address) block owner promises graph
       copied = record {
-        pieces = copy.plot c m block owner p g holds a (thing name refs nums) here refl inside plain unpinned size out;
-        stay = copy.stays c m block owner p g holds a (thing name refs nums) here refl inside plain unpinned size out;
-        set = copy.set_same c m block owner p g holds a (thing name refs nums) here refl inside plain unpinned size out;
-        holds = copy.copied_holds c m block owner p g holds a (thing name refs nums) here refl inside plain unpinned size out;
-        sized = copy.copied_sized c m block owner p g holds a (thing name refs nums) here refl inside plain unpinned size out;
-        order = copy.order_still c m block owner p g holds a (thing name refs nums) here refl inside plain unpinned size out;
-        pins = copy.pin_same c m block owner p g holds a (thing name refs nums) here refl inside plain unpinned size out;
+        pieces = copy.plot config memory block owner promises graph holds address (thing name refs nums) here refl inside plain unpinned size out;
+        stay = copy.stays config memory block owner promises graph holds address (thing name refs nums) here refl inside plain unpinned size out;
+        set = copy.set_same config memory block owner promises graph holds address (thing name refs nums) here refl inside plain unpinned size out;
+        holds = copy.copied_holds config memory block owner promises graph holds address (thing name refs nums) here refl inside plain unpinned size out;
+        sized = copy.copied_sized config memory block owner promises graph holds address (thing name refs nums) here refl inside plain unpinned size out;
+        order = copy.order_still config memory block owner promises graph holds address (thing name refs nums) here refl inside plain unpinned size out;
+        pins = copy.pin_same config memory block owner promises graph holds address (thing name refs nums) here refl inside plain unpinned size out;
       }
 
-      is_copied : copied_out c m a ≡ moved_out c m a
-      is_copied = fun_ext (λ word. sym (cond-false (is_forwarded (m (Heap a))) (m word) (copied_out c m a word) plain))
+      is_copied : copied_out config memory address ≡ moved_out config memory address
+      is_copied = fun_ext (λ word. sym (cond-false (is_forwarded (memory (Heap address))) (memory word) (copied_out config memory address word) plain))
 
-    moved : StillSo c m (moved_out c m a) block owner p g
+    moved : StillSo config memory (moved_out config memory address) block owner promises graph
     moved = ⊎_elim
-        (λ (before : is_forwarded (m (Heap a)) ≡ true).
-        let same : m ≡ moved_out c m a = fun_ext (λ word. sym (cond-true (is_forwarded (m (Heap a))) (m word) (copied_out c m a word) before)) in
-        subst (λ n. StillSo c m n block owner p g) same as_it_is)
-        (λ (plain : is_forwarded (m (Heap a)) ≡ false). subst (λ n. StillSo c m n block owner p g) (is_copied plain) (copied plain))
-        (cases_Bool (is_forwarded (m (Heap a))))
+        (λ (before : is_forwarded (memory (Heap address)) ≡ true).
+        let same : memory ≡ moved_out config memory address = fun_ext (λ word. sym (cond-true (is_forwarded (memory (Heap address))) (memory word) (copied_out config memory address word) before)) in
+        subst (λ n. StillSo config memory n block owner promises graph) same as_it_is)
+        (λ (plain : is_forwarded (memory (Heap address)) ≡ false). subst (λ n. StillSo config memory n block owner promises graph) (is_copied plain) (copied plain))
+        (cases_Bool (is_forwarded (memory (Heap address))))
 
     -- a word that names objects is as it was
-    naming_same : (place : Word) → IsNaming place → moved_out c m a place ≡ m place
+    naming_same : (place : Word) → IsNaming place → moved_out config memory address place ≡ memory place
     naming_same place naming = ⊎_elim
-        (λ (before : is_forwarded (m (Heap a)) ≡ true). cond-true (is_forwarded (m (Heap a))) (m place) (copied_out c m a place) before)
-        (λ (plain : is_forwarded (m (Heap a)) ≡ false).
-        cond-false (is_forwarded (m (Heap a))) (m place) (copied_out c m a place) plain ∙ copied_naming c m a (copy_room c m a) place naming)
-        (cases_Bool (is_forwarded (m (Heap a))))
+        (λ (before : is_forwarded (memory (Heap address)) ≡ true). cond-true (is_forwarded (memory (Heap address))) (memory place) (copied_out config memory address place) before)
+        (λ (plain : is_forwarded (memory (Heap address)) ≡ false).
+        cond-false (is_forwarded (memory (Heap address))) (memory place) (copied_out config memory address place) plain ∙ copied_naming config memory address (copy_room config memory address) place naming)
+        (cases_Bool (is_forwarded (memory (Heap address))))
 
     -- where it named the object it is renamed
-    renamed : (place : Word) → IsNaming place → m place ≡ a → IsRenamed (moved_out c m a) (moved_out c m a place) (now_in (moved_out c m a) a)
+    renamed : (place : Word) → IsNaming place → memory place ≡ address → IsRenamed (moved_out config memory address) (moved_out config memory address place) (now_in (moved_out config memory address) address)
     renamed place naming named =
-        let same : moved_out c m a place ≡ a = naming_same place naming ∙ named in
+        let same : moved_out config memory address place ≡ address = naming_same place naming ∙ named in
         record {
-          small = λ low. absurd (let long = c.in_range.least_words in let least = above in omega (arith, low, same, least, long));
-          either = inr (ap (now_in (moved_out c m a)) (sym same));
+          small = λ low. absurd (let long = config.in_range.least_words in let least = above in omega (arith, low, same, least, long));
+          either = inr (ap (now_in (moved_out config memory address)) (sym same));
         }
 
   -- a root is cleared
-  root_cleared : (t i : ℕ) → t < c.mutators → i < 16 → CanClear c m (m (Root t i)) → is_collected c m (m (Root t i)) ≡ true → StillSo c m (cleared_at c m (Root t i)) block owner p g
-  root_cleared t i within few can collected =
-      let least = leb-true c.region_words (m (Root t i)) (and_parts (nat_le c.region_words (m (Root t i))) (bit_at (m Cset) (region_with c (m (Root t i))) == 1) collected).0 in
-      let some : m (Root t i) ≢ 0 = λ none. (let long = c.in_range.least_words in omega (arith, none, least, long)) in
-      let named = named_if_not_0 c top block holds.objects.plotted (m (Root t i)) (g.root (t + 1) i) (holds.rooted.roots t i within few) some in
-      let at = holds.pieces.named (m (Root t i)) named.0 named.2 in
-      let led : IsLed (now_in m (m (Root t i))) = from_root (m (Root t i)) (root_among c top m block g p holds.objects.plotted holds.rooted t i within few) some in
-      let out = moved (m (Root t i)) at.0 at.1 named.0 at.2 led collected can in
-      subst (λ n. StillSo c m n block owner p g) (sym (cleared_is c m (Root t i) collected))
+  root_cleared : (mutator index : ℕ) → mutator < config.mutators → index < 16 → CanClear config memory (memory (Root mutator index)) → is_collected config memory (memory (Root mutator index)) ≡ true → StillSo config memory (cleared_at config memory (Root mutator index)) block owner promises graph
+  root_cleared mutator index within few can collected =
+      let least = leb-true config.region_words (memory (Root mutator index)) (and_parts (nat_le config.region_words (memory (Root mutator index))) (bit_at (memory Cset) (region_with config (memory (Root mutator index))) == 1) collected).0 in
+      let some : memory (Root mutator index) ≢ 0 = λ none. (let long = config.in_range.least_words in omega (arith, none, least, long)) in
+      let named = named_if_not_0 config top block holds.objects.plotted (memory (Root mutator index)) (graph.root (mutator + 1) index) (holds.rooted.roots mutator index within few) some in
+      let at = holds.pieces.named (memory (Root mutator index)) named.0 named.2 in
+      let led : IsLed (now_in memory (memory (Root mutator index))) = from_root (memory (Root mutator index)) (root_among config top memory block graph promises holds.objects.plotted holds.rooted mutator index within few) some in
+      let out = moved (memory (Root mutator index)) at.0 at.1 named.0 at.2 led collected can in
+      subst (λ n. StillSo config memory n block owner promises graph) (sym (cleared_is config memory (Root mutator index) collected))
       (record {
         pieces = out.pieces;
         stay = out.stay;
         set = out.set;
-        holds = root_renamed c (moved_out c m (m (Root t i))) out.pieces owner p g out.holds (now_in (moved_out c m (m (Root t i))) (m (Root t i))) t i
-            (renamed (m (Root t i)) at.0 at.1 named.0 at.2 led collected can (Root t i) tt refl);
-        sized = λ sized. sized_alike (moved_out c m (m (Root t i))) (write (moved_out c m (m (Root t i))) (Root t i) (now_in (moved_out c m (m (Root t i))) (m (Root t i)))) out.pieces (λ a. refl) (out.sized sized);
+        holds = root_renamed config (moved_out config memory (memory (Root mutator index))) out.pieces owner promises graph out.holds (now_in (moved_out config memory (memory (Root mutator index))) (memory (Root mutator index))) mutator index
+            (renamed (memory (Root mutator index)) at.0 at.1 named.0 at.2 led collected can (Root mutator index) tt refl);
+        sized = λ sized. sized_alike (moved_out config memory (memory (Root mutator index))) (write (moved_out config memory (memory (Root mutator index))) (Root mutator index) (now_in (moved_out config memory (memory (Root mutator index))) (memory (Root mutator index)))) out.pieces (λ address. refl) (out.sized sized);
         order = λ order.
             let next = out.order order in
             record {
               marked = next.marked;
               reachable = λ y reached. next.reachable y
-                  (root_reached c (moved_out c m (m (Root t i))) out.pieces owner p g out.holds (now_in (moved_out c m (m (Root t i))) (m (Root t i))) t i
-                  (renamed (m (Root t i)) at.0 at.1 named.0 at.2 led collected can (Root t i) tt refl) y reached);
+                  (root_reached config (moved_out config memory (memory (Root mutator index))) out.pieces owner promises graph out.holds (now_in (moved_out config memory (memory (Root mutator index))) (memory (Root mutator index))) mutator index
+                  (renamed (memory (Root mutator index)) at.0 at.1 named.0 at.2 led collected can (Root mutator index) tt refl) y reached);
               no_new = next.no_new;
               floors = next.floors;
               unseated = next.unseated;
@@ -163,29 +163,29 @@ module _ (c : Config) (m : Word → ℕ) (block : Plot) (owner : ℕ → Option 
       })
 
   -- an answer is cleared
-  answer_cleared : (t : ℕ) → t < c.mutators → CanClear c m (m (Answer t)) → is_collected c m (m (Answer t)) ≡ true → StillSo c m (cleared_at c m (Answer t)) block owner p g
-  answer_cleared t within can collected =
-      let least = leb-true c.region_words (m (Answer t)) (and_parts (nat_le c.region_words (m (Answer t))) (bit_at (m Cset) (region_with c (m (Answer t))) == 1) collected).0 in
-      let big : 1 < m (Answer t) = (let long = c.in_range.least_words in omega (arith, least, long)) in
-      let named = answer_names c top m block g p holds.objects.plotted holds.rooted (m (Answer t)) (p.ref (t + 1)) big (holds.rooted.answers t within) in
-      let at = holds.pieces.named (m (Answer t)) named.0 named.2 in
-      let led : IsLed (now_in m (m (Answer t))) = from_root (m (Answer t)) (answer_among c top m block g p holds.objects.plotted holds.rooted t within big) (λ none. omega (arith, none, big)) in
-      let out = moved (m (Answer t)) at.0 at.1 named.0 at.2 led collected can in
-      subst (λ n. StillSo c m n block owner p g) (sym (cleared_is c m (Answer t) collected))
+  answer_cleared : (mutator : ℕ) → mutator < config.mutators → CanClear config memory (memory (Answer mutator)) → is_collected config memory (memory (Answer mutator)) ≡ true → StillSo config memory (cleared_at config memory (Answer mutator)) block owner promises graph
+  answer_cleared mutator within can collected =
+      let least = leb-true config.region_words (memory (Answer mutator)) (and_parts (nat_le config.region_words (memory (Answer mutator))) (bit_at (memory Cset) (region_with config (memory (Answer mutator))) == 1) collected).0 in
+      let big : 1 < memory (Answer mutator) = (let long = config.in_range.least_words in omega (arith, least, long)) in
+      let named = answer_names config top memory block graph promises holds.objects.plotted holds.rooted (memory (Answer mutator)) (promises.ref (mutator + 1)) big (holds.rooted.answers mutator within) in
+      let at = holds.pieces.named (memory (Answer mutator)) named.0 named.2 in
+      let led : IsLed (now_in memory (memory (Answer mutator))) = from_root (memory (Answer mutator)) (answer_among config top memory block graph promises holds.objects.plotted holds.rooted mutator within big) (λ none. omega (arith, none, big)) in
+      let out = moved (memory (Answer mutator)) at.0 at.1 named.0 at.2 led collected can in
+      subst (λ n. StillSo config memory n block owner promises graph) (sym (cleared_is config memory (Answer mutator) collected))
       (record {
         pieces = out.pieces;
         stay = out.stay;
         set = out.set;
-        holds = answer_renamed c (moved_out c m (m (Answer t))) out.pieces owner p g out.holds (now_in (moved_out c m (m (Answer t))) (m (Answer t))) t
-            (renamed (m (Answer t)) at.0 at.1 named.0 at.2 led collected can (Answer t) tt refl);
-        sized = λ sized. sized_alike (moved_out c m (m (Answer t))) (write (moved_out c m (m (Answer t))) (Answer t) (now_in (moved_out c m (m (Answer t))) (m (Answer t)))) out.pieces (λ a. refl) (out.sized sized);
+        holds = answer_renamed config (moved_out config memory (memory (Answer mutator))) out.pieces owner promises graph out.holds (now_in (moved_out config memory (memory (Answer mutator))) (memory (Answer mutator))) mutator
+            (renamed (memory (Answer mutator)) at.0 at.1 named.0 at.2 led collected can (Answer mutator) tt refl);
+        sized = λ sized. sized_alike (moved_out config memory (memory (Answer mutator))) (write (moved_out config memory (memory (Answer mutator))) (Answer mutator) (now_in (moved_out config memory (memory (Answer mutator))) (memory (Answer mutator)))) out.pieces (λ address. refl) (out.sized sized);
         order = λ order.
             let next = out.order order in
             record {
               marked = next.marked;
               reachable = λ y reached. next.reachable y
-                  (answer_reached c (moved_out c m (m (Answer t))) out.pieces owner p g out.holds (now_in (moved_out c m (m (Answer t))) (m (Answer t))) t
-                  (renamed (m (Answer t)) at.0 at.1 named.0 at.2 led collected can (Answer t) tt refl) y reached);
+                  (answer_reached config (moved_out config memory (memory (Answer mutator))) out.pieces owner promises graph out.holds (now_in (moved_out config memory (memory (Answer mutator))) (memory (Answer mutator))) mutator
+                  (renamed (memory (Answer mutator)) at.0 at.1 named.0 at.2 led collected can (Answer mutator) tt refl) y reached);
               no_new = next.no_new;
               floors = next.floors;
               unseated = next.unseated;
@@ -194,45 +194,45 @@ module _ (c : Config) (m : Word → ℕ) (block : Plot) (owner : ℕ → Option 
         pins = out.pins;
       })
 
-  spared : (place : Word) → is_collected c m (m place) ≡ false → StillSo c m (cleared_at c m place) block owner p g
-  spared place outside = subst (λ n. StillSo c m n block owner p g) (sym (spared_is c m place outside)) as_it_is
+  spared : (place : Word) → is_collected config memory (memory place) ≡ false → StillSo config memory (cleared_at config memory place) block owner promises graph
+  spared place outside = subst (λ n. StillSo config memory n block owner promises graph) (sym (spared_is config memory place outside)) as_it_is
 
-  place_cleared : (place : Word) → IsPlace c place → CanClear c m (m place) → StillSo c m (cleared_at c m place) block owner p g
+  place_cleared : (place : Word) → IsPlace config place → CanClear config memory (memory place) → StillSo config memory (cleared_at config memory place) block owner promises graph
   place_cleared (Root t i) at can = ⊎_elim
-      (λ (collected : is_collected c m (m (Root t i)) ≡ true). root_cleared t i at.0 at.1 can collected)
-      (λ (outside : is_collected c m (m (Root t i)) ≡ false). spared (Root t i) outside)
-      (cases_Bool (is_collected c m (m (Root t i))))
+      (λ (collected : is_collected config memory (memory (Root t i)) ≡ true). root_cleared t i at.0 at.1 can collected)
+      (λ (outside : is_collected config memory (memory (Root t i)) ≡ false). spared (Root t i) outside)
+      (cases_Bool (is_collected config memory (memory (Root t i))))
   place_cleared (Answer t) at can = ⊎_elim
-      (λ (collected : is_collected c m (m (Answer t)) ≡ true). answer_cleared t at can collected)
-      (λ (outside : is_collected c m (m (Answer t)) ≡ false). spared (Answer t) outside)
-      (cases_Bool (is_collected c m (m (Answer t))))
+      (λ (collected : is_collected config memory (memory (Answer t)) ≡ true). answer_cleared t at can collected)
+      (λ (outside : is_collected config memory (memory (Answer t)) ≡ false). spared (Answer t) outside)
+      (cases_Bool (is_collected config memory (memory (Answer t))))
   place_cleared _ at can = absurd at
 
 -- All places are cleared, one after the other.
-all_cleared : (c : Config) (owner : ℕ → Option ℕ) (p : Promises) (g : Graph) (places : List Word) (m : Word → ℕ) (block : Plot)
-    → ((place : Word) → Contains places place → IsPlace c place) → HoldsBy c m block owner p g → PinsOutside c m → CanClearInTurn c m places
-    → StillSo c m (cleared_in_turn c m places) block owner p g
+all_cleared : (config : Config) (owner : ℕ → Option ℕ) (promises : Promises) (graph : Graph) (places : List Word) (memory : Word → ℕ) (block : Plot)
+    → ((place : Word) → Contains places place → IsPlace config place) → HoldsBy config memory block owner promises graph → PinsOutside config memory → CanClearInTurn config memory places
+    → StillSo config memory (cleared_in_turn config memory places) block owner promises graph
 unfolding cleared_in_turn CanClearInTurn
-all_cleared c owner p g [] m block are holds apart can = record { pieces = block; stay = λ a b is. is; set = refl; holds = holds; sized = λ sized. sized; order = λ order. order; pins = λ t i. refl }
-all_cleared c owner p g (place ∷ places) m block are holds apart can =
-    let next = place_cleared c m block owner p g holds apart place (are place (is_first place places)) can.0 in
-    let rest = all_cleared c owner p g places (cleared_at c m place) next.pieces (λ q has. are q (is_later place places q has)) next.holds
-    (still_outside c m (cleared_at c m place) next.pins next.set apart) can.1 in
+all_cleared config owner promises graph [] memory block are holds apart can = record { pieces = block; stay = λ a b is. is; set = refl; holds = holds; sized = λ sized. sized; order = λ order. order; pins = λ t i. refl }
+all_cleared config owner promises graph (place ∷ places) memory block are holds apart can =
+    let next = place_cleared config memory block owner promises graph holds apart place (are place (is_first place places)) can.0 in
+    let rest = all_cleared config owner promises graph places (cleared_at config memory place) next.pieces (λ q has. are q (is_later place places q has)) next.holds
+    (still_outside config memory (cleared_at config memory place) next.pins next.set apart) can.1 in
     record { pieces = rest.pieces; stay = λ a b is. rest.stay a b (next.stay a b is); set = rest.set ∙ next.set; holds = rest.holds; sized = λ sized. rest.sized (next.sized sized); order = λ order. rest.order (next.order order); pins = λ t i. rest.pins t i ∙ next.pins t i }
 
 -- A collection set may be stored where no object has moved, if the shared region lies outside.
-module _ (c : Config) (m : Word → ℕ) (block : Plot) (owner : ℕ → Option ℕ) (p : Promises) (g : Graph) (holds : HoldsBy c m block owner p g)
-    (plain : (a refs nums : ℕ) (name : Name) → block a ≡ Some (thing name refs nums) → is_forwarded (m (Heap a)) ≡ false)
-    (set : ℕ) (away : (r : ℕ) → m Share ≡ r + 1 → IsIn set r → ⊥) where
-  asking : AreAsking c (with_set m set) g p 0
+module _ (config : Config) (memory : Word → ℕ) (block : Plot) (owner : ℕ → Option ℕ) (promises : Promises) (graph : Graph) (holds : HoldsBy config memory block owner promises graph)
+    (plain : (a refs nums : ℕ) (name : Name) → block a ≡ Some (thing name refs nums) → is_forwarded (memory (Heap a)) ≡ false)
+    (set : ℕ) (away : (r : ℕ) → memory Share ≡ r + 1 → IsIn set r → ⊥) where
+  asking : AreAsking config (with_set memory set) graph promises 0
   asking t from below some =
       let was = holds.asking t from below some in
       record { shape = was.shape; few_refs = was.few_refs; few_nums = was.few_nums; unanswered = was.unanswered; new = was.new }
 
-  pub set_stored_holds : HoldsBy c (with_set m set) block owner p g
+  pub set_stored_holds : HoldsBy config (with_set memory set) block owner promises graph
   set_stored_holds = record {
-    objects = subst (λ xs. HoldsGraph c (λ r. m (Top r)) (λ a. m (Heap a)) block (now_in m) (IsAmong xs) (with_promised g p))
-        (sym (same_held_words m (with_set m set) (λ t i. refl) (λ t. refl) (λ t i. refl) c)) holds.objects;
+    objects = subst (λ xs. HoldsGraph config (λ r. memory (Top r)) (λ a. memory (Heap a)) block (now_in memory) (IsAmong xs) (with_promised graph promises))
+        (sym (same_held_words memory (with_set memory set) (λ t i. refl) (λ t. refl) (λ t i. refl) config)) holds.objects;
     rooted = record { roots = holds.rooted.roots; answers = holds.rooted.answers; no_more_roots = holds.rooted.no_more_roots; pins = holds.rooted.pins; no_more_pins = holds.rooted.no_more_pins; no_more_promised = holds.rooted.no_more_promised };
     moved = λ a refs nums name is forwarded. absurd (true≢false (sym forwarded ∙ plain a refs nums name is));
     filled = holds.filled;
@@ -246,89 +246,89 @@ module _ (c : Config) (m : Word → ℕ) (block : Plot) (owner : ℕ → Option 
   }
 
 -- Evacuation begins from words without a collection set, in which no object has moved.
-module _ (c : Config) (m : Word → ℕ) (block : Plot) (owner : ℕ → Option ℕ) (p : Promises) (g : Graph) (holds : HoldsBy c m block owner p g) (calm : m Cset ≡ 0) (can : CanBegin c m) where
+module _ (config : Config) (m : Word → ℕ) (block : Plot) (owner : ℕ → Option ℕ) (promises : Promises) (graph : Graph) (holds : HoldsBy config m block owner promises graph) (calm : m Cset ≡ 0) (can : CanBegin config m) where
   abbrev set : ℕ
-  set = chosen c m
+  set = chosen config m
 
   abbrev with : Word → ℕ
   with = with_set m set
 
-  unmoved : (a refs nums : ℕ) (name : Name) → block a ≡ Some (thing name refs nums) → is_forwarded (m (Heap a)) ≡ false
-  unmoved a refs nums name is = false_from_ne_true (is_forwarded (m (Heap a))) (λ forwarded.
-      let was = holds.moved a refs nums name is forwarded in
-      let none : bit_at (m Cset) (region_with c a) ≡ 0 = ap (λ k. bit_at k (region_with c a)) calm ∙ bit_at-zero (region_with c a) in
+  unmoved : (address refs nums : ℕ) (name : Name) → block address ≡ Some (thing name refs nums) → is_forwarded (m (Heap address)) ≡ false
+  unmoved address refs nums name is = false_from_ne_true (is_forwarded (m (Heap address))) (λ forwarded.
+      let was = holds.moved address refs nums name is forwarded in
+      let none : bit_at (m Cset) (region_with config address) ≡ 0 = ap (λ k. bit_at k (region_with config address)) calm ∙ bit_at-zero (region_with config address) in
       let member = was.in_set in
       omega (arith, member, none))
 
   -- a region of the choice is a candidate
-  chosen_is : (r : ℕ) → IsIn set r → IsCandidate c m r
-  chosen_is r member = (candidate_is_candidate c m r).0 (member_is c.regions (copy_limit c m) (live_words c m) (is_candidate c m) r member).1
+  chosen_is : (region : ℕ) → IsIn set region → IsCandidate config m region
+  chosen_is region member = (candidate_is_candidate config m region).0 (member_is config.regions (copy_limit config m) (live_words config m) (is_candidate config m) region member).1
 
-  set_holds : HoldsBy c with block owner p g
-  set_holds = set_stored_holds c m block owner p g holds unmoved set (λ r is member. (chosen_is r member).nobodys (inl is))
+  set_holds : HoldsBy config with block owner promises graph
+  set_holds = set_stored_holds config m block owner promises graph holds unmoved set (λ r is member. (chosen_is r member).nobodys (inl is))
 
   -- for no candidate is pinned
-  apart : PinsOutside c with
-  apart = pins_outside c with (λ r member. (chosen_is r member).unpinned)
+  apart : PinsOutside config with
+  apart = pins_outside config with (λ r member. (chosen_is r member).unpinned)
 
   abbrev cleared : Word → ℕ
-  cleared = roots_cleared c m set
+  cleared = roots_cleared config m set
 
-  all : StillSo c with cleared block owner p g
-  all = all_cleared c owner p g (naming_places c) with block (are_places c) set_holds apart (can_clear_in_turn c m can)
+  all : StillSo config with cleared block owner promises graph
+  all = all_cleared config owner promises graph (naming_places config) with block (are_places config) set_holds apart (can_clear_in_turn config m can)
 
-  begun_some : HoldsStill c m (evac_started cleared) block owner p g
+  begun_some : HoldsStill config m (evac_started cleared) block owner promises graph
   begun_some = record {
     pieces = all.pieces;
     stay = all.stay;
     holds = holds_alike cleared (evac_started cleared)
         (record { heap = λ a. refl; top = λ r. refl; root = λ t i. refl; answer = λ t. refl; wait = λ t. refl; current = λ s. refl; free = refl; cset = refl; share = refl; pin = λ t i. refl })
-        c all.pieces owner p g all.holds;
+        config all.pieces owner promises graph all.holds;
     sized = λ sized. sized_alike cleared (evac_started cleared) all.pieces (λ a. refl) (all.sized (sized_alike m with block (λ a. refl) sized));
   }
 
-  begun_none : HoldsStill c m (evac_spared m) block owner p g
+  begun_none : HoldsStill config m (evac_spared m) block owner promises graph
   begun_none = record {
     pieces = block;
     stay = λ a b is. is;
     holds = holds_alike m (evac_spared m)
         (record { heap = λ a. refl; top = λ r. refl; root = λ t i. refl; answer = λ t. refl; wait = λ t. refl; current = λ s. refl; free = refl; cset = sym calm; share = refl; pin = λ t i. refl })
-        c block owner p g holds;
+        config block owner promises graph holds;
     sized = λ sized. sized_alike m (evac_spared m) block (λ a. refl) sized;
   }
 
-  none_is : set ≡ 0 → evac_spared m ≡ evac_begun c m set
+  none_is : set ≡ 0 → evac_spared m ≡ evac_begun config m set
   none_is none = fun_ext (λ word. sym (cond-true (set == 0) (evac_spared m word) (evac_started cleared word) (eq-eqb set 0 none)))
 
-  some_is : set ≢ 0 → evac_started cleared ≡ evac_begun c m set
+  some_is : set ≢ 0 → evac_started cleared ≡ evac_begun config m set
   some_is some = fun_ext (λ word. sym (cond-false (set == 0) (evac_spared m word) (evac_started cleared word) (ne_eqb set 0 some)))
 
-  pub begun_holds : HoldsStill c m (evac_begun c m set) block owner p g
+  pub begun_holds : HoldsStill config m (evac_begun config m set) block owner promises graph
   begun_holds = ⊎_elim
-      (λ (none : set ≡ 0). subst (λ n. HoldsStill c m n block owner p g) (none_is none) begun_none)
-      (λ (some : set ≢ 0). subst (λ n. HoldsStill c m n block owner p g) (some_is some) begun_some)
+      (λ (none : set ≡ 0). subst (λ n. HoldsStill config m n block owner promises graph) (none_is none) begun_none)
+      (λ (some : set ≢ 0). subst (λ n. HoldsStill config m n block owner promises graph) (some_is some) begun_some)
       (cases_eq set 0)
 
   -- Where marking has ended, what finishing a cycle asks for holds then.
-  module _ (sized : AreSized m block) (through : IsMarkedThrough c m block) (marked : (a : ℕ) → is_black c m a ≡ true → IsObjectAt m block a)
-      (floors : (r : ℕ) → r < c.regions → m (Tams r) ≤ m (Top r)) (young : AreYoungRooms c (λ r. m (Tams r)) block) (seats : HasNoMoreSeats c m) where
+  module _ (sized : AreSized m block) (through : IsMarkedThrough config m block) (marked : (a : ℕ) → is_black config m a ≡ true → IsObjectAt m block a)
+      (floors : (r : ℕ) → r < config.regions → m (Tams r) ≤ m (Top r)) (young : AreYoungRooms config (λ r. m (Tams r)) block) (seats : HasNoMoreSeats config m) where
     -- reaching goes by roots, answers and the heap
-    reached_same : (n w : Word → ℕ) → held_words c n ≡ held_words c w → ((a : ℕ) → n (Heap a) ≡ w (Heap a)) → (a : ℕ) → CanBeReached c n a → CanBeReached c w a
-    reached_same n w roots heap a =
-        subst (λ xs. IsLedTo (now_in n) (λ y. n (Heap y)) (IsAmong xs) a → CanBeReached c w a) (sym roots)
-        (subst (λ (f : ℕ → ℕ). IsLedTo (λ y. if is_forwarded (f y) then forwardee_in (f y) else y) f (IsAmong (held_words c w)) a → CanBeReached c w a) (sym (fun_ext heap)) (λ reached. reached))
+    reached_same : (memory other_memory : Word → ℕ) → held_words config memory ≡ held_words config other_memory → ((address : ℕ) → memory (Heap address) ≡ other_memory (Heap address)) → (address : ℕ) → CanBeReached config memory address → CanBeReached config other_memory address
+    reached_same memory other_memory roots heap address =
+        subst (λ xs. IsLedTo (now_in memory) (λ y. memory (Heap y)) (IsAmong xs) address → CanBeReached config other_memory address) (sym roots)
+        (subst (λ (f : ℕ → ℕ). IsLedTo (λ y. if is_forwarded (f y) then forwardee_in (f y) else y) f (IsAmong (held_words config other_memory)) address → CanBeReached config other_memory address) (sym (fun_ext heap)) (λ reached. reached))
 
-    order_first : IsInOrder c with block
+    order_first : IsInOrder config with block
     order_first = record {
       marked = λ a collected black. let is = marked a black in (thing is.name is.refs is.nums, is.here, refl);
-      reachable = λ a reached. through.reachable a (reached_same with m (same_held_words m with (λ t i. refl) (λ t. refl) (λ t i. refl) c) (λ y. refl) a reached);
+      reachable = λ a reached. through.reachable a (reached_same with m (same_held_words m with (λ t i. refl) (λ t. refl) (λ t i. refl) config) (λ y. refl) a reached);
       no_new = λ r member. (chosen_is r member).no_new;
       floors = floors;
-      unseated = λ seat r is member. (chosen_is r member).nobodys (seated c m seats seat r is);
+      unseated = λ seat r is member. (chosen_is r member).nobodys (seated config m seats seat r is);
       young = young;
     }
 
-    collecting_some : HoldsCollecting c (evac_started cleared) owner p g
+    collecting_some : HoldsCollecting config (evac_started cleared) owner promises graph
     unfolding begun_some
     collecting_some =
         let order = all.order order_first in
@@ -339,17 +339,17 @@ module _ (c : Config) (m : Word → ℕ) (block : Plot) (owner : ℕ → Option 
           collecting = record {
             marked = order.marked;
             reachable = λ some a reached. order.reachable a
-                (reached_same (evac_started cleared) cleared (same_held_words cleared (evac_started cleared) (λ t i. refl) (λ t. refl) (λ t i. refl) c) (λ y. refl) a reached);
+                (reached_same (evac_started cleared) cleared (same_held_words cleared (evac_started cleared) (λ t i. refl) (λ t. refl) (λ t i. refl) config) (λ y. refl) a reached);
             no_new = order.no_new;
             floors = λ some. order.floors;
             unseated = order.unseated;
             young = λ some. order.young;
             outside = λ off. absurd (off refl);
           };
-          small = subst (λ k. k < 2 ^ c.regions) (sym all.set) (bits_small (is_in_front c.regions (copy_limit c m) (live_words c m) (is_candidate c m)) 0 c.regions);
+          small = subst (λ k. k < 2 ^ config.regions) (sym all.set) (bits_small (is_in_front config.regions (copy_limit config m) (live_words config m) (is_candidate config m)) 0 config.regions);
         }
 
-    collecting_none : HoldsCollecting c (evac_spared m) owner p g
+    collecting_none : HoldsCollecting config (evac_spared m) owner promises graph
     unfolding begun_none
     collecting_none = record {
       pieces = block;
@@ -362,13 +362,13 @@ module _ (c : Config) (m : Word → ℕ) (block : Plot) (owner : ℕ → Option 
         floors = λ some. absurd (some refl);
         unseated = λ seat r is member. (let none = bit_at-zero r in omega (arith, member, none));
         young = λ some. absurd (some refl);
-        outside = λ off a reached member. absurd (let none = bit_at-zero (region_with c a) in omega (arith, member, none));
+        outside = λ off a reached member. absurd (let none = bit_at-zero (region_with config a) in omega (arith, member, none));
       };
-      small = pow_pos c.regions;
+      small = pow_pos config.regions;
     }
 
-    pub begun_collecting : HoldsCollecting c (evac_begun c m set) owner p g
+    pub begun_collecting : HoldsCollecting config (evac_begun config m set) owner promises graph
     begun_collecting = ⊎_elim
-        (λ (none : set ≡ 0). subst (λ n. HoldsCollecting c n owner p g) (none_is none) collecting_none)
-        (λ (some : set ≢ 0). subst (λ n. HoldsCollecting c n owner p g) (some_is some) collecting_some)
+        (λ (none : set ≡ 0). subst (λ n. HoldsCollecting config n owner promises graph) (none_is none) collecting_none)
+        (λ (some : set ≢ 0). subst (λ n. HoldsCollecting config n owner promises graph) (some_is some) collecting_some)
         (cases_eq set 0)

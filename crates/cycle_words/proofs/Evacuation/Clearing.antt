@@ -45,43 +45,43 @@ none_distinct = tt
 nothing_in_none : (x : ℕ) → Contains [] x → ⊥
 nothing_in_none x has = omega (arith, has.1)
 
-module _ (c : Config) (before : Word → ℕ) (empty : FreeAreEmpty c before) (lie : LieApart c.region_words (marked_words c before)) (set_is : before Cset ≡ chosen c before)
-    (within : AreWithin c before) (unmoved : (a : ℕ) → is_black c before a ≡ true → is_forwarded (before (Heap a)) ≡ false)
-    (copyable : (place : Word) → Contains (naming_places c) place → is_collected c before (before place) ≡ true → IsCopyable c before (before place)) where
+module _ (config : Config) (before : Word → ℕ) (empty : FreeAreEmpty config before) (lie : LieApart config.region_words (marked_words config before)) (set_is : before Cset ≡ chosen config before)
+    (within : AreWithin config before) (unmoved : (a : ℕ) → is_black config before a ≡ true → is_forwarded (before (Heap a)) ≡ false)
+    (copyable : (place : Word) → Contains (naming_places config) place → is_collected config before (before place) ≡ true → IsCopyable config before (before place)) where
   -- What holds after some places were cleared, for which these objects were copied out.
-  record IsSoFar (m : Word → ℕ) (objects : List ℕ) : Type 0 where
-    to_copy : AreToCopy c before (before Cset) objects
-    only : (a : ℕ) → Contains objects a → (place : Word) × Contains (naming_places c) place × (before place ≡ a)
-    same_set : m Cset ≡ before Cset
-    within_now : AreWithin c m
-    sized : (x : ℕ) → is_black c before x ≡ true → IsIn (before Cset) (region_with c x) → words_at m x ≡ words_at before x
-    same : (word : Word) → (IsNaming word → ⊥) → m word ≡ copied_by c before objects (length objects) word
-    named : (place : Word) → IsNaming place → (m place ≡ before place) ⊎ (Contains objects (before place) × (m place ≡ now_in m (before place)))
-    moved : (a : ℕ) → Contains objects a → is_forwarded (m (Heap a)) ≡ true
-    away : (a : ℕ) → Contains objects a → is_collected c before (now_in m a) ≡ false
-    left : (a : ℕ) → is_black c before a ≡ true → IsIn (before Cset) (region_with c a) → is_forwarded (m (Heap a)) ≡ true → Contains objects a
+  record IsSoFar (memory : Word → ℕ) (objects : List ℕ) : Type 0 where
+    to_copy : AreToCopy config before (before Cset) objects
+    only : (a : ℕ) → Contains objects a → (place : Word) × Contains (naming_places config) place × (before place ≡ a)
+    same_set : memory Cset ≡ before Cset
+    within_now : AreWithin config memory
+    sized : (address : ℕ) → is_black config before address ≡ true → IsIn (before Cset) (region_with config address) → words_at memory address ≡ words_at before address
+    same : (word : Word) → (IsNaming word → ⊥) → memory word ≡ copied_by config before objects (length objects) word
+    named : (place : Word) → IsNaming place → (memory place ≡ before place) ⊎ (Contains objects (before place) × (memory place ≡ now_in memory (before place)))
+    moved : (a : ℕ) → Contains objects a → is_forwarded (memory (Heap a)) ≡ true
+    away : (a : ℕ) → Contains objects a → is_collected config before (now_in memory a) ≡ false
+    left : (a : ℕ) → is_black config before a ≡ true → IsIn (before Cset) (region_with config a) → is_forwarded (memory (Heap a)) ≡ true → Contains objects a
 
   -- what is marked is of the heap, and is counted
-  black_above : (x : ℕ) → is_black c before x ≡ true → c.region_words ≤ x
-  black_above x black = leb-true c.region_words x (and_parts (nat_le c.region_words x) (bit_at (before (Black (mark_word c x))) (mark_bit c x) == 1) black).0
+  black_above : (x : ℕ) → is_black config before x ≡ true → config.region_words ≤ x
+  black_above x black = leb-true config.region_words x (and_parts (nat_le config.region_words x) (bit_at (before (Black (mark_word config x))) (mark_bit config x) == 1) black).0
 
-  all_black : (x : ℕ) → is_black c before x ≡ true → marked_words c before x ≡ words_at before x
-  all_black x black = cond-true (is_black c before x) (words_at before x) 0 black
+  all_black : (x : ℕ) → is_black config before x ≡ true → marked_words config before x ≡ words_at before x
+  all_black x black = cond-true (is_black config before x) (words_at before x) 0 black
 
   -- One more object is copied.
-  module _ (m : Word → ℕ) (objects : List ℕ) (so_far : IsSoFar m objects) (a : ℕ) (above : c.region_words ≤ a) (member : IsIn (before Cset) (region_with c a))
-      (can : IsCopyable c before a) (place : Word) (there : Contains (naming_places c) place) (is : before place ≡ a) (plain : is_forwarded (m (Heap a)) ≡ false) where
+  module _ (memory : Word → ℕ) (objects : List ℕ) (so_far : IsSoFar memory objects) (a : ℕ) (above : config.region_words ≤ a) (member : IsIn (before Cset) (region_with config a))
+      (can : IsCopyable config before a) (place : Word) (there : Contains (naming_places config) place) (is : before place ≡ a) (plain : is_forwarded (memory (Heap a)) ≡ false) where
     abbrev more : List ℕ
     more = objects ++ a ∷ []
 
     abbrev now : Word → ℕ
-    now = copied_out c m a
+    now = copied_out config memory a
 
     abbrev by : Word → ℕ
-    by = copied_by c before objects (length objects)
+    by = copied_by config before objects (length objects)
 
     not_yet : Contains objects a → ⊥
-    not_yet has = both_ways (is_forwarded (m (Heap a))) plain (so_far.moved a has)
+    not_yet has = both_ways (is_forwarded (memory (Heap a))) plain (so_far.moved a has)
 
     -- what holds of the objects so far and of this one holds of all
     each_more : (P : ℕ → Type 0) → ((x : ℕ) → Contains objects x → P x) → P a → (x : ℕ) → Contains more x → P x
@@ -90,66 +90,66 @@ module _ (c : Config) (before : Word → ℕ) (empty : FreeAreEmpty c before) (l
         (λ (last : a ≡ x). subst P last new)
         (Contains-push_cases objects a x has)
 
-    more_to_copy : AreToCopy c before (before Cset) more
+    more_to_copy : AreToCopy config before (before Cset) more
     more_to_copy = record {
       once = IsDistinct-push nat_eq_equiv objects a so_far.to_copy.once (false_from_ne_true (list_any (nat_eq a) objects) (λ any. not_yet (Contains-from_any exact_unsigned_eq a objects any)));
-      marked = each_more (λ x. is_black c before x ≡ true) so_far.to_copy.marked can.marked;
-      of_region = each_more (λ x. region_with c x < c.regions) so_far.to_copy.of_region can.of_region;
-      in_set = each_more (λ x. IsIn (before Cset) (region_with c x)) so_far.to_copy.in_set member;
+      marked = each_more (λ x. is_black config before x ≡ true) so_far.to_copy.marked can.marked;
+      of_region = each_more (λ x. region_with config x < config.regions) so_far.to_copy.of_region can.of_region;
+      in_set = each_more (λ x. IsIn (before Cset) (region_with config x)) so_far.to_copy.in_set member;
       short = each_more (λ x. words_at before x ≤ 35) so_far.to_copy.short can.short;
     }
 
     longer : length more ≡ suc (length objects)
     longer = let sum = length-append objects (a ∷ []) in omega (arith, sum)
 
-    by_next : copied_by c before more (suc (length objects)) ≡ copied_out c by a
+    by_next : copied_by config before more (suc (length objects)) ≡ copied_out config by a
     by_next =
-        copied_next c before more (length objects)
-        ∙ ap (λ n. copied_out c n (get_or more (length objects) 0)) (copied_front c before objects (a ∷ []) (length objects) (omega arith))
-        ∙ ap (copied_out c by) (get_or_push objects a 0 (length objects) refl)
+        copied_next config before more (length objects)
+        ∙ ap (λ n. copied_out config n (get_or more (length objects) 0)) (copied_front config before objects (a ∷ []) (length objects) (omega arith))
+        ∙ ap (copied_out config by) (get_or_push objects a 0 (length objects) refl)
 
-    copied : IsCopiedOut c by (copied_out c by a) a
+    copied : IsCopiedOut config by (copied_out config by a) a
     copied =
         let one : suc (length objects) ≡ length objects + 1 = omega arith in
-        let raw = each_is_copied c before more empty lie set_is (subst (λ s. AreToCopy c before s more) set_is more_to_copy) (length objects) (omega (arith, longer)) in
-        let first = subst (λ n. IsCopiedOut c n (copied_by c before more (length objects + 1)) (get_or more (length objects) 0)) (copied_front c before objects (a ∷ []) (length objects) (omega arith)) raw in
-        let second = subst (λ x. IsCopiedOut c by (copied_by c before more (length objects + 1)) x) (get_or_push objects a 0 (length objects) refl) first in
-        subst (λ n. IsCopiedOut c by n a) (ap (copied_by c before more) (sym one) ∙ by_next) second
+        let raw = each_is_copied config before more empty lie set_is (subst (λ s. AreToCopy config before s more) set_is more_to_copy) (length objects) (omega (arith, longer)) in
+        let first = subst (λ n. IsCopiedOut config n (copied_by config before more (length objects + 1)) (get_or more (length objects) 0)) (copied_front config before objects (a ∷ []) (length objects) (omega arith)) raw in
+        let second = subst (λ x. IsCopiedOut config by (copied_by config before more (length objects + 1)) x) (get_or_push objects a 0 (length objects) refl) first in
+        subst (λ n. IsCopiedOut config by n a) (ap (copied_by config before more) (sym one) ∙ by_next) second
 
     -- words that name nothing are as copying leaves them
-    now_by : (word : Word) → (IsNaming word → ⊥) → now word ≡ copied_out c by a word
-    now_by word other = same_copied_out c m by a so_far.same word other
+    now_by : (word : Word) → (IsNaming word → ⊥) → now word ≡ copied_out config by a word
+    now_by word other = same_copied_out config memory by a so_far.same word other
 
     -- words of the regions of the set stay, but for the header of the object that is copied
-    stays_in_set : (x k : ℕ) → c.region_words ≤ x → IsIn (before Cset) (region_with c x) → x % c.region_words + k < c.region_words → x + k ≢ a → now (Heap (x + k)) ≡ m (Heap (x + k))
-    stays_in_set x k from in_set inside other =
-        let differ : region_with c x ≢ copied.region = λ same_region.
+    stays_in_set : (address k : ℕ) → config.region_words ≤ address → IsIn (before Cset) (region_with config address) → address % config.region_words + k < config.region_words → address + k ≢ a → now (Heap (address + k)) ≡ memory (Heap (address + k))
+    stays_in_set address k from in_set inside other =
+        let differ : region_with config address ≢ copied.region = λ same_region.
         (let member_there : bit_at (before Cset) copied.region ≡ 1 = subst (IsIn (before Cset)) same_region in_set in
         let set_now : by Cset ≡ before Cset = sym (so_far.same Cset (λ never. never)) ∙ so_far.same_set in
         let outside : bit_at (before Cset) copied.region ≡ 0 = ap (λ s. bit_at s copied.region) (sym set_now) ∙ copied.outside in
         omega (arith, member_there, outside)) in
-        let apart = regions_apart c (region_with c x) copied.region (x + k) (top_address c by copied.region) (words_at by a) differ
-        (of_its_region c x k from inside) (omega arith) (omega (arith, copied.room)) in
-        now_by (Heap (x + k)) (λ never. never) ∙ copied.copied.elsewhere (x + k) other apart ∙ sym (so_far.same (Heap (x + k)) (λ never. never))
+        let apart = regions_apart config (region_with config address) copied.region (address + k) (top_address config by copied.region) (words_at by a) differ
+        (of_its_region config address k from inside) (omega arith) (omega (arith, copied.room)) in
+        now_by (Heap (address + k)) (λ never. never) ∙ copied.copied.elsewhere (address + k) other apart ∙ sym (so_far.same (Heap (address + k)) (λ never. never))
 
     -- headers of other objects of the set stay
-    header_stays : (x : ℕ) → c.region_words ≤ x → IsIn (before Cset) (region_with c x) → x ≢ a → now (Heap x) ≡ m (Heap x)
-    header_stays x from in_set other =
-        let plain_sum : x + 0 ≡ x = omega arith in
-        subst (λ y. now (Heap y) ≡ m (Heap y)) plain_sum
-        (stays_in_set x 0 from in_set (omega (arith, mod_below x c.region_words (some_words c))) (λ same. other (sym plain_sum ∙ same)))
+    header_stays : (address : ℕ) → config.region_words ≤ address → IsIn (before Cset) (region_with config address) → address ≢ a → now (Heap address) ≡ memory (Heap address)
+    header_stays address from in_set other =
+        let plain_sum : address + 0 ≡ address = omega arith in
+        subst (λ y. now (Heap y) ≡ memory (Heap y)) plain_sum
+        (stays_in_set address 0 from in_set (omega (arith, mod_below address config.region_words (some_words config))) (λ same. other (sym plain_sum ∙ same)))
 
     -- and so do the shapes of all marked ones
-    shape_stays : (x : ℕ) → is_black c before x ≡ true → IsIn (before Cset) (region_with c x) → now (Heap (x + 1)) ≡ m (Heap (x + 1))
-    shape_stays x black in_set =
-        let all = all_black x black in
+    shape_stays : (address : ℕ) → is_black config before address ≡ true → IsIn (before Cset) (region_with config address) → now (Heap (address + 1)) ≡ memory (Heap (address + 1))
+    shape_stays address black in_set =
+        let all = all_black address black in
         let all_here = all_black a can.marked in
-        let inside = lie.within x (omega (arith, all)) in
-        stays_in_set x 1 (black_above x black) in_set (omega (arith, inside, all))
-        (λ next. (let apart = lie.apart x a (omega (arith, all)) (omega (arith, all_here)) (omega (arith, next)) in omega (arith, apart, all, next)))
+        let inside = lie.within address (omega (arith, all)) in
+        stays_in_set address 1 (black_above address black) in_set (omega (arith, inside, all))
+        (λ next. (let apart = lie.apart address a (omega (arith, all)) (omega (arith, all_here)) (omega (arith, next)) in omega (arith, apart, all, next)))
 
     -- no region uses more words than it has
-    within_after : AreWithin c now
+    within_after : AreWithin config now
     within_after q below = ⊎_elim
         (λ (here : q ≡ copied.region).
         let grown = now_by (Top copied.region) (λ never. never) ∙ copied.copied.top in
@@ -160,41 +160,41 @@ module _ (c : Config) (before : Word → ℕ) (empty : FreeAreEmpty c before) (l
         omega (arith, same, so_far.within_now q below))
         (cases_eq q copied.region)
 
-    object_stays : (x : ℕ) → Contains objects x → now (Heap x) ≡ m (Heap x)
-    object_stays x has =
-        header_stays x (above_first c before (before Cset) objects so_far.to_copy x (so_far.to_copy.marked x has)) (so_far.to_copy.in_set x has)
+    object_stays : (address : ℕ) → Contains objects address → now (Heap address) ≡ memory (Heap address)
+    object_stays address has =
+        header_stays address (above_first config before (before Cset) objects so_far.to_copy address (so_far.to_copy.marked address has)) (so_far.to_copy.in_set address has)
         (λ same. not_yet (subst (Contains objects) same has))
 
-    new_header : now (Heap a) ≡ header_word (top_address c by copied.region)
+    new_header : now (Heap a) ≡ header_word (top_address config by copied.region)
     new_header = now_by (Heap a) (λ never. never) ∙ copied.copied.forwarded
 
-    new_away : is_collected c before (now_in now a) ≡ false
+    new_away : is_collected config before (now_in now a) ≡ false
     new_away =
-        let to = top_address c by copied.region in
+        let to = top_address config by copied.region in
         let set_now : by Cset ≡ before Cset = sym (so_far.same Cset (λ never. never)) ∙ so_far.same_set in
-        let of : IsOf c copied.region to = record { from = omega arith; before = omega (arith, copied.room) } in
-        let region_is = regions_tile.of_no_other c copied.region to of in
-        let outside : IsOutside (before Cset) (region_with c to) = ap (λ s. bit_at s (region_with c to)) (sym set_now) ∙ ap (bit_at (by Cset)) region_is ∙ copied.outside in
-        ap (is_collected c before) (now_is now a to new_header) ∙ not_collected c before to outside
+        let of : IsOf config copied.region to = record { from = omega arith; before = omega (arith, copied.room) } in
+        let region_is = regions_tile.of_no_other config copied.region to of in
+        let outside : IsOutside (before Cset) (region_with config to) = ap (λ s. bit_at s (region_with config to)) (sym set_now) ∙ ap (bit_at (by Cset)) region_is ∙ copied.outside in
+        ap (is_collected config before) (now_is now a to new_header) ∙ not_collected config before to outside
 
-    naming_same : (p : Word) → IsNaming p → now p ≡ m p
-    naming_same p naming = copied_naming c m a (copy_room c m a) p naming
+    naming_same : (word : Word) → IsNaming word → now word ≡ memory word
+    naming_same word naming = copied_naming config memory a (copy_room config memory a) word naming
 
     one_more : IsSoFar now more
     one_more = record {
       to_copy = more_to_copy;
-      only = each_more (λ x. (p : Word) × Contains (naming_places c) p × (before p ≡ x)) so_far.only (place, there, is);
+      only = each_more (λ x. (p : Word) × Contains (naming_places config) p × (before p ≡ x)) so_far.only (place, there, is);
       same_set = now_by Cset (λ never. never) ∙ copied.copied.others Cset (λ never. never) ∙ sym (so_far.same Cset (λ never. never)) ∙ so_far.same_set;
       within_now = within_after;
       sized = λ x black in_set. ap object_words (shape_stays x black in_set) ∙ so_far.sized x black in_set;
-      same = λ word other. now_by word other ∙ ap (λ (n : Word → ℕ). n word) (sym by_next) ∙ ap (λ k. copied_by c before more k word) (sym longer);
+      same = λ word other. now_by word other ∙ ap (λ (memory : Word → ℕ). memory word) (sym by_next) ∙ ap (λ k. copied_by config before more k word) (sym longer);
       named = λ p naming. ⊎_elim
-          (λ (old : m p ≡ before p). inl (naming_same p naming ∙ old))
-          (λ (new : Contains objects (before p) × (m p ≡ now_in m (before p))).
-          inr (Contains-append_left objects (a ∷ []) (before p) new.0, naming_same p naming ∙ new.1 ∙ sym (now_same now m (before p) (object_stays (before p) new.0))))
+          (λ (old : memory p ≡ before p). inl (naming_same p naming ∙ old))
+          (λ (new : Contains objects (before p) × (memory p ≡ now_in memory (before p))).
+          inr (Contains-append_left objects (a ∷ []) (before p) new.0, naming_same p naming ∙ new.1 ∙ sym (now_same now memory (before p) (object_stays (before p) new.0))))
           (so_far.named p naming);
-      moved = each_more (λ x. is_forwarded (now (Heap x)) ≡ true) (λ x has. ap is_forwarded (object_stays x has) ∙ so_far.moved x has) (ap is_forwarded new_header ∙ header_forwarded (top_address c by copied.region));
-      away = each_more (λ x. is_collected c before (now_in now x) ≡ false) (λ x has. ap (is_collected c before) (now_same now m x (object_stays x has)) ∙ so_far.away x has) new_away;
+      moved = each_more (λ x. is_forwarded (now (Heap x)) ≡ true) (λ x has. ap is_forwarded (object_stays x has) ∙ so_far.moved x has) (ap is_forwarded new_header ∙ header_forwarded (top_address config by copied.region));
+      away = each_more (λ x. is_collected config before (now_in now x) ≡ false) (λ x has. ap (is_collected config before) (now_same now memory x (object_stays x has)) ∙ so_far.away x has) new_away;
       left = λ x black in_set forwarded. ⊎_elim
           (λ (here : x ≡ a). subst (Contains more) (sym here) (Contains-push objects a))
           (λ (other : x ≢ a). Contains-append_left objects (a ∷ []) x (so_far.left x black in_set (ap is_forwarded (sym (header_stays x (black_above x black) in_set other)) ∙ forwarded)))
@@ -202,18 +202,18 @@ module _ (c : Config) (before : Word → ℕ) (empty : FreeAreEmpty c before) (l
     }
 
   -- A place that named an object of the set names the copy.
-  module _ (m : Word → ℕ) (objects : List ℕ) (so_far : IsSoFar m objects) (place : Word) (naming : IsNaming place) (has : Contains objects (before place)) where
+  module _ (memory : Word → ℕ) (objects : List ℕ) (so_far : IsSoFar memory objects) (place : Word) (naming : IsNaming place) (has : Contains objects (before place)) where
     abbrev renamed : Word → ℕ
-    renamed word = if same_word place word then now_in m (before place) else m word
+    renamed word = if same_word place word then now_in memory (before place) else memory word
 
-    renamed_other : (word : Word) → (IsNaming word → ⊥) → renamed word ≡ m word
-    renamed_other word other = cond-false (same_word place word) (now_in m (before place)) (m word) (not_same place word naming other)
+    renamed_other : (word : Word) → (IsNaming word → ⊥) → renamed word ≡ memory word
+    renamed_other word other = cond-false (same_word place word) (now_in memory (before place)) (memory word) (not_same place word naming other)
 
-    renamed_here : renamed place ≡ now_in m (before place)
-    renamed_here = cond-true (same_word place place) (now_in m (before place)) (m place) (same_word_refl place)
+    renamed_here : renamed place ≡ now_in memory (before place)
+    renamed_here = cond-true (same_word place place) (now_in memory (before place)) (memory place) (same_word_refl place)
 
-    renamed_now : (x : ℕ) → now_in renamed x ≡ now_in m x
-    renamed_now x = now_same renamed m x (renamed_other (Heap x) (λ never. never))
+    renamed_now : (address : ℕ) → now_in renamed address ≡ now_in memory address
+    renamed_now address = now_same renamed memory address (renamed_other (Heap address) (λ never. never))
 
     renamed_so_far : IsSoFar renamed objects
     renamed_so_far = record {
@@ -228,186 +228,186 @@ module _ (c : Config) (before : Word → ℕ) (empty : FreeAreEmpty c before) (l
           let one : place ≡ p = same_word_true place p here in
           inr (subst (λ q. Contains objects (before q)) one has, subst (λ q. renamed q ≡ now_in renamed (before q)) one (renamed_here ∙ sym (renamed_now (before place)))))
           (λ (other : same_word place p ≡ false).
-          let stays : renamed p ≡ m p = cond-false (same_word place p) (now_in m (before place)) (m p) other in
+          let stays : renamed p ≡ memory p = cond-false (same_word place p) (now_in memory (before place)) (memory p) other in
           ⊎_elim
-          (λ (old : m p ≡ before p). inl (stays ∙ old))
-          (λ (new : Contains objects (before p) × (m p ≡ now_in m (before p))). inr (new.0, stays ∙ new.1 ∙ sym (renamed_now (before p))))
+          (λ (old : memory p ≡ before p). inl (stays ∙ old))
+          (λ (new : Contains objects (before p) × (memory p ≡ now_in memory (before p))). inr (new.0, stays ∙ new.1 ∙ sym (renamed_now (before p))))
           (so_far.named p names))
           (cases_Bool (same_word place p));
       moved = λ x in_list. ap is_forwarded (renamed_other (Heap x) (λ never. never)) ∙ so_far.moved x in_list;
-      away = λ x in_list. ap (is_collected c before) (renamed_now x) ∙ so_far.away x in_list;
+      away = λ x in_list. ap (is_collected config before) (renamed_now x) ∙ so_far.away x in_list;
       left = λ x black in_set forwarded. so_far.left x black in_set (ap is_forwarded (sym (renamed_other (Heap x) (λ never. never))) ∙ forwarded);
     }
 
   -- One place is cleared.
-  record IsCleared (m next : Word → ℕ) (place : Word) (objects : List ℕ) : Type 0 where
+  record IsCleared (memory next : Word → ℕ) (place : Word) (objects : List ℕ) : Type 0 where
     so_far : IsSoFar next objects
-    here : is_collected c before (next place) ≡ false
-    stays : (p : Word) → IsNaming p → is_collected c before (m p) ≡ false → is_collected c before (next p) ≡ false
+    here : is_collected config before (next place) ≡ false
+    stays : (word : Word) → IsNaming word → is_collected config before (memory word) ≡ false → is_collected config before (next word) ≡ false
 
   -- an object of the set was copied out, in this turn or before
-  record IsMoved (m next : Word → ℕ) (a : ℕ) (objects : List ℕ) : Type 0 where
+  record IsMoved (memory next : Word → ℕ) (a : ℕ) (objects : List ℕ) : Type 0 where
     so_far : IsSoFar next objects
     has : Contains objects a
-    naming_same : (p : Word) → IsNaming p → next p ≡ m p
+    naming_same : (word : Word) → IsNaming word → next word ≡ memory word
 
-  module _ (m : Word → ℕ) (objects : List ℕ) (so_far : IsSoFar m objects) where
-    collected_same : (x : ℕ) → is_collected c m x ≡ is_collected c before x
-    collected_same x = ap (λ s. nat_le c.region_words x && (bit_at s (region_with c x) == 1)) so_far.same_set
+  module _ (memory : Word → ℕ) (objects : List ℕ) (so_far : IsSoFar memory objects) where
+    collected_same : (address : ℕ) → is_collected config memory address ≡ is_collected config before address
+    collected_same address = ap (λ s. nat_le config.region_words address && (bit_at s (region_with config address) == 1)) so_far.same_set
 
-    module _ (place : Word) (there : Contains (naming_places c) place) where
+    module _ (place : Word) (there : Contains (naming_places config) place) where
       naming : IsNaming place
-      naming = places_name c place there
+      naming = places_name config place there
 
       -- the words once what an address names was copied and the place names the copy
       abbrev clear_of : ℕ → Word → ℕ
-      clear_of a word = if same_word place word then now_in (moved_out c m a) a else moved_out c m a word
+      clear_of a word = if same_word place word then now_in (moved_out config memory a) a else moved_out config memory a word
 
-      moved_by : is_collected c before (before place) ≡ true → (new_objects : List ℕ) × IsMoved m (moved_out c m (before place)) (before place) new_objects
+      moved_by : is_collected config before (before place) ≡ true → (new_objects : List ℕ) × IsMoved memory (moved_out config memory (before place)) (before place) new_objects
       moved_by collected =
           let a = before place in
-          let parts = and_parts (nat_le c.region_words a) (bit_at (before Cset) (region_with c a) == 1) collected in
-          let above = leb-true c.region_words a parts.0 in
-          let member = eqb-true (bit_at (before Cset) (region_with c a)) 1 parts.1 in
+          let parts = and_parts (nat_le config.region_words a) (bit_at (before Cset) (region_with config a) == 1) collected in
+          let above = leb-true config.region_words a parts.0 in
+          let member = eqb-true (bit_at (before Cset) (region_with config a)) 1 parts.1 in
           let can = copyable place there collected in
           ⊎_elim
-          (λ (forwarded : is_forwarded (m (Heap a)) ≡ true).
-          let same : moved_out c m a ≡ m = fun_ext (λ word. cond-true (is_forwarded (m (Heap a))) (m word) (copied_out c m a word) forwarded) in
-          (objects, subst (λ n. IsMoved m n a objects) (sym same) (record { so_far = so_far; has = so_far.left a can.marked member forwarded; naming_same = λ p _. refl })))
-          (λ (plain : is_forwarded (m (Heap a)) ≡ false).
-          let same : moved_out c m a ≡ copied_out c m a = fun_ext (λ word. cond-false (is_forwarded (m (Heap a))) (m word) (copied_out c m a word) plain) in (
+          (λ (forwarded : is_forwarded (memory (Heap a)) ≡ true).
+          let same : moved_out config memory a ≡ memory = fun_ext (λ word. cond-true (is_forwarded (memory (Heap a))) (memory word) (copied_out config memory a word) forwarded) in
+          (objects, subst (λ n. IsMoved memory n a objects) (sym same) (record { so_far = so_far; has = so_far.left a can.marked member forwarded; naming_same = λ p _. refl })))
+          (λ (plain : is_forwarded (memory (Heap a)) ≡ false).
+          let same : moved_out config memory a ≡ copied_out config memory a = fun_ext (λ word. cond-false (is_forwarded (memory (Heap a))) (memory word) (copied_out config memory a word) plain) in (
             objects ++ a ∷ [],
-            subst (λ n. IsMoved m n a (objects ++ a ∷ [])) (sym same) (record {
-              so_far = one_more m objects so_far a above member can place there refl plain;
+            subst (λ n. IsMoved memory n a (objects ++ a ∷ [])) (sym same) (record {
+              so_far = one_more memory objects so_far a above member can place there refl plain;
               has = Contains-push objects a;
-              naming_same = naming_same m objects so_far a above member can place there refl plain;
+              naming_same = naming_same memory objects so_far a above member can place there refl plain;
             }),
           ))
-          (cases_Bool (is_forwarded (m (Heap a))))
+          (cases_Bool (is_forwarded (memory (Heap a))))
 
       -- the place named something in the set
-      cleared_by : is_collected c before (before place) ≡ true → (new_objects : List ℕ) × IsCleared m (clear_of (before place)) place new_objects
+      cleared_by : is_collected config before (before place) ≡ true → (new_objects : List ℕ) × IsCleared memory (clear_of (before place)) place new_objects
       cleared_by collected =
           let found = moved_by collected in
-          let n = moved_out c m (before place) in
+          let n = moved_out config memory (before place) in
           let is = found.1 in
-          let here : is_collected c before (clear_of (before place) place) ≡ false =
-          ap (is_collected c before) (renamed_here n found.0 is.so_far place naming is.has) ∙ is.so_far.away (before place) is.has in (
+          let here : is_collected config before (clear_of (before place) place) ≡ false =
+          ap (is_collected config before) (renamed_here n found.0 is.so_far place naming is.has) ∙ is.so_far.away (before place) is.has in (
             found.0,
             record {
               so_far = renamed_so_far n found.0 is.so_far place naming is.has;
               here = here;
               stays = λ p names was. ⊎_elim
-                  (λ (this : same_word place p ≡ true). subst (λ q. is_collected c before (clear_of (before place) q) ≡ false) (same_word_true place p this) here)
+                  (λ (this : same_word place p ≡ true). subst (λ q. is_collected config before (clear_of (before place) q) ≡ false) (same_word_true place p this) here)
                   (λ (other : same_word place p ≡ false).
-                  ap (is_collected c before) (cond-false (same_word place p) (now_in n (before place)) (n p) other ∙ is.naming_same p names) ∙ was)
+                  ap (is_collected config before) (cond-false (same_word place p) (now_in n (before place)) (n p) other ∙ is.naming_same p names) ∙ was)
                   (cases_Bool (same_word place p));
             },
           )
 
       -- what a place names in the set it named at first
-      named_at_first : is_collected c m (m place) ≡ true → m place ≡ before place
+      named_at_first : is_collected config memory (memory place) ≡ true → memory place ≡ before place
       named_at_first collected = ⊎_elim
-          (λ (is : m place ≡ before place). is)
-          (λ (new : Contains objects (before place) × (m place ≡ now_in m (before place))).
-          absurd (both_ways (is_collected c before (m place)) (ap (is_collected c before) new.1 ∙ so_far.away (before place) new.0)
-          (sym (collected_same (m place)) ∙ collected)))
+          (λ (is : memory place ≡ before place). is)
+          (λ (new : Contains objects (before place) × (memory place ≡ now_in memory (before place))).
+          absurd (both_ways (is_collected config before (memory place)) (ap (is_collected config before) new.1 ∙ so_far.away (before place) new.0)
+          (sym (collected_same (memory place)) ∙ collected)))
           (so_far.named place naming)
 
       -- so it can be cleared
-      module _ (collected : is_collected c m (m place) ≡ true) (plain : is_forwarded (m (Heap (m place))) ≡ false) where
+      module _ (collected : is_collected config memory (memory place) ≡ true) (plain : is_forwarded (memory (Heap (memory place))) ≡ false) where
         abbrev a : ℕ
-        a = m place
+        a = memory place
 
-        in_set : is_collected c before a ≡ true
+        in_set : is_collected config before a ≡ true
         in_set = sym (collected_same a) ∙ collected
 
-        above : c.region_words ≤ a
-        above = leb-true c.region_words a (and_parts (nat_le c.region_words a) (bit_at (before Cset) (region_with c a) == 1) in_set).0
+        above : config.region_words ≤ a
+        above = leb-true config.region_words a (and_parts (nat_le config.region_words a) (bit_at (before Cset) (region_with config a) == 1) in_set).0
 
-        member : IsIn (before Cset) (region_with c a)
-        member = eqb-true (bit_at (before Cset) (region_with c a)) 1 (and_parts (nat_le c.region_words a) (bit_at (before Cset) (region_with c a) == 1) in_set).1
+        member : IsIn (before Cset) (region_with config a)
+        member = eqb-true (bit_at (before Cset) (region_with config a)) 1 (and_parts (nat_le config.region_words a) (bit_at (before Cset) (region_with config a) == 1) in_set).1
 
-        can : IsCopyable c before a
+        can : IsCopyable config before a
         can =
             let old = named_at_first collected in
-            subst (IsCopyable c before) (sym old) (copyable place there (ap (is_collected c before) (sym old) ∙ in_set))
+            subst (IsCopyable config before) (sym old) (copyable place there (ap (is_collected config before) (sym old) ∙ in_set))
 
-        can_copy_out : CanCopyOut c m a
+        can_copy_out : CanCopyOut config memory a
         can_copy_out =
             let all = all_black a can.marked in
             let inside = lie.within a (omega (arith, all)) in
             record {
               above = above;
               of_region = can.of_region;
-              in_set = subst (λ s. IsIn s (region_with c a)) (sym so_far.same_set) member;
+              in_set = subst (λ s. IsIn s (region_with config a)) (sym so_far.same_set) member;
               lies = omega (arith, inside, all, so_far.sized a can.marked member);
               tops = so_far.within_now;
             }
 
-        has_room : copy_room c m a ≢ None
+        has_room : copy_room config memory a ≢ None
         has_room none =
-            let found = copied m objects so_far a above member can place there (sym (named_at_first collected)) plain in
-            none-some found.region (sym none ∙ same_copy_room c m (copied_by c before objects (length objects)) a so_far.same ∙ found.found)
+            let found = copied memory objects so_far a above member can place there (sym (named_at_first collected)) plain in
+            none-some found.region (sym none ∙ same_copy_room config memory (copied_by config before objects (length objects)) a so_far.same ∙ found.found)
 
-      can_clear : before Cset < 2 ^ c.regions → CanClear c m (m place)
+      can_clear : before Cset < 2 ^ config.regions → CanClear config memory (memory place)
       can_clear small = record {
-        set = subst (λ s. s < 2 ^ c.regions) (sym so_far.same_set) small;
+        set = subst (λ s. s < 2 ^ config.regions) (sym so_far.same_set) small;
         object = can_copy_out;
         room = has_room;
       }
 
-      clears : (next : Word → ℕ) → (is_collected c m (m place) ≡ false → next ≡ m) → (is_collected c m (m place) ≡ true → next ≡ clear_of (m place))
-          → (new_objects : List ℕ) × IsCleared m next place new_objects
+      clears : (next : Word → ℕ) → (is_collected config memory (memory place) ≡ false → next ≡ memory) → (is_collected config memory (memory place) ≡ true → next ≡ clear_of (memory place))
+          → (new_objects : List ℕ) × IsCleared memory next place new_objects
       clears next spared cleared = ⊎_elim
-          (λ (collected : is_collected c m (m place) ≡ true).
-          let in_set : is_collected c before (m place) ≡ true = sym (collected_same (m place)) ∙ collected in
+          (λ (collected : is_collected config memory (memory place) ≡ true).
+          let in_set : is_collected config before (memory place) ≡ true = sym (collected_same (memory place)) ∙ collected in
           let old = named_at_first collected in
-          let result = cleared_by (ap (is_collected c before) (sym old) ∙ in_set) in
-          (result.0, subst (λ n. IsCleared m n place result.0) (sym (cleared collected ∙ ap clear_of old)) result.1))
-          (λ (outside : is_collected c m (m place) ≡ false).
-          (objects, subst (λ n. IsCleared m n place objects) (sym (spared outside)) (record { so_far = so_far; here = sym (collected_same (m place)) ∙ outside; stays = λ p _ was. was })))
-          (cases_Bool (is_collected c m (m place)))
+          let result = cleared_by (ap (is_collected config before) (sym old) ∙ in_set) in
+          (result.0, subst (λ n. IsCleared memory n place result.0) (sym (cleared collected ∙ ap clear_of old)) result.1))
+          (λ (outside : is_collected config memory (memory place) ≡ false).
+          (objects, subst (λ n. IsCleared memory n place objects) (sym (spared outside)) (record { so_far = so_far; here = sym (collected_same (memory place)) ∙ outside; stays = λ p _ was. was })))
+          (cases_Bool (is_collected config memory (memory place)))
 
-      clears_here : (new_objects : List ℕ) × IsCleared m (cleared_at c m place) place new_objects
+      clears_here : (new_objects : List ℕ) × IsCleared memory (cleared_at config memory place) place new_objects
       unfolding cleared_at
-      clears_here = clears (cleared_at c m place)
-          (λ outside. fun_ext (λ word. cond-false (is_collected c m (m place)) (clear_of (m place) word) (m word) outside))
-          (λ collected. fun_ext (λ word. cond-true (is_collected c m (m place)) (clear_of (m place) word) (m word) collected))
+      clears_here = clears (cleared_at config memory place)
+          (λ outside. fun_ext (λ word. cond-false (is_collected config memory (memory place)) (clear_of (memory place) word) (memory word) outside))
+          (λ collected. fun_ext (λ word. cond-true (is_collected config memory (memory place)) (clear_of (memory place) word) (memory word) collected))
 
   -- All places of a list are cleared.
-  record AreClearedHere (m end : Word → ℕ) (places : List Word) (objects : List ℕ) : Type 0 where
+  record AreClearedHere (memory end : Word → ℕ) (places : List Word) (objects : List ℕ) : Type 0 where
     so_far : IsSoFar end objects
-    here : (p : Word) → Contains places p → is_collected c before (end p) ≡ false
-    stays : (p : Word) → IsNaming p → is_collected c before (m p) ≡ false → is_collected c before (end p) ≡ false
+    here : (word : Word) → Contains places word → is_collected config before (end word) ≡ false
+    stays : (word : Word) → IsNaming word → is_collected config before (memory word) ≡ false → is_collected config before (end word) ≡ false
 
-  all_cleared : (places : List Word) (m : Word → ℕ) (objects : List ℕ) → ((p : Word) → Contains places p → Contains (naming_places c) p) → IsSoFar m objects
-      → (new_objects : List ℕ) × AreClearedHere m (cleared_in_turn c m places) places new_objects
+  all_cleared : (places : List Word) (memory : Word → ℕ) (objects : List ℕ) → ((word : Word) → Contains places word → Contains (naming_places config) word) → IsSoFar memory objects
+      → (new_objects : List ℕ) × AreClearedHere memory (cleared_in_turn config memory places) places new_objects
   unfolding cleared_in_turn
-  all_cleared [] m objects are so_far = (objects, record { so_far = so_far; here = λ p has. absurd (omega (arith, has.1)); stays = λ p _ was. was })
-  all_cleared (place ∷ places) m objects are so_far =
-      let first = clears_here m objects so_far place (are place (is_first place places)) in
-      let rest = all_cleared places (cleared_at c m place) first.0 (λ p has. are p (is_later place places p has)) first.1.so_far in (
+  all_cleared [] memory objects are so_far = (objects, record { so_far = so_far; here = λ word has. absurd (omega (arith, has.1)); stays = λ word _ was. was })
+  all_cleared (place ∷ places) memory objects are so_far =
+      let first = clears_here memory objects so_far place (are place (is_first place places)) in
+      let rest = all_cleared places (cleared_at config memory place) first.0 (λ word has. are word (is_later place places word has)) first.1.so_far in (
         rest.0,
         record {
           so_far = rest.1.so_far;
-          here = λ p has. ⊎_elim
-              (λ (this : place ≡ p). rest.1.stays p (places_name c p (are p has)) (subst (λ q. is_collected c before (cleared_at c m place q) ≡ false) this first.1.here))
-              (λ (later : Contains places p). rest.1.here p later)
-              (first_or_later place places p has.0 has.1 has.2);
-          stays = λ p names was. rest.1.stays p names (first.1.stays p names was);
+          here = λ word has. ⊎_elim
+              (λ (this : place ≡ word). rest.1.stays word (places_name config word (are word has)) (subst (λ q. is_collected config before (cleared_at config memory place q) ≡ false) this first.1.here))
+              (λ (later : Contains places word). rest.1.here word later)
+              (first_or_later place places word has.0 has.1 has.2);
+          stays = λ word names was. rest.1.stays word names (first.1.stays word names was);
         },
       )
 
-  all_can_clear : before Cset < 2 ^ c.regions → (places : List Word) (m : Word → ℕ) (objects : List ℕ) → ((p : Word) → Contains places p → Contains (naming_places c) p) → IsSoFar m objects
-      → CanClearInTurn c m places
+  all_can_clear : before Cset < 2 ^ config.regions → (places : List Word) (memory : Word → ℕ) (objects : List ℕ) → ((word : Word) → Contains places word → Contains (naming_places config) word) → IsSoFar memory objects
+      → CanClearInTurn config memory places
   unfolding CanClearInTurn
-  all_can_clear small [] m objects are so_far = tt
-  all_can_clear small (place ∷ places) m objects are so_far =
+  all_can_clear small [] memory objects are so_far = tt
+  all_can_clear small (place ∷ places) memory objects are so_far =
       let there = are place (is_first place places) in
-      let first = clears_here m objects so_far place there in (
-        can_clear m objects so_far place there small,
-        all_can_clear small places (cleared_at c m place) first.0 (λ p has. are p (is_later place places p has)) first.1.so_far,
+      let first = clears_here memory objects so_far place there in (
+        can_clear memory objects so_far place there small,
+        all_can_clear small places (cleared_at config memory place) first.0 (λ word has. are word (is_later place places word has)) first.1.so_far,
       )
 
   at_first : IsSoFar before []
@@ -431,11 +431,11 @@ module _ (c : Config) (before : Word → ℕ) (empty : FreeAreEmpty c before) (l
     left = λ x black in_set forwarded. absurd (both_ways (is_forwarded (before (Heap x))) (unmoved x black) forwarded);
   }
 
-  are_cleared : (objects : List ℕ) × AreCleared c before (cleared_in_turn c before (naming_places c)) objects
+  are_cleared : (objects : List ℕ) × AreCleared config before (cleared_in_turn config before (naming_places config)) objects
   are_cleared =
-      let end = all_cleared (naming_places c) before [] (λ p has. has) at_first in
+      let end = all_cleared (naming_places config) before [] (λ p has. has) at_first in
       let so_far = end.1.so_far in
-      let after = cleared_in_turn c before (naming_places c) in (
+      let after = cleared_in_turn config before (naming_places config) in (
         end.0,
         record {
           to_copy = so_far.to_copy;
@@ -443,39 +443,39 @@ module _ (c : Config) (before : Word → ℕ) (empty : FreeAreEmpty c before) (l
           copied = so_far.same;
           renewed = λ p there. ⊎_elim
               (λ (old : after p ≡ before p).
-              old ∙ sym (cond-false (is_collected c before (before p)) (now_in after (before p)) (before p) (ap (is_collected c before) (sym old) ∙ end.1.here p there)))
+              old ∙ sym (cond-false (is_collected config before (before p)) (now_in after (before p)) (before p) (ap (is_collected config before) (sym old) ∙ end.1.here p there)))
               (λ (new : Contains end.0 (before p) × (after p ≡ now_in after (before p))).
-              new.1 ∙ sym (cond-true (is_collected c before (before p)) (now_in after (before p)) (before p) (in_set end.0 so_far.to_copy (before p) new.0)))
-              (so_far.named p (places_name c p there));
+              new.1 ∙ sym (cond-true (is_collected config before (before p)) (now_in after (before p)) (before p) (in_set end.0 so_far.to_copy (before p) new.0)))
+              (so_far.named p (places_name config p there));
           cleared = end.1.here;
         },
       )
     where
-      in_set : (objects : List ℕ) → AreToCopy c before (before Cset) objects → (a : ℕ) → Contains objects a → is_collected c before a ≡ true
+      in_set : (objects : List ℕ) → AreToCopy config before (before Cset) objects → (a : ℕ) → Contains objects a → is_collected config before a ≡ true
       in_set objects to_copy a has =
-          and_from (nat_le c.region_words a) (bit_at (before Cset) (region_with c a) == 1)
-          (le-leb c.region_words a (above_first c before (before Cset) objects to_copy a (to_copy.marked a has)))
-          (eq-eqb (bit_at (before Cset) (region_with c a)) 1 (to_copy.in_set a has))
+          and_from (nat_le config.region_words a) (bit_at (before Cset) (region_with config a) == 1)
+          (le-leb config.region_words a (above_first config before (before Cset) objects to_copy a (to_copy.marked a has)))
+          (eq-eqb (bit_at (before Cset) (region_with config a)) 1 (to_copy.in_set a has))
 
-module _ (c : Config) (memory : Word → ℕ) (begin : CanBegin c memory) where
+module _ (config : Config) (memory : Word → ℕ) (begin : CanBegin config memory) where
   abbrev before : Word → ℕ
-  before = with_set memory (chosen c memory)
+  before = with_set memory (chosen config memory)
 
-  copyable_then : (place : Word) → Contains (naming_places c) place → is_collected c before (before place) ≡ true → IsCopyable c before (before place)
+  copyable_then : (place : Word) → Contains (naming_places config) place → is_collected config before (before place) ≡ true → IsCopyable config before (before place)
   copyable_then place there collected =
-      let same = set_apart memory (chosen c memory) place (places_name c place there) in
-      let can = begin.copyable place there (ap (is_collected c before) (sym same) ∙ collected) in
-      let here = subst (IsCopyable c memory) (sym same) can in
+      let same = set_apart memory (chosen config memory) place (places_name config place there) in
+      let can = begin.copyable place there (ap (is_collected config before) (sym same) ∙ collected) in
+      let here = subst (IsCopyable config memory) (sym same) can in
       record { marked = here.marked; of_region = here.of_region; short = here.short }
 
-  pub clears_roots : (objects : List ℕ) × AreCleared c before (roots_cleared c memory (chosen c memory)) objects
-  clears_roots = are_cleared c before begin.empty begin.apart refl begin.within begin.unmoved copyable_then
+  pub clears_roots : (objects : List ℕ) × AreCleared config before (roots_cleared config memory (chosen config memory)) objects
+  clears_roots = are_cleared config before begin.empty begin.apart refl begin.within begin.unmoved copyable_then
 
-  pub can_clear_in_turn : CanClearInTurn c before (naming_places c)
+  pub can_clear_in_turn : CanClearInTurn config before (naming_places config)
   can_clear_in_turn =
-      let small : chosen c memory < 2 ^ c.regions = (front_is c.regions (copy_limit c memory) (live_words c memory) (is_candidate c memory)).in_heap in
-      all_can_clear c before begin.empty begin.apart refl begin.within begin.unmoved copyable_then small (naming_places c) before [] (λ p has. has)
-      (at_first c before begin.empty begin.apart refl begin.within begin.unmoved copyable_then)
+      let small : chosen config memory < 2 ^ config.regions = (front_is config.regions (copy_limit config memory) (live_words config memory) (is_candidate config memory)).in_heap in
+      all_can_clear config before begin.empty begin.apart refl begin.within begin.unmoved copyable_then small (naming_places config) before [] (λ p has. has)
+      (at_first config before begin.empty begin.apart refl begin.within begin.unmoved copyable_then)
 
 pub roots_are_cleared : RootsAreCleared
 roots_are_cleared c memory can = clears_roots c memory can

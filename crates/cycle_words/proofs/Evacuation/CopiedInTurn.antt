@@ -23,16 +23,16 @@ use Rattle.cycle_words.proofs.Evacuation.RegionAddresses.{of_its_region, regions
 use Rattle.cycle_words.proofs.Evacuation.Fits.{above_first, room_is_found}
 use Rattle.cycle_words.proofs.Evacuation.CopiedOut.{own_top, copying_copies}
 
-module _ (c : Config) (memory : Word → ℕ) (objects : List ℕ) (empty : FreeAreEmpty c memory) (lie : LieApart c.region_words (marked_words c memory))
-    (set_is : memory Cset ≡ chosen c memory) (to_copy : AreToCopy c memory (chosen c memory) objects) where
+module _ (config : Config) (memory : Word → ℕ) (objects : List ℕ) (empty : FreeAreEmpty config memory) (lie : LieApart config.region_words (marked_words config memory))
+    (set_is : memory Cset ≡ chosen config memory) (to_copy : AreToCopy config memory (chosen config memory) objects) where
   abbrev w : ℕ
-  w = c.region_words
+  w = config.region_words
 
   abbrev set : ℕ
-  set = chosen c memory
+  set = chosen config memory
 
   abbrev now : ℕ → Word → ℕ
-  now = copied_by c memory objects
+  now = copied_by config memory objects
 
   abbrev asked : ℕ → ℕ
   asked = words_by_turn memory objects
@@ -40,9 +40,9 @@ module _ (c : Config) (memory : Word → ℕ) (objects : List ℕ) (empty : Free
   abbrev start : ℕ → ℕ
   start = tops_outside w set (λ r. memory (Top r))
 
-  now_next : (k : ℕ) → now (suc k) ≡ copied_out c (now k) (get_or objects k 0)
+  now_next : (index : ℕ) → now (suc index) ≡ copied_out config (now index) (get_or objects index 0)
   unfolding copied_by
-  now_next k = refl
+  now_next index = refl
 
   now_first : now 0 ≡ memory
   unfolding copied_by
@@ -50,112 +50,112 @@ module _ (c : Config) (memory : Word → ℕ) (objects : List ℕ) (empty : Free
 
   -- How the words are after so many turns: the tops are those of the numbers, and the words of the objects, headers aside,
   -- are as before.
-  record AreAt (k : ℕ) (m : Word → ℕ) : Type 0 where
-    same_set : m Cset ≡ set
-    tops : (r : ℕ) → tops_outside w set (λ q. m (Top q)) r ≡ tops_after_copies c memory set objects k r
-    words : (a i : ℕ) → Contains objects a → 0 < i → i < words_at memory a → m (Heap (a + i)) ≡ memory (Heap (a + i))
+  record AreAt (index : ℕ) (other_memory : Word → ℕ) : Type 0 where
+    same_set : other_memory Cset ≡ set
+    tops : (r : ℕ) → tops_outside w set (λ q. other_memory (Top q)) r ≡ tops_after_copies config memory set objects index r
+    words : (address i : ℕ) → Contains objects address → 0 < i → i < words_at memory address → other_memory (Heap (address + i)) ≡ memory (Heap (address + i))
 
   at_first : AreAt 0 (now 0)
-  at_first = subst (AreAt 0) (sym now_first) (record { same_set = set_is; tops = λ r. sym (served_none w c.regions asked start r); words = λ a i _ _ _. refl })
+  at_first = subst (AreAt 0) (sym now_first) (record { same_set = set_is; tops = λ r. sym (served_none w config.regions asked start r); words = λ a i _ _ _. refl })
 
   -- what is known of each object
   first_is : (a : ℕ) → Contains objects a → w ≤ a
-  first_is a has = above_first c memory set objects to_copy a (to_copy.marked a has)
+  first_is a has = above_first config memory set objects to_copy a (to_copy.marked a has)
 
-  all_marked : (a : ℕ) → Contains objects a → marked_words c memory a ≡ words_at memory a
-  all_marked a has = cond-true (is_black c memory a) (words_at memory a) 0 (to_copy.marked a has)
+  all_marked : (a : ℕ) → Contains objects a → marked_words config memory a ≡ words_at memory a
+  all_marked a has = cond-true (is_black config memory a) (words_at memory a) 0 (to_copy.marked a has)
 
   -- no word of an object but its first is where another object begins
   never_begins : (a b i : ℕ) → Contains objects a → Contains objects b → 0 < i → i < words_at memory a → a + i ≢ b
   never_begins a b i has_a has_b some inside same =
       let size = all_marked a has_a in
       let other_size = all_marked b has_b in
-      let here : 0 < marked_words c memory a = omega (arith, size) in
-      let there : 0 < marked_words c memory b = omega (arith, other_size) in
+      let here : 0 < marked_words config memory a = omega (arith, size) in
+      let there : 0 < marked_words config memory b = omega (arith, other_size) in
       let apart = lie.apart a b here there (omega (arith, same, some)) in
       omega (arith, apart, size, same, inside)
 
-  module _ (k : ℕ) (m : Word → ℕ) (inside : k < length objects) (at : AreAt k m) where
+  module _ (index : ℕ) (other_memory : Word → ℕ) (inside : index < length objects) (at : AreAt index other_memory) where
     abbrev o : ℕ
-    o = get_or objects k 0
+    o = get_or objects index 0
 
     has : Contains objects o
-    has = Contains-get_or objects k 0 inside
+    has = Contains-get_or objects index 0 inside
 
-    turn : FindsRoom c memory set objects k
-    turn = room_is_found c memory objects empty to_copy k inside
+    turn : FindsRoom config memory set objects index
+    turn = room_is_found config memory objects empty to_copy index inside
 
-    same_size : words_at m o ≡ words_at memory o
+    same_size : words_at other_memory o ≡ words_at memory o
     same_size = ap object_words (at.words o 1 has (omega arith) (omega arith))
 
     -- the region by words is the region by numbers
-    same_region : copy_room c m o ≡ room_at_turn w c.regions asked start k
+    same_region : copy_room config other_memory o ≡ room_at_turn w config.regions asked start index
     same_region =
-        ap (λ s. lowest_room w (tops_outside w s (λ q. m (Top q))) (words_at m o) c.regions) at.same_set
-        ∙ ap (λ n. lowest_room w (tops_outside w set (λ q. m (Top q))) n c.regions) same_size
-        ∙ same_room w (tops_outside w set (λ q. m (Top q))) (tops_after_copies c memory set objects k) (asked k) c.regions (λ r _. at.tops r)
+        ap (λ s. lowest_room w (tops_outside w s (λ q. other_memory (Top q))) (words_at other_memory o) config.regions) at.same_set
+        ∙ ap (λ n. lowest_room w (tops_outside w set (λ q. other_memory (Top q))) n config.regions) same_size
+        ∙ same_room w (tops_outside w set (λ q. other_memory (Top q))) (tops_after_copies config memory set objects index) (asked index) config.regions (λ r _. at.tops r)
 
-    copied : IsCopiedOut c m (copied_out c m o) o
-    copied = copying_copies c m o turn.region (first_is o has) (subst (λ s. IsIn s (region_with c o)) (sym at.same_set) (to_copy.in_set o has)) (same_region ∙ turn.found)
+    copied : IsCopiedOut config other_memory (copied_out config other_memory o) o
+    copied = copying_copies config other_memory o turn.region (first_is o has) (subst (λ s. IsIn s (region_with config o)) (sym at.same_set) (to_copy.in_set o has)) (same_region ∙ turn.found)
 
-    found_here : room_at_turn w c.regions asked start k ≡ Some copied.region
+    found_here : room_at_turn w config.regions asked start index ≡ Some copied.region
     found_here = sym same_region ∙ copied.found
 
     outside : IsOutside set copied.region
     outside = ap (λ s. bit_at s copied.region) (sym at.same_set) ∙ copied.outside
 
     -- the tops in numbers at the next turn
-    next_top : (q : ℕ) → tops_after_copies c memory set objects (suc k) q ≡ taken_in (tops_after_copies c memory set objects k) (asked k) (Some copied.region) q
-    next_top q = served_next w c.regions asked start k q ∙ ap (λ found. taken_in (tops_after_copies c memory set objects k) (asked k) found q) found_here
+    next_top : (q : ℕ) → tops_after_copies config memory set objects (suc index) q ≡ taken_in (tops_after_copies config memory set objects index) (asked index) (Some copied.region) q
+    next_top q = served_next w config.regions asked start index q ∙ ap (λ found. taken_in (tops_after_copies config memory set objects index) (asked index) found q) found_here
 
-    top_here : tops_outside w set (λ q. copied_out c m o (Top q)) copied.region ≡ tops_after_copies c memory set objects (suc k) copied.region
+    top_here : tops_outside w set (λ q. copied_out config other_memory o (Top q)) copied.region ≡ tops_after_copies config memory set objects (suc index) copied.region
     top_here =
-        own_top w set (λ q. copied_out c m o (Top q)) copied.region outside
+        own_top w set (λ q. copied_out config other_memory o (Top q)) copied.region outside
         ∙ copied.copied.top
-        ∙ ap (λ t. t + words_at m o) (sym (own_top w set (λ q. m (Top q)) copied.region outside) ∙ at.tops copied.region)
-        ∙ ap (λ n. tops_after_copies c memory set objects k copied.region + n) same_size
-        ∙ sym (taken_here (tops_after_copies c memory set objects k) (asked k) copied.region)
+        ∙ ap (λ t. t + words_at other_memory o) (sym (own_top w set (λ q. other_memory (Top q)) copied.region outside) ∙ at.tops copied.region)
+        ∙ ap (λ n. tops_after_copies config memory set objects index copied.region + n) same_size
+        ∙ sym (taken_here (tops_after_copies config memory set objects index) (asked index) copied.region)
         ∙ sym (next_top copied.region)
 
-    top_elsewhere : (q : ℕ) → q ≢ copied.region → tops_outside w set (λ r. copied_out c m o (Top r)) q ≡ tops_after_copies c memory set objects (suc k) q
+    top_elsewhere : (q : ℕ) → q ≢ copied.region → tops_outside w set (λ r. copied_out config other_memory o (Top r)) q ≡ tops_after_copies config memory set objects (suc index) q
     top_elsewhere q other =
         ap (λ t. if bit_at set q == 1 then w else t) (copied.copied.other_tops q other)
         ∙ at.tops q
-        ∙ sym (taken_elsewhere (tops_after_copies c memory set objects k) (asked k) copied.region q other)
+        ∙ sym (taken_elsewhere (tops_after_copies config memory set objects index) (asked index) copied.region q other)
         ∙ sym (next_top q)
 
     -- the words of objects lie in regions of the set, where nothing is copied to
-    never_overwritten : (a i : ℕ) → Contains objects a → i < words_at memory a
-        → (a + i < top_address c m copied.region) ⊎ (top_address c m copied.region + words_at m o ≤ a + i)
-    never_overwritten a i has_a less =
-        let size = all_marked a has_a in
-        let within = lie.within a (omega (arith, size)) in
-        let differ : region_with c a ≢ copied.region = λ same. (let member : bit_at set copied.region ≡ 1 = subst (IsIn set) same (to_copy.in_set a has_a) in omega (arith, member, outside)) in
-        regions_apart c (region_with c a) copied.region (a + i) (top_address c m copied.region) (words_at m o) differ
-        (of_its_region c a i (first_is a has_a) (omega (arith, within, size, less))) (omega arith) (omega (arith, copied.room))
+    never_overwritten : (address i : ℕ) → Contains objects address → i < words_at memory address
+        → (address + i < top_address config other_memory copied.region) ⊎ (top_address config other_memory copied.region + words_at other_memory o ≤ address + i)
+    never_overwritten address i has_a less =
+        let size = all_marked address has_a in
+        let within = lie.within address (omega (arith, size)) in
+        let differ : region_with config address ≢ copied.region = λ same. (let member : bit_at set copied.region ≡ 1 = subst (IsIn set) same (to_copy.in_set address has_a) in omega (arith, member, outside)) in
+        regions_apart config (region_with config address) copied.region (address + i) (top_address config other_memory copied.region) (words_at other_memory o) differ
+        (of_its_region config address i (first_is address has_a) (omega (arith, within, size, less))) (omega arith) (omega (arith, copied.room))
 
-    at_next : AreAt (suc k) (copied_out c m o)
+    at_next : AreAt (suc index) (copied_out config other_memory o)
     at_next = record {
       same_set = copied.copied.others Cset (λ never. never) ∙ at.same_set;
       tops = λ q. ⊎_elim
-          (λ (here : q ≡ copied.region). subst (λ r. tops_outside w set (λ p. copied_out c m o (Top p)) r ≡ tops_after_copies c memory set objects (suc k) r) (sym here) top_here)
+          (λ (here : q ≡ copied.region). subst (λ r. tops_outside w set (λ p. copied_out config other_memory o (Top p)) r ≡ tops_after_copies config memory set objects (suc index) r) (sym here) top_here)
           (λ (other : q ≢ copied.region). top_elsewhere q other)
           (cases_eq q copied.region);
       words = λ a i has_a some less.
           copied.copied.elsewhere (a + i) (never_begins a o i has_a has some less) (never_overwritten a i has_a less) ∙ at.words a i has_a some less;
     }
 
-  at_turn : (k : ℕ) → k ≤ length objects → AreAt k (now k)
+  at_turn : (index : ℕ) → index ≤ length objects → AreAt index (now index)
   at_turn zero most = at_first
-  at_turn (suc k) most =
-      let inside : k < length objects = omega (arith, most) in
-      subst (AreAt (suc k)) (sym (now_next k)) (at_next k (now k) inside (at_turn k (omega (arith, most))))
+  at_turn (suc index) most =
+      let inside : index < length objects = omega (arith, most) in
+      subst (AreAt (suc index)) (sym (now_next index)) (at_next index (now index) inside (at_turn index (omega (arith, most))))
 
-  pub copied_at_turn : (k : ℕ) → k < length objects → IsCopiedOut c (now k) (now (k + 1)) (get_or objects k 0)
-  copied_at_turn k inside =
-      let next : suc k ≡ k + 1 = omega arith in
-      let copied_next = subst (λ after. IsCopiedOut c (now k) after (get_or objects k 0)) (sym (now_next k)) (copied k (now k) inside (at_turn k (omega (arith, inside)))) in
-      subst (λ j. IsCopiedOut c (now k) (now j) (get_or objects k 0)) next copied_next
+  pub copied_at_turn : (index : ℕ) → index < length objects → IsCopiedOut config (now index) (now (index + 1)) (get_or objects index 0)
+  copied_at_turn index inside =
+      let next : suc index ≡ index + 1 = omega arith in
+      let copied_next = subst (λ after. IsCopiedOut config (now index) after (get_or objects index 0)) (sym (now_next index)) (copied index (now index) inside (at_turn index (omega (arith, inside)))) in
+      subst (λ j. IsCopiedOut config (now index) (now j) (get_or objects index 0)) next copied_next
 
 pub each_is_copied : EachIsCopied
 each_is_copied c memory objects empty lie set_is to_copy turn inside = copied_at_turn c memory objects empty lie set_is to_copy turn inside

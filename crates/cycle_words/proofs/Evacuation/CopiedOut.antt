@@ -39,82 +39,82 @@ module _ (heap : ℕ → ℕ) (from to n : ℕ) where
       (and_from (nat_lt to (to + k)) (nat_lt (to + k) (to + n)) (lt-ltb to (to + k) (omega (arith, some))) (lt-ltb (to + k) (to + n) (omega (arith, below))))
       ∙ ap (λ i. heap (from + i)) back
 
-  word_elsewhere : (x : ℕ) → 0 < n → (x < to) ⊎ (to + n ≤ x) → copied_word heap from to n x ≡ heap x
-  word_elsewhere x some apart = ⊎_elim
-      (λ (before : x < to).
-      cond-false (to == x) plain_header _ (ne_eqb to x (λ same. omega (arith, same, before)))
-      ∙ cond-false (nat_lt to x && nat_lt x (to + n)) (heap (from + (x - to))) (heap x) (and_left (nat_lt to x) (nat_lt x (to + n)) (le-ltb to x (omega (arith, before)))))
-      (λ (behind : to + n ≤ x).
-      cond-false (to == x) plain_header _ (ne_eqb to x (λ same. omega (arith, same, behind, some)))
-      ∙ cond-false (nat_lt to x && nat_lt x (to + n)) (heap (from + (x - to))) (heap x) (and_right (nat_lt to x) (nat_lt x (to + n)) (le-ltb x (to + n) behind)))
+  word_elsewhere : (address : ℕ) → 0 < n → (address < to) ⊎ (to + n ≤ address) → copied_word heap from to n address ≡ heap address
+  word_elsewhere address some apart = ⊎_elim
+      (λ (before : address < to).
+      cond-false (to == address) plain_header _ (ne_eqb to address (λ same. omega (arith, same, before)))
+      ∙ cond-false (nat_lt to address && nat_lt address (to + n)) (heap (from + (address - to))) (heap address) (and_left (nat_lt to address) (nat_lt address (to + n)) (le-ltb to address (omega (arith, before)))))
+      (λ (behind : to + n ≤ address).
+      cond-false (to == address) plain_header _ (ne_eqb to address (λ same. omega (arith, same, behind, some)))
+      ∙ cond-false (nat_lt to address && nat_lt address (to + n)) (heap (from + (address - to))) (heap address) (and_right (nat_lt to address) (nat_lt address (to + n)) (le-ltb address (to + n) behind)))
       apart
 
-module _ (c : Config) (memory : Word → ℕ) (a r : ℕ) where
+module _ (config : Config) (memory : Word → ℕ) (a region : ℕ) where
   abbrev to : ℕ
-  to = top_address c memory r
+  to = top_address config memory region
 
   abbrev n : ℕ
   n = words_at memory a
 
-  heap_after : (x : ℕ) → x ≢ a → copied_to c memory a r (Heap x) ≡ copied_word (λ y. memory (Heap y)) a to n x
+  heap_after : (address : ℕ) → address ≢ a → copied_to config memory a region (Heap address) ≡ copied_word (λ y. memory (Heap y)) a to n address
   unfolding copied_to
-  heap_after x other = cond-false (a == x) (header_word to) _ (ne_eqb a x (λ same. other (sym same)))
+  heap_after address other = cond-false (a == address) (header_word to) _ (ne_eqb a address (λ same. other (sym same)))
 
-  pub others_stay : (word : Word) → (MayChange word → ⊥) → copied_to c memory a r word ≡ memory word
+  pub others_stay : (word : Word) → (MayChange word → ⊥) → copied_to config memory a region word ≡ memory word
   unfolding copied_to
   others_stay (Heap x) stays = absurd (stays tt)
   others_stay (Top q) stays = absurd (stays tt)
   others_stay Free stays = absurd (stays tt)
   others_stay word stays = refl
 
-  module _ (apart : (a < to) ⊎ (to + n ≤ a)) (inside : r < c.regions) where
-    pub is_copied_to : IsCopiedTo c memory (copied_to c memory a r) a r
+  module _ (apart : (a < to) ⊎ (to + n ≤ a)) (inside : region < config.regions) where
+    pub is_copied_to : IsCopiedTo config memory (copied_to config memory a region) a region
     unfolding copied_to
     is_copied_to =
         let some : 0 < n = omega arith in
-        let small : r < 64 = (let range = c.in_range in omega (arith, range.most_regions, inside)) in
+        let small : region < 64 = (let range = config.in_range in omega (arith, range.most_regions, inside)) in
         let never_old : (k : ℕ) → k < n → to + k ≢ a = λ k below same. ⊎_elim (λ (before : a < to). omega (arith, same, before)) (λ (behind : to + n ≤ a). omega (arith, same, behind, below)) apart in
         record {
           header = (let plain : to + 0 ≡ to = omega arith in heap_after to (λ same. never_old 0 some (plain ∙ same)) ∙ cond-true (to == to) plain_header _ (eq-eqb to to refl));
           words = λ k positive below. heap_after (to + k) (never_old k below) ∙ word_of_copy (λ y. memory (Heap y)) a to n k positive below;
           forwarded = cond-true (a == a) (header_word to) _ (eq-eqb a a refl);
           elsewhere = λ x other outside. heap_after x other ∙ word_elsewhere (λ y. memory (Heap y)) a to n x some outside;
-          top = cond-true (r == r) (memory (Top r) + n) (memory (Top r)) (eq-eqb r r refl);
-          other_tops = λ q other. cond-false (r == q) (memory (Top r) + n) (memory (Top q)) (ne_eqb r q (λ same. other (sym same)));
-          in_use = bit_at_clear_same w64 (memory Free) r small;
-          others_free = λ q below other. bit_at_clear_other w64 (memory Free) r small q (let range = c.in_range in omega (arith, range.most_regions, below)) other;
+          top = cond-true (region == region) (memory (Top region) + n) (memory (Top region)) (eq-eqb region region refl);
+          other_tops = λ q other. cond-false (region == q) (memory (Top region) + n) (memory (Top q)) (ne_eqb region q (λ same. other (sym same)));
+          in_use = bit_at_clear_same w64 (memory Free) region small;
+          others_free = λ q below other. bit_at_clear_other w64 (memory Free) region small q (let range = config.in_range in omega (arith, range.most_regions, below)) other;
           others = others_stay;
         }
 
 -- copying by the region that was found
-pub copied_as : (c : Config) (memory : Word → ℕ) (a r : ℕ) → copy_room c memory a ≡ Some r → copied_out c memory a ≡ copied_to c memory a r
-copied_as c memory a r found = ap (copied_in c memory a) found
+pub copied_as : (config : Config) (memory : Word → ℕ) (a r : ℕ) → copy_room config memory a ≡ Some r → copied_out config memory a ≡ copied_to config memory a r
+copied_as config memory a r found = ap (copied_in config memory a) found
 
-pub copying_copies : (c : Config) (memory : Word → ℕ) (a r : ℕ) → c.region_words ≤ a → IsIn (memory Cset) (region_with c a) → copy_room c memory a ≡ Some r
-    → IsCopiedOut c memory (copied_out c memory a) a
-copying_copies c memory a r above member found =
-    let w = c.region_words in
-    let here : a + 0 ≡ a = omega arith in
-    let below : a % w + 0 < w = omega (arith, mod_below a w (some_words c)) in
-    let lowest = has_room w (tops_outside w (memory Cset) (λ q. memory (Top q))) (words_at memory a) c.regions r found in
-    let outside : IsOutside (memory Cset) r = outside_with_room w (memory Cset) (λ q. memory (Top q)) r (words_at memory a) (omega arith) lowest.room in
-    let own = own_top w (memory Cset) (λ q. memory (Top q)) r outside in
-    let room : memory (Top r) + words_at memory a ≤ w = omega (arith, lowest.room, own) in
-    let differ : region_with c a ≢ r = λ same. (let here : bit_at (memory Cset) r ≡ 1 = subst (IsIn (memory Cset)) same member in omega (arith, here, outside)) in
-    let apart = regions_apart c (region_with c a) r a (top_address c memory r) (words_at memory a) differ (subst (IsOf c (region_with c a)) here (of_its_region c a 0 above below)) (omega arith) (omega (arith, room)) in
+pub copying_copies : (config : Config) (memory : Word → ℕ) (address region : ℕ) → config.region_words ≤ address → IsIn (memory Cset) (region_with config address) → copy_room config memory address ≡ Some region
+    → IsCopiedOut config memory (copied_out config memory address) address
+copying_copies config memory address region above member found =
+    let w = config.region_words in
+    let here : address + 0 ≡ address = omega arith in
+    let below : address % w + 0 < w = omega (arith, mod_below address w (some_words config)) in
+    let lowest = has_room w (tops_outside w (memory Cset) (λ q. memory (Top q))) (words_at memory address) config.regions region found in
+    let outside : IsOutside (memory Cset) region = outside_with_room w (memory Cset) (λ q. memory (Top q)) region (words_at memory address) (omega arith) lowest.room in
+    let own = own_top w (memory Cset) (λ q. memory (Top q)) region outside in
+    let room : memory (Top region) + words_at memory address ≤ w = omega (arith, lowest.room, own) in
+    let differ : region_with config address ≢ region = λ same. (let here : bit_at (memory Cset) region ≡ 1 = subst (IsIn (memory Cset)) same member in omega (arith, here, outside)) in
+    let apart = regions_apart config (region_with config address) region address (top_address config memory region) (words_at memory address) differ (subst (IsOf config (region_with config address)) here (of_its_region config address 0 above below)) (omega arith) (omega (arith, room)) in
     record {
-      region = r;
+      region = region;
       found = found;
       below = lowest.below;
       outside = outside;
       room = room;
-      copied = subst (λ after. IsCopiedTo c memory after a r) (sym (copied_as c memory a r found)) (is_copied_to c memory a r apart lowest.below);
+      copied = subst (λ after. IsCopiedTo config memory after address region) (sym (copied_as config memory address region found)) (is_copied_to config memory address region apart lowest.below);
     }
 
 -- copying copies, where there is room
-pub copies_out : (c : Config) (m : Word → ℕ) (a : ℕ) → c.region_words ≤ a → IsCollected c (m Cset) a → copy_room c m a ≢ None → IsCopiedOut c m (copied_out c m a) a
-copies_out c m a above inside room = by_room (copy_room c m a) refl
+pub copies_out : (config : Config) (memory : Word → ℕ) (address : ℕ) → config.region_words ≤ address → IsCollected config (memory Cset) address → copy_room config memory address ≢ None → IsCopiedOut config memory (copied_out config memory address) address
+copies_out config memory address above inside room = by_room (copy_room config memory address) refl
   where
-    by_room : (found : Option ℕ) → copy_room c m a ≡ found → IsCopiedOut c m (copied_out c m a) a
+    by_room : (found : Option ℕ) → copy_room config memory address ≡ found → IsCopiedOut config memory (copied_out config memory address) address
     by_room None none = absurd (room none)
-    by_room (Some r) found = copying_copies c m a r above inside found
+    by_room (Some r) found = copying_copies config memory address r above inside found

@@ -29,72 +29,72 @@ header_names : (to : ℕ) → forwardee_in (header_word to) ≡ to
 header_names to = omega arith
 
 -- where the header names a copy, that is the current one
-pub now_is : (m : Word → ℕ) (a to : ℕ) → m (Heap a) ≡ header_word to → now_in m a ≡ to
-now_is m a to header =
-    cond-true (is_forwarded (m (Heap a))) (forwardee_in (m (Heap a))) a (ap is_forwarded header ∙ header_forwarded to)
+pub now_is : (memory : Word → ℕ) (address to : ℕ) → memory (Heap address) ≡ header_word to → now_in memory address ≡ to
+now_is memory address to header =
+    cond-true (is_forwarded (memory (Heap address))) (forwardee_in (memory (Heap address))) address (ap is_forwarded header ∙ header_forwarded to)
     ∙ ap forwardee_in header ∙ header_names to
 
 -- what is outside of the set is not collected
-pub not_collected : (c : Config) (m : Word → ℕ) (a : ℕ) → IsOutside (m Cset) (region_with c a) → is_collected c m a ≡ false
-not_collected c m a outside =
-    and_right (nat_le c.region_words a) (bit_at (m Cset) (region_with c a) == 1) (ne_eqb (bit_at (m Cset) (region_with c a)) 1 (λ member. omega (arith, member, outside)))
+pub not_collected : (config : Config) (memory : Word → ℕ) (address : ℕ) → IsOutside (memory Cset) (region_with config address) → is_collected config memory address ≡ false
+not_collected config memory address outside =
+    and_right (nat_le config.region_words address) (bit_at (memory Cset) (region_with config address) == 1) (ne_eqb (bit_at (memory Cset) (region_with config address)) 1 (λ member. omega (arith, member, outside)))
 
 -- the words of the heap by their addresses
 abbrev heap_of : (Word → ℕ) → ℕ → ℕ
-heap_of m y = m (Heap y)
+heap_of memory address = memory (Heap address)
 
 -- copying goes by the words that name no objects
-module _ (c : Config) (m n : Word → ℕ) (a : ℕ) (same : (word : Word) → (IsNaming word → ⊥) → m word ≡ n word) where
-  same_words_at : words_at m a ≡ words_at n a
-  same_words_at = ap object_words (same (Heap (a + 1)) (λ never. never))
+module _ (config : Config) (memory other_memory : Word → ℕ) (address : ℕ) (same : (word : Word) → (IsNaming word → ⊥) → memory word ≡ other_memory word) where
+  same_words_at : words_at memory address ≡ words_at other_memory address
+  same_words_at = ap object_words (same (Heap (address + 1)) (λ never. never))
 
-  same_heap : heap_of m ≡ heap_of n
+  same_heap : heap_of memory ≡ heap_of other_memory
   same_heap = fun_ext (λ y. same (Heap y) (λ never. never))
 
-  pub same_copy_room : copy_room c m a ≡ copy_room c n a
+  pub same_copy_room : copy_room config memory address ≡ copy_room config other_memory address
   same_copy_room =
-      ap (λ s. lowest_room c.region_words (tops_outside c.region_words s (λ r. m (Top r))) (words_at m a) c.regions) (same Cset (λ never. never))
-      ∙ ap (λ (top : ℕ → ℕ). lowest_room c.region_words (tops_outside c.region_words (n Cset) top) (words_at m a) c.regions) (fun_ext (λ r. same (Top r) (λ never. never)))
-      ∙ ap (λ k. lowest_room c.region_words (tops_outside c.region_words (n Cset) (λ r. n (Top r))) k c.regions) same_words_at
+      ap (λ s. lowest_room config.region_words (tops_outside config.region_words s (λ r. memory (Top r))) (words_at memory address) config.regions) (same Cset (λ never. never))
+      ∙ ap (λ (top : ℕ → ℕ). lowest_room config.region_words (tops_outside config.region_words (other_memory Cset) top) (words_at memory address) config.regions) (fun_ext (λ r. same (Top r) (λ never. never)))
+      ∙ ap (λ k. lowest_room config.region_words (tops_outside config.region_words (other_memory Cset) (λ r. other_memory (Top r))) k config.regions) same_words_at
 
-  same_copied_to : (r : ℕ) (word : Word) → (IsNaming word → ⊥) → copied_to c m a r word ≡ copied_to c n a r word
+  same_copied_to : (region : ℕ) (word : Word) → (IsNaming word → ⊥) → copied_to config memory address region word ≡ copied_to config other_memory address region word
   unfolding copied_to
-  same_copied_to r (Heap x) other =
-      ap (λ t. if a == x then header_word (base_of c r + t) else copied_word (λ y. m (Heap y)) a (base_of c r + t) (words_at m a) x) (same (Top r) (λ never. never))
-      ∙ ap (λ (heap : ℕ → ℕ). if a == x then header_word (top_address c n r) else copied_word heap a (top_address c n r) (words_at m a) x) same_heap
-      ∙ ap (λ k. if a == x then header_word (top_address c n r) else copied_word (λ y. n (Heap y)) a (top_address c n r) k x) same_words_at
-  same_copied_to r (Top q) other =
-      ap (λ t. if r == q then t + words_at m a else m (Top q)) (same (Top r) (λ never. never))
-      ∙ ap (λ k. if r == q then n (Top r) + k else m (Top q)) same_words_at
-      ∙ ap (λ t. if r == q then n (Top r) + words_at n a else t) (same (Top q) (λ never. never))
-  same_copied_to r Free other = ap (λ free. bit_and free (all_but r)) (same Free (λ never. never))
-  same_copied_to r word other = same word other
+  same_copied_to region (Heap x) other =
+      ap (λ t. if address == x then header_word (base_of config region + t) else copied_word (λ y. memory (Heap y)) address (base_of config region + t) (words_at memory address) x) (same (Top region) (λ never. never))
+      ∙ ap (λ (heap : ℕ → ℕ). if address == x then header_word (top_address config other_memory region) else copied_word heap address (top_address config other_memory region) (words_at memory address) x) same_heap
+      ∙ ap (λ k. if address == x then header_word (top_address config other_memory region) else copied_word (λ y. other_memory (Heap y)) address (top_address config other_memory region) k x) same_words_at
+  same_copied_to region (Top q) other =
+      ap (λ t. if region == q then t + words_at memory address else memory (Top q)) (same (Top region) (λ never. never))
+      ∙ ap (λ k. if region == q then other_memory (Top region) + k else memory (Top q)) same_words_at
+      ∙ ap (λ t. if region == q then other_memory (Top region) + words_at other_memory address else t) (same (Top q) (λ never. never))
+  same_copied_to region Free other = ap (λ free. bit_and free (all_but region)) (same Free (λ never. never))
+  same_copied_to region word other = same word other
 
-  same_copied_in : (o : Option ℕ) (word : Word) → (IsNaming word → ⊥) → copied_in c m a o word ≡ copied_in c n a o word
+  same_copied_in : (found : Option ℕ) (word : Word) → (IsNaming word → ⊥) → copied_in config memory address found word ≡ copied_in config other_memory address found word
   same_copied_in None word other = same word other
   same_copied_in (Some r) word other = same_copied_to r word other
 
-  pub same_copied_out : (word : Word) → (IsNaming word → ⊥) → copied_out c m a word ≡ copied_out c n a word
-  same_copied_out word other = same_copied_in (copy_room c m a) word other ∙ ap (λ o. copied_in c n a o word) same_copy_room
+  pub same_copied_out : (word : Word) → (IsNaming word → ⊥) → copied_out config memory address word ≡ copied_out config other_memory address word
+  same_copied_out word other = same_copied_in (copy_room config memory address) word other ∙ ap (λ o. copied_in config other_memory address o word) same_copy_room
 
 -- copies of the first objects of a longer list
-pub copied_front : (c : Config) (m : Word → ℕ) (objects more : List ℕ) (k : ℕ) → k ≤ length objects → copied_by c m (objects ++ more) k ≡ copied_by c m objects k
+pub copied_front : (config : Config) (memory : Word → ℕ) (objects more : List ℕ) (index : ℕ) → index ≤ length objects → copied_by config memory (objects ++ more) index ≡ copied_by config memory objects index
 unfolding copied_by
-copied_front c m objects more zero below = refl
-copied_front c m objects more (suc k) below =
-    ap (λ a. copied_out c (copied_by c m (objects ++ more) k) a) (get_or_append_left objects more 0 k (omega (arith, below)))
-    ∙ ap (λ n. copied_out c n (get_or objects k 0)) (copied_front c m objects more k (omega (arith, below)))
+copied_front config memory objects more zero below = refl
+copied_front config memory objects more (suc index) below =
+    ap (λ a. copied_out config (copied_by config memory (objects ++ more) index) a) (get_or_append_left objects more 0 index (omega (arith, below)))
+    ∙ ap (λ n. copied_out config n (get_or objects index 0)) (copied_front config memory objects more index (omega (arith, below)))
 
-pub copied_next : (c : Config) (m : Word → ℕ) (objects : List ℕ) (k : ℕ) → copied_by c m objects (suc k) ≡ copied_out c (copied_by c m objects k) (get_or objects k 0)
+pub copied_next : (config : Config) (memory : Word → ℕ) (objects : List ℕ) (index : ℕ) → copied_by config memory objects (suc index) ≡ copied_out config (copied_by config memory objects index) (get_or objects index 0)
 unfolding copied_by
-copied_next c m objects k = refl
+copied_next config memory objects index = refl
 
 -- what a place is cleared to
-pub cleared_is : (c : Config) (m : Word → ℕ) (place : Word) → is_collected c m (m place) ≡ true
-    → cleared_at c m place ≡ write (moved_out c m (m place)) place (now_in (moved_out c m (m place)) (m place))
+pub cleared_is : (config : Config) (memory : Word → ℕ) (place : Word) → is_collected config memory (memory place) ≡ true
+    → cleared_at config memory place ≡ write (moved_out config memory (memory place)) place (now_in (moved_out config memory (memory place)) (memory place))
 unfolding cleared_at
-cleared_is c m place is = fun_ext (λ word. cond-true (is_collected c m (m place)) (write (moved_out c m (m place)) place (now_in (moved_out c m (m place)) (m place)) word) (m word) is)
+cleared_is config memory place is = fun_ext (λ word. cond-true (is_collected config memory (memory place)) (write (moved_out config memory (memory place)) place (now_in (moved_out config memory (memory place)) (memory place)) word) (memory word) is)
 
-pub spared_is : (c : Config) (m : Word → ℕ) (place : Word) → is_collected c m (m place) ≡ false → cleared_at c m place ≡ m
+pub spared_is : (config : Config) (memory : Word → ℕ) (place : Word) → is_collected config memory (memory place) ≡ false → cleared_at config memory place ≡ memory
 unfolding cleared_at
-spared_is c m place is = fun_ext (λ word. cond-false (is_collected c m (m place)) (write (moved_out c m (m place)) place (now_in (moved_out c m (m place)) (m place)) word) (m word) is)
+spared_is config memory place is = fun_ext (λ word. cond-false (is_collected config memory (memory place)) (write (moved_out config memory (memory place)) place (now_in (moved_out config memory (memory place)) (memory place)) word) (memory word) is)

@@ -44,61 +44,61 @@ use Rattle.cycle_words.proofs.Evacuation.Copies.{header_forwarded, forwarded_fil
 use Rattle.image_graph.proofs.Carried.{now_same, not_renamed, IsCarried, led_comes, carried_holds}
 
 -- a set that has a region is not empty
-pub some_set : (c : Config) (set a : ℕ) → IsCollected c set a → set ≢ 0
-some_set c set a inside none = (let is_zero : bit_at set (region_with c a) ≡ 0 = ap (λ k. bit_at k (region_with c a)) none ∙ bit_at-zero (region_with c a) in omega (arith, is_zero, inside))
+pub some_set : (config : Config) (set address : ℕ) → IsCollected config set address → set ≢ 0
+some_set config set address inside none = (let is_zero : bit_at set (region_with config address) ≡ 0 = ap (λ k. bit_at k (region_with config address)) none ∙ bit_at-zero (region_with config address) in omega (arith, is_zero, inside))
 
 -- What holds of the collection set from one object to the next.
-pub record IsInOrder (c : Config) (m : Word → ℕ) (block : Plot) : Type 0 where
-  pub marked : AreMarkedObjects c m block
-  pub reachable : (a : ℕ) → CanBeReached c m a → IsKept c m a
-  pub no_new : (r : ℕ) → IsIn (m Cset) r → m (Top r) ≡ m (Tams r)
-  pub floors : (r : ℕ) → r < c.regions → m (Tams r) ≤ m (Top r)
-  pub unseated : (seat r : ℕ) → EndsIn c m seat r → IsIn (m Cset) r → ⊥
-  pub young : AreYoungRooms c (λ r. m (Tams r)) block
+pub record IsInOrder (config : Config) (memory : Word → ℕ) (block : Plot) : Type 0 where
+  pub marked : AreMarkedObjects config memory block
+  pub reachable : (a : ℕ) → CanBeReached config memory a → IsKept config memory a
+  pub no_new : (region : ℕ) → IsIn (memory Cset) region → memory (Top region) ≡ memory (Tams region)
+  pub floors : (region : ℕ) → region < config.regions → memory (Tams region) ≤ memory (Top region)
+  pub unseated : (seat region : ℕ) → EndsIn config memory seat region → IsIn (memory Cset) region → ⊥
+  pub young : AreYoungRooms config (λ region. memory (Tams region)) block
 
-pub in_order : (c : Config) (m : Word → ℕ) (block : Plot) → WhileCollecting c m block → m Cset ≢ 0 → IsInOrder c m block
-in_order c m block while some = record { marked = while.marked; reachable = while.reachable some; no_new = while.no_new; floors = while.floors some; unseated = while.unseated; young = while.young some }
+pub in_order : (config : Config) (memory : Word → ℕ) (block : Plot) → WhileCollecting config memory block → memory Cset ≢ 0 → IsInOrder config memory block
+in_order config memory block while some = record { marked = while.marked; reachable = while.reachable some; no_new = while.no_new; floors = while.floors some; unseated = while.unseated; young = while.young some }
 
-module _ (c : Config) (m : Word → ℕ) (block : Plot) (owner : ℕ → Option ℕ) (p : Promises) (g : Graph) (holds : HoldsBy c m block owner p g)
-    (a : ℕ) (x : Block) (here : block a ≡ Some x) (fixed : is_loose x ≡ false) (inside : IsCollected c (m Cset) a) (plain : is_forwarded (m (Heap a)) ≡ false) (unpinned : IsUnpinned c m a)
-    (size : words_at m a ≡ words_of x) (out : IsCopiedOut c m (copied_out c m a) a) where
+module _ (config : Config) (memory : Word → ℕ) (block : Plot) (owner : ℕ → Option ℕ) (promises : Promises) (graph : Graph) (holds : HoldsBy config memory block owner promises graph)
+    (address : ℕ) (other_piece : Block) (here : block address ≡ Some other_piece) (fixed : is_loose other_piece ≡ false) (inside : IsCollected config (memory Cset) address) (plain : is_forwarded (memory (Heap address)) ≡ false) (unpinned : IsUnpinned config memory address)
+    (size : words_at memory address ≡ words_of other_piece) (out : IsCopiedOut config memory (copied_out config memory address) address) where
   abbrev n : Word → ℕ
-  n = copied_out c m a
+  n = copied_out config memory address
 
   abbrev r : ℕ
   r = out.region
 
   -- where the copy lies
   abbrev pub to : ℕ
-  to = top_address c m out.region
+  to = top_address config memory out.region
 
   abbrev top : ℕ → ℕ
-  top q = m (Top q)
+  top region = memory (Top region)
 
   abbrev heap : ℕ → ℕ
-  heap y = m (Heap y)
+  heap address = memory (Heap address)
 
   abbrev after : ℕ → ℕ
-  after y = n (Heap y)
+  after address = n (Heap address)
 
   -- the pieces with the copy
   abbrev pub plot : Plot
-  plot = updated block to (Some x)
+  plot = updated block to (Some other_piece)
 
   -- where an object comes from
   abbrev origin : ℕ → ℕ
-  origin = updated (λ k. k) to a
+  origin = updated (λ k. k) to address
 
   abbrev Lands : ℕ → Type 0
-  Lands k = k ≢ a
+  Lands k = k ≢ address
 
-  long : (q : ℕ) (z : Block) → block q ≡ Some z → 1 ≤ words_of z
+  long : (address : ℕ) (piece : Block) → block address ≡ Some piece → 1 ≤ words_of piece
   long = holds.pieces.some
 
-  own : 1 ≤ words_of x
-  own = long a x here
+  own : 1 ≤ words_of other_piece
+  own = long address other_piece here
 
-  joins : CanJoin c top block r (m (Top r)) x
+  joins : CanJoin config top block r (memory (Top r)) other_piece
   joins = record {
     plotted = holds.objects.plotted;
     long = long;
@@ -108,121 +108,121 @@ module _ (c : Config) (m : Word → ℕ) (block : Plot) (owner : ℕ → Option 
     some = own;
   }
 
-  pub stays : (q : ℕ) (z : Block) → block q ≡ Some z → plot q ≡ Some z
-  stays = joined.stays c top block r (m (Top r)) x joins
+  pub stays : (address : ℕ) (piece : Block) → block address ≡ Some piece → plot address ≡ Some piece
+  stays = joined.stays config top block r (memory (Top r)) other_piece joins
 
   -- nothing stood where the copy lies
-  none_there : (z : Block) → block to ≡ Some z → ⊥
-  none_there z is =
-      let some = long to z is in
-      let where_is = beside c top block holds.objects.plotted r to z is in
+  none_there : (piece : Block) → block to ≡ Some piece → ⊥
+  none_there piece is =
+      let some = long to piece is in
+      let where_is = beside config top block holds.objects.plotted r to piece is in
       let room = out.room in
       omega (arith, some, own, where_is, room, size)
 
-  elsewhere : to ≢ a
-  elsewhere same = none_there x (ap block same ∙ here)
+  elsewhere : to ≢ address
+  elsewhere same = none_there other_piece (ap block same ∙ here)
 
-  new_there : plot to ≡ Some x
-  new_there = updated_there block to (Some x)
+  new_there : plot to ≡ Some other_piece
+  new_there = updated_there block to (Some other_piece)
 
-  cases : (q : ℕ) (z : Block) → plot q ≡ Some z → ((q ≡ to) × (x ≡ z)) ⊎ ((q ≢ to) × (block q ≡ Some z))
-  cases q z is = piece_cases block to x q z is
+  cases : (address : ℕ) (piece : Block) → plot address ≡ Some piece → ((address ≡ to) × (other_piece ≡ piece)) ⊎ ((address ≢ to) × (block address ≡ Some piece))
+  cases address piece is = piece_cases block to other_piece address piece is
 
-  origin_there : origin to ≡ a
-  origin_there = updated_there (λ k. k) to a
+  origin_there : origin to ≡ address
+  origin_there = updated_there (λ k. k) to address
 
   origin_else : (q : ℕ) → q ≢ to → origin q ≡ q
-  origin_else q other = updated_else (λ k. k) to a q (λ e. other (sym e))
+  origin_else q other = updated_else (λ k. k) to address q (λ e. other (sym e))
 
   -- words of pieces stay, but for the header
-  word_stays : (q k : ℕ) (z : Block) → block q ≡ Some z → k < words_of z → q + k ≢ a → after (q + k) ≡ heap (q + k)
-  word_stays q k z is below other =
+  word_stays : (q k : ℕ) (piece : Block) → block q ≡ Some piece → k < words_of piece → q + k ≢ address → after (q + k) ≡ heap (q + k)
+  word_stays q k piece is below other =
       let room = out.room in
       out.copied.elsewhere (q + k) other
       (⊎_elim
-      (λ (before : q + words_of z ≤ base_of c r). inl (omega (arith, before, below)))
-      (λ (rest : ((base_of c r ≤ q) × (q + words_of z ≤ base_of c r + top r)) ⊎ (base_of c r + c.region_words ≤ q)). ⊎_elim
-      (λ (within : (base_of c r ≤ q) × (q + words_of z ≤ base_of c r + top r)). inl (omega (arith, within.1, below)))
-      (λ (behind : base_of c r + c.region_words ≤ q). inr (omega (arith, behind, room)))
+      (λ (before : q + words_of piece ≤ base_of config r). inl (omega (arith, before, below)))
+      (λ (rest : ((base_of config r ≤ q) × (q + words_of piece ≤ base_of config r + top r)) ⊎ (base_of config r + config.region_words ≤ q)). ⊎_elim
+      (λ (within : (base_of config r ≤ q) × (q + words_of piece ≤ base_of config r + top r)). inl (omega (arith, within.1, below)))
+      (λ (behind : base_of config r + config.region_words ≤ q). inr (omega (arith, behind, room)))
       rest)
-      (beside c top block holds.objects.plotted r q z is))
+      (beside config top block holds.objects.plotted r q piece is))
 
-  kept : (q k : ℕ) (z : Block) → q ≢ a → block q ≡ Some z → k < words_of z → after (q + k) ≡ heap (q + k)
-  kept q k z other is below =
-      let apart : q + k ≢ a + 0 = far c top block holds.objects.plotted q a k 0 z x is here other below (omega (arith, own)) in
-      word_stays q k z is below (λ same. apart (omega (arith, same)))
+  kept : (q k : ℕ) (piece : Block) → q ≢ address → block q ≡ Some piece → k < words_of piece → after (q + k) ≡ heap (q + k)
+  kept q k piece other is below =
+      let apart : q + k ≢ address + 0 = far config top block holds.objects.plotted q address k 0 piece other_piece is here other below (omega (arith, own)) in
+      word_stays q k piece is below (λ same. apart (omega (arith, same)))
 
-  header_stays : (q : ℕ) (z : Block) → q ≢ a → block q ≡ Some z → after q ≡ heap q
-  header_stays q z other is =
+  header_stays : (q : ℕ) (piece : Block) → q ≢ address → block q ≡ Some piece → after q ≡ heap q
+  header_stays q piece other is =
       let first : q + 0 ≡ q = omega arith in
-      sym (ap after first) ∙ kept q 0 z other is (long q z is) ∙ ap heap first
+      sym (ap after first) ∙ kept q 0 piece other is (long q piece is) ∙ ap heap first
 
-  shape_stays : (q : ℕ) (z : Block) → block q ≡ Some z → 2 ≤ words_of z → after (q + 1) ≡ heap (q + 1)
-  shape_stays q z is some = ⊎_elim
-      (λ (same : q ≡ a). word_stays q 1 z is (omega (arith, some)) (λ e. omega (arith, e, same)))
-      (λ (other : q ≢ a). kept q 1 z other is (omega (arith, some)))
-      (cases_eq q a)
+  shape_stays : (q : ℕ) (piece : Block) → block q ≡ Some piece → 2 ≤ words_of piece → after (q + 1) ≡ heap (q + 1)
+  shape_stays q piece is some = ⊎_elim
+      (λ (same : q ≡ address). word_stays q 1 piece is (omega (arith, some)) (λ e. omega (arith, e, same)))
+      (λ (other : q ≢ address). kept q 1 piece other is (omega (arith, some)))
+      (cases_eq q address)
 
   -- current copies
-  now_there : now_in n a ≡ to
-  now_there = now_is n a to out.copied.forwarded
+  now_there : now_in n address ≡ to
+  now_there = now_is n address to out.copied.forwarded
 
   now_new : now_in n to ≡ to
   now_new = cond-false (is_forwarded (after to)) (forwardee_in (after to)) to (ap is_forwarded out.copied.header)
 
-  now_here : now_in m a ≡ a
-  now_here = cond-false (is_forwarded (heap a)) (forwardee_in (heap a)) a plain
+  now_here : now_in memory address ≡ address
+  now_here = cond-false (is_forwarded (heap address)) (forwardee_in (heap address)) address plain
 
-  now_else : (q : ℕ) (z : Block) → q ≢ a → block q ≡ Some z → now_in n q ≡ now_in m q
-  now_else q z other is = now_same n m q (header_stays q z other is)
+  now_else : (q : ℕ) (piece : Block) → q ≢ address → block q ≡ Some piece → now_in n q ≡ now_in memory q
+  now_else q piece other is = now_same n memory q (header_stays q piece other is)
 
-  now_not_old : (q more less : ℕ) (named : Name) → q ≢ a → block q ≡ Some (thing named more less) → now_in m q ≢ a
+  now_not_old : (q more less : ℕ) (named : Name) → q ≢ address → block q ≡ Some (thing named more less) → now_in memory q ≢ address
   now_not_old q more less named other is same = ⊎_elim
       (λ (moved : is_forwarded (heap q) ≡ true).
       let away = (holds.moved q more less named is moved).outside in
-      let out_of : bit_at (m Cset) (region_with c a) ≡ 0 = subst (λ k. bit_at (m Cset) (region_with c k) ≡ 0) same away in
+      let out_of : bit_at (memory Cset) (region_with config address) ≡ 0 = subst (λ k. bit_at (memory Cset) (region_with config k) ≡ 0) same away in
       omega (arith, out_of, inside))
       (λ (stands : is_forwarded (heap q) ≡ false). other (sym (cond-false (is_forwarded (heap q)) (forwardee_in (heap q)) q stands) ∙ same))
       (cases_Bool (is_forwarded (heap q)))
 
-  now_not_new : (q : ℕ) (named : Name) → name_at (block q) ≡ Some named → now_in m q ≢ to
-  now_not_new q named is same = let copy = holds.objects.current q named is in none_there (thing named copy.0 copy.1) (ap block (sym same) ∙ copy.2)
+  now_not_new : (address : ℕ) (named : Name) → name_at (block address) ≡ Some named → now_in memory address ≢ to
+  now_not_new address named is same = let copy = holds.objects.current address named is in none_there (thing named copy.0 copy.1) (ap block (sym same) ∙ copy.2)
 
   -- other words stay
-  word_same : (word : Word) → (MayChange word → ⊥) → n word ≡ m word
+  word_same : (word : Word) → (MayChange word → ⊥) → n word ≡ memory word
   word_same word = out.copied.others word
 
-  pub set_same : n Cset ≡ m Cset
+  pub set_same : n Cset ≡ memory Cset
   set_same = word_same Cset (λ never. never)
 
-  top_same : (q : ℕ) → q ≢ r → n (Top q) ≡ m (Top q)
+  top_same : (region : ℕ) → region ≢ r → n (Top region) ≡ memory (Top region)
   top_same = out.copied.other_tops
 
-  tops_are : (λ q. n (Top q)) ≡ updated top r (m (Top r) + words_of x)
+  tops_are : (λ q. n (Top q)) ≡ updated top r (memory (Top r) + words_of other_piece)
   tops_are = fun_ext (λ q. ⊎_elim
       (λ (same : r ≡ q).
-      ap (λ k. n (Top k)) (sym same) ∙ out.copied.top ∙ ap (λ w. m (Top r) + w) size ∙ sym (updated_same top r (m (Top r) + words_of x) q same))
-      (λ (other : r ≢ q). top_same q (λ e. other (sym e)) ∙ sym (updated_else top r (m (Top r) + words_of x) q other))
+      ap (λ k. n (Top k)) (sym same) ∙ out.copied.top ∙ ap (λ w. memory (Top r) + w) size ∙ sym (updated_same top r (memory (Top r) + words_of other_piece) q same))
+      (λ (other : r ≢ q). top_same q (λ e. other (sym e)) ∙ sym (updated_else top r (memory (Top r) + words_of other_piece) q other))
       (cases_eq r q))
 
   -- the copy lies outside the set
-  region_is : region_with c to ≡ r
-  region_is = let room = out.room in regions_tile.of_no_other c r to (record { from = omega arith; before = omega (arith, own, room, size) })
+  region_is : region_with config to ≡ r
+  region_is = let room = out.room in regions_tile.of_no_other config r to (record { from = omega arith; before = omega (arith, own, room, size) })
 
   -- room was there, for what is copied is none
-  room_was : (q seat : ℕ) (y : Block) → room_of y ≡ Some seat → plot q ≡ Some y → block q ≡ Some y
-  room_was q seat y room is = ⊎_elim
-      (λ (new : (q ≡ to) × (x ≡ y)). absurd (true≢false (sym (room_loose y seat room) ∙ sym (ap is_loose new.1) ∙ fixed)))
-      (λ (old : (q ≢ to) × (block q ≡ Some y)). old.1)
-      (cases q y is)
+  room_was : (address seat : ℕ) (piece : Block) → room_of piece ≡ Some seat → plot address ≡ Some piece → block address ≡ Some piece
+  room_was address seat piece room is = ⊎_elim
+      (λ (new : (address ≡ to) × (other_piece ≡ piece)). absurd (true≢false (sym (room_loose piece seat room) ∙ sym (ap is_loose new.1) ∙ fixed)))
+      (λ (old : (address ≢ to) × (block address ≡ Some piece)). old.1)
+      (cases address piece is)
 
   named_again : (q : ℕ) (named : Name) → name_at (plot q) ≡ Some named → (refs : ℕ) × (nums : ℕ) × (plot q ≡ Some (thing named refs nums))
   named_again q named is =
       let at = named_piece (plot q) named is in
       ⊎_elim
-      (λ (new : (q ≡ to) × (x ≡ at.0)).
-      let same : block a ≡ Some at.0 = here ∙ ap Some new.1 in
-      let was = holds.pieces.named a named (ap name_at same ∙ at.2) in
+      (λ (new : (q ≡ to) × (other_piece ≡ at.0)).
+      let same : block address ≡ Some at.0 = here ∙ ap Some new.1 in
+      let was = holds.pieces.named address named (ap name_at same ∙ at.2) in
       (was.0, was.1, at.1 ∙ sym same ∙ was.2))
       (λ (old : (q ≢ to) × (block q ≡ Some at.0)).
       let was = holds.pieces.named q named (ap name_at old.1 ∙ at.2) in
@@ -233,13 +233,13 @@ module _ (c : Config) (m : Word → ℕ) (block : Plot) (owner : ℕ → Option 
   pieces_again = record {
     named = named_again;
     unpromised = λ q seat words is. ⊎_elim
-        (λ (new : (q ≡ to) × (x ≡ promised seat words)). holds.pieces.unpromised a seat words (here ∙ ap Some new.1))
+        (λ (new : (q ≡ to) × (other_piece ≡ promised seat words)). holds.pieces.unpromised address seat words (here ∙ ap Some new.1))
         (λ (old : (q ≢ to) × (block q ≡ Some (promised seat words))). holds.pieces.unpromised q seat words old.1)
         (cases q (promised seat words) is);
     unheld = λ q seat words is. holds.pieces.unheld q seat words (room_was q seat (hand seat words) refl is);
     uncarved = λ q seat words is. holds.pieces.uncarved q seat words (room_was q seat (carved seat words) refl is);
     some = λ q z is. ⊎_elim
-        (λ (new : (q ≡ to) × (x ≡ z)). subst (λ b. 1 ≤ words_of b) new.1 own)
+        (λ (new : (q ≡ to) × (other_piece ≡ z)). subst (λ b. 1 ≤ words_of b) new.1 own)
         (λ (old : (q ≢ to) × (block q ≡ Some z)). long q z old.1)
         (cases q z is);
   }
@@ -248,39 +248,39 @@ module _ (c : Config) (m : Word → ℕ) (block : Plot) (owner : ℕ → Option 
   current_again q named is =
       let at = named_again q named is in
       ⊎_elim
-      (λ (new : (q ≡ to) × (x ≡ thing named at.0 at.1)). (at.0, at.1, ap (λ k. plot (now_in n k)) new.0 ∙ ap plot now_new ∙ new_there ∙ ap Some new.1))
+      (λ (new : (q ≡ to) × (other_piece ≡ thing named at.0 at.1)). (at.0, at.1, ap (λ k. plot (now_in n k)) new.0 ∙ ap plot now_new ∙ new_there ∙ ap Some new.1))
       (λ (old : (q ≢ to) × (block q ≡ Some (thing named at.0 at.1))). ⊎_elim
-      (λ (same : q ≡ a).
+      (λ (same : q ≡ address).
       (at.0, at.1, ap (λ k. plot (now_in n k)) same ∙ ap plot now_there ∙ new_there ∙ sym here ∙ ap block (sym same) ∙ old.1))
-      (λ (other : q ≢ a).
+      (λ (other : q ≢ address).
       let copy = holds.objects.current q named (ap name_at old.1) in
-      (copy.0, copy.1, ap plot (now_else q (thing named at.0 at.1) other old.1) ∙ stays (now_in m q) (thing named copy.0 copy.1) copy.2))
-      (cases_eq q a))
+      (copy.0, copy.1, ap plot (now_else q (thing named at.0 at.1) other old.1) ∙ stays (now_in memory q) (thing named copy.0 copy.1) copy.2))
+      (cases_eq q address))
       (cases q (thing named at.0 at.1) at.2)
 
   -- where an address leads comes from where it led
-  now_from : (q : ℕ) (named : Name) → name_at (block q) ≡ Some named → (origin (now_in n q) ≡ now_in m q) × (now_in n q ≢ a)
+  now_from : (q : ℕ) (named : Name) → name_at (block q) ≡ Some named → (origin (now_in n q) ≡ now_in memory q) × (now_in n q ≢ address)
   now_from q named is =
       let at = holds.pieces.named q named is in
       ⊎_elim
-      (λ (same : q ≡ a). (
-        ap (λ k. origin (now_in n k)) same ∙ ap origin now_there ∙ origin_there ∙ sym now_here ∙ ap (now_in m) (sym same),
+      (λ (same : q ≡ address). (
+        ap (λ k. origin (now_in n k)) same ∙ ap origin now_there ∙ origin_there ∙ sym now_here ∙ ap (now_in memory) (sym same),
         λ back. elsewhere (sym (ap (now_in n) same ∙ now_there) ∙ back),
       ))
-      (λ (other : q ≢ a).
+      (λ (other : q ≢ address).
       let now = now_else q (thing named at.0 at.1) other at.2 in (
-        ap origin now ∙ origin_else (now_in m q) (now_not_new q named is),
+        ap origin now ∙ origin_else (now_in memory q) (now_not_new q named is),
         λ back. now_not_old q at.0 at.1 named other at.2 (sym now ∙ back),
       ))
-      (cases_eq q a)
+      (cases_eq q address)
 
-  pub pin_same : (t i : ℕ) → n (Pin t i) ≡ m (Pin t i)
-  pin_same t i = word_same (Pin t i) (λ never. never)
+  pub pin_same : (mutator index : ℕ) → n (Pin mutator index) ≡ memory (Pin mutator index)
+  pin_same mutator index = word_same (Pin mutator index) (λ never. never)
 
-  carried : IsCarried c m n block plot origin Lands
+  carried : IsCarried config memory n block plot origin Lands
   carried = record {
-    plotted = subst (λ t. IsPlotted c t plot) (sym tops_are) (joined.plotted_more c top block r (m (Top r)) x joins);
-    names = joined.names_stay c top block r (m (Top r)) x joins;
+    plotted = subst (λ t. IsPlotted config t plot) (sym tops_are) (joined.plotted_more config top block r (memory (Top r)) other_piece joins);
+    names = joined.names_stay config top block r (memory (Top r)) other_piece joins;
     current = current_again;
     now = λ q named is. (now_from q named is).0;
     lands = λ q named is. (now_from q named is).1;
@@ -295,11 +295,11 @@ module _ (c : Config) (m : Word → ℕ) (block : Plot) (owner : ℕ → Option 
         (cases_eq z to))
         (cases_eq y to);
     pieces = λ q more less named is. ⊎_elim
-        (λ (new : (q ≡ to) × (x ≡ thing named more less)). ap (λ k. block (origin k)) new.0 ∙ ap block origin_there ∙ here ∙ ap Some new.1)
+        (λ (new : (q ≡ to) × (other_piece ≡ thing named more less)). ap (λ k. block (origin k)) new.0 ∙ ap block origin_there ∙ here ∙ ap Some new.1)
         (λ (old : (q ≢ to) × (block q ≡ Some (thing named more less))). ap block (origin_else q old.0) ∙ old.1)
         (cases q (thing named more less) is);
     header = λ q more less named is away was. ⊎_elim
-        (λ (new : (q ≡ to) × (x ≡ thing named more less)). ap after new.0 ∙ out.copied.header)
+        (λ (new : (q ≡ to) × (other_piece ≡ thing named more less)). ap after new.0 ∙ out.copied.header)
         (λ (old : (q ≢ to) × (block q ≡ Some (thing named more less))).
         header_stays q (thing named more less) away old.1 ∙ ap heap (sym (origin_else q old.0)) ∙ was)
         (cases q (thing named more less) is);
@@ -307,184 +307,184 @@ module _ (c : Config) (m : Word → ℕ) (block : Plot) (owner : ℕ → Option 
     fields = λ q i more less named is away few.
         let place : q + (3 + i) ≡ q + 3 + i = omega arith in
         let back : origin q + (3 + i) ≡ origin q + 3 + i = omega arith in
-        not_renamed m (heap (origin q + 3 + i)) (after (q + 3 + i))
+        not_renamed memory (heap (origin q + 3 + i)) (after (q + 3 + i))
         (sym (ap after place) ∙ all_words q (3 + i) more less named is away (omega arith) (omega (arith, few)) ∙ ap heap back);
-    roots = λ t i below few. not_renamed m (m (Root t i)) (n (Root t i)) (word_same (Root t i) (λ never. never));
+    roots = λ t i below few. not_renamed memory (memory (Root t i)) (n (Root t i)) (word_same (Root t i) (λ never. never));
     pins = λ t i below few. pin_same t i;
-    pinned = λ t i below few named copy was. ap is_forwarded (header_stays (m (Pin t i)) (thing named copy.0 copy.1) (unpinned t i below few) copy.2) ∙ was;
-    answers = λ t below. not_renamed m (m (Answer t)) (n (Answer t)) (word_same (Answer t) (λ never. never));
+    pinned = λ t i below few named copy was. ap is_forwarded (header_stays (memory (Pin t i)) (thing named copy.0 copy.1) (unpinned t i below few) copy.2) ∙ was;
+    answers = λ t below. not_renamed memory (memory (Answer t)) (n (Answer t)) (word_same (Answer t) (λ never. never));
     waits = λ t. word_same (Wait t) (λ never. never);
   }
     where
-      all_words : (q k more less : ℕ) (named : Name) → plot q ≡ Some (thing named more less) → q ≢ a → 0 < k → k < 3 + more + less → after (q + k) ≡ heap (origin q + k)
+      all_words : (q k more less : ℕ) (named : Name) → plot q ≡ Some (thing named more less) → q ≢ address → 0 < k → k < 3 + more + less → after (q + k) ≡ heap (origin q + k)
       all_words q k more less named is away some below = ⊎_elim
-          (λ (new : (q ≡ to) × (x ≡ thing named more less)).
-          let words : words_of x ≡ 3 + more + less = ap words_of new.1 in
+          (λ (new : (q ≡ to) × (other_piece ≡ thing named more less)).
+          let words : words_of other_piece ≡ 3 + more + less = ap words_of new.1 in
           ap (λ y. after (y + k)) new.0 ∙ out.copied.words k some (omega (arith, below, words, size)) ∙ ap (λ y. heap (y + k)) (sym origin_there ∙ ap origin (sym new.0)))
           (λ (old : (q ≢ to) × (block q ≡ Some (thing named more less))).
           kept q k (thing named more less) away old.1 below ∙ ap (λ y. heap (y + k)) (sym (origin_else q old.0)))
           (cases q (thing named more less) is)
 
-  moved_again : (q more less : ℕ) (named : Name) → plot q ≡ Some (thing named more less) → is_forwarded (after q) ≡ true → HasMoved c n plot q more less named
+  moved_again : (q more less : ℕ) (named : Name) → plot q ≡ Some (thing named more less) → is_forwarded (after q) ≡ true → HasMoved config n plot q more less named
   moved_again q more less named is forwarded = ⊎_elim
-      (λ (new : (q ≡ to) × (x ≡ thing named more less)).
+      (λ (new : (q ≡ to) × (other_piece ≡ thing named more less)).
       absurd (true≢false (sym forwarded ∙ ap (λ k. is_forwarded (after k)) new.0 ∙ ap is_forwarded out.copied.header)))
       (λ (old : (q ≢ to) × (block q ≡ Some (thing named more less))). ⊎_elim
-      (λ (same : q ≡ a).
+      (λ (same : q ≡ address).
       let now : now_in n q ≡ to = ap (now_in n) same ∙ now_there in
       record {
-        in_set = subst (λ s. IsIn s (region_with c q)) (sym set_same) (subst (IsCollected c (m Cset)) (sym same) inside);
+        in_set = subst (λ s. IsIn s (region_with config q)) (sym set_same) (subst (IsCollected config (memory Cset)) (sym same) inside);
         copy = ap plot now ∙ new_there ∙ sym here ∙ ap block (sym same) ∙ old.1;
-        outside = subst (λ k. IsOutside (n Cset) (region_with c k)) (sym now)
+        outside = subst (λ k. IsOutside (n Cset) (region_with config k)) (sym now)
             (subst (IsOutside (n Cset)) (sym region_is) (subst (λ s. IsOutside s r) (sym set_same) out.outside));
         current = ap (λ k. is_forwarded (after k)) now ∙ ap is_forwarded out.copied.header;
       })
-      (λ (other : q ≢ a).
+      (λ (other : q ≢ address).
       let was = holds.moved q more less named old.1 (ap is_forwarded (sym (header_stays q (thing named more less) other old.1)) ∙ forwarded) in
-      let now : now_in n q ≡ now_in m q = now_else q (thing named more less) other old.1 in
+      let now : now_in n q ≡ now_in memory q = now_else q (thing named more less) other old.1 in
       record {
-        in_set = subst (λ s. IsIn s (region_with c q)) (sym set_same) was.in_set;
-        copy = ap plot now ∙ stays (now_in m q) (thing named more less) was.copy;
-        outside = subst (λ k. IsOutside (n Cset) (region_with c k)) (sym now) (subst (λ s. IsOutside s (region_with c (now_in m q))) (sym set_same) was.outside);
+        in_set = subst (λ s. IsIn s (region_with config q)) (sym set_same) was.in_set;
+        copy = ap plot now ∙ stays (now_in memory q) (thing named more less) was.copy;
+        outside = subst (λ k. IsOutside (n Cset) (region_with config k)) (sym now) (subst (λ s. IsOutside s (region_with config (now_in memory q))) (sym set_same) was.outside);
         current = ap (λ k. is_forwarded (after k)) now
-            ∙ ap is_forwarded (header_stays (now_in m q) (thing named more less) (now_not_old q more less named other old.1) was.copy) ∙ was.current;
+            ∙ ap is_forwarded (header_stays (now_in memory q) (thing named more less) (now_not_old q more less named other old.1) was.copy) ∙ was.current;
       })
-      (cases_eq q a))
+      (cases_eq q address))
       (cases q (thing named more less) is)
 
   -- a region that is free was, and is another
-  free_was : (q : ℕ) → q < c.regions → IsIn (n Free) q → (q ≢ r) × IsIn (m Free) q
-  free_was q below is =
-      let differs : q ≢ r = λ same. (let member : bit_at (n Free) r ≡ 1 = subst (IsIn (n Free)) same is in let used = out.copied.in_use in omega (arith, member, used)) in
-      (differs, sym (out.copied.others_free q below differs) ∙ is)
+  free_was : (region : ℕ) → region < config.regions → IsIn (n Free) region → (region ≢ r) × IsIn (memory Free) region
+  free_was region below is =
+      let differs : region ≢ r = λ same. (let member : bit_at (n Free) r ≡ 1 = subst (IsIn (n Free)) same is in let used = out.copied.in_use in omega (arith, member, used)) in
+      (differs, sym (out.copied.others_free region below differs) ∙ is)
 
-  free_is : n Free ≡ bit_and (m Free) (all_but r)
+  free_is : n Free ≡ bit_and (memory Free) (all_but r)
   unfolding copied_to
-  free_is = ap (λ (f : Word → ℕ). f Free) (copied_as c m a r out.found)
+  free_is = ap (λ (memory : Word → ℕ). memory Free) (copied_as config memory address r out.found)
 
-  free_again : IsFreeWord c (n Free) (λ q. n (Top q)) owner
+  free_again : IsFreeWord config (n Free) (λ q. n (Top q)) owner
   free_again = record {
-    no_more = (let was = holds.free_word.no_more in let less = and_le_l (m Free) (all_but r) in let is = free_is in omega (arith, was, less, is));
+    no_more = (let was = holds.free_word.no_more in let less = and_le_l (memory Free) (all_but r) in let is = free_is in omega (arith, was, less, is));
     empty = λ q below is. let was = free_was q below is in top_same q was.0 ∙ holds.free_word.empty q below was.1;
     nobodys = λ q below is. holds.free_word.nobodys q below (free_was q below is).1;
   }
 
   -- the shared region may be carved still, and buffers are as their words tell
-  share_again : ShareIsOpen c (n Share) (n Free) (n Cset) owner
+  share_again : ShareIsOpen config (n Share) (n Free) (n Cset) owner
   share_again =
-      subst (λ s. ShareIsOpen c s (n Free) (n Cset) owner) (sym (word_same Share (λ never. never)))
-      (subst (λ f. ShareIsOpen c (m Share) f (n Cset) owner) (sym free_is)
-      (subst (λ s. ShareIsOpen c (m Share) (bit_and (m Free) (all_but r)) s owner) (sym set_same) (share_stays c (m Share) (m Free) (m Cset) r owner out.below holds.shared_one)))
+      subst (λ s. ShareIsOpen config s (n Free) (n Cset) owner) (sym (word_same Share (λ never. never)))
+      (subst (λ f. ShareIsOpen config (memory Share) f (n Cset) owner) (sym free_is)
+      (subst (λ s. ShareIsOpen config (memory Share) (bit_and (memory Free) (all_but r)) s owner) (sym set_same) (share_stays config (memory Share) (memory Free) (memory Cset) r owner out.below holds.shared_one)))
 
-  rises : (q : ℕ) → top q ≤ n (Top q)
-  rises q = ⊎_elim
-      (λ (same : q ≡ r). (let grown = out.copied.top in let at : n (Top q) ≡ n (Top r) = ap (λ k. n (Top k)) same in let was : m (Top q) ≡ m (Top r) = ap (λ k. m (Top k)) same in omega (arith, grown, at, was)))
-      (λ (other : q ≢ r). (let stays = top_same q other in omega (arith, stays)))
-      (cases_eq q r)
+  rises : (region : ℕ) → top region ≤ n (Top region)
+  rises region = ⊎_elim
+      (λ (same : region ≡ r). (let grown = out.copied.top in let at : n (Top region) ≡ n (Top r) = ap (λ k. n (Top k)) same in let was : memory (Top region) ≡ memory (Top r) = ap (λ k. memory (Top k)) same in omega (arith, grown, at, was)))
+      (λ (other : region ≢ r). (let stays = top_same region other in omega (arith, stays)))
+      (cases_eq region r)
 
-  buffers_again : AreBuffers c (λ q. n (Top q)) (λ s. n (Current s)) plot
-  buffers_again = subst (λ s. AreBuffers c (λ q. n (Top q)) s plot) (sym (fun_ext (λ s. word_same (Current s) (λ never. never))))
-      (buffers_stay c top (λ q. n (Top q)) (λ s. m (Current s)) block plot (record { stays = λ q seat y room is. stays q y is; came = λ q seat y room is. room_was q seat y room is }) holds.buffers
+  buffers_again : AreBuffers config (λ q. n (Top q)) (λ s. n (Current s)) plot
+  buffers_again = subst (λ s. AreBuffers config (λ q. n (Top q)) s plot) (sym (fun_ext (λ s. word_same (Current s) (λ never. never))))
+      (buffers_stay config top (λ q. n (Top q)) (λ s. memory (Current s)) block plot (record { stays = λ q seat y room is. stays q y is; came = λ q seat y room is. room_was q seat y room is }) holds.buffers
       (λ seat some. rises (holds.buffers.each seat some).region))
 
-  pub copied_holds : HoldsBy c n plot owner p g
+  pub copied_holds : HoldsBy config n plot owner promises graph
   copied_holds =
-      carried_holds c m n block plot owner p g holds origin Lands carried moved_again
-      (subst (λ t. IsFilled c t plot) (sym tops_are) (joined.filled_more c top block r (m (Top r)) x joins holds.filled))
+      carried_holds config memory n block plot owner promises graph holds origin Lands carried moved_again
+      (subst (λ t. IsFilled config t plot) (sym tops_are) (joined.filled_more config top block r (memory (Top r)) other_piece joins holds.filled))
       pieces_again free_again share_again buffers_again
 
-  pub copied_sized : AreSized m block → AreSized n plot
+  pub copied_sized : AreSized memory block → AreSized n plot
   copied_sized sized = record {
     objects = λ q z is stands. ⊎_elim
-        (λ (new : (q ≡ to) × (x ≡ z)).
+        (λ (new : (q ≡ to) × (other_piece ≡ z)).
         ap (λ k. object_words (after (k + 1))) new.0 ∙ ap object_words (out.copied.words 1 (omega arith) (omega arith)) ∙ size ∙ ap words_of new.1)
         (λ (old : (q ≢ to) × (block q ≡ Some z)).
         let words = sized.objects q z old.1 stands in
         ap object_words (shape_stays q z old.1 (omega (arith, words))) ∙ words)
         (cases q z is);
     headers = λ q z is stands. ⊎_elim
-        (λ (new : (q ≡ to) × (x ≡ z)). ap (λ k. is_filler (after k)) new.0 ∙ ap is_filler out.copied.header)
+        (λ (new : (q ≡ to) × (other_piece ≡ z)). ap (λ k. is_filler (after k)) new.0 ∙ ap is_filler out.copied.header)
         (λ (old : (q ≢ to) × (block q ≡ Some z)). ⊎_elim
-        (λ (same : q ≡ a). ap (λ k. is_filler (after k)) same ∙ ap is_filler out.copied.forwarded ∙ forwarded_fills to)
-        (λ (other : q ≢ a). ap is_filler (header_stays q z other old.1) ∙ sized.headers q z old.1 stands)
-        (cases_eq q a))
+        (λ (same : q ≡ address). ap (λ k. is_filler (after k)) same ∙ ap is_filler out.copied.forwarded ∙ forwarded_fills to)
+        (λ (other : q ≢ address). ap is_filler (header_stays q z other old.1) ∙ sized.headers q z old.1 stands)
+        (cases_eq q address))
         (cases q z is);
     fillers = λ q words is. ⊎_elim
-        (λ (new : (q ≡ to) × (x ≡ filler words)). absurd (true≢false (sym (ap is_loose new.1) ∙ fixed)))
+        (λ (new : (q ≡ to) × (other_piece ≡ filler words)). absurd (true≢false (sym (ap is_loose new.1) ∙ fixed)))
         (λ (old : (q ≢ to) × (block q ≡ Some (filler words))).
-        header_stays q (filler words) (λ same. true≢false (ap is_loose (same_Some (filler words) x (sym old.1 ∙ ap block same ∙ here)) ∙ fixed)) old.1 ∙ sized.fillers q words old.1)
+        header_stays q (filler words) (λ same. true≢false (ap is_loose (same_Some (filler words) other_piece (sym old.1 ∙ ap block same ∙ here)) ∙ fixed)) old.1 ∙ sized.fillers q words old.1)
         (cases q (filler words) is);
   }
 
   -- what can be reached is the copy, or could be reached
-  reached_was : (y : ℕ) → CanBeReached c n y → (y ≡ to) ⊎ CanBeReached c m y
+  reached_was : (y : ℕ) → CanBeReached config n y → (y ≡ to) ⊎ CanBeReached config memory y
   reached_was y reached = ⊎_elim
       (λ (new : y ≡ to). inl new)
       (λ (old : y ≢ to).
-      let from = led_comes c m n block plot owner p g holds origin Lands carried y reached in
-      inr (subst (CanBeReached c m) (origin_else y old) from.led))
+      let from = led_comes config memory n block plot owner promises graph holds origin Lands carried y reached in
+      inr (subst (CanBeReached config memory) (origin_else y old) from.led))
       (cases_eq y to)
 
-  pub black_same : (y : ℕ) → is_black c n y ≡ is_black c m y
-  black_same y = ap (λ k. nat_le c.region_words y && (bit_at k (mark_bit c y) == 1)) (word_same (Black (mark_word c y)) (λ never. never))
+  pub black_same : (y : ℕ) → is_black config n y ≡ is_black config memory y
+  black_same y = ap (λ k. nat_le config.region_words y && (bit_at k (mark_bit config y) == 1)) (word_same (Black (mark_word config y)) (λ never. never))
 
   -- and is kept still, for the copy is new
-  kept_still : ((q : ℕ) → q < c.regions → m (Tams q) ≤ m (Top q)) → (y : ℕ) → (y ≡ to) ⊎ IsKept c m y → IsKept c n y
-  kept_still floors y is = ⊎_elim
-      (λ (new : y ≡ to).
+  kept_still : ((region : ℕ) → region < config.regions → memory (Tams region) ≤ memory (Top region)) → (address : ℕ) → (address ≡ to) ⊎ IsKept config memory address → IsKept config n address
+  kept_still floors address is = ⊎_elim
+      (λ (new : address ≡ to).
       let floor = floors r out.below in
-      let same : n (Tams r) ≡ m (Tams r) = word_same (Tams r) (λ never. never) in
-      inr (subst (IsNew c n) (sym new) (subst (λ q. base_of c q + n (Tams q) ≤ to) (sym region_is) (omega (arith, floor, same)))))
-      (λ (old : IsKept c m y). ⊎_elim
-      (λ (black : is_black c m y ≡ true). inl (black_same y ∙ black))
-      (λ (fresh : IsNew c m y).
-      inr (let same : n (Tams (region_with c y)) ≡ m (Tams (region_with c y)) = word_same (Tams (region_with c y)) (λ never. never) in omega (arith, fresh, same)))
+      let same : n (Tams r) ≡ memory (Tams r) = word_same (Tams r) (λ never. never) in
+      inr (subst (IsNew config n) (sym new) (subst (λ region. base_of config region + n (Tams region) ≤ to) (sym region_is) (omega (arith, floor, same)))))
+      (λ (old : IsKept config memory address). ⊎_elim
+      (λ (black : is_black config memory address ≡ true). inl (black_same address ∙ black))
+      (λ (fresh : IsNew config memory address).
+      inr (let same : n (Tams (region_with config address)) ≡ memory (Tams (region_with config address)) = word_same (Tams (region_with config address)) (λ never. never) in omega (arith, fresh, same)))
       old)
       is
 
   -- tops grow outside of the set alone
-  floors_still : ((q : ℕ) → q < c.regions → m (Tams q) ≤ m (Top q)) → (q : ℕ) → q < c.regions → n (Tams q) ≤ n (Top q)
-  floors_still floors q below =
-      let tams : n (Tams q) ≡ m (Tams q) = word_same (Tams q) (λ never. never) in
-      let floor = floors q below in
+  floors_still : ((region : ℕ) → region < config.regions → memory (Tams region) ≤ memory (Top region)) → (region : ℕ) → region < config.regions → n (Tams region) ≤ n (Top region)
+  floors_still floors region below =
+      let tams : n (Tams region) ≡ memory (Tams region) = word_same (Tams region) (λ never. never) in
+      let floor = floors region below in
       ⊎_elim
-      (λ (same : q ≡ r). (let grown = out.copied.top in let at : n (Top q) ≡ n (Top r) = ap (λ k. n (Top k)) same in let was : m (Top q) ≡ m (Top r) = ap (λ k. m (Top k)) same in omega (arith, floor, grown, tams, at, was)))
-      (λ (other : q ≢ r). (let stays = top_same q other in omega (arith, floor, stays, tams)))
-      (cases_eq q r)
+      (λ (same : region ≡ r). (let grown = out.copied.top in let at : n (Top region) ≡ n (Top r) = ap (λ k. n (Top k)) same in let was : memory (Top region) ≡ memory (Top r) = ap (λ k. memory (Top k)) same in omega (arith, floor, grown, tams, at, was)))
+      (λ (other : region ≢ r). (let stays = top_same region other in omega (arith, floor, stays, tams)))
+      (cases_eq region r)
 
-  no_new_still : ((q : ℕ) → IsIn (m Cset) q → m (Top q) ≡ m (Tams q)) → (q : ℕ) → IsIn (n Cset) q → n (Top q) ≡ n (Tams q)
-  no_new_still no_new q is =
-      let was : IsIn (m Cset) q = subst (λ s. IsIn s q) set_same is in
-      let other : q ≢ r = λ same. (let there : bit_at (m Cset) r ≡ 1 = subst (IsIn (m Cset)) same was in let away = out.outside in omega (arith, there, away)) in
-      top_same q other ∙ no_new q was ∙ sym (word_same (Tams q) (λ never. never))
+  no_new_still : ((region : ℕ) → IsIn (memory Cset) region → memory (Top region) ≡ memory (Tams region)) → (region : ℕ) → IsIn (n Cset) region → n (Top region) ≡ n (Tams region)
+  no_new_still no_new region is =
+      let was : IsIn (memory Cset) region = subst (λ s. IsIn s region) set_same is in
+      let other : region ≢ r = λ same. (let there : bit_at (memory Cset) r ≡ 1 = subst (IsIn (memory Cset)) same was in let away = out.outside in omega (arith, there, away)) in
+      top_same region other ∙ no_new region was ∙ sym (word_same (Tams region) (λ never. never))
 
-  unseated_still : ((seat q : ℕ) → EndsIn c m seat q → IsIn (m Cset) q → ⊥) → (seat q : ℕ) → EndsIn c n seat q → IsIn (n Cset) q → ⊥
-  unseated_still unseated seat q is member =
-      unseated seat q (subst (λ k. (k ≢ 0) × IsOf c q (end_in k - 1)) (word_same (Current seat) (λ never. never)) is) (subst (λ s. IsIn s q) set_same member)
+  unseated_still : ((seat region : ℕ) → EndsIn config memory seat region → IsIn (memory Cset) region → ⊥) → (seat region : ℕ) → EndsIn config n seat region → IsIn (n Cset) region → ⊥
+  unseated_still unseated seat region is member =
+      unseated seat region (subst (λ k. (k ≢ 0) × IsOf config region (end_in k - 1)) (word_same (Current seat) (λ never. never)) is) (subst (λ s. IsIn s region) set_same member)
 
   -- room is young still
-  young_still : AreYoungRooms c (λ q. m (Tams q)) block → AreYoungRooms c (λ q. n (Tams q)) plot
+  young_still : AreYoungRooms config (λ q. memory (Tams q)) block → AreYoungRooms config (λ q. n (Tams q)) plot
   young_still young q seat y is room =
-      let same : n (Tams (region_with c q)) ≡ m (Tams (region_with c q)) = word_same (Tams (region_with c q)) (λ never. never) in
+      let same : n (Tams (region_with config q)) ≡ memory (Tams (region_with config q)) = word_same (Tams (region_with config q)) (λ never. never) in
       let was = young q seat y (room_was q seat y room is) room in
       omega (arith, was, same)
 
   -- the header of another piece stays, and the object's own leads on
-  pub header_same : (q : ℕ) (z : Block) → q ≢ a → block q ≡ Some z → n (Heap q) ≡ m (Heap q)
+  pub header_same : (q : ℕ) (piece : Block) → q ≢ address → block q ≡ Some piece → n (Heap q) ≡ memory (Heap q)
   header_same = header_stays
 
-  pub moved_now : is_forwarded (n (Heap a)) ≡ true
+  pub moved_now : is_forwarded (n (Heap address)) ≡ true
   moved_now = ap is_forwarded out.copied.forwarded ∙ header_forwarded to
 
-  pub collected_same : (y : ℕ) → is_collected c n y ≡ is_collected c m y
-  collected_same y = ap (λ k. nat_le c.region_words y && (bit_at k (region_with c y) == 1)) set_same
+  pub collected_same : (address : ℕ) → is_collected config n address ≡ is_collected config memory address
+  collected_same address = ap (λ k. nat_le config.region_words address && (bit_at k (region_with config address) == 1)) set_same
 
-  pub marked_still : AreMarkedObjects c m block → AreMarkedObjects c n plot
+  pub marked_still : AreMarkedObjects config memory block → AreMarkedObjects config n plot
   marked_still marked y collected black =
       let was = marked y (sym (collected_same y) ∙ collected) (sym (black_same y) ∙ black) in
       (was.0, stays y was.0 was.1, was.2)
 
-  pub order_still : IsInOrder c m block → IsInOrder c n plot
+  pub order_still : IsInOrder config memory block → IsInOrder config n plot
   order_still order = record {
     marked = marked_still order.marked;
     reachable = λ y reached. kept_still order.floors y (⊎_elim (λ new. inl new) (λ old. inr (order.reachable y old)) (reached_was y reached));
@@ -495,9 +495,9 @@ module _ (c : Config) (m : Word → ℕ) (block : Plot) (owner : ℕ → Option 
   }
 
   -- so finishing the cycle still keeps the graph: the copy lies outside of the set
-  pub collecting_still : WhileCollecting c m block → WhileCollecting c n plot
+  pub collecting_still : WhileCollecting config memory block → WhileCollecting config n plot
   collecting_still while =
-      let order = order_still (in_order c m block while (some_set c (m Cset) a inside)) in
+      let order = order_still (in_order config memory block while (some_set config (memory Cset) address inside)) in
       record {
         marked = order.marked;
         reachable = λ set. order.reachable;
@@ -506,13 +506,13 @@ module _ (c : Config) (m : Word → ℕ) (block : Plot) (owner : ℕ → Option 
         unseated = order.unseated;
         young = λ set. order.young;
         outside = λ off y reached member.
-            let was : IsCollected c (m Cset) y = subst (λ s. IsCollected c s y) set_same member in
+            let was : IsCollected config (memory Cset) y = subst (λ s. IsCollected config s y) set_same member in
             ⊎_elim
             (λ (new : y ≡ to).
-            let there : bit_at (m Cset) r ≡ 1 = subst (IsIn (m Cset)) (ap (region_with c) new ∙ region_is) was in
+            let there : bit_at (memory Cset) r ≡ 1 = subst (IsIn (memory Cset)) (ap (region_with config) new ∙ region_is) was in
             let away = out.outside in
             absurd (omega (arith, there, away)))
-            (λ (old : CanBeReached c m y).
-            same_pinned c m n pin_same (region_with c y) ∙ while.outside (λ two. off (word_same Phase (λ never. never) ∙ two)) y old was)
+            (λ (old : CanBeReached config memory y).
+            same_pinned config memory n pin_same (region_with config y) ∙ while.outside (λ two. off (word_same Phase (λ never. never) ∙ two)) y old was)
             (reached_was y reached);
       }

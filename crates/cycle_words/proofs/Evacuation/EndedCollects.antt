@@ -12,12 +12,12 @@ use Rattle.cycle_words.proofs.Evacuation.CanBegin.{marked_object, can_begin}
 use Rattle.cycle_words.proofs.Evacuation.ClearedHolds.{begun_collecting}
 
 -- what is freed keeps its order
-floor_left : (b : Bool) (low high : ℕ) → low ≤ high → cond b 0 low ≤ cond b 0 high
+floor_left : (holds : Bool) (low high : ℕ) → low ≤ high → cond holds 0 low ≤ cond holds 0 high
 floor_left true low high less = omega arith
 floor_left false low high less = less
 
 -- nothing rises where regions are freed
-lower : (b : Bool) (x : ℕ) → cond b 0 x ≤ x
+lower : (holds : Bool) (x : ℕ) → cond holds 0 x ≤ x
 lower true x = omega arith
 lower false x = omega arith
 

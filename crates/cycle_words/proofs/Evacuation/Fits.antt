@@ -29,102 +29,102 @@ use Rattle.cycle_words.proofs.Evacuation.Front.{front_is}
 use Rattle.cycle_words.proofs.Evacuation.RegionAddresses.{some_words, from_base, IsPlace, place_of}
 use Rattle.cycle_words.proofs.Evacuation.Room.{served_least, some_room}
 
-module _ (c : Config) (memory : Word → ℕ) (set : ℕ) (objects : List ℕ) (to_copy : AreToCopy c memory set objects) where
+module _ (config : Config) (memory : Word → ℕ) (set : ℕ) (objects : List ℕ) (to_copy : AreToCopy config memory set objects) where
   abbrev w : ℕ
-  w = c.region_words
+  w = config.region_words
 
   abbrev asked : ℕ → ℕ
   asked = words_by_turn memory objects
 
   -- the live words at an offset of a region of the set
   abbrev at_offset : ℕ → ℕ → ℕ
-  at_offset r k = if bit_at set r == 1 then marked_words c memory (base_of c r + k) else 0
+  at_offset region k = if bit_at set region == 1 then marked_words config memory (base_of config region + k) else 0
 
   -- the same by how far an address is from the first one
   abbrev by_address : ℕ → ℕ
   by_address x = at_offset (x / w) (x % w)
 
   -- over all addresses these are what lives in the set
-  all_addresses : sum_below by_address (c.regions * w) ≡ live_in c.regions (live_words c memory) set
+  all_addresses : sum_below by_address (config.regions * w) ≡ live_in config.regions (live_words config memory) set
   all_addresses =
-      sum_in_rows by_address w c.regions
-      ∙ sum_same (λ r. sum_below (λ k. by_address (r * w + k)) w) (λ r. if bit_at set r == 1 then live_words c memory r else 0) c.regions
+      sum_in_rows by_address w config.regions
+      ∙ sum_same (λ r. sum_below (λ k. by_address (r * w + k)) w) (λ r. if bit_at set r == 1 then live_words config memory r else 0) config.regions
       (λ r _.
       sum_same (λ k. by_address (r * w + k)) (at_offset r) w
       (λ k inside. ap (λ q. at_offset q ((r * w + k) % w)) (div-mul-add r w k inside) ∙ ap (at_offset r) (mod-mul-add r w k inside))
-      ∙ sum_picked (bit_at set r == 1) (λ k. marked_words c memory (base_of c r + k)) w)
+      ∙ sum_picked (bit_at set r == 1) (λ k. marked_words config memory (base_of config r + k)) w)
 
-  object_is : (k : ℕ) → k < length objects → Contains objects (get_or objects k 0)
-  object_is k below = Contains-get_or objects k 0 below
+  object_is : (index : ℕ) → index < length objects → Contains objects (get_or objects index 0)
+  object_is index below = Contains-get_or objects index 0 below
 
-  pub above_first : (a : ℕ) → is_black c memory a ≡ true → w ≤ a
-  above_first a is = leb-true w a (and_parts (nat_le w a) (bit_at (memory (Black (mark_word c a))) (mark_bit c a) == 1) is).0
+  pub above_first : (a : ℕ) → is_black config memory a ≡ true → w ≤ a
+  above_first a is = leb-true w a (and_parts (nat_le w a) (bit_at (memory (Black (mark_word config a))) (mark_bit config a) == 1) is).0
 
   -- the place of an object
-  placed : (k : ℕ) → k < length objects → IsPlace w c.regions (get_or objects k 0)
-  placed k below =
-      let a = get_or objects k 0 in
-      place_of w c.regions a (some_words c) (above_first a (to_copy.marked a (object_is k below))) (to_copy.of_region a (object_is k below))
+  placed : (index : ℕ) → index < length objects → IsPlace w config.regions (get_or objects index 0)
+  placed index below =
+      let a = get_or objects index 0 in
+      place_of w config.regions a (some_words config) (above_first a (to_copy.marked a (object_is index below))) (to_copy.of_region a (object_is index below))
 
   -- there its words are counted
-  counted_there : (k : ℕ) → k < length objects → asked k ≤ by_address (get_or objects k 0 - w)
-  counted_there k below =
-      let a = get_or objects k 0 in
-      let place = placed k below in
-      let there : by_address (a - w) ≡ at_offset (region_with c a) (a % w) = ap (λ q. at_offset q ((a - w) % w)) place.row ∙ ap (at_offset (region_with c a)) place.offset in
-      let inside : at_offset (region_with c a) (a % w) ≡ marked_words c memory (base_of c (region_with c a) + a % w) =
-      cond-true (bit_at set (region_with c a) == 1) (marked_words c memory (base_of c (region_with c a) + a % w)) 0
-      (eq-eqb (bit_at set (region_with c a)) 1 (to_copy.in_set a (object_is k below))) in
-      let here : marked_words c memory (base_of c (region_with c a) + a % w) ≡ marked_words c memory a = ap (marked_words c memory) (from_base w a (some_words c) (above_first a (to_copy.marked a (object_is k below)))) in
-      let all : marked_words c memory a ≡ words_at memory a = cond-true (is_black c memory a) (words_at memory a) 0 (to_copy.marked a (object_is k below)) in
+  counted_there : (index : ℕ) → index < length objects → asked index ≤ by_address (get_or objects index 0 - w)
+  counted_there index below =
+      let a = get_or objects index 0 in
+      let place = placed index below in
+      let there : by_address (a - w) ≡ at_offset (region_with config a) (a % w) = ap (λ q. at_offset q ((a - w) % w)) place.row ∙ ap (at_offset (region_with config a)) place.offset in
+      let inside : at_offset (region_with config a) (a % w) ≡ marked_words config memory (base_of config (region_with config a) + a % w) =
+      cond-true (bit_at set (region_with config a) == 1) (marked_words config memory (base_of config (region_with config a) + a % w)) 0
+      (eq-eqb (bit_at set (region_with config a)) 1 (to_copy.in_set a (object_is index below))) in
+      let here : marked_words config memory (base_of config (region_with config a) + a % w) ≡ marked_words config memory a = ap (marked_words config memory) (from_base w a (some_words config) (above_first a (to_copy.marked a (object_is index below)))) in
+      let all : marked_words config memory a ≡ words_at memory a = cond-true (is_black config memory a) (words_at memory a) 0 (to_copy.marked a (object_is index below)) in
       omega (arith, there, inside, here, all)
 
   -- no object comes twice
-  once : (j k : ℕ) → j < length objects → k < length objects → get_or objects j 0 - w ≡ get_or objects k 0 - w → j ≡ k
-  once j k inside below same =
-      let least : (i : ℕ) → i < length objects → w ≤ get_or objects i 0 = λ i less. above_first (get_or objects i 0) (to_copy.marked (get_or objects i 0) (object_is i less)) in
-      let one : get_or objects j 0 ≡ get_or objects k 0 = (let first = least j inside in let second = least k below in omega (arith, same, first, second)) in
+  once : (other_index k : ℕ) → other_index < length objects → k < length objects → get_or objects other_index 0 - w ≡ get_or objects k 0 - w → other_index ≡ k
+  once other_index k inside below same =
+      let least : (index : ℕ) → index < length objects → w ≤ get_or objects index 0 = λ index less. above_first (get_or objects index 0) (to_copy.marked (get_or objects index 0) (object_is index less)) in
+      let one : get_or objects other_index 0 ≡ get_or objects k 0 = (let first = least other_index inside in let second = least k below in omega (arith, same, first, second)) in
       ⊎_elim
-      (λ (is : j ≡ k). is)
-      (λ (apart : (j < k) ⊎ (k < j)). ⊎_elim
-      (λ (less : j < k). absurd (eqb-false (get_or objects j 0) (get_or objects k 0) (apart_from_distinct nat_eq objects j k 0 to_copy.once less below) one))
-      (λ (more : k < j). absurd (eqb-false (get_or objects k 0) (get_or objects j 0) (apart_from_distinct nat_eq objects k j 0 to_copy.once more inside) (sym one)))
+      (λ (is : other_index ≡ k). is)
+      (λ (apart : (other_index < k) ⊎ (k < other_index)). ⊎_elim
+      (λ (less : other_index < k). absurd (eqb-false (get_or objects other_index 0) (get_or objects k 0) (apart_from_distinct nat_eq objects other_index k 0 to_copy.once less below) one))
+      (λ (more : k < other_index). absurd (eqb-false (get_or objects k 0) (get_or objects other_index 0) (apart_from_distinct nat_eq objects k other_index 0 to_copy.once more inside) (sym one)))
       apart)
-      (cases_order j k)
+      (cases_order other_index k)
 
   -- all objects have together at most what lives in the set
-  pub objects_live : sum_below asked (length objects) ≤ live_in c.regions (live_words c memory) set
+  pub objects_live : sum_below asked (length objects) ≤ live_in config.regions (live_words config memory) set
   objects_live =
-      let least = sum_of_things asked by_address (length objects) (c.regions * w)
+      let least = sum_of_things asked by_address (length objects) (config.regions * w)
       (λ k below some. (get_or objects k 0 - w, (placed k below).below, counted_there k below))
       (λ j k inside _ below _ same. once j k inside below same) in
       omega (arith, least, all_addresses)
 
-  module _ (fits : live_in c.regions (live_words c memory) set ≤ copy_limit c memory)
-      (apart : (r : ℕ) → IsIn (memory Free) r → IsIn set r → ⊥) (empty : FreeAreEmpty c memory) where
+  module _ (fits : live_in config.regions (live_words config memory) set ≤ copy_limit config memory)
+      (apart : (r : ℕ) → IsIn (memory Free) r → IsIn set r → ⊥) (empty : FreeAreEmpty config memory) where
     abbrev start : ℕ → ℕ
     start = tops_outside w set (λ r. memory (Top r))
 
     -- a free region is outside the set, and so empty
-    free_start : (r : ℕ) → r < c.regions → IsIn (memory Free) r → start r ≡ 0
-    free_start r below free =
-        cond-false (bit_at set r == 1) w (memory (Top r)) (ne_eqb (bit_at set r) 1 (λ member. apart r free member)) ∙ empty r below free
+    free_start : (region : ℕ) → region < config.regions → IsIn (memory Free) region → start region ≡ 0
+    free_start region below free =
+        cond-false (bit_at set region == 1) w (memory (Top region)) (ne_eqb (bit_at set region) 1 (λ member. apart region free member)) ∙ empty region below free
 
     -- a region of the set has no room
-    outside_if_room : (turn r n : ℕ) → 0 < n → tops_after_copies c memory set objects turn r + n ≤ w → IsOutside set r
-    outside_if_room turn r n some room = ⊎_elim
-        (λ (member : bit_at set r ≡ 1).
-        let full : start r ≡ w = cond-true (bit_at set r == 1) w (memory (Top r)) (eq-eqb (bit_at set r) 1 member) in
-        let least = served_least w c.regions asked start turn r in
+    outside_if_room : (turn region n : ℕ) → 0 < n → tops_after_copies config memory set objects turn region + n ≤ w → IsOutside set region
+    outside_if_room turn region n some room = ⊎_elim
+        (λ (member : bit_at set region ≡ 1).
+        let full : start region ≡ w = cond-true (bit_at set region == 1) w (memory (Top region)) (eq-eqb (bit_at set region) 1 member) in
+        let least = served_least w config.regions asked start turn region in
         absurd (omega (arith, full, least, room, some)))
-        (λ (other : bit_at set r ≢ 1). omega (arith, other, bit_at-lt set r))
-        (cases_eq (bit_at set r) 1)
+        (λ (other : bit_at set region ≢ 1). omega (arith, other, bit_at-lt set region))
+        (cases_eq (bit_at set region) 1)
 
-    found_or_not : (turn : ℕ) (o : Option ℕ) → room_at_turn w c.regions asked start turn ≡ o
-        → (room_at_turn w c.regions asked start turn ≡ None → ⊥) → FindsRoom c memory set objects turn
+    found_or_not : (turn : ℕ) (found : Option ℕ) → room_at_turn w config.regions asked start turn ≡ found
+        → (room_at_turn w config.regions asked start turn ≡ None → ⊥) → FindsRoom config memory set objects turn
     found_or_not turn None is some = absurd (some is)
     found_or_not turn (Some r) is some =
-        let lowest = has_room w (tops_after_copies c memory set objects turn) (asked turn) c.regions r is in
+        let lowest = has_room w (tops_after_copies config memory set objects turn) (asked turn) config.regions r is in
         record {
           region = r;
           found = is;
@@ -134,18 +134,18 @@ module _ (c : Config) (memory : Word → ℕ) (set : ℕ) (objects : List ℕ) (
           none_lower = lowest.none_lower;
         }
 
-    pub finds_room : (turn : ℕ) → turn < length objects → FindsRoom c memory set objects turn
+    pub finds_room : (turn : ℕ) → turn < length objects → FindsRoom config memory set objects turn
     finds_room turn below =
-        let range = c.in_range in
+        let range = config.in_range in
         let grown = sum_grows asked (suc turn) (length objects) (omega (arith, below)) in
-        let within : sum_below asked turn + asked turn ≤ copy_limit c memory = omega (arith, grown, sum_next asked turn, objects_live, fits) in
-        found_or_not turn (room_at_turn w c.regions asked start turn) refl
-        (some_room w c.regions asked start (memory Free) free_start turn (omega arith) (to_copy.short (get_or objects turn 0) (object_is turn below)) (omega (arith, range.least_words)) within)
+        let within : sum_below asked turn + asked turn ≤ copy_limit config memory = omega (arith, grown, sum_next asked turn, objects_live, fits) in
+        found_or_not turn (room_at_turn w config.regions asked start turn) refl
+        (some_room w config.regions asked start (memory Free) free_start turn (omega arith) (to_copy.short (get_or objects turn 0) (object_is turn below)) (omega (arith, range.least_words)) within)
 
 -- what is chosen fits, and has no free region
 pub room_is_found : RoomIsFound
 room_is_found c memory objects empty to_copy turn below =
     let front = front_is c.regions (copy_limit c memory) (live_words c memory) (is_candidate c memory) in
-    let apart : (r : ℕ) → IsIn (memory Free) r → IsIn (chosen c memory) r → ⊥ =
-    λ r free member. (let is = (candidate_is_candidate c memory r).0 (front.candidates r member) in omega (arith, free, is.in_use)) in
+    let apart : (region : ℕ) → IsIn (memory Free) region → IsIn (chosen c memory) region → ⊥ =
+    λ region free member. (let is = (candidate_is_candidate c memory region).0 (front.candidates region member) in omega (arith, free, is.in_use)) in
     finds_room c memory (chosen c memory) objects to_copy front.fits apart empty turn below

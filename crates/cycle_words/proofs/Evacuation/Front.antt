@@ -32,18 +32,18 @@ module _ (regions limit : ℕ) (live : ℕ → ℕ) (candidate : ℕ → Bool) w
 
   -- a region counts among those up to another
   abbrev counts : ℕ → ℕ → Bool
-  counts r q = candidate q && not (comes_before live r q)
+  counts r region = candidate region && not (comes_before live r region)
 
   -- a candidate counts unless the other comes before it
-  counted : (r q : ℕ) → candidate q ≡ true → (ComesBefore live r q → ⊥) → counts r q ≡ true
-  counted r q is not_behind =
-      and_from (candidate q) (not (comes_before live r q)) is
-      (not_from_false (comes_before live r q) (false_from_ne_true (comes_before live r q) (λ behind. not_behind (before_is live r q behind))))
+  counted : (r region : ℕ) → candidate region ≡ true → (ComesBefore live r region → ⊥) → counts r region ≡ true
+  counted r region is not_behind =
+      and_from (candidate region) (not (comes_before live r region)) is
+      (not_from_false (comes_before live r region) (false_from_ne_true (comes_before live r region) (λ behind. not_behind (before_is live r region behind))))
 
-  counted_is : (r q : ℕ) → counts r q ≡ true → (candidate q ≡ true) × (ComesBefore live r q → ⊥)
-  counted_is r q is =
-      let parts = and_parts (candidate q) (not (comes_before live r q)) is in
-      (parts.0, λ behind. both_ways (comes_before live r q) (not-true (comes_before live r q) parts.1) (before_told live r q behind))
+  counted_is : (r region : ℕ) → counts r region ≡ true → (candidate region ≡ true) × (ComesBefore live r region → ⊥)
+  counted_is r region is =
+      let parts = and_parts (candidate region) (not (comes_before live r region)) is in
+      (parts.0, λ behind. both_ways (comes_before live r region) (not-true (comes_before live r region) parts.1) (before_told live r region behind))
 
   -- up to a later one lives as much or more
   up_to_grows : (q r : ℕ) → ComesBefore live q r → up_to q ≤ up_to r
@@ -54,32 +54,32 @@ module _ (regions limit : ℕ) (live : ℕ → ℕ) (candidate : ℕ → Bool) w
       counted r k was.0 (λ behind. was.1 (before_through live q r k before behind))))
 
   -- the members of the front
-  pub put_in_front : (r : ℕ) → r < regions → in_front r ≡ true → IsIn front r
-  put_in_front r below is =
-      let plain : 0 + r ≡ r = omega arith in
-      bits_at in_front 0 regions r below ∙ ap (λ k. one (in_front k)) plain ∙ ap one is
+  pub put_in_front : (region : ℕ) → region < regions → in_front region ≡ true → IsIn front region
+  put_in_front region below is =
+      let plain : 0 + region ≡ region = omega arith in
+      bits_at in_front 0 regions region below ∙ ap (λ k. one (in_front k)) plain ∙ ap one is
 
-  pub from_front : (r : ℕ) → IsIn front r → (r < regions) × (in_front r ≡ true)
-  from_front r is = ⊎_elim
-      (λ (below : r < regions).
-      let plain : 0 + r ≡ r = omega arith in
-      (below, told (in_front r) (sym (ap (λ k. one (in_front k)) plain) ∙ sym (bits_at in_front 0 regions r below) ∙ is)))
-      (λ (above : regions ≤ r). absurd (omega (arith, is, bit_at_above front regions r (bits_small in_front 0 regions) above)))
-      (cases_lt r regions)
+  pub from_front : (region : ℕ) → IsIn front region → (region < regions) × (in_front region ≡ true)
+  from_front region is = ⊎_elim
+      (λ (below : region < regions).
+      let plain : 0 + region ≡ region = omega arith in
+      (below, told (in_front region) (sym (ap (λ k. one (in_front k)) plain) ∙ sym (bits_at in_front 0 regions region below) ∙ is)))
+      (λ (above : regions ≤ region). absurd (omega (arith, is, bit_at_above front regions region (bits_small in_front 0 regions) above)))
+      (cases_lt region regions)
     where
-      told : (b : Bool) → one b ≡ 1 → b ≡ true
+      told : (holds : Bool) → one holds ≡ 1 → holds ≡ true
       told true same = refl
       told false same = absurd (omega (arith, same))
 
   -- a member of the front is a candidate up to which all fits
-  pub member_is : (r : ℕ) → IsIn front r → (r < regions) × (candidate r ≡ true) × (up_to r ≤ limit)
-  member_is r is =
-      let there = from_front r is in
-      let parts = and_parts (candidate r) (nat_le (up_to r) limit) there.1 in
-      (there.0, parts.0, leb-true (up_to r) limit parts.1)
+  pub member_is : (region : ℕ) → IsIn front region → (region < regions) × (candidate region ≡ true) × (up_to region ≤ limit)
+  member_is region is =
+      let there = from_front region is in
+      let parts = and_parts (candidate region) (nat_le (up_to region) limit) there.1 in
+      (there.0, parts.0, leb-true (up_to region) limit parts.1)
 
-  member_from : (r : ℕ) → r < regions → candidate r ≡ true → up_to r ≤ limit → IsIn front r
-  member_from r below is fits = put_in_front r below (and_from (candidate r) (nat_le (up_to r) limit) is (le-leb (up_to r) limit fits))
+  member_from : (region : ℕ) → region < regions → candidate region ≡ true → up_to region ≤ limit → IsIn front region
+  member_from region below is fits = put_in_front region below (and_from (candidate region) (nat_le (up_to region) limit) is (le-leb (up_to region) limit fits))
 
   -- what lives in the front is what lives up to its last member
   front_fits : live_in regions live front ≤ limit
@@ -109,22 +109,22 @@ module _ (regions limit : ℕ) (live : ℕ → ℕ) (candidate : ℕ → Bool) w
   }
 
   -- each member of a front lies in the longest one: the front has all that counts up to it
-  pub longest : (other : ℕ) → IsFront regions limit live candidate other → (r : ℕ) → IsIn other r → IsIn front r
-  longest other is r member = ⊎_elim
-      (λ (below : r < regions).
-      let least = sum_at_most (λ k. if counts r k then live k else 0) (λ k. if bit_at other k == 1 then live k else 0) regions
-      (λ k inside. picked_at_most (counts r k) (bit_at other k == 1) (live k) (λ counts_here.
-      let was = counted_is r k counts_here in
+  pub longest : (other : ℕ) → IsFront regions limit live candidate other → (region : ℕ) → IsIn other region → IsIn front region
+  longest other is region member = ⊎_elim
+      (λ (below : region < regions).
+      let least = sum_at_most (λ k. if counts region k then live k else 0) (λ k. if bit_at other k == 1 then live k else 0) regions
+      (λ k inside. picked_at_most (counts region k) (bit_at other k == 1) (live k) (λ counts_here.
+      let was = counted_is region k counts_here in
       eq-eqb (bit_at other k) 1 (⊎_elim
-      (λ (same : r ≡ k). subst (IsIn other) same member)
-      (λ (order : ComesBefore live r k ⊎ ComesBefore live k r). ⊎_elim
-      (λ (behind : ComesBefore live r k). absurd (was.1 behind))
-      (λ (ahead : ComesBefore live k r). is.from_front k r inside was.0 ahead member)
+      (λ (same : region ≡ k). subst (IsIn other) same member)
+      (λ (order : ComesBefore live region k ⊎ ComesBefore live k region). ⊎_elim
+      (λ (behind : ComesBefore live region k). absurd (was.1 behind))
+      (λ (ahead : ComesBefore live k region). is.from_front k region inside was.0 ahead member)
       order)
-      (one_before live r k)))) in
-      member_from r below (is.candidates r member) (omega (arith, least, is.fits)))
-      (λ (above : regions ≤ r). absurd (omega (arith, member, bit_at_above other regions r is.in_heap above)))
-      (cases_lt r regions)
+      (one_before live region k)))) in
+      member_from region below (is.candidates region member) (omega (arith, least, is.fits)))
+      (λ (above : regions ≤ region). absurd (omega (arith, member, bit_at_above other regions region is.in_heap above)))
+      (cases_lt region regions)
 
   pub front_is_longest : IsLongestFront regions limit live candidate front
   front_is_longest = record { front = front_is; longest = longest }

@@ -15,18 +15,18 @@ pub not_same : (place word : Word) → IsNaming place → (IsNaming word → ⊥
 not_same place word naming other = false_from_ne_true (same_word place word) (λ same. other (subst IsNaming (same_word_true place word same) naming))
 
 -- what names objects stays
-pub copied_naming : (c : Config) (m : Word → ℕ) (a : ℕ) (o : Option ℕ) (place : Word) → IsNaming place → copied_in c m a o place ≡ m place
+pub copied_naming : (config : Config) (memory : Word → ℕ) (a : ℕ) (found : Option ℕ) (place : Word) → IsNaming place → copied_in config memory a found place ≡ memory place
 unfolding copied_to
-copied_naming c m a None place naming = refl
-copied_naming c m a (Some r) (Root t i) naming = refl
-copied_naming c m a (Some r) (Answer t) naming = refl
-copied_naming c m a (Some r) place naming = absurd naming
+copied_naming config memory a None place naming = refl
+copied_naming config memory a (Some r) (Root t i) naming = refl
+copied_naming config memory a (Some r) (Answer t) naming = refl
+copied_naming config memory a (Some r) place naming = absurd naming
 
 -- the parts of a list, and what is in it
-pub first_or_later : (first : Word) (later : List Word) (place : Word) (k : ℕ) → k < length (first ∷ later) → get_or (first ∷ later) k place ≡ place
+pub first_or_later : (first : Word) (later : List Word) (place : Word) (index : ℕ) → index < length (first ∷ later) → get_or (first ∷ later) index place ≡ place
     → (first ≡ place) ⊎ Contains later place
 first_or_later first later place zero below same = inl same
-first_or_later first later place (suc k) below same = inr (k, omega (arith, below), same)
+first_or_later first later place (suc index) below same = inr (index, omega (arith, below), same)
 
 pub is_later : (first : Word) (later : List Word) (place : Word) → Contains later place → Contains (first ∷ later) place
 is_later first later place has = (suc has.0, omega (arith, has.1), has.2)
@@ -41,21 +41,21 @@ all_naming f each (x ∷ xs) place has = ⊎_elim
     (λ (later : Contains (map f xs) place). all_naming f each xs place later)
     (first_or_later (f x) (map f xs) place has.0 has.1 has.2)
 
-roots_name : (t : ℕ) (place : Word) → Contains (root_places t) place → IsNaming place
+roots_name : (mutator : ℕ) (place : Word) → Contains (root_places mutator) place → IsNaming place
 roots_name zero place has = absurd (omega (arith, has.1))
-roots_name (suc t) place has = ⊎_elim
-    (λ (earlier : Contains (root_places t) place). roots_name t place earlier)
-    (λ (last : Contains (map (Root t) (range_with_len 0 16)) place). all_naming (Root t) (λ i. tt) (range_with_len 0 16) place last)
-    (Contains-append_cases (root_places t) (map (Root t) (range_with_len 0 16)) place has)
+roots_name (suc mutator) place has = ⊎_elim
+    (λ (earlier : Contains (root_places mutator) place). roots_name mutator place earlier)
+    (λ (last : Contains (map (Root mutator) (range_with_len 0 16)) place). all_naming (Root mutator) (λ i. tt) (range_with_len 0 16) place last)
+    (Contains-append_cases (root_places mutator) (map (Root mutator) (range_with_len 0 16)) place has)
 
-pub places_name : (c : Config) (place : Word) → Contains (naming_places c) place → IsNaming place
-places_name c place has = ⊎_elim
-    (λ (root : Contains (root_places c.mutators) place). roots_name c.mutators place root)
-    (λ (answer : Contains (map Answer (range_with_len 0 c.mutators)) place). all_naming Answer (λ t. tt) (range_with_len 0 c.mutators) place answer)
-    (Contains-append_cases (root_places c.mutators) (map Answer (range_with_len 0 c.mutators)) place has)
+pub places_name : (config : Config) (place : Word) → Contains (naming_places config) place → IsNaming place
+places_name config place has = ⊎_elim
+    (λ (root : Contains (root_places config.mutators) place). roots_name config.mutators place root)
+    (λ (answer : Contains (map Answer (range_with_len 0 config.mutators)) place). all_naming Answer (λ t. tt) (range_with_len 0 config.mutators) place answer)
+    (Contains-append_cases (root_places config.mutators) (map Answer (range_with_len 0 config.mutators)) place has)
 
 -- a collection set changes nothing else
-pub set_apart : (m : Word → ℕ) (set : ℕ) (place : Word) → IsNaming place → with_set m set place ≡ m place
-set_apart m set (Root t i) naming = refl
-set_apart m set (Answer t) naming = refl
-set_apart m set place naming = absurd naming
+pub set_apart : (memory : Word → ℕ) (set : ℕ) (place : Word) → IsNaming place → with_set memory set place ≡ memory place
+set_apart memory set (Root t i) naming = refl
+set_apart memory set (Answer t) naming = refl
+set_apart memory set place naming = absurd naming

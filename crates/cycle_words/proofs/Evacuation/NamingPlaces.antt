@@ -11,9 +11,9 @@ use Rattle.cycle_words.specs.Evacuation.Begun.{root_places, naming_places}
 
 -- a root or an answer of a mutator
 abbrev pub IsPlace : Config → Word → Type 0
-IsPlace c (Root t i) = (t < c.mutators) × (i < 16)
-IsPlace c (Answer t) = t < c.mutators
-IsPlace c word = ⊥
+IsPlace config (Root t i) = (t < config.mutators) × (i < 16)
+IsPlace config (Answer t) = t < config.mutators
+IsPlace config word = ⊥
 
 -- what is in a row, and that it is
 pub in_row : (f : ℕ → Word) (n : ℕ) (place : Word) → Contains (map f (range_with_len 0 n)) place → (i : ℕ) × (i < n) × (f i ≡ place)
@@ -24,30 +24,30 @@ in_row f n place has =
 row_has : (f : ℕ → Word) (n i : ℕ) → i < n → Contains (map f (range_with_len 0 n)) (f i)
 row_has f n i below = (i, (let long = length-map-range_with_len f 0 n in omega (arith, below, long)), get_or-map-range_with_len f 0 n i i (f i) below (omega arith))
 
-pub in_rows : (mutators : ℕ) (place : Word) → Contains (root_places mutators) place → (t : ℕ) × (i : ℕ) × (t < mutators) × (i < 16) × (Root t i ≡ place)
+pub in_rows : (mutators : ℕ) (place : Word) → Contains (root_places mutators) place → (mutator : ℕ) × (index : ℕ) × (mutator < mutators) × (index < 16) × (Root mutator index ≡ place)
 in_rows zero place has = absurd (omega (arith, has.1))
-in_rows (suc t) place has = ⊎_elim
-    (λ (earlier : Contains (root_places t) place). (let at = in_rows t place earlier in (at.0, at.1, omega (arith, at.2), at.3, at.4)))
-    (λ (last : Contains (map (Root t) (range_with_len 0 16)) place). (let at = in_row (Root t) 16 place last in (t, at.0, omega arith, at.1, at.2)))
-    (Contains-append_cases (root_places t) (map (Root t) (range_with_len 0 16)) place has)
+in_rows (suc mutator) place has = ⊎_elim
+    (λ (earlier : Contains (root_places mutator) place). (let at = in_rows mutator place earlier in (at.0, at.1, omega (arith, at.2), at.3, at.4)))
+    (λ (last : Contains (map (Root mutator) (range_with_len 0 16)) place). (let at = in_row (Root mutator) 16 place last in (mutator, at.0, omega arith, at.1, at.2)))
+    (Contains-append_cases (root_places mutator) (map (Root mutator) (range_with_len 0 16)) place has)
 
-rows_have : (mutators t i : ℕ) → t < mutators → i < 16 → Contains (root_places mutators) (Root t i)
-rows_have zero t i inside few = absurd (omega (arith, inside))
-rows_have (suc k) t i inside few = ⊎_elim
-    (λ (last : t ≡ k).
-    Contains-append_right (root_places k) (map (Root k) (range_with_len 0 16)) (Root t i)
-    (subst (λ u. Contains (map (Root k) (range_with_len 0 16)) (Root u i)) (sym last) (row_has (Root k) 16 i few)))
-    (λ (earlier : t ≢ k). Contains-append_left (root_places k) (map (Root k) (range_with_len 0 16)) (Root t i) (rows_have k t i (omega (arith, inside, earlier)) few))
-    (cases_eq t k)
+rows_have : (mutators mutator index : ℕ) → mutator < mutators → index < 16 → Contains (root_places mutators) (Root mutator index)
+rows_have zero mutator index inside few = absurd (omega (arith, inside))
+rows_have (suc k) mutator index inside few = ⊎_elim
+    (λ (last : mutator ≡ k).
+    Contains-append_right (root_places k) (map (Root k) (range_with_len 0 16)) (Root mutator index)
+    (subst (λ u. Contains (map (Root k) (range_with_len 0 16)) (Root u index)) (sym last) (row_has (Root k) 16 index few)))
+    (λ (earlier : mutator ≢ k). Contains-append_left (root_places k) (map (Root k) (range_with_len 0 16)) (Root mutator index) (rows_have k mutator index (omega (arith, inside, earlier)) few))
+    (cases_eq mutator k)
 
 -- so the list has these and no others
-pub are_places : (c : Config) (place : Word) → Contains (naming_places c) place → IsPlace c place
-are_places c place has = ⊎_elim
-    (λ (root : Contains (root_places c.mutators) place). (let at = in_rows c.mutators place root in subst (IsPlace c) at.4 (at.2, at.3)))
-    (λ (answer : Contains (map Answer (range_with_len 0 c.mutators)) place). (let at = in_row Answer c.mutators place answer in subst (IsPlace c) at.2 at.1))
-    (Contains-append_cases (root_places c.mutators) (map Answer (range_with_len 0 c.mutators)) place has)
+pub are_places : (config : Config) (place : Word) → Contains (naming_places config) place → IsPlace config place
+are_places config place has = ⊎_elim
+    (λ (root : Contains (root_places config.mutators) place). (let at = in_rows config.mutators place root in subst (IsPlace config) at.4 (at.2, at.3)))
+    (λ (answer : Contains (map Answer (range_with_len 0 config.mutators)) place). (let at = in_row Answer config.mutators place answer in subst (IsPlace config) at.2 at.1))
+    (Contains-append_cases (root_places config.mutators) (map Answer (range_with_len 0 config.mutators)) place has)
 
-pub places_have : (c : Config) (place : Word) → IsPlace c place → Contains (naming_places c) place
-places_have c (Root t i) at = Contains-append_left (root_places c.mutators) (map Answer (range_with_len 0 c.mutators)) (Root t i) (rows_have c.mutators t i at.0 at.1)
-places_have c (Answer t) at = Contains-append_right (root_places c.mutators) (map Answer (range_with_len 0 c.mutators)) (Answer t) (row_has Answer c.mutators t at)
-places_have c _ at = absurd at
+pub places_have : (config : Config) (place : Word) → IsPlace config place → Contains (naming_places config) place
+places_have config (Root t i) at = Contains-append_left (root_places config.mutators) (map Answer (range_with_len 0 config.mutators)) (Root t i) (rows_have config.mutators t i at.0 at.1)
+places_have config (Answer t) at = Contains-append_right (root_places config.mutators) (map Answer (range_with_len 0 config.mutators)) (Answer t) (row_has Answer config.mutators t at)
+places_have config _ at = absurd at

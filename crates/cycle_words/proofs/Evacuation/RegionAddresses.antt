@@ -37,23 +37,23 @@ place_of w regions a some above inside =
       below = omega (arith, from_first, rows, mod_below a w some);
     }
 
-module _ (c : Config) where
-  pub some_words : 0 < c.region_words
-  some_words = let range = c.in_range in omega (arith, range.least_words)
+module _ (config : Config) where
+  pub some_words : 0 < config.region_words
+  some_words = let range = config.in_range in omega (arith, range.least_words)
 
   -- an address that lies no further from another than the end of its region is of that region
-  pub of_its_region : (a k : ℕ) → c.region_words ≤ a → a % c.region_words + k < c.region_words → IsOf c (region_with c a) (a + k)
-  of_its_region a k above inside =
-      let again = from_base c.region_words a some_words above in
+  pub of_its_region : (address k : ℕ) → config.region_words ≤ address → address % config.region_words + k < config.region_words → IsOf config (region_with config address) (address + k)
+  of_its_region address k above inside =
+      let again = from_base config.region_words address some_words above in
       record { from = omega (arith, again); before = omega (arith, again, inside) }
 
   -- addresses of two regions lie apart
-  pub regions_apart : (q r x from n : ℕ) → q ≢ r → IsOf c q x → base_of c r ≤ from → from + n ≤ base_of c r + c.region_words → (x < from) ⊎ (from + n ≤ x)
-  regions_apart q r x from n differ of low high =
+  pub regions_apart : (region other_region x from n : ℕ) → region ≢ other_region → IsOf config region x → base_of config other_region ≤ from → from + n ≤ base_of config other_region + config.region_words → (x < from) ⊎ (from + n ≤ x)
+  regions_apart region other_region x from n differ of low high =
       ⊎_elim
-      (λ (same : q ≡ r). absurd (differ same))
-      (λ (apart : (q * c.region_words + c.region_words ≤ r * c.region_words) ⊎ (r * c.region_words + c.region_words ≤ q * c.region_words)). ⊎_elim
-      (λ (lower : q * c.region_words + c.region_words ≤ r * c.region_words). inl (omega (arith, lower, of.before, low)))
-      (λ (higher : r * c.region_words + c.region_words ≤ q * c.region_words). inr (omega (arith, higher, of.from, high)))
+      (λ (same : region ≡ other_region). absurd (differ same))
+      (λ (apart : (region * config.region_words + config.region_words ≤ other_region * config.region_words) ⊎ (other_region * config.region_words + config.region_words ≤ region * config.region_words)). ⊎_elim
+      (λ (lower : region * config.region_words + config.region_words ≤ other_region * config.region_words). inl (omega (arith, lower, of.before, low)))
+      (λ (higher : other_region * config.region_words + config.region_words ≤ region * config.region_words). inr (omega (arith, higher, of.from, high)))
       apart)
-      (rows_apart c.region_words q r)
+      (rows_apart config.region_words region other_region)

@@ -18,27 +18,27 @@ use Rattle.cycle_words.specs.Marking.WhileMarking.{CanBeReached}
 use Rattle.image_graph.proofs.Carried.{now_same, IsRenamed, not_renamed, IsCarried, led_comes, carried_holds}
 
 -- Fields, roots and answers are renamed, and no other word of a piece, or of the regions, changes, nor does a pin slot.
-pub record IsRenaming (c : Config) (m n : Word → ℕ) (block : Plot) : Type 0 where
-  pub headers : (a refs nums : ℕ) (name : Name) → block a ≡ Some (thing name refs nums) → n (Heap a) ≡ m (Heap a)
-  pub words : (a k refs nums : ℕ) (name : Name) → block a ≡ Some (thing name refs nums) → refs_in (m (Heap (a + 1))) ≡ refs → k < 3 + refs + nums
-      → (k < 3) ⊎ (3 + refs ≤ k) → n (Heap (a + k)) ≡ m (Heap (a + k))
-  pub fields : (a i refs nums : ℕ) (name : Name) → block a ≡ Some (thing name refs nums) → i < refs → IsRenamed m (m (Heap (a + 3 + i))) (n (Heap (a + 3 + i)))
-  pub roots : (t i : ℕ) → t < c.mutators → i < 16 → IsRenamed m (m (Root t i)) (n (Root t i))
-  pub answers : (t : ℕ) → t < c.mutators → IsRenamed m (m (Answer t)) (n (Answer t))
-  pub waits : (t : ℕ) → n (Wait t) ≡ m (Wait t)
-  pub tops : (r : ℕ) → n (Top r) ≡ m (Top r)
-  pub free : n Free ≡ m Free
-  pub cset : n Cset ≡ m Cset
-  pub currents : (s : ℕ) → n (Current s) ≡ m (Current s)
-  pub share : n Share ≡ m Share
-  pub pins : (t i : ℕ) → n (Pin t i) ≡ m (Pin t i)
+pub record IsRenaming (config : Config) (memory other_memory : Word → ℕ) (block : Plot) : Type 0 where
+  pub headers : (address refs nums : ℕ) (name : Name) → block address ≡ Some (thing name refs nums) → other_memory (Heap address) ≡ memory (Heap address)
+  pub words : (address k refs nums : ℕ) (name : Name) → block address ≡ Some (thing name refs nums) → refs_in (memory (Heap (address + 1))) ≡ refs → k < 3 + refs + nums
+      → (k < 3) ⊎ (3 + refs ≤ k) → other_memory (Heap (address + k)) ≡ memory (Heap (address + k))
+  pub fields : (address index refs nums : ℕ) (name : Name) → block address ≡ Some (thing name refs nums) → index < refs → IsRenamed memory (memory (Heap (address + 3 + index))) (other_memory (Heap (address + 3 + index)))
+  pub roots : (mutator index : ℕ) → mutator < config.mutators → index < 16 → IsRenamed memory (memory (Root mutator index)) (other_memory (Root mutator index))
+  pub answers : (mutator : ℕ) → mutator < config.mutators → IsRenamed memory (memory (Answer mutator)) (other_memory (Answer mutator))
+  pub waits : (mutator : ℕ) → other_memory (Wait mutator) ≡ memory (Wait mutator)
+  pub tops : (region : ℕ) → other_memory (Top region) ≡ memory (Top region)
+  pub free : other_memory Free ≡ memory Free
+  pub cset : other_memory Cset ≡ memory Cset
+  pub currents : (seat : ℕ) → other_memory (Current seat) ≡ memory (Current seat)
+  pub share : other_memory Share ≡ memory Share
+  pub pins : (mutator index : ℕ) → other_memory (Pin mutator index) ≡ memory (Pin mutator index)
 
-module _ (c : Config) (m n : Word → ℕ) (block : Plot) (owner : ℕ → Option ℕ) (p : Promises) (g : Graph) (holds : HoldsBy c m block owner p g) (is : IsRenaming c m n block) where
-  tops_are : ◌≡◌ {A = ℕ → ℕ} (λ r. n (Top r)) (λ r. m (Top r))
+module _ (config : Config) (memory other_memory : Word → ℕ) (block : Plot) (owner : ℕ → Option ℕ) (promises : Promises) (graph : Graph) (holds : HoldsBy config memory block owner promises graph) (is : IsRenaming config memory other_memory block) where
+  tops_are : ◌≡◌ {A = ℕ → ℕ} (λ r. other_memory (Top r)) (λ r. memory (Top r))
   tops_are = fun_ext is.tops
 
-  now_again : (a : ℕ) (name : Name) → name_at (block a) ≡ Some name → now_in n a ≡ now_in m a
-  now_again a name named = let at = holds.pieces.named a name named in now_same n m a (is.headers a at.0 at.1 name at.2)
+  now_again : (address : ℕ) (name : Name) → name_at (block address) ≡ Some name → now_in other_memory address ≡ now_in memory address
+  now_again address name named = let at = holds.pieces.named address name named in now_same other_memory memory address (is.headers address at.0 at.1 name at.2)
 
   abbrev same_place : ℕ → ℕ
   same_place x = x
@@ -46,9 +46,9 @@ module _ (c : Config) (m n : Word → ℕ) (block : Plot) (owner : ℕ → Optio
   abbrev Anywhere : ℕ → Type 0
   Anywhere x = Unit {0}
 
-  carried : IsCarried c m n block block same_place Anywhere
+  carried : IsCarried config memory other_memory block block same_place Anywhere
   carried = record {
-    plotted = subst (λ t. IsPlotted c t block) (sym tops_are) holds.objects.plotted;
+    plotted = subst (λ t. IsPlotted config t block) (sym tops_are) holds.objects.plotted;
     names = λ v name named. named;
     current = λ v name named. let copy = holds.objects.current v name named in (copy.0, copy.1, ap block (now_again v name named) ∙ copy.2);
     now = now_again;
@@ -61,87 +61,87 @@ module _ (c : Config) (m n : Word → ℕ) (block : Plot) (owner : ℕ → Optio
     roots = is.roots;
     answers = is.answers;
     pins = λ t i inside few. is.pins t i;
-    pinned = λ t i inside few name copy was. ap is_forwarded (is.headers (m (Pin t i)) copy.0 copy.1 name copy.2) ∙ was;
+    pinned = λ t i inside few name copy was. ap is_forwarded (is.headers (memory (Pin t i)) copy.0 copy.1 name copy.2) ∙ was;
     waits = is.waits;
   }
 
-  moved_again : (a refs nums : ℕ) (name : Name) → block a ≡ Some (thing name refs nums) → is_forwarded (n (Heap a)) ≡ true → HasMoved c n block a refs nums name
-  moved_again a refs nums name here forwarded =
-      let was = holds.moved a refs nums name here (ap is_forwarded (sym (is.headers a refs nums name here)) ∙ forwarded) in
-      let now = now_again a name (ap name_at here) in
+  moved_again : (address refs nums : ℕ) (name : Name) → block address ≡ Some (thing name refs nums) → is_forwarded (other_memory (Heap address)) ≡ true → HasMoved config other_memory block address refs nums name
+  moved_again address refs nums name here forwarded =
+      let was = holds.moved address refs nums name here (ap is_forwarded (sym (is.headers address refs nums name here)) ∙ forwarded) in
+      let now = now_again address name (ap name_at here) in
       record {
-        in_set = subst (λ s. IsIn s (region_with c a)) (sym is.cset) was.in_set;
+        in_set = subst (λ s. IsIn s (region_with config address)) (sym is.cset) was.in_set;
         copy = ap block now ∙ was.copy;
-        outside = subst (λ k. IsOutside (n Cset) (region_with c k)) (sym now) (subst (λ s. IsOutside s (region_with c (now_in m a))) (sym is.cset) was.outside);
-        current = ap (λ k. is_forwarded (n (Heap k))) now ∙ ap is_forwarded (is.headers (now_in m a) refs nums name was.copy) ∙ was.current;
+        outside = subst (λ k. IsOutside (other_memory Cset) (region_with config k)) (sym now) (subst (λ s. IsOutside s (region_with config (now_in memory address))) (sym is.cset) was.outside);
+        current = ap (λ k. is_forwarded (other_memory (Heap k))) now ∙ ap is_forwarded (is.headers (now_in memory address) refs nums name was.copy) ∙ was.current;
       }
 
-  pub renamed_holds : HoldsBy c n block owner p g
+  pub renamed_holds : HoldsBy config other_memory block owner promises graph
   renamed_holds =
-      carried_holds c m n block block owner p g holds same_place Anywhere carried moved_again
-      (subst (λ t. IsFilled c t block) (sym tops_are) holds.filled) holds.pieces
-      (subst (λ t. IsFreeWord c (n Free) t owner) (sym tops_are) (subst (λ f. IsFreeWord c f (λ r. m (Top r)) owner) (sym is.free) holds.free_word))
-      (subst (λ s. ShareIsOpen c s (n Free) (n Cset) owner) (sym is.share)
-      (subst (λ f. ShareIsOpen c (m Share) f (n Cset) owner) (sym is.free) (subst (λ s. ShareIsOpen c (m Share) (m Free) s owner) (sym is.cset) holds.shared_one)))
-      (subst (λ t. AreBuffers c t (λ s. n (Current s)) block) (sym tops_are) (subst (λ s. AreBuffers c (λ r. m (Top r)) s block) (sym (fun_ext is.currents)) holds.buffers))
+      carried_holds config memory other_memory block block owner promises graph holds same_place Anywhere carried moved_again
+      (subst (λ t. IsFilled config t block) (sym tops_are) holds.filled) holds.pieces
+      (subst (λ t. IsFreeWord config (other_memory Free) t owner) (sym tops_are) (subst (λ f. IsFreeWord config f (λ r. memory (Top r)) owner) (sym is.free) holds.free_word))
+      (subst (λ s. ShareIsOpen config s (other_memory Free) (other_memory Cset) owner) (sym is.share)
+      (subst (λ f. ShareIsOpen config (memory Share) f (other_memory Cset) owner) (sym is.free) (subst (λ s. ShareIsOpen config (memory Share) (memory Free) s owner) (sym is.cset) holds.shared_one)))
+      (subst (λ t. AreBuffers config t (λ s. other_memory (Current s)) block) (sym tops_are) (subst (λ s. AreBuffers config (λ r. memory (Top r)) s block) (sym (fun_ext is.currents)) holds.buffers))
 
   -- what can be reached could be
-  pub reached_was : (x : ℕ) → CanBeReached c n x → CanBeReached c m x
-  reached_was x reached = (led_comes c m n block block owner p g holds same_place Anywhere carried x reached).led
+  pub reached_was : (x : ℕ) → CanBeReached config other_memory x → CanBeReached config memory x
+  reached_was x reached = (led_comes config memory other_memory block block owner promises graph holds same_place Anywhere carried x reached).led
 
 -- A root is renamed, or an answer.
-module _ (c : Config) (m : Word → ℕ) (block : Plot) (owner : ℕ → Option ℕ) (p : Promises) (g : Graph) (holds : HoldsBy c m block owner p g) (v : ℕ) where
-  root_renaming : (t i : ℕ) → IsRenamed m (m (Root t i)) v → IsRenaming c m (write m (Root t i) v) block
-  root_renaming t i renamed = record {
+module _ (config : Config) (memory : Word → ℕ) (block : Plot) (owner : ℕ → Option ℕ) (promises : Promises) (graph : Graph) (holds : HoldsBy config memory block owner promises graph) (v : ℕ) where
+  root_renaming : (mutator index : ℕ) → IsRenamed memory (memory (Root mutator index)) v → IsRenaming config memory (write memory (Root mutator index) v) block
+  root_renaming mutator index renamed = record {
     headers = λ a refs nums name here. refl;
     words = λ a k refs nums name here reads below other. refl;
-    fields = λ a j refs nums name here few. not_renamed m (m (Heap (a + 3 + j))) (m (Heap (a + 3 + j))) refl;
+    fields = λ a j refs nums name here few. not_renamed memory (memory (Heap (a + 3 + j))) (memory (Heap (a + 3 + j))) refl;
     roots = λ u j inside few. ⊎_elim
-        (λ (same : ((t == u) && (i == j)) ≡ true).
-        let both = both_equal t u i j same in
-        let place : m (Root t i) ≡ m (Root u j) = ap (λ k. m (Root k i)) both.0 ∙ ap (λ k. m (Root u k)) both.1 in
-        subst (λ w. IsRenamed m (m (Root u j)) w) (sym (cond-true ((t == u) && (i == j)) v (m (Root u j)) same)) (subst (λ k. IsRenamed m k v) place renamed))
-        (λ (other : ((t == u) && (i == j)) ≡ false). not_renamed m (m (Root u j)) (write m (Root t i) v (Root u j)) (cond-false ((t == u) && (i == j)) v (m (Root u j)) other))
-        (cases_Bool ((t == u) && (i == j)));
-    answers = λ u inside. not_renamed m (m (Answer u)) (m (Answer u)) refl;
+        (λ (same : ((mutator == u) && (index == j)) ≡ true).
+        let both = both_equal mutator u index j same in
+        let place : memory (Root mutator index) ≡ memory (Root u j) = ap (λ k. memory (Root k index)) both.0 ∙ ap (λ k. memory (Root u k)) both.1 in
+        subst (λ w. IsRenamed memory (memory (Root u j)) w) (sym (cond-true ((mutator == u) && (index == j)) v (memory (Root u j)) same)) (subst (λ k. IsRenamed memory k v) place renamed))
+        (λ (other : ((mutator == u) && (index == j)) ≡ false). not_renamed memory (memory (Root u j)) (write memory (Root mutator index) v (Root u j)) (cond-false ((mutator == u) && (index == j)) v (memory (Root u j)) other))
+        (cases_Bool ((mutator == u) && (index == j)));
+    answers = λ u inside. not_renamed memory (memory (Answer u)) (memory (Answer u)) refl;
     waits = λ u. refl;
     tops = λ r. refl;
     free = refl;
     cset = refl;
     currents = λ s. refl;
     share = refl;
-    pins = λ t i. refl;
+    pins = λ mutator index. refl;
   }
 
-  pub root_renamed : (t i : ℕ) → IsRenamed m (m (Root t i)) v → HoldsBy c (write m (Root t i) v) block owner p g
-  root_renamed t i renamed = renamed_holds c m (write m (Root t i) v) block owner p g holds (root_renaming t i renamed)
+  pub root_renamed : (mutator index : ℕ) → IsRenamed memory (memory (Root mutator index)) v → HoldsBy config (write memory (Root mutator index) v) block owner promises graph
+  root_renamed mutator index renamed = renamed_holds config memory (write memory (Root mutator index) v) block owner promises graph holds (root_renaming mutator index renamed)
 
-  pub root_reached : (t i : ℕ) → IsRenamed m (m (Root t i)) v → (x : ℕ) → CanBeReached c (write m (Root t i) v) x → CanBeReached c m x
-  root_reached t i renamed = reached_was c m (write m (Root t i) v) block owner p g holds (root_renaming t i renamed)
+  pub root_reached : (mutator index : ℕ) → IsRenamed memory (memory (Root mutator index)) v → (x : ℕ) → CanBeReached config (write memory (Root mutator index) v) x → CanBeReached config memory x
+  root_reached mutator index renamed = reached_was config memory (write memory (Root mutator index) v) block owner promises graph holds (root_renaming mutator index renamed)
 
-  answer_renaming : (t : ℕ) → IsRenamed m (m (Answer t)) v → IsRenaming c m (write m (Answer t) v) block
-  answer_renaming t renamed = record {
+  answer_renaming : (mutator : ℕ) → IsRenamed memory (memory (Answer mutator)) v → IsRenaming config memory (write memory (Answer mutator) v) block
+  answer_renaming mutator renamed = record {
     headers = λ a refs nums name here. refl;
     words = λ a k refs nums name here reads below other. refl;
-    fields = λ a j refs nums name here few. not_renamed m (m (Heap (a + 3 + j))) (m (Heap (a + 3 + j))) refl;
-    roots = λ u j inside few. not_renamed m (m (Root u j)) (m (Root u j)) refl;
+    fields = λ a j refs nums name here few. not_renamed memory (memory (Heap (a + 3 + j))) (memory (Heap (a + 3 + j))) refl;
+    roots = λ u j inside few. not_renamed memory (memory (Root u j)) (memory (Root u j)) refl;
     answers = λ u inside. ⊎_elim
-        (λ (same : (t == u) ≡ true).
-        let place : m (Answer t) ≡ m (Answer u) = ap (λ k. m (Answer k)) (eqb-true t u same) in
-        subst (λ w. IsRenamed m (m (Answer u)) w) (sym (cond-true (t == u) v (m (Answer u)) same)) (subst (λ k. IsRenamed m k v) place renamed))
-        (λ (other : (t == u) ≡ false). not_renamed m (m (Answer u)) (write m (Answer t) v (Answer u)) (cond-false (t == u) v (m (Answer u)) other))
-        (cases_Bool (t == u));
+        (λ (same : (mutator == u) ≡ true).
+        let place : memory (Answer mutator) ≡ memory (Answer u) = ap (λ k. memory (Answer k)) (eqb-true mutator u same) in
+        subst (λ w. IsRenamed memory (memory (Answer u)) w) (sym (cond-true (mutator == u) v (memory (Answer u)) same)) (subst (λ k. IsRenamed memory k v) place renamed))
+        (λ (other : (mutator == u) ≡ false). not_renamed memory (memory (Answer u)) (write memory (Answer mutator) v (Answer u)) (cond-false (mutator == u) v (memory (Answer u)) other))
+        (cases_Bool (mutator == u));
     waits = λ u. refl;
     tops = λ r. refl;
     free = refl;
     cset = refl;
     currents = λ s. refl;
     share = refl;
-    pins = λ t i. refl;
+    pins = λ mutator i. refl;
   }
 
-  pub answer_renamed : (t : ℕ) → IsRenamed m (m (Answer t)) v → HoldsBy c (write m (Answer t) v) block owner p g
-  answer_renamed t renamed = renamed_holds c m (write m (Answer t) v) block owner p g holds (answer_renaming t renamed)
+  pub answer_renamed : (mutator : ℕ) → IsRenamed memory (memory (Answer mutator)) v → HoldsBy config (write memory (Answer mutator) v) block owner promises graph
+  answer_renamed mutator renamed = renamed_holds config memory (write memory (Answer mutator) v) block owner promises graph holds (answer_renaming mutator renamed)
 
-  pub answer_reached : (t : ℕ) → IsRenamed m (m (Answer t)) v → (x : ℕ) → CanBeReached c (write m (Answer t) v) x → CanBeReached c m x
-  answer_reached t renamed = reached_was c m (write m (Answer t) v) block owner p g holds (answer_renaming t renamed)
+  pub answer_reached : (mutator : ℕ) → IsRenamed memory (memory (Answer mutator)) v → (x : ℕ) → CanBeReached config (write memory (Answer mutator) v) x → CanBeReached config memory x
+  answer_reached mutator renamed = reached_was config memory (write memory (Answer mutator) v) block owner promises graph holds (answer_renaming mutator renamed)

@@ -10,7 +10,7 @@ use Rattle.regions.specs.Sets.{IsIn, members_below}
 use Rattle.cycle_words.proofs.Evacuation.Sums.{sum_at_most, members_at_least}
 
 -- a top does not fall
-taken_least : (top : ℕ → ℕ) (n : ℕ) (o : Option ℕ) (q : ℕ) → top q ≤ taken_in top n o q
+taken_least : (top : ℕ → ℕ) (n : ℕ) (found : Option ℕ) (q : ℕ) → top q ≤ taken_in top n found q
 taken_least top n None q = omega arith
 taken_least top n (Some r) q = ⊎_elim
     (λ (here : q ≡ r). let more = taken_here top n r in let there : taken_in top n (Some r) q ≡ taken_in top n (Some r) r = ap (taken_in top n (Some r)) here in let same : top q ≡ top r = ap top here in omega (arith, more, there, same))
@@ -25,7 +25,7 @@ served_least w regions asked top (suc t) q =
     omega (arith, before, step, served_next w regions asked top t q)
 
 -- no more is given than is asked for
-given_most : (o : Option ℕ) (n : ℕ) → given_by o n ≤ n
+given_most : (found : Option ℕ) (n : ℕ) → given_by found n ≤ n
 given_most None n = omega arith
 given_most (Some r) n = omega arith
 

@@ -40,18 +40,18 @@ sum_in_rows f w (suc n) =
     omega (arith, step, sum_in_rows f w n, sum_next (λ r. sum_below (λ k. f (r * w + k)) w) n)
 
 -- a test that speaks of no term
-pub sum_picked : (b : Bool) (f : ℕ → ℕ) (n : ℕ) → sum_below (λ k. if b then f k else 0) n ≡ (if b then sum_below f n else 0)
+pub sum_picked : (holds : Bool) (f : ℕ → ℕ) (n : ℕ) → sum_below (λ k. if holds then f k else 0) n ≡ (if holds then sum_below f n else 0)
 sum_picked true f n = refl
 sum_picked false f n = sum_of_none (λ k. 0) n (λ k _. refl)
 
 -- where each member of a set has at least so much, they have that many times as much
-pub members_at_least : (set least : ℕ) (f : ℕ → ℕ) (n : ℕ) → ((r : ℕ) → r < n → IsIn set r → least ≤ f r)
-    → members_below set n * least ≤ sum_below (λ r. if bit_at set r == 1 then f r else 0) n
+pub members_at_least : (set least : ℕ) (f : ℕ → ℕ) (n : ℕ) → ((region : ℕ) → region < n → IsIn set region → least ≤ f region)
+    → members_below set n * least ≤ sum_below (λ region. if bit_at set region == 1 then f region else 0) n
 unfolding members_below
-members_at_least set least f zero each = omega (arith, sum_none (λ r. if bit_at set r == 1 then f r else 0))
+members_at_least set least f zero each = omega (arith, sum_none (λ region. if bit_at set region == 1 then f region else 0))
 members_at_least set least f (suc n) each =
-    let picked : ℕ → ℕ = λ r. if bit_at set r == 1 then f r else 0 in
-    let rest = members_at_least set least f n (λ r below is. each r (omega (arith, below)) is) in
+    let picked : ℕ → ℕ = λ region. if bit_at set region == 1 then f region else 0 in
+    let rest = members_at_least set least f n (λ region below is. each region (omega (arith, below)) is) in
     ⊎_elim
     (λ (is : bit_at set n ≡ 1).
     let here : picked n ≡ f n = cond-true (bit_at set n == 1) (f n) 0 (eq-eqb (bit_at set n) 1 is) in

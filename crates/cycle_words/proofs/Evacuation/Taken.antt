@@ -14,15 +14,15 @@ use Rattle.cycle_words.proofs.Evacuation.Sums.{sum_at_most, picked_at_most}
 use Rattle.cycle_words.proofs.Evacuation.Order.{one_before}
 
 -- a region is in a set or outside it
-in_or_outside : (set r : ℕ) → IsIn set r ⊎ IsOutside set r
-in_or_outside set r = ⊎_elim
-    (λ (member : bit_at set r ≡ 1). inl member)
-    (λ (other : bit_at set r ≢ 1). inr (omega (arith, other, bit_at-lt set r)))
-    (cases_eq (bit_at set r) 1)
+in_or_outside : (set region : ℕ) → IsIn set region ⊎ IsOutside set region
+in_or_outside set region = ⊎_elim
+    (λ (member : bit_at set region ≡ 1). inl member)
+    (λ (other : bit_at set region ≢ 1). inr (omega (arith, other, bit_at-lt set region)))
+    (cases_eq (bit_at set region) 1)
 
 -- no region is both
-not_both : (set r : ℕ) → IsIn set r → IsOutside set r → ⊥
-not_both set r member outside = omega (arith, member, outside)
+not_both : (set region : ℕ) → IsIn set region → IsOutside set region → ⊥
+not_both set region member outside = omega (arith, member, outside)
 
 -- a number that has no digit from one on is below that power of two
 small_of_digits : (set n : ℕ) → ((q : ℕ) → n ≤ q → bit_at set q ≡ 0) → set < 2 ^ n
@@ -49,8 +49,8 @@ module _ (regions limit : ℕ) (live : ℕ → ℕ) (candidate : ℕ → Bool) w
   abbrev within : ℕ → ℕ → ℕ
   within set r = if bit_at set r == 1 then live r else 0
 
-  nothing_in_none : (r : ℕ) → IsIn 0 r → ⊥
-  nothing_in_none r member = omega (arith, member, bit_at-zero r)
+  nothing_in_none : (region : ℕ) → IsIn 0 region → ⊥
+  nothing_in_none region member = omega (arith, member, bit_at-zero region)
 
   begins : Front 0
   begins = record {
@@ -72,18 +72,18 @@ module _ (regions limit : ℕ) (live : ℕ → ℕ) (candidate : ℕ → Bool) w
       omega (arith, sum_both (within set) one regions, alone, this)
 
   -- in a set with that region lives as much
-  same_with : (set other r q : ℕ) → IsOutside set r → IsIn other r → (q ≢ r → within set q ≤ within other q) → and_one set r q ≤ within other q
-  same_with set other r q outside member rest = ⊎_elim
-      (λ (here : q ≡ r).
+  same_with : (set other region q : ℕ) → IsOutside set region → IsIn other region → (q ≢ region → within set q ≤ within other q) → and_one set region q ≤ within other q
+  same_with set other region q outside member rest = ⊎_elim
+      (λ (here : q ≡ region).
       let there : within other q ≡ live q = cond-true (bit_at other q == 1) (live q) 0 (eq-eqb (bit_at other q) 1 (subst (IsIn other) (sym here) member)) in
-      let none : within set q ≡ 0 = cond-false (bit_at set q == 1) (live q) 0 (ne_eqb (bit_at set q) 1 (λ inside. not_both set r (subst (IsIn set) here inside) outside)) in
-      let this : (if q == r then live r else 0) ≡ live r = cond-true (q == r) (live r) 0 (eq-eqb q r here) in
-      let same : live q ≡ live r = ap live here in
+      let none : within set q ≡ 0 = cond-false (bit_at set q == 1) (live q) 0 (ne_eqb (bit_at set q) 1 (λ inside. not_both set region (subst (IsIn set) here inside) outside)) in
+      let this : (if q == region then live region else 0) ≡ live region = cond-true (q == region) (live region) 0 (eq-eqb q region here) in
+      let same : live q ≡ live region = ap live here in
       omega (arith, there, none, this, same))
-      (λ (other_one : q ≢ r).
-      let none : (if q == r then live r else 0) ≡ 0 = cond-false (q == r) (live r) 0 (ne_eqb q r other_one) in
+      (λ (other_one : q ≢ region).
+      let none : (if q == region then live region else 0) ≡ 0 = cond-false (q == region) (live region) 0 (ne_eqb q region other_one) in
       omega (arith, none, rest other_one))
-      (cases_eq q r)
+      (cases_eq q region)
 
   live_in_more : (set r more : ℕ) → r < regions → HasOneMore set r more → live_in regions live more ≤ live_in regions live set + live r
   live_in_more set r more below one_more =
@@ -101,33 +101,33 @@ module _ (regions limit : ℕ) (live : ℕ → ℕ) (candidate : ℕ → Bool) w
   goes_on : (set r more : ℕ) → Front set → IsNext regions live candidate set r → HasOneMore set r more
       → live_in regions live set + live r ≤ limit → Front more
   goes_on set r more front next one_more room =
-      let was : (q : ℕ) → IsIn more q → q ≢ r → IsIn set q = λ q member other. sym (one_more.others q other) ∙ member in
+      let was : (region : ℕ) → IsIn more region → region ≢ r → IsIn set region = λ region member other. sym (one_more.others region other) ∙ member in
       record {
-        in_heap = small_of_digits more regions (λ q above. ⊎_elim
-            (λ (here : q ≡ r). absurd (omega (arith, here, above, next.below)))
-            (λ (other : q ≢ r). one_more.others q other ∙ bit_at_above set regions q front.in_heap above)
-            (cases_eq q r));
-        candidates = λ q member. ⊎_elim
-            (λ (here : q ≡ r). ap candidate here ∙ next.is)
-            (λ (other : q ≢ r). front.candidates q (was q member other))
-            (cases_eq q r);
-        from_front = λ p q below is before member. ⊎_elim
+        in_heap = small_of_digits more regions (λ region above. ⊎_elim
+            (λ (here : region ≡ r). absurd (omega (arith, here, above, next.below)))
+            (λ (other : region ≢ r). one_more.others region other ∙ bit_at_above set regions region front.in_heap above)
+            (cases_eq region r));
+        candidates = λ region member. ⊎_elim
+            (λ (here : region ≡ r). ap candidate here ∙ next.is)
+            (λ (other : region ≢ r). front.candidates region (was region member other))
+            (cases_eq region r);
+        from_front = λ p region below is before member. ⊎_elim
             (λ (here : p ≡ r). subst (IsIn more) (sym here) one_more.member)
             (λ (other : p ≢ r). one_more.others p other ∙ ⊎_elim
             (λ (inside : IsIn set p). inside)
             (λ (outside : IsOutside set p). ⊎_elim
-            (λ (here : q ≡ r). absurd (next.none_before p below is outside (subst (ComesBefore live p) here before)))
-            (λ (apart : q ≢ r). front.from_front p q below is before (was q member apart))
-            (cases_eq q r))
+            (λ (here : region ≡ r). absurd (next.none_before p below is outside (subst (ComesBefore live p) here before)))
+            (λ (apart : region ≢ r). front.from_front p region below is before (was region member apart))
+            (cases_eq region r))
             (in_or_outside set p))
             (cases_eq p r);
         fits = (let most = live_in_more set r more next.below one_more in omega (arith, most, room));
       }
 
   -- a front that has a candidate outside of another has the next one of that, and all of its members
-  is_full : (set r : ℕ) → Front set → IsNext regions live candidate set r → limit < live_in regions live set + live r
+  is_full : (set other_region : ℕ) → Front set → IsNext regions live candidate set other_region → limit < live_in regions live set + live other_region
       → IsLongestFront regions limit live candidate set
-  is_full set r front next full = record {
+  is_full set other_region front next full = record {
     front = front;
     longest = λ other is x member. ⊎_elim
         (λ (inside : IsIn set x). inside)
@@ -141,31 +141,31 @@ module _ (regions limit : ℕ) (live : ℕ → ℕ) (candidate : ℕ → Bool) w
           (λ (below : x < regions). below)
           (λ (above : regions ≤ x). absurd (omega (arith, member, bit_at_above other regions x is.in_heap above)))
           (cases_lt x regions) in
-          let has_next : IsIn other r = ⊎_elim
-          (λ (same : r ≡ x). subst (IsIn other) (sym same) member)
-          (λ (order : ComesBefore live r x ⊎ ComesBefore live x r). ⊎_elim
-          (λ (before : ComesBefore live r x). is.from_front r x next.below next.is before member)
-          (λ (before : ComesBefore live x r). absurd (next.none_before x inside (is.candidates x member) outside before))
+          let has_next : IsIn other other_region = ⊎_elim
+          (λ (same : other_region ≡ x). subst (IsIn other) (sym same) member)
+          (λ (order : ComesBefore live other_region x ⊎ ComesBefore live x other_region). ⊎_elim
+          (λ (before : ComesBefore live other_region x). is.from_front other_region x next.below next.is before member)
+          (λ (before : ComesBefore live x other_region). absurd (next.none_before x inside (is.candidates x member) outside before))
           order)
-          (one_before live r x) in
-          let has_each : (q : ℕ) → q < regions → IsIn set q → IsIn other q = λ q below in_set. ⊎_elim
-          (λ (same : q ≡ r). absurd (not_both set r (subst (IsIn set) same in_set) next.outside))
-          (λ (order : ComesBefore live q r ⊎ ComesBefore live r q). ⊎_elim
-          (λ (before : ComesBefore live q r). is.from_front q r below (front.candidates q in_set) before has_next)
-          (λ (behind : ComesBefore live r q). absurd (not_both set r (front.from_front r q next.below next.is behind in_set) next.outside))
+          (one_before live other_region x) in
+          let has_each : (region : ℕ) → region < regions → IsIn set region → IsIn other region = λ region below in_set. ⊎_elim
+          (λ (same : region ≡ other_region). absurd (not_both set other_region (subst (IsIn set) same in_set) next.outside))
+          (λ (order : ComesBefore live region other_region ⊎ ComesBefore live other_region region). ⊎_elim
+          (λ (before : ComesBefore live region other_region). is.from_front region other_region below (front.candidates region in_set) before has_next)
+          (λ (behind : ComesBefore live other_region region). absurd (not_both set other_region (front.from_front other_region region next.below next.is behind in_set) next.outside))
           order)
-          (one_before live q r) in
-          let least = sum_at_most (and_one set r) (within other) regions (λ q below. same_with set other r q next.outside has_next (λ _.
-          picked_at_most (bit_at set q == 1) (bit_at other q == 1) (live q) (λ picked. eq-eqb (bit_at other q) 1 (has_each q below (eqb-true (bit_at set q) 1 picked))))) in
-          omega (arith, least, sum_and_one set r next.below, full, is.fits)
+          (one_before live region other_region) in
+          let least = sum_at_most (and_one set other_region) (within other) regions (λ region below. same_with set other other_region region next.outside has_next (λ _.
+          picked_at_most (bit_at set region == 1) (bit_at other region == 1) (live region) (λ picked. eq-eqb (bit_at other region) 1 (has_each region below (eqb-true (bit_at set region) 1 picked))))) in
+          omega (arith, least, sum_and_one set other_region next.below, full, is.fits)
 
-  has_all : (set : ℕ) → Front set → ((r : ℕ) → r < regions → candidate r ≡ true → IsIn set r) → IsLongestFront regions limit live candidate set
+  has_all : (set : ℕ) → Front set → ((region : ℕ) → region < regions → candidate region ≡ true → IsIn set region) → IsLongestFront regions limit live candidate set
   has_all set front all = record {
     front = front;
-    longest = λ other is r member. ⊎_elim
-        (λ (below : r < regions). all r below (is.candidates r member))
-        (λ (above : regions ≤ r). absurd (omega (arith, member, bit_at_above other regions r is.in_heap above)))
-        (cases_lt r regions);
+    longest = λ other is region member. ⊎_elim
+        (λ (below : region < regions). all region below (is.candidates region member))
+        (λ (above : regions ≤ region). absurd (omega (arith, member, bit_at_above other regions region is.in_heap above)))
+        (cases_lt region regions);
   }
 
   pub fronts_are_taken : FrontsAreTaken regions limit live candidate

@@ -22,22 +22,22 @@ use Rattle.cycle_words.proofs.Finishing.Copies.{all_copied_other, all_copied_set
 use Rattle.cycle_words.proofs.Finishing.CopiesHold as copies
 use Rattle.cycle_words.proofs.Finishing.CopiesHold.{IsCopiedSoFar, all_copied_hold}
 
-module _ (c : Config) (owner : ℕ → Option ℕ) (p : Promises) (g : Graph) where
-  one_can : (m : Word → ℕ) (block : Plot) (so_far : IsCopiedSoFar c m block owner p g) (a : ℕ) → is_left c m a ≡ true → CanCopyOut c m a
-  one_can m block so_far a left =
-      let piece = copies.piece c owner p g m block so_far a left in
-      object_can_be_copied c m block owner p g so_far.holds so_far.sized a piece (copies.inside c owner p g m block so_far a left)
+module _ (config : Config) (owner : ℕ → Option ℕ) (promises : Promises) (graph : Graph) where
+  one_can : (memory : Word → ℕ) (block : Plot) (so_far : IsCopiedSoFar config memory block owner promises graph) (a : ℕ) → is_left config memory a ≡ true → CanCopyOut config memory a
+  one_can memory block so_far a left =
+      let piece = copies.piece config owner promises graph memory block so_far a left in
+      object_can_be_copied config memory block owner promises graph so_far.holds so_far.sized a piece (copies.inside config owner promises graph memory block so_far a left)
 
   -- address by address
-  all_can : (n : ℕ) (m : Word → ℕ) (block : Plot) (a : ℕ) → IsCopiedSoFar c m block owner p g → CanCopyFrom c m a n
+  all_can : (n : ℕ) (memory : Word → ℕ) (block : Plot) (address : ℕ) → IsCopiedSoFar config memory block owner promises graph → CanCopyFrom config memory address n
   unfolding CanCopyFrom
-  all_can zero m block a so_far = tt
-  all_can (suc n) m block a so_far = (
+  all_can zero memory block address so_far = tt
+  all_can (suc n) memory block address so_far = (
     λ left. (
-      one_can m block so_far a left,
-      λ room. all_can n (copied_out c m a) (copies.more c owner p g m block so_far a left room) (a + 1) (copies.one_copied c owner p g m block so_far a left room),
+      one_can memory block so_far address left,
+      λ room. all_can n (copied_out config memory address) (copies.more config owner promises graph memory block so_far address left room) (address + 1) (copies.one_copied config owner promises graph memory block so_far address left room),
     ),
-    λ other. all_can n m block (a + 1) so_far,
+    λ other. all_can n memory block (address + 1) so_far,
   )
 
 pub collecting_can_finish : CollectingCanFinish

@@ -12,36 +12,36 @@ use Rattle.cycle_words.proofs.Finishing.Copies.{copied_next, copied_stuck, copie
 use Rattle.cycle_words.proofs.Finishing.Whole.{nobody_is, nobody_from, waits_if_left, left_if_waits}
 
 -- where no region was found there is none
-none_found : (o : Option ℕ) → is_found o ≡ false → o ≡ None
+none_found : (found : Option ℕ) → is_found found ≡ false → found ≡ None
 none_found None is = refl
 none_found (Some r) is = absurd (true≢false is)
 
-room_first : (c : Config) (m : Word → ℕ) (a : ℕ) → is_room_from c m a zero ≡ true
+room_first : (config : Config) (memory : Word → ℕ) (a : ℕ) → is_room_from config memory a zero ≡ true
 unfolding is_room_from
-room_first c m a = refl
+room_first config memory a = refl
 
-room_next : (c : Config) (m : Word → ℕ) (a n : ℕ) → is_left c m a ≡ true → has_copy_room c m a ≡ true → is_room_from c m a (suc n) ≡ is_room_from c (copied_out c m a) (a + 1) n
+room_next : (config : Config) (memory : Word → ℕ) (address n : ℕ) → is_left config memory address ≡ true → has_copy_room config memory address ≡ true → is_room_from config memory address (suc n) ≡ is_room_from config (copied_out config memory address) (address + 1) n
 unfolding is_room_from
-room_next c m a n left room =
-    cond-true (is_left c m a) (has_copy_room c m a && is_room_from c (copied_out c m a) (a + 1) n) (is_room_from c m (a + 1) n) left
-    ∙ ap (λ b. b && is_room_from c (copied_out c m a) (a + 1) n) room
+room_next config memory address n left room =
+    cond-true (is_left config memory address) (has_copy_room config memory address && is_room_from config (copied_out config memory address) (address + 1) n) (is_room_from config memory (address + 1) n) left
+    ∙ ap (λ b. b && is_room_from config (copied_out config memory address) (address + 1) n) room
 
-room_else : (c : Config) (m : Word → ℕ) (a n : ℕ) → is_left c m a ≡ false → is_room_from c m a (suc n) ≡ is_room_from c m (a + 1) n
+room_else : (config : Config) (memory : Word → ℕ) (address n : ℕ) → is_left config memory address ≡ false → is_room_from config memory address (suc n) ≡ is_room_from config memory (address + 1) n
 unfolding is_room_from
-room_else c m a n other = cond-false (is_left c m a) (has_copy_room c m a && is_room_from c (copied_out c m a) (a + 1) n) (is_room_from c m (a + 1) n) other
+room_else config memory address n other = cond-false (is_left config memory address) (has_copy_room config memory address && is_room_from config (copied_out config memory address) (address + 1) n) (is_room_from config memory (address + 1) n) other
 
-stuck : (c : Config) (n : ℕ) (m : Word → ℕ) (a : ℕ) → is_room_from c m a n ≡ false → IsStuck c (copied_from c m a n)
-stuck c zero m a is = absurd (true≢false (sym (room_first c m a) ∙ is))
-stuck c (suc n) m a is = ⊎_elim
-    (λ (left : is_left c m a ≡ true). ⊎_elim
-    (λ (room : has_copy_room c m a ≡ true).
-    subst (IsStuck c) (sym (copied_next c m a n left room)) (stuck c n (copied_out c m a) (a + 1) (sym (room_next c m a n left room) ∙ is)))
-    (λ (full : has_copy_room c m a ≡ false).
-    subst (IsStuck c) (sym (copied_stuck c m a n left full)) (record { object = a; left = left; no_room = none_found (copy_room c m a) full }))
-    (cases_Bool (has_copy_room c m a)))
-    (λ (other : is_left c m a ≡ false).
-    subst (IsStuck c) (sym (copied_skips c m a n other)) (stuck c n m (a + 1) (sym (room_else c m a n other) ∙ is)))
-    (cases_Bool (is_left c m a))
+stuck : (config : Config) (n : ℕ) (memory : Word → ℕ) (address : ℕ) → is_room_from config memory address n ≡ false → IsStuck config (copied_from config memory address n)
+stuck config zero memory address is = absurd (true≢false (sym (room_first config memory address) ∙ is))
+stuck config (suc n) memory address is = ⊎_elim
+    (λ (left : is_left config memory address ≡ true). ⊎_elim
+    (λ (room : has_copy_room config memory address ≡ true).
+    subst (IsStuck config) (sym (copied_next config memory address n left room)) (stuck config n (copied_out config memory address) (address + 1) (sym (room_next config memory address n left room) ∙ is)))
+    (λ (full : has_copy_room config memory address ≡ false).
+    subst (IsStuck config) (sym (copied_stuck config memory address n left full)) (record { object = address; left = left; no_room = none_found (copy_room config memory address) full }))
+    (cases_Bool (has_copy_room config memory address)))
+    (λ (other : is_left config memory address ≡ false).
+    subst (IsStuck config) (sym (copied_skips config memory address n other)) (stuck config n memory (address + 1) (sym (room_else config memory address n other) ∙ is)))
+    (cases_Bool (is_left config memory address))
 
 pub stops_for_room : StopsForRoom
 stops_for_room c m is = ⊎_elim

@@ -25,90 +25,90 @@ use Rattle.image_graph.proofs.Loosening.Loosened.{IsLoosened, loosened_reached}
 use Rattle.image_graph.proofs.Loosening.OneTurn as turn
 use Rattle.image_graph.proofs.Loosening.LettingGo.{IsLowered, has_let_go}
 
-module _ (c : Config) (m n : Word → ℕ) (block plot : Plot) (owner : ℕ → Option ℕ) (p : Promises) (g : Graph) (holds : HoldsBy c m block owner p g) (is : IsLoosened m n block plot)
-    (plotted : IsPlotted c (λ r. n (Top r)) plot) (while : WhileCollecting c m block) where
-  set_same : n Cset ≡ m Cset
+module _ (config : Config) (memory other_memory : Word → ℕ) (block plot : Plot) (owner : ℕ → Option ℕ) (promises : Promises) (graph : Graph) (holds : HoldsBy config memory block owner promises graph) (is : IsLoosened memory other_memory block plot)
+    (plotted : IsPlotted config (λ r. other_memory (Top r)) plot) (while : WhileCollecting config memory block) where
+  set_same : other_memory Cset ≡ memory Cset
   set_same = is.others Cset refl
 
-  black_same : (a : ℕ) → is_black c n a ≡ is_black c m a
-  black_same a = ap (λ k. nat_le c.region_words a && (bit_at k (mark_bit c a) == 1)) (is.others (Black (mark_word c a)) refl)
+  black_same : (a : ℕ) → is_black config other_memory a ≡ is_black config memory a
+  black_same a = ap (λ k. nat_le config.region_words a && (bit_at k (mark_bit config a) == 1)) (is.others (Black (mark_word config a)) refl)
 
-  collected_same : (a : ℕ) → is_collected c n a ≡ is_collected c m a
-  collected_same a = ap (λ k. nat_le c.region_words a && (bit_at k (region_with c a) == 1)) set_same
+  collected_same : (address : ℕ) → is_collected config other_memory address ≡ is_collected config memory address
+  collected_same address = ap (λ k. nat_le config.region_words address && (bit_at k (region_with config address) == 1)) set_same
 
-  kept_same : (a : ℕ) → IsKept c m a → IsKept c n a
-  kept_same a kept = ⊎_elim
-      (λ (black : is_black c m a ≡ true). inl (black_same a ∙ black))
-      (λ (fresh : IsNew c m a). inr (let same = is.others (Tams (region_with c a)) refl in omega (arith, fresh, same)))
+  kept_same : (address : ℕ) → IsKept config memory address → IsKept config other_memory address
+  kept_same address kept = ⊎_elim
+      (λ (black : is_black config memory address ≡ true). inl (black_same address ∙ black))
+      (λ (fresh : IsNew config memory address). inr (let same = is.others (Tams (region_with config address)) refl in omega (arith, fresh, same)))
       kept
 
   -- Where tops of the set stay, and none falls below the tops at mark start.
-  pub loosened_collecting : ((r : ℕ) → IsIn (m Cset) r → n (Top r) ≡ m (Top r)) → (m Cset ≢ 0 → (r : ℕ) → r < c.regions → m (Tams r) ≤ n (Top r)) → WhileCollecting c n plot
+  pub loosened_collecting : ((region : ℕ) → IsIn (memory Cset) region → other_memory (Top region) ≡ memory (Top region)) → (memory Cset ≢ 0 → (region : ℕ) → region < config.regions → memory (Tams region) ≤ other_memory (Top region)) → WhileCollecting config other_memory plot
   loosened_collecting tops floors = record {
     marked = λ a collected black.
         let was = while.marked a (sym (collected_same a) ∙ collected) (sym (black_same a) ∙ black) in
         (was.0, is.same.stays a was.0 was.2 was.1, was.2);
-    reachable = λ some a reached. kept_same a (while.reachable (λ none. some (set_same ∙ none)) a (loosened_reached c m n block plot owner p g holds is plotted a reached));
-    no_new = λ r member. let was : IsIn (m Cset) r = subst (λ s. IsIn s r) set_same member in tops r was ∙ while.no_new r was ∙ sym (is.others (Tams r) refl);
-    floors = λ some r below. (let floor = floors (λ none. some (set_same ∙ none)) r below in let same = is.others (Tams r) refl in omega (arith, floor, same));
-    unseated = λ seat r ends member. while.unseated seat r (subst (λ k. (k ≢ 0) × IsOf c r (end_in k - 1)) (is.fewer seat ends.0) ends) (subst (λ s. IsIn s r) set_same member);
+    reachable = λ some a reached. kept_same a (while.reachable (λ none. some (set_same ∙ none)) a (loosened_reached config memory other_memory block plot owner promises graph holds is plotted a reached));
+    no_new = λ region member. let was : IsIn (memory Cset) region = subst (λ s. IsIn s region) set_same member in tops region was ∙ while.no_new region was ∙ sym (is.others (Tams region) refl);
+    floors = λ some region below. (let floor = floors (λ none. some (set_same ∙ none)) region below in let same = is.others (Tams region) refl in omega (arith, floor, same));
+    unseated = λ seat region ends member. while.unseated seat region (subst (λ k. (k ≢ 0) × IsOf config region (end_in k - 1)) (is.fewer seat ends.0) ends) (subst (λ s. IsIn s region) set_same member);
     young = λ some a seat x here room.
         let was = while.young (λ none. some (set_same ∙ none)) a seat x (is.rooms a seat x here room) room in
-        let same = is.others (Tams (region_with c a)) refl in
+        let same = is.others (Tams (region_with config a)) refl in
         omega (arith, was, same);
     outside = λ off a reached member.
-        same_pinned c m n (λ t i. is.others (Pin t i) refl) (region_with c a)
-        ∙ while.outside (λ two. off (is.others Phase refl ∙ two)) a (loosened_reached c m n block plot owner p g holds is plotted a reached) (subst (λ s. IsCollected c s a) set_same member);
+        same_pinned config memory other_memory (λ t i. is.others (Pin t i) refl) (region_with config a)
+        ∙ while.outside (λ two. off (is.others Phase refl ∙ two)) a (loosened_reached config memory other_memory block plot owner promises graph holds is plotted a reached) (subst (λ s. IsCollected config s a) set_same member);
   }
 
 -- So it is where buffers are let go, for their free words lie outside of the set and are new.
-module _ (c : Config) (m : Word → ℕ) (block : Plot) (owner : ℕ → Option ℕ) (p : Promises) (g : Graph) (holds : HoldsBy c m block owner p g) (while : WhileCollecting c m block) where
-  module _ (seat : ℕ) (some : m (Current seat) ≢ 0) (more : next_in (m (Current seat)) < end_in (m (Current seat))) where
+module _ (config : Config) (memory : Word → ℕ) (block : Plot) (owner : ℕ → Option ℕ) (promises : Promises) (graph : Graph) (holds : HoldsBy config memory block owner promises graph) (while : WhileCollecting config memory block) where
+  module _ (seat : ℕ) (some : memory (Current seat) ≢ 0) (more : next_in (memory (Current seat)) < end_in (memory (Current seat))) where
     abbrev word : ℕ
-    word = m (Current seat)
+    word = memory (Current seat)
 
     abbrev region : ℕ
-    region = buffer_region c word
+    region = buffer_region config word
 
     is_region : region ≡ (holds.buffers.each seat some).region
-    is_region = let b = holds.buffers.each seat some in buffer_region_is c (λ r. m (Top r)) block seat word b (holds.objects.plotted.tops b.region b.within)
+    is_region = let b = holds.buffers.each seat some in buffer_region_is config (λ r. memory (Top r)) block seat word b (holds.objects.plotted.tops b.region b.within)
 
-    ends : EndsIn c m seat region
+    ends : EndsIn config memory seat region
     ends =
         let b = holds.buffers.each seat some in
-        (some, subst (λ q. IsOf c q (end_in word - 1)) (sym is_region) (buffer_ends c (λ r. m (Top r)) block seat word b (holds.objects.plotted.tops b.region b.within)))
+        (some, subst (λ q. IsOf config q (end_in word - 1)) (sym is_region) (buffer_ends config (λ r. memory (Top r)) block seat word b (holds.objects.plotted.tops b.region b.within)))
 
-    next_there : region_with c (next_in word) ≡ region
+    next_there : region_with config (next_in word) ≡ region
     next_there =
         let b = holds.buffers.each seat some in
         let low = b.from_base in
         let high = b.to_top in
         let most = holds.objects.plotted.tops b.region b.within in
-        regions_tile.of_no_other c b.region (next_in word) (record { from = low; before = omega (arith, more, high, most) }) ∙ sym is_region
+        regions_tile.of_no_other config b.region (next_in word) (record { from = low; before = omega (arith, more, high, most) }) ∙ sym is_region
 
     -- the free words begin at or above the top at mark start
-    floor : m Cset ≢ 0 → m (Tams region) ≤ next_in word - base_of c region
+    floor : memory Cset ≢ 0 → memory (Tams region) ≤ next_in word - base_of config region
     floor set =
-        let lies = turn.lies c m block owner p g holds seat word refl some in
+        let lies = turn.lies config memory block owner promises graph holds seat word refl some in
         let from = lies.from_base in
-        let young : base_of c region + m (Tams region) ≤ next_in word =
-        subst (λ q. base_of c q + m (Tams q) ≤ next_in word) next_there
-        (while.young set (next_in word) seat (turn.free c m block owner p g holds seat word refl some more) (turn.free_piece c m block owner p g holds seat word refl some more) refl) in
+        let young : base_of config region + memory (Tams region) ≤ next_in word =
+        subst (λ q. base_of config q + memory (Tams q) ≤ next_in word) next_there
+        (while.young set (next_in word) seat (turn.free config memory block owner promises graph holds seat word refl some more) (turn.free_piece config memory block owner promises graph holds seat word refl some more) refl) in
         omega (arith, young, from)
 
-  set_stays : (n : Word → ℕ) (r : ℕ) → IsLowered c m n r → IsIn (m Cset) r → n (Top r) ≡ m (Top r)
-  set_stays n r (IsLowered.as_it_was same) member = same
-  set_stays n r (IsLowered.given_back seat some more of top) member = absurd (while.unseated seat r (subst (EndsIn c m seat) of (ends seat some more)) member)
+  set_stays : (n : Word → ℕ) (region : ℕ) → IsLowered config memory n region → IsIn (memory Cset) region → n (Top region) ≡ memory (Top region)
+  set_stays n region (IsLowered.as_it_was same) member = same
+  set_stays n region (IsLowered.given_back seat some more of top) member = absurd (while.unseated seat region (subst (EndsIn config memory seat) of (ends seat some more)) member)
 
-  floors_stay : (n : Word → ℕ) (r : ℕ) → IsLowered c m n r → m Cset ≢ 0 → r < c.regions → m (Tams r) ≤ n (Top r)
-  floors_stay n r (IsLowered.as_it_was same) set below = (let floor = while.floors set r below in omega (arith, floor, same))
-  floors_stay n r (IsLowered.given_back seat some more of top) set below =
-      let low : m (Tams r) ≤ next_in (m (Current seat)) - base_of c r = subst (λ q. m (Tams q) ≤ next_in (m (Current seat)) - base_of c q) of (floor seat some more set) in
+  floors_stay : (n : Word → ℕ) (region : ℕ) → IsLowered config memory n region → memory Cset ≢ 0 → region < config.regions → memory (Tams region) ≤ n (Top region)
+  floors_stay n region (IsLowered.as_it_was same) set below = (let floor = while.floors set region below in omega (arith, floor, same))
+  floors_stay n region (IsLowered.given_back seat some more of top) set below =
+      let low : memory (Tams region) ≤ next_in (memory (Current seat)) - base_of config region = subst (λ q. memory (Tams q) ≤ next_in (memory (Current seat)) - base_of config q) of (floor seat some more set) in
       omega (arith, low, top)
 
-  module _ (seats : HasNoMoreSeats c m) where
-    pub let_go_collecting : WhileCollecting c (let_go c m) (has_let_go c m block owner p g holds seats).plot
+  module _ (seats : HasNoMoreSeats config memory) where
+    pub let_go_collecting : WhileCollecting config (let_go config memory) (has_let_go config memory block owner promises graph holds seats).plot
     let_go_collecting =
-        let after = has_let_go c m block owner p g holds seats in
-        loosened_collecting c m (let_go c m) block after.plot owner p g holds after.left.loosened after.left.holds.objects.plotted while
-        (λ r member. set_stays (let_go c m) r (after.tops r) member) (λ set r below. floors_stay (let_go c m) r (after.tops r) set below)
+        let after = has_let_go config memory block owner promises graph holds seats in
+        loosened_collecting config memory (let_go config memory) block after.plot owner promises graph holds after.left.loosened after.left.holds.objects.plotted while
+        (λ r member. set_stays (let_go config memory) r (after.tops r) member) (λ set r below. floors_stay (let_go config memory) r (after.tops r) set below)

@@ -10,73 +10,73 @@ use Rattle.cycle_words.proofs.Evacuation.CopiedOut.{others_stay}
 use Rattle.cycle_words.specs.Finishing.Copies.{is_left, is_found, has_copy_room, copied_from, is_room_from, all_copied}
 
 -- where there is room, a region has it
-pub room_found : (c : Config) (m : Word → ℕ) (a : ℕ) → has_copy_room c m a ≡ true → copy_room c m a ≢ None
-room_found c m a room none = true≢false (sym room ∙ ap is_found none)
+pub room_found : (config : Config) (memory : Word → ℕ) (address : ℕ) → has_copy_room config memory address ≡ true → copy_room config memory address ≢ None
+room_found config memory address room none = true≢false (sym room ∙ ap is_found none)
 
-module _ (c : Config) (m : Word → ℕ) (a n : ℕ) where
+module _ (config : Config) (memory : Word → ℕ) (address n : ℕ) where
   abbrev next : Word → ℕ
-  next = copied_from c (copied_out c m a) (a + 1) n
+  next = copied_from config (copied_out config memory address) (address + 1) n
 
   abbrev tried : Word → ℕ
-  tried word = if has_copy_room c m a then next word else m word
+  tried word = if has_copy_room config memory address then next word else memory word
 
-  pub copied_none : copied_from c m a zero ≡ m
+  pub copied_none : copied_from config memory address zero ≡ memory
   unfolding copied_from
   copied_none = refl
 
-  pub copied_next : is_left c m a ≡ true → has_copy_room c m a ≡ true → copied_from c m a (suc n) ≡ copied_from c (copied_out c m a) (a + 1) n
+  pub copied_next : is_left config memory address ≡ true → has_copy_room config memory address ≡ true → copied_from config memory address (suc n) ≡ copied_from config (copied_out config memory address) (address + 1) n
   unfolding copied_from
   copied_next left room = fun_ext (λ word.
-      cond-true (is_left c m a) (tried word) (copied_from c m (a + 1) n word) left
-      ∙ cond-true (has_copy_room c m a) (next word) (m word) room)
+      cond-true (is_left config memory address) (tried word) (copied_from config memory (address + 1) n word) left
+      ∙ cond-true (has_copy_room config memory address) (next word) (memory word) room)
 
-  pub copied_stuck : is_left c m a ≡ true → has_copy_room c m a ≡ false → copied_from c m a (suc n) ≡ m
+  pub copied_stuck : is_left config memory address ≡ true → has_copy_room config memory address ≡ false → copied_from config memory address (suc n) ≡ memory
   unfolding copied_from
   copied_stuck left full = fun_ext (λ word.
-      cond-true (is_left c m a) (tried word) (copied_from c m (a + 1) n word) left
-      ∙ cond-false (has_copy_room c m a) (next word) (m word) full)
+      cond-true (is_left config memory address) (tried word) (copied_from config memory (address + 1) n word) left
+      ∙ cond-false (has_copy_room config memory address) (next word) (memory word) full)
 
-  pub copied_skips : is_left c m a ≡ false → copied_from c m a (suc n) ≡ copied_from c m (a + 1) n
+  pub copied_skips : is_left config memory address ≡ false → copied_from config memory address (suc n) ≡ copied_from config memory (address + 1) n
   unfolding copied_from
-  copied_skips other = fun_ext (λ word. cond-false (is_left c m a) (tried word) (copied_from c m (a + 1) n word) other)
+  copied_skips other = fun_ext (λ word. cond-false (is_left config memory address) (tried word) (copied_from config memory (address + 1) n word) other)
 
   abbrev room_next : Bool
-  room_next = has_copy_room c m a && is_room_from c (copied_out c m a) (a + 1) n
+  room_next = has_copy_room config memory address && is_room_from config (copied_out config memory address) (address + 1) n
 
-  pub room_if : is_left c m a ≡ true → is_room_from c m a (suc n) ≡ true → (has_copy_room c m a ≡ true) × (is_room_from c (copied_out c m a) (a + 1) n ≡ true)
+  pub room_if : is_left config memory address ≡ true → is_room_from config memory address (suc n) ≡ true → (has_copy_room config memory address ≡ true) × (is_room_from config (copied_out config memory address) (address + 1) n ≡ true)
   unfolding is_room_from
   room_if left room =
-      and_parts (has_copy_room c m a) (is_room_from c (copied_out c m a) (a + 1) n)
-      (sym (cond-true (is_left c m a) room_next (is_room_from c m (a + 1) n) left) ∙ room)
+      and_parts (has_copy_room config memory address) (is_room_from config (copied_out config memory address) (address + 1) n)
+      (sym (cond-true (is_left config memory address) room_next (is_room_from config memory (address + 1) n) left) ∙ room)
 
-  pub room_skips : is_left c m a ≡ false → is_room_from c m a (suc n) ≡ true → is_room_from c m (a + 1) n ≡ true
+  pub room_skips : is_left config memory address ≡ false → is_room_from config memory address (suc n) ≡ true → is_room_from config memory (address + 1) n ≡ true
   unfolding is_room_from
-  room_skips other room = sym (cond-false (is_left c m a) room_next (is_room_from c m (a + 1) n) other) ∙ room
+  room_skips other room = sym (cond-false (is_left config memory address) room_next (is_room_from config memory (address + 1) n) other) ∙ room
 
 -- Words that copying does not change stay.
-copied_other : (c : Config) (m : Word → ℕ) (a : ℕ) (o : Option ℕ) (word : Word) → (MayChange word → ⊥) → copied_in c m a o word ≡ m word
-copied_other c m a None word stays = refl
-copied_other c m a (Some r) word stays = others_stay c m a r word stays
+copied_other : (config : Config) (memory : Word → ℕ) (a : ℕ) (found : Option ℕ) (word : Word) → (MayChange word → ⊥) → copied_in config memory a found word ≡ memory word
+copied_other config memory a None word stays = refl
+copied_other config memory a (Some r) word stays = others_stay config memory a r word stays
 
-other_from : (c : Config) (n : ℕ) (m : Word → ℕ) (a : ℕ) (word : Word) → (MayChange word → ⊥) → copied_from c m a n word ≡ m word
-other_from c zero m a word stays = ap (λ (f : Word → ℕ). f word) (copied_none c m a 0)
-other_from c (suc n) m a word stays = ⊎_elim
-    (λ (left : is_left c m a ≡ true). ⊎_elim
-    (λ (room : has_copy_room c m a ≡ true).
-    ap (λ (f : Word → ℕ). f word) (copied_next c m a n left room) ∙ other_from c n (copied_out c m a) (a + 1) word stays ∙ copied_other c m a (copy_room c m a) word stays)
-    (λ (none : has_copy_room c m a ≡ false). ap (λ (f : Word → ℕ). f word) (copied_stuck c m a n left none))
-    (cases_Bool (has_copy_room c m a)))
-    (λ (other : is_left c m a ≡ false). ap (λ (f : Word → ℕ). f word) (copied_skips c m a n other) ∙ other_from c n m (a + 1) word stays)
-    (cases_Bool (is_left c m a))
+other_from : (config : Config) (n : ℕ) (memory : Word → ℕ) (address : ℕ) (word : Word) → (MayChange word → ⊥) → copied_from config memory address n word ≡ memory word
+other_from config zero memory address word stays = ap (λ (memory : Word → ℕ). memory word) (copied_none config memory address 0)
+other_from config (suc n) memory address word stays = ⊎_elim
+    (λ (left : is_left config memory address ≡ true). ⊎_elim
+    (λ (room : has_copy_room config memory address ≡ true).
+    ap (λ (memory : Word → ℕ). memory word) (copied_next config memory address n left room) ∙ other_from config n (copied_out config memory address) (address + 1) word stays ∙ copied_other config memory address (copy_room config memory address) word stays)
+    (λ (none : has_copy_room config memory address ≡ false). ap (λ (memory : Word → ℕ). memory word) (copied_stuck config memory address n left none))
+    (cases_Bool (has_copy_room config memory address)))
+    (λ (other : is_left config memory address ≡ false). ap (λ (memory : Word → ℕ). memory word) (copied_skips config memory address n other) ∙ other_from config n memory (address + 1) word stays)
+    (cases_Bool (is_left config memory address))
 
-pub all_copied_other : (c : Config) (m : Word → ℕ) (word : Word) → (MayChange word → ⊥) → all_copied c m word ≡ m word
-all_copied_other c m word stays = ⊎_elim
-    (λ (at : m Phase ≡ 2).
-    cond-true (m Phase == 2) (copied_from c m c.region_words (c.regions * c.region_words) word) (m word) (eq-eqb (m Phase) 2 at)
-    ∙ other_from c (c.regions * c.region_words) m c.region_words word stays)
-    (λ (off : m Phase ≢ 2). cond-false (m Phase == 2) (copied_from c m c.region_words (c.regions * c.region_words) word) (m word) (ne_eqb (m Phase) 2 off))
-    (cases_eq (m Phase) 2)
+pub all_copied_other : (config : Config) (memory : Word → ℕ) (word : Word) → (MayChange word → ⊥) → all_copied config memory word ≡ memory word
+all_copied_other config memory word stays = ⊎_elim
+    (λ (at : memory Phase ≡ 2).
+    cond-true (memory Phase == 2) (copied_from config memory config.region_words (config.regions * config.region_words) word) (memory word) (eq-eqb (memory Phase) 2 at)
+    ∙ other_from config (config.regions * config.region_words) memory config.region_words word stays)
+    (λ (off : memory Phase ≢ 2). cond-false (memory Phase == 2) (copied_from config memory config.region_words (config.regions * config.region_words) word) (memory word) (ne_eqb (memory Phase) 2 off))
+    (cases_eq (memory Phase) 2)
 
 -- so does the collection set
-pub all_copied_set : (c : Config) (m : Word → ℕ) → all_copied c m Cset ≡ m Cset
-all_copied_set c m = all_copied_other c m Cset (λ never. never)
+pub all_copied_set : (config : Config) (memory : Word → ℕ) → all_copied config memory Cset ≡ memory Cset
+all_copied_set config memory = all_copied_other config memory Cset (λ never. never)

@@ -24,104 +24,104 @@ use Rattle.cycle_words.proofs.Evacuation.CopyHolds as copy
 use Rattle.cycle_words.proofs.Finishing.Copies.{room_found, copied_none, copied_next, copied_stuck, copied_skips}
 
 -- what is kept between two objects
-pub record IsCopiedSoFar (c : Config) (n : Word → ℕ) (plot : Plot) (owner : ℕ → Option ℕ) (p : Promises) (g : Graph) : Type 0 where
-  pub holds : HoldsBy c n plot owner p g
-  pub sized : AreSized n plot
-  pub marked : AreMarkedObjects c n plot
+pub record IsCopiedSoFar (config : Config) (memory : Word → ℕ) (plot : Plot) (owner : ℕ → Option ℕ) (promises : Promises) (graph : Graph) : Type 0 where
+  pub holds : HoldsBy config memory plot owner promises graph
+  pub sized : AreSized memory plot
+  pub marked : AreMarkedObjects config memory plot
 
 -- what is left is marked in a region that is not pinned, and has not moved
-pub left_parts : (c : Config) (m : Word → ℕ) (a : ℕ) → is_left c m a ≡ true
-    → (is_collected c m a ≡ true) × (is_pinned c m (region_with c a) ≡ false) × (is_black c m a ≡ true) × (is_forwarded (m (Heap a)) ≡ false)
-left_parts c m a left =
-    let three = and_parts (is_collected c m a && not (is_pinned c m (region_with c a)) && is_black c m a) (not (is_forwarded (m (Heap a)))) left in
-    let two = and_parts (is_collected c m a && not (is_pinned c m (region_with c a))) (is_black c m a) three.0 in
-    let one = and_parts (is_collected c m a) (not (is_pinned c m (region_with c a))) two.0 in
-    (one.0, not-true (is_pinned c m (region_with c a)) one.1, two.1, not-true (is_forwarded (m (Heap a))) three.1)
+pub left_parts : (config : Config) (memory : Word → ℕ) (address : ℕ) → is_left config memory address ≡ true
+    → (is_collected config memory address ≡ true) × (is_pinned config memory (region_with config address) ≡ false) × (is_black config memory address ≡ true) × (is_forwarded (memory (Heap address)) ≡ false)
+left_parts config memory address left =
+    let three = and_parts (is_collected config memory address && not (is_pinned config memory (region_with config address)) && is_black config memory address) (not (is_forwarded (memory (Heap address)))) left in
+    let two = and_parts (is_collected config memory address && not (is_pinned config memory (region_with config address))) (is_black config memory address) three.0 in
+    let one = and_parts (is_collected config memory address) (not (is_pinned config memory (region_with config address))) two.0 in
+    (one.0, not-true (is_pinned config memory (region_with config address)) one.1, two.1, not-true (is_forwarded (memory (Heap address))) three.1)
 
 -- and each such object is left
-pub is_left_if : (c : Config) (m : Word → ℕ) (a : ℕ) → is_collected c m a ≡ true → is_pinned c m (region_with c a) ≡ false → is_black c m a ≡ true → is_forwarded (m (Heap a)) ≡ false
-    → is_left c m a ≡ true
-is_left_if c m a collected unpinned black plain =
-    and_from (is_collected c m a && not (is_pinned c m (region_with c a)) && is_black c m a) (not (is_forwarded (m (Heap a))))
-    (and_from (is_collected c m a && not (is_pinned c m (region_with c a))) (is_black c m a)
-    (and_from (is_collected c m a) (not (is_pinned c m (region_with c a))) collected (not_from_false (is_pinned c m (region_with c a)) unpinned)) black)
-    (not_from_false (is_forwarded (m (Heap a))) plain)
+pub is_left_if : (config : Config) (memory : Word → ℕ) (address : ℕ) → is_collected config memory address ≡ true → is_pinned config memory (region_with config address) ≡ false → is_black config memory address ≡ true → is_forwarded (memory (Heap address)) ≡ false
+    → is_left config memory address ≡ true
+is_left_if config memory address collected unpinned black plain =
+    and_from (is_collected config memory address && not (is_pinned config memory (region_with config address)) && is_black config memory address) (not (is_forwarded (memory (Heap address))))
+    (and_from (is_collected config memory address && not (is_pinned config memory (region_with config address))) (is_black config memory address)
+    (and_from (is_collected config memory address) (not (is_pinned config memory (region_with config address))) collected (not_from_false (is_pinned config memory (region_with config address)) unpinned)) black)
+    (not_from_false (is_forwarded (memory (Heap address))) plain)
 
-module _ (c : Config) (owner : ℕ → Option ℕ) (p : Promises) (g : Graph) where
+module _ (config : Config) (owner : ℕ → Option ℕ) (promises : Promises) (graph : Graph) where
   -- An object is left, ..
-  module _ (m : Word → ℕ) (block : Plot) (so_far : IsCopiedSoFar c m block owner p g) (a : ℕ) (left : is_left c m a ≡ true) where
-    pub parts : (is_collected c m a ≡ true) × (is_black c m a ≡ true) × (is_forwarded (m (Heap a)) ≡ false)
-    parts = let all = left_parts c m a left in (all.0, all.2, all.3)
+  module _ (memory : Word → ℕ) (block : Plot) (so_far : IsCopiedSoFar config memory block owner promises graph) (address : ℕ) (left : is_left config memory address ≡ true) where
+    pub parts : (is_collected config memory address ≡ true) × (is_black config memory address ≡ true) × (is_forwarded (memory (Heap address)) ≡ false)
+    parts = let all = left_parts config memory address left in (all.0, all.2, all.3)
 
-    pub above : c.region_words ≤ a
-    above = leb-true c.region_words a (and_parts (nat_le c.region_words a) (bit_at (m Cset) (region_with c a) == 1) parts.0).0
+    pub above : config.region_words ≤ address
+    above = leb-true config.region_words address (and_parts (nat_le config.region_words address) (bit_at (memory Cset) (region_with config address) == 1) parts.0).0
 
-    pub inside : IsCollected c (m Cset) a
-    inside = eqb-true (bit_at (m Cset) (region_with c a)) 1 (and_parts (nat_le c.region_words a) (bit_at (m Cset) (region_with c a) == 1) parts.0).1
+    pub inside : IsCollected config (memory Cset) address
+    inside = eqb-true (bit_at (memory Cset) (region_with config address)) 1 (and_parts (nat_le config.region_words address) (bit_at (memory Cset) (region_with config address) == 1) parts.0).1
 
     -- no pin slot holds it
-    pub unpinned : IsUnpinned c m a
-    unpinned = unpinned_there c m a above (left_parts c m a left).1
+    pub unpinned : IsUnpinned config memory address
+    unpinned = unpinned_there config memory address above (left_parts config memory address left).1
 
-    pub piece : HasObject block a
-    piece = so_far.marked a parts.0 parts.1
+    pub piece : HasObject block address
+    piece = so_far.marked address parts.0 parts.1
 
-    pub words : words_at m a ≡ words_of piece.0
-    words = so_far.sized.objects a piece.0 piece.1 piece.2
+    pub words : words_at memory address ≡ words_of piece.0
+    words = so_far.sized.objects address piece.0 piece.1 piece.2
 
     -- .. and there is room.
-    module _ (room : has_copy_room c m a ≡ true) where
-      pub out : IsCopiedOut c m (copied_out c m a) a
-      out = copies_out c m a above inside (room_found c m a room)
+    module _ (room : has_copy_room config memory address ≡ true) where
+      pub out : IsCopiedOut config memory (copied_out config memory address) address
+      out = copies_out config memory address above inside (room_found config memory address room)
 
       abbrev n : Word → ℕ
-      n = copied_out c m a
+      n = copied_out config memory address
 
       -- the pieces with the copy
       abbrev pub more : Plot
-      more = copy.plot c m block owner p g so_far.holds a piece.0 piece.1 piece.2 inside parts.2 unpinned words out
+      more = copy.plot config memory block owner promises graph so_far.holds address piece.0 piece.1 piece.2 inside parts.2 unpinned words out
 
       pub more_stay : PiecesStay block more
-      more_stay = copy.stays c m block owner p g so_far.holds a piece.0 piece.1 piece.2 inside parts.2 unpinned words out
+      more_stay = copy.stays config memory block owner promises graph so_far.holds address piece.0 piece.1 piece.2 inside parts.2 unpinned words out
 
-      pub one_copied : IsCopiedSoFar c n more owner p g
+      pub one_copied : IsCopiedSoFar config n more owner promises graph
       one_copied = record {
-        holds = copy.copied_holds c m block owner p g so_far.holds a piece.0 piece.1 piece.2 inside parts.2 unpinned words out;
-        sized = copy.copied_sized c m block owner p g so_far.holds a piece.0 piece.1 piece.2 inside parts.2 unpinned words out so_far.sized;
-        marked = copy.marked_still c m block owner p g so_far.holds a piece.0 piece.1 piece.2 inside parts.2 unpinned words out so_far.marked;
+        holds = copy.copied_holds config memory block owner promises graph so_far.holds address piece.0 piece.1 piece.2 inside parts.2 unpinned words out;
+        sized = copy.copied_sized config memory block owner promises graph so_far.holds address piece.0 piece.1 piece.2 inside parts.2 unpinned words out so_far.sized;
+        marked = copy.marked_still config memory block owner promises graph so_far.holds address piece.0 piece.1 piece.2 inside parts.2 unpinned words out so_far.marked;
       }
 
   -- address by address
-  pub copies_hold : (n : ℕ) (m : Word → ℕ) (block : Plot) (a : ℕ) → IsCopiedSoFar c m block owner p g → (plot : Plot) × PiecesStay block plot × IsCopiedSoFar c (copied_from c m a n) plot owner p g
-  copies_hold zero m block a so_far = (block, λ q z is. is, subst (λ w. IsCopiedSoFar c w block owner p g) (sym (copied_none c m a 0)) so_far)
-  copies_hold (suc n) m block a so_far = ⊎_elim
-      (λ (left : is_left c m a ≡ true). ⊎_elim
-      (λ (room : has_copy_room c m a ≡ true).
-      let rest = copies_hold n (copied_out c m a) (more m block so_far a left room) (a + 1) (one_copied m block so_far a left room) in
-      (rest.0, λ q z is. rest.1 q z (more_stay m block so_far a left room q z is), subst (λ w. IsCopiedSoFar c w rest.0 owner p g) (sym (copied_next c m a n left room)) rest.2))
-      (λ (none : has_copy_room c m a ≡ false). (block, λ q z is. is, subst (λ w. IsCopiedSoFar c w block owner p g) (sym (copied_stuck c m a n left none)) so_far))
-      (cases_Bool (has_copy_room c m a)))
-      (λ (other : is_left c m a ≡ false).
-      let rest = copies_hold n m block (a + 1) so_far in
-      (rest.0, rest.1, subst (λ w. IsCopiedSoFar c w rest.0 owner p g) (sym (copied_skips c m a n other)) rest.2))
-      (cases_Bool (is_left c m a))
+  pub copies_hold : (n : ℕ) (memory : Word → ℕ) (block : Plot) (address : ℕ) → IsCopiedSoFar config memory block owner promises graph → (plot : Plot) × PiecesStay block plot × IsCopiedSoFar config (copied_from config memory address n) plot owner promises graph
+  copies_hold zero memory block address so_far = (block, λ q z is. is, subst (λ w. IsCopiedSoFar config w block owner promises graph) (sym (copied_none config memory address 0)) so_far)
+  copies_hold (suc n) memory block address so_far = ⊎_elim
+      (λ (left : is_left config memory address ≡ true). ⊎_elim
+      (λ (room : has_copy_room config memory address ≡ true).
+      let rest = copies_hold n (copied_out config memory address) (more memory block so_far address left room) (address + 1) (one_copied memory block so_far address left room) in
+      (rest.0, λ q z is. rest.1 q z (more_stay memory block so_far address left room q z is), subst (λ w. IsCopiedSoFar config w rest.0 owner promises graph) (sym (copied_next config memory address n left room)) rest.2))
+      (λ (none : has_copy_room config memory address ≡ false). (block, λ q z is. is, subst (λ w. IsCopiedSoFar config w block owner promises graph) (sym (copied_stuck config memory address n left none)) so_far))
+      (cases_Bool (has_copy_room config memory address)))
+      (λ (other : is_left config memory address ≡ false).
+      let rest = copies_hold n memory block (address + 1) so_far in
+      (rest.0, rest.1, subst (λ w. IsCopiedSoFar config w rest.0 owner promises graph) (sym (copied_skips config memory address n other)) rest.2))
+      (cases_Bool (is_left config memory address))
 
   -- only while objects are evacuated
-  pub all_copied_hold : (m : Word → ℕ) (block : Plot) → IsCopiedSoFar c m block owner p g → (plot : Plot) × PiecesStay block plot × IsCopiedSoFar c (all_copied c m) plot owner p g
-  all_copied_hold m block so_far = ⊎_elim
-      (λ (on : m Phase ≡ 2).
-      let all = copies_hold (c.regions * c.region_words) m block c.region_words so_far in
-      let same : copied_from c m c.region_words (c.regions * c.region_words) ≡ all_copied c m =
-      fun_ext (λ word. sym (cond-true (m Phase == 2) (copied_from c m c.region_words (c.regions * c.region_words) word) (m word) (eq-eqb (m Phase) 2 on))) in
-      (all.0, all.1, subst (λ w. IsCopiedSoFar c w all.0 owner p g) same all.2))
-      (λ (off : m Phase ≢ 2).
-      let same : m ≡ all_copied c m =
-      fun_ext (λ word. sym (cond-false (m Phase == 2) (copied_from c m c.region_words (c.regions * c.region_words) word) (m word) (ne_eqb (m Phase) 2 off))) in
-      (block, λ q z is. is, subst (λ w. IsCopiedSoFar c w block owner p g) same so_far))
-      (cases_eq (m Phase) 2)
+  pub all_copied_hold : (memory : Word → ℕ) (block : Plot) → IsCopiedSoFar config memory block owner promises graph → (plot : Plot) × PiecesStay block plot × IsCopiedSoFar config (all_copied config memory) plot owner promises graph
+  all_copied_hold memory block so_far = ⊎_elim
+      (λ (on : memory Phase ≡ 2).
+      let all = copies_hold (config.regions * config.region_words) memory block config.region_words so_far in
+      let same : copied_from config memory config.region_words (config.regions * config.region_words) ≡ all_copied config memory =
+      fun_ext (λ word. sym (cond-true (memory Phase == 2) (copied_from config memory config.region_words (config.regions * config.region_words) word) (memory word) (eq-eqb (memory Phase) 2 on))) in
+      (all.0, all.1, subst (λ w. IsCopiedSoFar config w all.0 owner promises graph) same all.2))
+      (λ (off : memory Phase ≢ 2).
+      let same : memory ≡ all_copied config memory =
+      fun_ext (λ word. sym (cond-false (memory Phase == 2) (copied_from config memory config.region_words (config.regions * config.region_words) word) (memory word) (ne_eqb (memory Phase) 2 off))) in
+      (block, λ q z is. is, subst (λ w. IsCopiedSoFar config w block owner promises graph) same so_far))
+      (cases_eq (memory Phase) 2)
 
-pub copies_all_hold : (c : Config) (m : Word → ℕ) (block : Plot) (owner : ℕ → Option ℕ) (p : Promises) (g : Graph) → HoldsBy c m block owner p g → AreSized m block → AreMarkedObjects c m block
-    → HoldsStill c m (all_copied c m) block owner p g
-copies_all_hold c m block owner p g holds sized marked =
-    let all = all_copied_hold c owner p g m block (record { holds = holds; sized = sized; marked = marked }) in
+pub copies_all_hold : (config : Config) (memory : Word → ℕ) (block : Plot) (owner : ℕ → Option ℕ) (promises : Promises) (graph : Graph) → HoldsBy config memory block owner promises graph → AreSized memory block → AreMarkedObjects config memory block
+    → HoldsStill config memory (all_copied config memory) block owner promises graph
+copies_all_hold config memory block owner promises graph holds sized marked =
+    let all = all_copied_hold config owner promises graph memory block (record { holds = holds; sized = sized; marked = marked }) in
     record { pieces = all.0; stay = all.1; holds = all.2.holds; sized = λ k. all.2.sized }

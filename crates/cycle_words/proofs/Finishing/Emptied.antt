@@ -37,61 +37,61 @@ use Rattle.cycle_words.proofs.Finishing.CopiesHold.{IsCopiedSoFar, left_parts, i
 use Rattle.cycle_words.proofs.Finishing.Fields.{collected_is, collected_low}
 
 -- What holds between two objects, and that nothing is left at the addresses that were passed.
-pub record IsGoingOn (c : Config) (n : Word → ℕ) (plot : Plot) (owner : ℕ → Option ℕ) (p : Promises) (g : Graph) (passed : ℕ) : Type 0 where
-  pub so_far : IsCopiedSoFar c n plot owner p g
-  pub order : IsInOrder c n plot
-  pub none_left : (y : ℕ) → y < passed → is_left c n y ≡ false
+pub record IsGoingOn (config : Config) (memory : Word → ℕ) (plot : Plot) (owner : ℕ → Option ℕ) (promises : Promises) (graph : Graph) (passed : ℕ) : Type 0 where
+  pub so_far : IsCopiedSoFar config memory plot owner promises graph
+  pub order : IsInOrder config memory plot
+  pub none_left : (y : ℕ) → y < passed → is_left config memory y ≡ false
 
-module _ (c : Config) (owner : ℕ → Option ℕ) (p : Promises) (g : Graph) where
+module _ (config : Config) (owner : ℕ → Option ℕ) (promises : Promises) (graph : Graph) where
   -- An object is left, and there is room.
-  module _ (m : Word → ℕ) (block : Plot) (a : ℕ) (on : IsGoingOn c m block owner p g a) (left : is_left c m a ≡ true) (room : has_copy_room c m a ≡ true) where
-    abbrev so_far : IsCopiedSoFar c m block owner p g
+  module _ (memory : Word → ℕ) (block : Plot) (address : ℕ) (on : IsGoingOn config memory block owner promises graph address) (left : is_left config memory address ≡ true) (room : has_copy_room config memory address ≡ true) where
+    abbrev so_far : IsCopiedSoFar config memory block owner promises graph
     so_far = on.so_far
 
     abbrev n : Word → ℕ
-    n = copied_out c m a
+    n = copied_out config memory address
 
-    abbrev out : IsCopiedOut c m (copied_out c m a) a
-    out = copies.out c owner p g m block so_far a left room
+    abbrev out : IsCopiedOut config memory (copied_out config memory address) address
+    out = copies.out config owner promises graph memory block so_far address left room
 
-    abbrev parts : (is_collected c m a ≡ true) × (is_black c m a ≡ true) × (is_forwarded (m (Heap a)) ≡ false)
-    parts = copies.parts c owner p g m block so_far a left
+    abbrev parts : (is_collected config memory address ≡ true) × (is_black config memory address ≡ true) × (is_forwarded (memory (Heap address)) ≡ false)
+    parts = copies.parts config owner promises graph memory block so_far address left
 
-    abbrev inside : IsCollected c (m Cset) a
-    inside = copies.inside c owner p g m block so_far a left
+    abbrev inside : IsCollected config (memory Cset) address
+    inside = copies.inside config owner promises graph memory block so_far address left
 
-    abbrev unpinned : IsUnpinned c m a
-    unpinned = copies.unpinned c owner p g m block so_far a left
+    abbrev unpinned : IsUnpinned config memory address
+    unpinned = copies.unpinned config owner promises graph memory block so_far address left
 
-    abbrev piece : HasObject block a
-    piece = copies.piece c owner p g m block so_far a left
+    abbrev piece : HasObject block address
+    piece = copies.piece config owner promises graph memory block so_far address left
 
-    abbrev words : words_at m a ≡ words_of piece.0
-    words = copies.words c owner p g m block so_far a left
+    abbrev words : words_at memory address ≡ words_of piece.0
+    words = copies.words config owner promises graph memory block so_far address left
 
     -- what is left was left, and is another object
-    left_was : (y : ℕ) → is_left c n y ≡ true → (y ≢ a) × (is_left c m y ≡ true)
+    left_was : (y : ℕ) → is_left config n y ≡ true → (y ≢ address) × (is_left config memory y ≡ true)
     left_was y now =
-        let parts_now = left_parts c n y now in
-        let collected : is_collected c m y ≡ true =
-        sym (copy.collected_same c m block owner p g so_far.holds a piece.0 piece.1 piece.2 inside parts.2 unpinned words out y) ∙ parts_now.0 in
-        let bare : is_pinned c m (region_with c y) ≡ false =
-        sym (same_pinned c m n (copy.pin_same c m block owner p g so_far.holds a piece.0 piece.1 piece.2 inside parts.2 unpinned words out) (region_with c y)) ∙ parts_now.1 in
-        let black : is_black c m y ≡ true = sym (copy.black_same c m block owner p g so_far.holds a piece.0 piece.1 piece.2 inside parts.2 unpinned words out y) ∙ parts_now.2 in
+        let parts_now = left_parts config n y now in
+        let collected : is_collected config memory y ≡ true =
+        sym (copy.collected_same config memory block owner promises graph so_far.holds address piece.0 piece.1 piece.2 inside parts.2 unpinned words out y) ∙ parts_now.0 in
+        let bare : is_pinned config memory (region_with config y) ≡ false =
+        sym (same_pinned config memory n (copy.pin_same config memory block owner promises graph so_far.holds address piece.0 piece.1 piece.2 inside parts.2 unpinned words out) (region_with config y)) ∙ parts_now.1 in
+        let black : is_black config memory y ≡ true = sym (copy.black_same config memory block owner promises graph so_far.holds address piece.0 piece.1 piece.2 inside parts.2 unpinned words out y) ∙ parts_now.2 in
         let plain : is_forwarded (n (Heap y)) ≡ false = parts_now.3 in
-        let other : y ≢ a = λ same.
-        true≢false (sym (copy.moved_now c m block owner p g so_far.holds a piece.0 piece.1 piece.2 inside parts.2 unpinned words out) ∙ ap (λ k. is_forwarded (n (Heap k))) (sym same) ∙ plain) in
+        let other : y ≢ address = λ same.
+        true≢false (sym (copy.moved_now config memory block owner promises graph so_far.holds address piece.0 piece.1 piece.2 inside parts.2 unpinned words out) ∙ ap (λ k. is_forwarded (n (Heap k))) (sym same) ∙ plain) in
         let was = so_far.marked y collected black in
-        let same : n (Heap y) ≡ m (Heap y) = copy.header_same c m block owner p g so_far.holds a piece.0 piece.1 piece.2 inside parts.2 unpinned words out y was.0 other was.1 in
-        (other, is_left_if c m y collected bare black (ap is_forwarded (sym same) ∙ plain))
+        let same : n (Heap y) ≡ memory (Heap y) = copy.header_same config memory block owner promises graph so_far.holds address piece.0 piece.1 piece.2 inside parts.2 unpinned words out y was.0 other was.1 in
+        (other, is_left_if config memory y collected bare black (ap is_forwarded (sym same) ∙ plain))
 
-    one_more : (plot : Plot) × IsGoingOn c n plot owner p g (a + 1)
+    one_more : (plot : Plot) × IsGoingOn config n plot owner promises graph (address + 1)
     one_more = (
-      copy.plot c m block owner p g so_far.holds a piece.0 piece.1 piece.2 inside parts.2 unpinned words out,
+      copy.plot config memory block owner promises graph so_far.holds address piece.0 piece.1 piece.2 inside parts.2 unpinned words out,
       record {
-        so_far = copies.one_copied c owner p g m block so_far a left room;
-        order = copy.order_still c m block owner p g so_far.holds a piece.0 piece.1 piece.2 inside parts.2 unpinned words out on.order;
-        none_left = λ y below. false_from_ne_true (is_left c n y) (λ now.
+        so_far = copies.one_copied config owner promises graph memory block so_far address left room;
+        order = copy.order_still config memory block owner promises graph so_far.holds address piece.0 piece.1 piece.2 inside parts.2 unpinned words out on.order;
+        none_left = λ y below. false_from_ne_true (is_left config n y) (λ now.
             let was = left_was y now in
             let other = was.0 in
             true≢false (sym was.1 ∙ on.none_left y (omega (arith, below, other))));
@@ -99,67 +99,67 @@ module _ (c : Config) (owner : ℕ → Option ℕ) (p : Promises) (g : Graph) wh
     )
 
   -- address by address, where each object finds room
-  all_passed : (n : ℕ) (m : Word → ℕ) (block : Plot) (a : ℕ) → IsGoingOn c m block owner p g a → is_room_from c m a n ≡ true
-      → (plot : Plot) × IsGoingOn c (copied_from c m a n) plot owner p g (a + n)
-  all_passed zero m block a on room =
-      (block, subst (λ w. IsGoingOn c w block owner p g (a + 0)) (sym (copied_none c m a 0)) (subst (IsGoingOn c m block owner p g) (omega arith) on))
-  all_passed (suc n) m block a on room = ⊎_elim
-      (λ (left : is_left c m a ≡ true).
-      let both = room_if c m a n left room in
-      let one = one_more m block a on left both.0 in
-      let rest = all_passed n (copied_out c m a) one.0 (a + 1) one.1 both.1 in (
+  all_passed : (n : ℕ) (memory : Word → ℕ) (block : Plot) (address : ℕ) → IsGoingOn config memory block owner promises graph address → is_room_from config memory address n ≡ true
+      → (plot : Plot) × IsGoingOn config (copied_from config memory address n) plot owner promises graph (address + n)
+  all_passed zero memory block address on room =
+      (block, subst (λ w. IsGoingOn config w block owner promises graph (address + 0)) (sym (copied_none config memory address 0)) (subst (IsGoingOn config memory block owner promises graph) (omega arith) on))
+  all_passed (suc n) memory block address on room = ⊎_elim
+      (λ (left : is_left config memory address ≡ true).
+      let both = room_if config memory address n left room in
+      let one = one_more memory block address on left both.0 in
+      let rest = all_passed n (copied_out config memory address) one.0 (address + 1) one.1 both.1 in (
         rest.0,
-        subst (λ w. IsGoingOn c w rest.0 owner p g (a + suc n)) (sym (copied_next c m a n left both.0))
-            (subst (IsGoingOn c (copied_from c (copied_out c m a) (a + 1) n) rest.0 owner p g) (omega arith) rest.1),
+        subst (λ w. IsGoingOn config w rest.0 owner promises graph (address + suc n)) (sym (copied_next config memory address n left both.0))
+            (subst (IsGoingOn config (copied_from config (copied_out config memory address) (address + 1) n) rest.0 owner promises graph) (omega arith) rest.1),
       ))
-      (λ (other : is_left c m a ≡ false).
-      let next : IsGoingOn c m block owner p g (a + 1) = record {
+      (λ (other : is_left config memory address ≡ false).
+      let next : IsGoingOn config memory block owner promises graph (address + 1) = record {
         so_far = on.so_far;
         order = on.order;
         none_left = λ y below. ⊎_elim
-            (λ (here : y ≡ a). ap (is_left c m) here ∙ other)
-            (λ (before : y ≢ a). on.none_left y (omega (arith, below, before)))
-            (cases_eq y a);
+            (λ (here : y ≡ address). ap (is_left config memory) here ∙ other)
+            (λ (before : y ≢ address). on.none_left y (omega (arith, below, before)))
+            (cases_eq y address);
       } in
-      let rest = all_passed n m block (a + 1) next (room_skips c m a n other room) in (
+      let rest = all_passed n memory block (address + 1) next (room_skips config memory address n other room) in (
         rest.0,
-        subst (λ w. IsGoingOn c w rest.0 owner p g (a + suc n)) (sym (copied_skips c m a n other))
-            (subst (IsGoingOn c (copied_from c m (a + 1) n) rest.0 owner p g) (omega arith) rest.1),
+        subst (λ w. IsGoingOn config w rest.0 owner promises graph (address + suc n)) (sym (copied_skips config memory address n other))
+            (subst (IsGoingOn config (copied_from config memory (address + 1) n) rest.0 owner promises graph) (omega arith) rest.1),
       ))
-      (cases_Bool (is_left c m a))
+      (cases_Bool (is_left config memory address))
 
 -- What is left once all found room: nothing that can be reached lies in the set, but in pinned regions.
-pub record IsEmptied (c : Config) (n : Word → ℕ) (plot : Plot) (owner : ℕ → Option ℕ) (p : Promises) (g : Graph) : Type 0 where
-  pub holds : HoldsBy c n plot owner p g
-  pub sized : AreSized n plot
-  pub reachable : n Cset ≢ 0 → (a : ℕ) → CanBeReached c n a → IsKept c n a
-  pub unseated : (seat r : ℕ) → EndsIn c n seat r → IsIn (n Cset) r → ⊥
-  pub outside : NothingInside c n
+pub record IsEmptied (config : Config) (memory : Word → ℕ) (plot : Plot) (owner : ℕ → Option ℕ) (promises : Promises) (graph : Graph) : Type 0 where
+  pub holds : HoldsBy config memory plot owner promises graph
+  pub sized : AreSized memory plot
+  pub reachable : memory Cset ≢ 0 → (a : ℕ) → CanBeReached config memory a → IsKept config memory a
+  pub unseated : (seat region : ℕ) → EndsIn config memory seat region → IsIn (memory Cset) region → ⊥
+  pub outside : NothingInside config memory
 
-module _ (c : Config) (n : Word → ℕ) (plot : Plot) (owner : ℕ → Option ℕ) (p : Promises) (g : Graph) (passed : ℕ) (on : IsGoingOn c n plot owner p g passed)
-    (all : (c.regions + 1) * c.region_words ≤ passed) where
+module _ (config : Config) (memory : Word → ℕ) (plot : Plot) (owner : ℕ → Option ℕ) (promises : Promises) (graph : Graph) (passed : ℕ) (on : IsGoingOn config memory plot owner promises graph passed)
+    (all : (config.regions + 1) * config.region_words ≤ passed) where
   -- what can be reached in the set, in a region that is not pinned, would be left
-  none_inside : (a : ℕ) → CanBeReached c n a → IsCollected c (n Cset) a → is_pinned c n (region_with c a) ≡ false → ⊥
-  none_inside a reached inside unpinned =
-      let at = held_is_reached c (λ r. n (Top r)) (λ y. n (Heap y)) plot (now_in n) (IsAmong (held_words c n)) (with_promised g p) on.so_far.holds.objects a reached in
-      let object = on.so_far.holds.objects.each a at.1 at.2 at.0 reached at.3 in
-      let lies = piece_inside c (λ r. n (Top r)) plot on.so_far.holds.objects.plotted a (thing at.0 at.1 at.2) at.3 in
+  none_inside : (address : ℕ) → CanBeReached config memory address → IsCollected config (memory Cset) address → is_pinned config memory (region_with config address) ≡ false → ⊥
+  none_inside address reached inside unpinned =
+      let at = held_is_reached config (λ r. memory (Top r)) (λ y. memory (Heap y)) plot (now_in memory) (IsAmong (held_words config memory)) (with_promised graph promises) on.so_far.holds.objects address reached in
+      let object = on.so_far.holds.objects.each address at.1 at.2 at.0 reached at.3 in
+      let lies = piece_inside config (λ r. memory (Top r)) plot on.so_far.holds.objects.plotted address (thing at.0 at.1 at.2) at.3 in
       ⊎_elim
-      (λ (black : is_black c n a ≡ true).
-      let left : is_left c n a ≡ true = is_left_if c n a (collected_is c n a lies.0 inside) unpinned black (ap is_forwarded object.2.header) in
-      true≢false (sym left ∙ on.none_left a (let end = lies.1 in omega (arith, end, all))))
-      (λ (fresh : IsNew c n a).
-      let below = below_top c (λ r. n (Top r)) plot on.so_far.holds.objects.plotted a (thing at.0 at.1 at.2) at.3 (omega arith) in
-      let old = on.order.no_new (region_with c a) inside in
+      (λ (black : is_black config memory address ≡ true).
+      let left : is_left config memory address ≡ true = is_left_if config memory address (collected_is config memory address lies.0 inside) unpinned black (ap is_forwarded object.2.header) in
+      true≢false (sym left ∙ on.none_left address (let end = lies.1 in omega (arith, end, all))))
+      (λ (fresh : IsNew config memory address).
+      let below = below_top config (λ r. memory (Top r)) plot on.so_far.holds.objects.plotted address (thing at.0 at.1 at.2) at.3 (omega arith) in
+      let old = on.order.no_new (region_with config address) inside in
       let from = below.1 in
       let end = below.2 in
       omega (arith, fresh, old, from, end))
-      (on.order.reachable a reached)
+      (on.order.reachable address reached)
 
-  nothing_inside : NothingInside c n
-  nothing_inside a reached inside = true_from_ne_false (is_pinned c n (region_with c a)) (none_inside a reached inside)
+  nothing_inside : NothingInside config memory
+  nothing_inside a reached inside = true_from_ne_false (is_pinned config memory (region_with config a)) (none_inside a reached inside)
 
-  emptied : IsEmptied c n plot owner p g
+  emptied : IsEmptied config memory plot owner promises graph
   emptied = record {
     holds = on.so_far.holds;
     sized = on.so_far.sized;
@@ -178,54 +178,54 @@ none_left_inside c m block owner p g holds sized while none a reached inside =
     })
     (omega arith) a reached inside
 
-module _ (c : Config) (m : Word → ℕ) (block : Plot) (owner : ℕ → Option ℕ) (p : Promises) (g : Graph) (holds : HoldsBy c m block owner p g) (sized : AreSized m block)
-    (while : WhileCollecting c m block) (room : is_room_for_all c m ≡ true) where
-  as_it_is : NothingInside c m → IsEmptied c m block owner p g
+module _ (config : Config) (memory : Word → ℕ) (block : Plot) (owner : ℕ → Option ℕ) (promises : Promises) (graph : Graph) (holds : HoldsBy config memory block owner promises graph) (sized : AreSized memory block)
+    (while : WhileCollecting config memory block) (room : is_room_for_all config memory ≡ true) where
+  as_it_is : NothingInside config memory → IsEmptied config memory block owner promises graph
   as_it_is outside = record { holds = holds; sized = sized; reachable = while.reachable; unseated = while.unseated; outside = outside }
 
-  at_first : IsCopiedSoFar c m block owner p g
+  at_first : IsCopiedSoFar config memory block owner promises graph
   at_first = record { holds = holds; sized = sized; marked = while.marked }
 
-  in_phase : m Phase ≡ 2 → m Cset ≢ 0 → (plot : Plot) × IsEmptied c (all_copied c m) plot owner p g
+  in_phase : memory Phase ≡ 2 → memory Cset ≢ 0 → (plot : Plot) × IsEmptied config (all_copied config memory) plot owner promises graph
   in_phase at some =
-      let begins : IsGoingOn c m block owner p g c.region_words = record {
+      let begins : IsGoingOn config memory block owner promises graph config.region_words = record {
         so_far = at_first;
-        order = in_order c m block while some;
-        none_left = λ y below. false_from_ne_true (is_left c m y) (λ left. true≢false (sym (left_parts c m y left).0 ∙ collected_low c m y below));
+        order = in_order config memory block while some;
+        none_left = λ y below. false_from_ne_true (is_left config memory y) (λ left. true≢false (sym (left_parts config memory y left).0 ∙ collected_low config memory y below));
       } in
-      let found : is_room_from c m c.region_words (c.regions * c.region_words) ≡ true =
-      sym (cond-true (m Phase == 2) (is_room_from c m c.region_words (c.regions * c.region_words)) true (eq-eqb (m Phase) 2 at)) ∙ room in
-      let all = all_passed c owner p g (c.regions * c.region_words) m block c.region_words begins found in
-      let same : copied_from c m c.region_words (c.regions * c.region_words) ≡ all_copied c m =
-      fun_ext (λ word. sym (cond-true (m Phase == 2) (copied_from c m c.region_words (c.regions * c.region_words) word) (m word) (eq-eqb (m Phase) 2 at))) in (
+      let found : is_room_from config memory config.region_words (config.regions * config.region_words) ≡ true =
+      sym (cond-true (memory Phase == 2) (is_room_from config memory config.region_words (config.regions * config.region_words)) true (eq-eqb (memory Phase) 2 at)) ∙ room in
+      let all = all_passed config owner promises graph (config.regions * config.region_words) memory block config.region_words begins found in
+      let same : copied_from config memory config.region_words (config.regions * config.region_words) ≡ all_copied config memory =
+      fun_ext (λ word. sym (cond-true (memory Phase == 2) (copied_from config memory config.region_words (config.regions * config.region_words) word) (memory word) (eq-eqb (memory Phase) 2 at))) in (
         all.0,
-        subst (λ w. IsEmptied c w all.0 owner p g) same
-            (emptied c (copied_from c m c.region_words (c.regions * c.region_words)) all.0 owner p g (c.region_words + c.regions * c.region_words) all.1 (omega arith)),
+        subst (λ w. IsEmptied config w all.0 owner promises graph) same
+            (emptied config (copied_from config memory config.region_words (config.regions * config.region_words)) all.0 owner promises graph (config.region_words + config.regions * config.region_words) all.1 (omega arith)),
       )
 
   -- without a set, and in other phases
-  without : m Cset ≡ 0 → (plot : Plot) × IsEmptied c (all_copied c m) plot owner p g
+  without : memory Cset ≡ 0 → (plot : Plot) × IsEmptied config (all_copied config memory) plot owner promises graph
   without none =
-      let all = copies.all_copied_hold c owner p g m block at_first in
-      let is_zero : all_copied c m Cset ≡ 0 = all_copied_set c m ∙ none in (
+      let all = copies.all_copied_hold config owner promises graph memory block at_first in
+      let is_zero : all_copied config memory Cset ≡ 0 = all_copied_set config memory ∙ none in (
         all.0,
         record {
           holds = all.2.holds;
           sized = all.2.sized;
           reachable = λ some. absurd (some is_zero);
-          unseated = λ seat r is member. absurd (let bit : bit_at (all_copied c m Cset) r ≡ 0 = ap (λ k. bit_at k r) is_zero ∙ bit_at-zero r in omega (arith, bit, member));
-          outside = λ a reached inside. absurd (some_set c (all_copied c m Cset) a inside is_zero);
+          unseated = λ seat r is member. absurd (let bit : bit_at (all_copied config memory Cset) r ≡ 0 = ap (λ k. bit_at k r) is_zero ∙ bit_at-zero r in omega (arith, bit, member));
+          outside = λ a reached inside. absurd (some_set config (all_copied config memory Cset) a inside is_zero);
         },
       )
 
-  other_phase : m Phase ≢ 2 → (plot : Plot) × IsEmptied c (all_copied c m) plot owner p g
+  other_phase : memory Phase ≢ 2 → (plot : Plot) × IsEmptied config (all_copied config memory) plot owner promises graph
   other_phase off =
-      let same : m ≡ all_copied c m =
-      fun_ext (λ word. sym (cond-false (m Phase == 2) (copied_from c m c.region_words (c.regions * c.region_words) word) (m word) (ne_eqb (m Phase) 2 off))) in
-      (block, subst (λ w. IsEmptied c w block owner p g) same (as_it_is (while.outside off)))
+      let same : memory ≡ all_copied config memory =
+      fun_ext (λ word. sym (cond-false (memory Phase == 2) (copied_from config memory config.region_words (config.regions * config.region_words) word) (memory word) (ne_eqb (memory Phase) 2 off))) in
+      (block, subst (λ w. IsEmptied config w block owner promises graph) same (as_it_is (while.outside off)))
 
-  pub emptied_then : (plot : Plot) × IsEmptied c (all_copied c m) plot owner p g
+  pub emptied_then : (plot : Plot) × IsEmptied config (all_copied config memory) plot owner promises graph
   emptied_then = ⊎_elim
-      (λ (none : m Cset ≡ 0). without none)
-      (λ (some : m Cset ≢ 0). ⊎_elim (λ (at : m Phase ≡ 2). in_phase at some) (λ (off : m Phase ≢ 2). other_phase off) (cases_eq (m Phase) 2))
-      (cases_eq (m Cset) 0)
+      (λ (none : memory Cset ≡ 0). without none)
+      (λ (some : memory Cset ≢ 0). ⊎_elim (λ (at : memory Phase ≡ 2). in_phase at some) (λ (off : memory Phase ≢ 2). other_phase off) (cases_eq (memory Phase) 2))
+      (cases_eq (memory Cset) 0)

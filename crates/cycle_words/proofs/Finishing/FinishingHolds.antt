@@ -45,160 +45,160 @@ use Rattle.cycle_words.proofs.Finishing.Emptied.{IsEmptied, emptied_then}
 use Rattle.cycle_words.proofs.Finishing.SetLeft.{leaving_holds}
 
 -- Once the set was emptied and all references were updated nothing names what goes.
-module _ (c : Config) (m : Word → ℕ) (block : Plot) (owner : ℕ → Option ℕ) (p : Promises) (g : Graph) (is : IsEmptied c m block owner p g) (none : HasNoRoom block) where
+module _ (config : Config) (memory : Word → ℕ) (block : Plot) (owner : ℕ → Option ℕ) (promises : Promises) (graph : Graph) (is : IsEmptied config memory block owner promises graph) (none : HasNoRoom block) where
   abbrev n : Word → ℕ
-  n = all_updated c m
+  n = all_updated config memory
 
   abbrev top : ℕ → ℕ
-  top r = m (Top r)
+  top region = memory (Top region)
 
   abbrev heap : ℕ → ℕ
-  heap a = m (Heap a)
+  heap address = memory (Heap address)
 
-  abbrev holds : HoldsBy c m block owner p g
+  abbrev holds : HoldsBy config memory block owner promises graph
   holds = is.holds
 
-  reached_was : (a : ℕ) → CanBeReached c n a → CanBeReached c m a
-  reached_was = renamed.reached_was c m n block owner p g holds (renaming c m block owner p g holds is.sized none)
+  reached_was : (a : ℕ) → CanBeReached config n a → CanBeReached config memory a
+  reached_was = renamed.reached_was config memory n block owner promises graph holds (renaming config memory block owner promises graph holds is.sized none)
 
   -- what can be reached does not go
-  reached_spared : (w : ℕ) → CanBeReached c m w → is_going c n w ≡ false
-  reached_spared w reached = false_from_ne_true (is_going c n w) (λ going.
-      let both = and_parts (is_collected c n w) (not (is_pinned c n (region_with c w)) || is_forwarded (n (Heap w))) going in
-      let inside : IsCollected c (m Cset) w =
-      eqb-true (bit_at (m Cset) (region_with c w)) 1 (and_parts (nat_le c.region_words w) (bit_at (m Cset) (region_with c w) == 1) both.0).1 in
-      let pinned : is_pinned c m (region_with c w) ≡ true = is.outside w reached inside in
-      let at = held_is_reached c top heap block (now_in m) (IsAmong (held_words c m)) (with_promised g p) holds.objects w reached in
-      let object = holds.objects.each w at.1 at.2 at.0 reached at.3 in
-      let same : n (Heap w) ≡ m (Heap w) = header_stays c m block owner p g holds is.sized none w (thing at.0 at.1 at.2) at.3 in
+  reached_spared : (address : ℕ) → CanBeReached config memory address → is_going config n address ≡ false
+  reached_spared address reached = false_from_ne_true (is_going config n address) (λ going.
+      let both = and_parts (is_collected config n address) (not (is_pinned config n (region_with config address)) || is_forwarded (n (Heap address))) going in
+      let inside : IsCollected config (memory Cset) address =
+      eqb-true (bit_at (memory Cset) (region_with config address)) 1 (and_parts (nat_le config.region_words address) (bit_at (memory Cset) (region_with config address) == 1) both.0).1 in
+      let pinned : is_pinned config memory (region_with config address) ≡ true = is.outside address reached inside in
+      let at = held_is_reached config top heap block (now_in memory) (IsAmong (held_words config memory)) (with_promised graph promises) holds.objects address reached in
+      let object = holds.objects.each address at.1 at.2 at.0 reached at.3 in
+      let same : n (Heap address) ≡ memory (Heap address) = header_stays config memory block owner promises graph holds is.sized none address (thing at.0 at.1 at.2) at.3 in
       ⊎_elim
-      (λ (bare : not (is_pinned c n (region_with c w)) ≡ true). true≢false (sym pinned ∙ not-true (is_pinned c m (region_with c w)) bare))
-      (λ (moved : is_forwarded (n (Heap w)) ≡ true). true≢false (sym moved ∙ ap is_forwarded same ∙ ap is_forwarded object.2.header))
-      (or_cases (not (is_pinned c n (region_with c w))) (is_forwarded (n (Heap w))) both.1))
+      (λ (bare : not (is_pinned config n (region_with config address)) ≡ true). true≢false (sym pinned ∙ not-true (is_pinned config memory (region_with config address)) bare))
+      (λ (moved : is_forwarded (n (Heap address)) ≡ true). true≢false (sym moved ∙ ap is_forwarded same ∙ ap is_forwarded object.2.header))
+      (or_cases (not (is_pinned config n (region_with config address))) (is_forwarded (n (Heap address))) both.1))
 
   -- so a word that led to an object names nothing that goes once it was updated
-  word_spared : (v : ℕ) → CanBeReached c m (now_in m v) → is_going c n (updated_word c m v) ≡ false
-  word_spared v reached = ⊎_elim
-      (λ (yes : is_collected c m v ≡ true). ap (is_going c n) (cond-true (is_collected c m v) (now_in m v) v yes) ∙ reached_spared (now_in m v) reached)
-      (λ (no : is_collected c m v ≡ false).
-      ap (is_going c n) (cond-false (is_collected c m v) (now_in m v) v no) ∙ and_left (is_collected c n v) (not (is_pinned c n (region_with c v)) || is_forwarded (n (Heap v))) no)
-      (cases_Bool (is_collected c m v))
+  word_spared : (address : ℕ) → CanBeReached config memory (now_in memory address) → is_going config n (updated_word config memory address) ≡ false
+  word_spared address reached = ⊎_elim
+      (λ (yes : is_collected config memory address ≡ true). ap (is_going config n) (cond-true (is_collected config memory address) (now_in memory address) address yes) ∙ reached_spared (now_in memory address) reached)
+      (λ (no : is_collected config memory address ≡ false).
+      ap (is_going config n) (cond-false (is_collected config memory address) (now_in memory address) address no) ∙ and_left (is_collected config n address) (not (is_pinned config n (region_with config address)) || is_forwarded (n (Heap address))) no)
+      (cases_Bool (is_collected config memory address))
 
-  root_spared : (t i : ℕ) → t < c.mutators → i < 16 → n (Root t i) ≢ 0 → is_going c n (n (Root t i)) ≡ false
-  root_spared t i inside few some =
-      let other : m (Root t i) ≢ 0 = λ none. some (low_spared c m (m (Root t i)) (omega (arith, none)) ∙ none) in
-      word_spared (m (Root t i)) (from_root (m (Root t i)) (root_among c top m block g p holds.objects.plotted holds.rooted t i inside few) other)
+  root_spared : (mutator index : ℕ) → mutator < config.mutators → index < 16 → n (Root mutator index) ≢ 0 → is_going config n (n (Root mutator index)) ≡ false
+  root_spared mutator index inside few some =
+      let other : memory (Root mutator index) ≢ 0 = λ none. some (low_spared config memory (memory (Root mutator index)) (omega (arith, none)) ∙ none) in
+      word_spared (memory (Root mutator index)) (from_root (memory (Root mutator index)) (root_among config top memory block graph promises holds.objects.plotted holds.rooted mutator index inside few) other)
 
-  answer_spared : (t : ℕ) → t < c.mutators → 1 < n (Answer t) → is_going c n (n (Answer t)) ≡ false
-  answer_spared t inside some = ⊎_elim
-      (λ (big : 1 < m (Answer t)).
-      word_spared (m (Answer t)) (from_root (m (Answer t)) (answer_among c top m block g p holds.objects.plotted holds.rooted t inside big) (λ none. omega (arith, none, big))))
-      (λ (low : m (Answer t) ≤ 1). absurd (let same = low_spared c m (m (Answer t)) low in omega (arith, same, low, some)))
-      (cases_lt 1 (m (Answer t)))
+  answer_spared : (mutator : ℕ) → mutator < config.mutators → 1 < n (Answer mutator) → is_going config n (n (Answer mutator)) ≡ false
+  answer_spared mutator inside some = ⊎_elim
+      (λ (big : 1 < memory (Answer mutator)).
+      word_spared (memory (Answer mutator)) (from_root (memory (Answer mutator)) (answer_among config top memory block graph promises holds.objects.plotted holds.rooted mutator inside big) (λ none. omega (arith, none, big))))
+      (λ (low : memory (Answer mutator) ≤ 1). absurd (let same = low_spared config memory (memory (Answer mutator)) low in omega (arith, same, low, some)))
+      (cases_lt 1 (memory (Answer mutator)))
 
   -- what a pin slot holds has not moved
-  pin_plain : (word : ℕ) (held : Option Pinned) → word ≢ 0 → PinWordStands m block word held → is_forwarded (m (Heap word)) ≡ false
+  pin_plain : (word : ℕ) (held : Option Pinned) → word ≢ 0 → PinWordStands memory block word held → is_forwarded (memory (Heap word)) ≡ false
   pin_plain word None some stands = absurd (some stands)
   pin_plain word (Some q) some stands = stands.2
 
-  pin_spared : (t i : ℕ) → t < c.mutators → i < 4 → m (Pin t i) ≢ 0 → is_going c n (m (Pin t i)) ≡ false
-  pin_spared t i inside few some =
-      let plain = pin_plain (m (Pin t i)) (g.pin (t + 1) i) some (holds.rooted.pins t i inside few) in
-      let led = from_root (m (Pin t i)) (pin_among c top m block g p holds.objects.plotted holds.rooted t i inside few) some in
-      reached_spared (m (Pin t i)) (subst (CanBeReached c m) (cond-false (is_forwarded (m (Heap (m (Pin t i))))) (forwardee_in (m (Heap (m (Pin t i))))) (m (Pin t i)) plain) led)
+  pin_spared : (mutator index : ℕ) → mutator < config.mutators → index < 4 → memory (Pin mutator index) ≢ 0 → is_going config n (memory (Pin mutator index)) ≡ false
+  pin_spared mutator index inside few some =
+      let plain = pin_plain (memory (Pin mutator index)) (graph.pin (mutator + 1) index) some (holds.rooted.pins mutator index inside few) in
+      let led = from_root (memory (Pin mutator index)) (pin_among config top memory block graph promises holds.objects.plotted holds.rooted mutator index inside few) some in
+      reached_spared (memory (Pin mutator index)) (subst (CanBeReached config memory) (cond-false (is_forwarded (memory (Heap (memory (Pin mutator index))))) (forwardee_in (memory (Heap (memory (Pin mutator index))))) (memory (Pin mutator index)) plain) led)
 
-  named_spared : (word : ℕ) → IsAmong (root_words c n) word → word ≢ 0 → is_going c n word ≡ false
+  named_spared : (word : ℕ) → IsAmong (root_words config n) word → word ≢ 0 → is_going config n word ≡ false
   named_spared word among some = ⊎_elim
-      (λ (root : has (roots_below n c.mutators) word ≡ true).
-      let at = root_in n c.mutators word root in
-      sym (ap (is_going c n) at.4) ∙ root_spared at.0 at.1 at.2 at.3 (λ none. some (sym at.4 ∙ none)))
-      (λ (answer : has (answers_below n c.mutators) word ≡ true).
-      let at = answer_in n c.mutators word answer in
-      sym (ap (is_going c n) at.3) ∙ answer_spared at.0 at.1 at.2)
-      (has_either (roots_below n c.mutators) (answers_below n c.mutators) word among)
+      (λ (root : has (roots_below n config.mutators) word ≡ true).
+      let at = root_in n config.mutators word root in
+      sym (ap (is_going config n) at.4) ∙ root_spared at.0 at.1 at.2 at.3 (λ none. some (sym at.4 ∙ none)))
+      (λ (answer : has (answers_below n config.mutators) word ≡ true).
+      let at = answer_in n config.mutators word answer in
+      sym (ap (is_going config n) at.3) ∙ answer_spared at.0 at.1 at.2)
+      (has_either (roots_below n config.mutators) (answers_below n config.mutators) word among)
 
-  held_spared : (word : ℕ) → IsAmong (held_words c n) word → word ≢ 0 → is_going c n word ≡ false
+  held_spared : (word : ℕ) → IsAmong (held_words config n) word → word ≢ 0 → is_going config n word ≡ false
   held_spared word among some = ⊎_elim
-      (λ (named : has (root_words c n) word ≡ true). named_spared word named some)
-      (λ (pin : has (pins_below n c.mutators) word ≡ true).
-      let at = pin_in n c.mutators word pin in
-      sym (ap (is_going c n) at.4) ∙ pin_spared at.0 at.1 at.2 at.3 (λ none. some (sym at.4 ∙ none)))
-      (has_either (root_words c n) (pins_below n c.mutators) word among)
+      (λ (named : has (root_words config n) word ≡ true). named_spared word named some)
+      (λ (pin : has (pins_below n config.mutators) word ≡ true).
+      let at = pin_in n config.mutators word pin in
+      sym (ap (is_going config n) at.4) ∙ pin_spared at.0 at.1 at.2 at.3 (λ none. some (sym at.4 ∙ none)))
+      (has_either (root_words config n) (pins_below n config.mutators) word among)
 
   -- objects of a region stay in which something can be reached
-  stays_there : (a : ℕ) → CanBeReached c m a → stays c m (region_with c a) ≡ true
-  stays_there a reached = ⊎_elim
-      (λ (inside : IsCollected c (m Cset) a). stays_pinned c m (region_with c a) (is.outside a reached inside))
-      (λ (away : IsCollected c (m Cset) a → ⊥). stays_outside c m (region_with c a) away)
-      (cases_eq (bit_at (m Cset) (region_with c a)) 1)
+  stays_there : (address : ℕ) → CanBeReached config memory address → stays config memory (region_with config address) ≡ true
+  stays_there address reached = ⊎_elim
+      (λ (inside : IsCollected config (memory Cset) address). stays_pinned config memory (region_with config address) (is.outside address reached inside))
+      (λ (away : IsCollected config (memory Cset) address → ⊥). stays_outside config memory (region_with config address) away)
+      (cases_eq (bit_at (memory Cset) (region_with config address)) 1)
 
   -- a field of what can be reached is updated, if a region is in the set
-  field_kept : (a i : ℕ) → m Cset ≢ 0 → CanBeReached c m a → i < refs_in (heap (a + 1)) → is_kept_field c m (a + 3 + i) ≡ true
-  field_kept a i set was count =
-      let at = held_is_reached c top heap block (now_in m) (IsAmong (held_words c m)) (with_promised g p) holds.objects a was in
-      let object = holds.objects.each a at.1 at.2 at.0 was at.3 in
-      is_field c m block owner p g holds is.sized none (a + 3 + i)
+  field_kept : (address i : ℕ) → memory Cset ≢ 0 → CanBeReached config memory address → i < refs_in (heap (address + 1)) → is_kept_field config memory (address + 3 + i) ≡ true
+  field_kept address i set was count =
+      let at = held_is_reached config top heap block (now_in memory) (IsAmong (held_words config memory)) (with_promised graph promises) holds.objects address was in
+      let object = holds.objects.each address at.1 at.2 at.0 was at.3 in
+      is_field config memory block owner promises graph holds is.sized none (address + 3 + i)
       (record {
-        object = a;
+        object = address;
         piece = thing at.0 at.1 at.2;
         here = at.3;
         is_object = refl;
-        stays_there = stays_there a was;
+        stays_there = stays_there address was;
         unmoved = ap is_forwarded object.2.header;
-        kept = is.reachable set a was;
+        kept = is.reachable set address was;
         field = i;
         few = count;
         at = refl;
       })
 
-  field_spared : (a i : ℕ) → CanBeReached c n a → i < refs_in (n (Heap (a + 1))) → n (Heap (a + 3 + i)) ≢ 0 → is_going c n (n (Heap (a + 3 + i))) ≡ false
-  field_spared a i reached few some = false_from_ne_true (is_going c n (n (Heap (a + 3 + i)))) (λ going.
-      let both = and_parts (is_collected c n (n (Heap (a + 3 + i)))) (not (is_pinned c n (region_with c (n (Heap (a + 3 + i))))) || is_forwarded (n (Heap (n (Heap (a + 3 + i)))))) going in
-      let member : IsCollected c (m Cset) (n (Heap (a + 3 + i))) =
-      eqb-true (bit_at (m Cset) (region_with c (n (Heap (a + 3 + i))))) 1
-      (and_parts (nat_le c.region_words (n (Heap (a + 3 + i)))) (bit_at (m Cset) (region_with c (n (Heap (a + 3 + i)))) == 1) both.0).1 in
-      let was = reached_was a reached in
-      let at = held_is_reached c top heap block (now_in m) (IsAmong (held_words c m)) (with_promised g p) holds.objects a was in
-      let shape : n (Heap (a + 1)) ≡ heap (a + 1) = word_stays c m block owner p g holds is.sized none a 1 0 (thing at.0 at.1 at.2) at.3 (omega arith) (inl (omega arith)) in
-      let count : i < refs_in (heap (a + 1)) = subst (λ k. i < k) (ap refs_in shape) few in
-      let field = field_kept a i (some_set c (m Cset) (n (Heap (a + 3 + i))) member) was count in
-      let same : n (Heap (a + 3 + i)) ≡ updated_word c m (heap (a + 3 + i)) = cond-true (is_kept_field c m (a + 3 + i)) (updated_word c m (heap (a + 3 + i))) (heap (a + 3 + i)) field in
-      let other : heap (a + 3 + i) ≢ 0 = λ none. some (same ∙ low_spared c m (heap (a + 3 + i)) (omega (arith, none)) ∙ none) in
-      true≢false (sym going ∙ ap (is_going c n) same ∙ word_spared (heap (a + 3 + i)) (from_field a i was count other)))
+  field_spared : (address i : ℕ) → CanBeReached config n address → i < refs_in (n (Heap (address + 1))) → n (Heap (address + 3 + i)) ≢ 0 → is_going config n (n (Heap (address + 3 + i))) ≡ false
+  field_spared address i reached few some = false_from_ne_true (is_going config n (n (Heap (address + 3 + i)))) (λ going.
+      let both = and_parts (is_collected config n (n (Heap (address + 3 + i)))) (not (is_pinned config n (region_with config (n (Heap (address + 3 + i))))) || is_forwarded (n (Heap (n (Heap (address + 3 + i)))))) going in
+      let member : IsCollected config (memory Cset) (n (Heap (address + 3 + i))) =
+      eqb-true (bit_at (memory Cset) (region_with config (n (Heap (address + 3 + i))))) 1
+      (and_parts (nat_le config.region_words (n (Heap (address + 3 + i)))) (bit_at (memory Cset) (region_with config (n (Heap (address + 3 + i)))) == 1) both.0).1 in
+      let was = reached_was address reached in
+      let at = held_is_reached config top heap block (now_in memory) (IsAmong (held_words config memory)) (with_promised graph promises) holds.objects address was in
+      let shape : n (Heap (address + 1)) ≡ heap (address + 1) = word_stays config memory block owner promises graph holds is.sized none address 1 0 (thing at.0 at.1 at.2) at.3 (omega arith) (inl (omega arith)) in
+      let count : i < refs_in (heap (address + 1)) = subst (λ k. i < k) (ap refs_in shape) few in
+      let field = field_kept address i (some_set config (memory Cset) (n (Heap (address + 3 + i))) member) was count in
+      let same : n (Heap (address + 3 + i)) ≡ updated_word config memory (heap (address + 3 + i)) = cond-true (is_kept_field config memory (address + 3 + i)) (updated_word config memory (heap (address + 3 + i))) (heap (address + 3 + i)) field in
+      let other : heap (address + 3 + i) ≢ 0 = λ none. some (same ∙ low_spared config memory (heap (address + 3 + i)) (omega (arith, none)) ∙ none) in
+      true≢false (sym going ∙ ap (is_going config n) same ∙ word_spared (heap (address + 3 + i)) (from_field address i was count other)))
 
-  pub nothing_names : NothingNamesGone c n
+  pub nothing_names : NothingNamesGone config n
   nothing_names = record { roots = held_spared; fields = field_spared; unseated = is.unseated }
 
-  updated : HoldsBy c n block owner p g
-  updated = updated_holds c m block owner p g holds is.sized none
+  updated : HoldsBy config n block owner promises graph
+  updated = updated_holds config memory block owner promises graph holds is.sized none
 
   -- so the set may be left, and who waits served
-  pub served_holds : HoldsAnew c (served c (set_freed c n) c.mutators) g
+  pub served_holds : HoldsAnew config (served config (set_freed config n) config.mutators) graph
   served_holds =
-      let then = leaving_holds c n block owner p g updated (updated_sized c m block owner p g holds is.sized none) nothing_names in
-      let after = serving_holds c (set_freed c n) (left_block c n block) (freed_owner (is_to_free c n) owner) p g then.holds in
+      let then = leaving_holds config n block owner promises graph updated (updated_sized config memory block owner promises graph holds is.sized none) nothing_names in
+      let after = serving_holds config (set_freed config n) (left_block config n block) (freed_owner (is_to_free config n) owner) promises graph then.holds in
       record { pieces = _; owner = _; promises = _; holds = after.holds; sized = after.sized then.sized }
 
 -- From words in which nobody has a buffer ..
-finishing_from : (c : Config) (m : Word → ℕ) → ((seat : ℕ) → m (Current seat) ≡ 0) → FinishingHolds c m (finished_from c m)
-finishing_from c m nobody block owner p g holds sized while = ⊎_elim
-    (λ (room : is_room_for_all c m ≡ true).
-    let emptied = emptied_then c m block owner p g holds sized while room in
-    let none = none_have_room c (all_copied c m) emptied.0 owner p g emptied.1.holds (λ seat. all_copied_other c m (Current seat) (λ never. never) ∙ nobody seat) in
-    subst (λ n. HoldsAnew c n g) (fun_ext (λ word. sym (cond-true (is_room_for_all c m) (served c (cycle_finished c m) c.mutators word) (all_copied c m word) room)))
-    (served_holds c (all_copied c m) emptied.0 owner p g emptied.1 none))
-    (λ (none : is_room_for_all c m ≡ false).
-    let still = copies_all_hold c m block owner p g holds sized while.marked in
-    subst (λ n. HoldsAnew c n g) (fun_ext (λ word. sym (cond-false (is_room_for_all c m) (served c (cycle_finished c m) c.mutators word) (all_copied c m word) none)))
+finishing_from : (config : Config) (memory : Word → ℕ) → ((seat : ℕ) → memory (Current seat) ≡ 0) → FinishingHolds config memory (finished_from config memory)
+finishing_from config memory nobody block owner p g holds sized while = ⊎_elim
+    (λ (room : is_room_for_all config memory ≡ true).
+    let emptied = emptied_then config memory block owner p g holds sized while room in
+    let none = none_have_room config (all_copied config memory) emptied.0 owner p g emptied.1.holds (λ seat. all_copied_other config memory (Current seat) (λ never. never) ∙ nobody seat) in
+    subst (λ n. HoldsAnew config n g) (fun_ext (λ word. sym (cond-true (is_room_for_all config memory) (served config (cycle_finished config memory) config.mutators word) (all_copied config memory word) room)))
+    (served_holds config (all_copied config memory) emptied.0 owner p g emptied.1 none))
+    (λ (none : is_room_for_all config memory ≡ false).
+    let still = copies_all_hold config memory block owner p g holds sized while.marked in
+    subst (λ n. HoldsAnew config n g) (fun_ext (λ word. sym (cond-false (is_room_for_all config memory) (served config (cycle_finished config memory) config.mutators word) (all_copied config memory word) none)))
     (record { pieces = still.pieces; owner = owner; promises = p; holds = still.holds; sized = still.sized sized }))
-    (cases_Bool (is_room_for_all c m))
+    (cases_Bool (is_room_for_all config memory))
 
 -- .. as when all buffers were let go.
-pub finishing_holds : (c : Config) (m : Word → ℕ) → HasNoMoreSeats c m → FinishingHolds c m (finished c m)
-finishing_holds c m seats block owner p g holds sized while =
-    let after = has_let_go c m block owner p g holds seats in
-    finishing_from c (let_go c m) (let_go_seats c m block owner p g holds seats) after.plot owner p g after.left.holds
-    (loosened_sized c m (let_go c m) block after.plot owner p g holds after.left.loosened sized) (let_go_collecting c m block owner p g holds while seats)
+pub finishing_holds : (config : Config) (memory : Word → ℕ) → HasNoMoreSeats config memory → FinishingHolds config memory (finished config memory)
+finishing_holds config memory seats block owner p g holds sized while =
+    let after = has_let_go config memory block owner p g holds seats in
+    finishing_from config (let_go config memory) (let_go_seats config memory block owner p g holds seats) after.plot owner p g after.left.holds
+    (loosened_sized config memory (let_go config memory) block after.plot owner p g holds after.left.loosened sized) (let_go_collecting config memory block owner p g holds while seats)
 
 pub updated_names_nothing : UpdatedNamesNothing
 updated_names_nothing c m block owner p g holds sized none while nothing =

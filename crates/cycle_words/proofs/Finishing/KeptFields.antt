@@ -23,72 +23,72 @@ use Rattle.image_graph.proofs.Loosening.Loosened.{kind_of}
 use Rattle.cycle_words.proofs.Finishing.Strides.{filler_fills, strides}
 
 -- the test of a kept object says that it is one
-kept_is : (c : Config) (m : Word → ℕ) (a : ℕ) → base_of c (region_with c a) ≤ a → is_kept c m a ≡ true → IsKept c m a
-kept_is c m a above is = ⊎_elim
-    (λ (black : is_black c m a ≡ true). inl black)
-    (λ (fresh : nat_le (m (Tams (region_with c a))) (a - base_of c (region_with c a)) ≡ true). inr (let high = leb-true (m (Tams (region_with c a))) (a - base_of c (region_with c a)) fresh in omega (arith, high, above)))
-    (or_cases (is_black c m a) (nat_le (m (Tams (region_with c a))) (a - base_of c (region_with c a))) is)
+kept_is : (config : Config) (memory : Word → ℕ) (address : ℕ) → base_of config (region_with config address) ≤ address → is_kept config memory address ≡ true → IsKept config memory address
+kept_is config memory address above is = ⊎_elim
+    (λ (black : is_black config memory address ≡ true). inl black)
+    (λ (fresh : nat_le (memory (Tams (region_with config address))) (address - base_of config (region_with config address)) ≡ true). inr (let high = leb-true (memory (Tams (region_with config address))) (address - base_of config (region_with config address)) fresh in omega (arith, high, above)))
+    (or_cases (is_black config memory address) (nat_le (memory (Tams (region_with config address))) (address - base_of config (region_with config address))) is)
 
-is_kept_is : (c : Config) (m : Word → ℕ) (a : ℕ) → IsKept c m a → is_kept c m a ≡ true
-is_kept_is c m a kept = ⊎_elim
-    (λ (black : is_black c m a ≡ true). or_left (is_black c m a) (nat_le (m (Tams (region_with c a))) (a - base_of c (region_with c a))) black)
-    (λ (fresh : IsNew c m a).
-    or_right (is_black c m a) (nat_le (m (Tams (region_with c a))) (a - base_of c (region_with c a))) (le-leb (m (Tams (region_with c a))) (a - base_of c (region_with c a)) (omega (arith, fresh))))
+is_kept_is : (config : Config) (memory : Word → ℕ) (address : ℕ) → IsKept config memory address → is_kept config memory address ≡ true
+is_kept_is config memory address kept = ⊎_elim
+    (λ (black : is_black config memory address ≡ true). or_left (is_black config memory address) (nat_le (memory (Tams (region_with config address))) (address - base_of config (region_with config address))) black)
+    (λ (fresh : IsNew config memory address).
+    or_right (is_black config memory address) (nat_le (memory (Tams (region_with config address))) (address - base_of config (region_with config address))) (le-leb (memory (Tams (region_with config address))) (address - base_of config (region_with config address)) (omega (arith, fresh))))
     kept
 
-module _ (c : Config) (m : Word → ℕ) (block : Plot) (owner : ℕ → Option ℕ) (p : Promises) (g : Graph) (holds : HoldsBy c m block owner p g) (sized : AreSized m block) (none : HasNoRoom block) where
-  some : (a : ℕ) (b : Block) → block a ≡ Some b → 1 ≤ words_of b
+module _ (config : Config) (memory : Word → ℕ) (block : Plot) (owner : ℕ → Option ℕ) (promises : Promises) (graph : Graph) (holds : HoldsBy config memory block owner promises graph) (sized : AreSized memory block) (none : HasNoRoom block) where
+  some : (address : ℕ) (piece : Block) → block address ≡ Some piece → 1 ≤ words_of piece
   some = holds.pieces.some
 
-  sizes : (a : ℕ) (b : Block) → block a ≡ Some b → stays c m (region_with c a) ≡ true → stride_at (λ y. m (Heap y)) a ≡ words_of b
-  sizes a b is stay = strides m block sized none a b is
+  sizes : (address : ℕ) (piece : Block) → block address ≡ Some piece → stays config memory (region_with config address) ≡ true → stride_at (λ y. memory (Heap y)) address ≡ words_of piece
+  sizes address piece is stay = strides memory block sized none address piece is
 
   -- what the walk finds is a field of a kept object
-  module _ (x : ℕ) (is : is_kept_field c m x ≡ true) where
+  module _ (address : ℕ) (is : is_kept_field config memory address ≡ true) where
     abbrev r : ℕ
-    r = region_with c x
+    r = region_with config address
 
     abbrev a : ℕ
-    a = object_of c m x
+    a = object_of config memory address
 
-    parts : ((is_staying c m x ≡ true) × (is_kept_here c m a ≡ true)) × (is_reference m a x ≡ true)
-    parts = let both = and_parts _ (is_reference m a x) is in (and_parts (is_staying c m x) (is_kept_here c m a) both.0, both.1)
+    parts : ((is_staying config memory address ≡ true) × (is_kept_here config memory a ≡ true)) × (is_reference memory a address ≡ true)
+    parts = let both = and_parts _ (is_reference memory a address) is in (and_parts (is_staying config memory address) (is_kept_here config memory a) both.0, both.1)
 
     -- the object has not moved, and is kept
-    kept_here : (is_forwarded (m (Heap a)) ≡ false) × (is_kept c m a ≡ true)
-    kept_here = let both = and_parts (not (is_forwarded (m (Heap a)))) (is_kept c m a) parts.0.1 in (not-true (is_forwarded (m (Heap a))) both.0, both.1)
+    kept_here : (is_forwarded (memory (Heap a)) ≡ false) × (is_kept config memory a ≡ true)
+    kept_here = let both = and_parts (not (is_forwarded (memory (Heap a)))) (is_kept config memory a) parts.0.1 in (not-true (is_forwarded (memory (Heap a))) both.0, both.1)
 
-    lies : (c.region_words ≤ x) × (r < c.regions) × (stays c m r ≡ true) × (x - base_of c r < m (Top r))
+    lies : (config.region_words ≤ address) × (r < config.regions) × (stays config memory r ≡ true) × (address - base_of config r < memory (Top r))
     lies =
-        let last = and_parts (is_in_use c m x) (stays c m r) parts.0.0 in
-        let first = and_parts (nat_le c.region_words x) (nat_lt r c.regions && nat_lt (x - base_of c r) (m (Top r))) last.0 in
-        let rest = and_parts (nat_lt r c.regions) (nat_lt (x - base_of c r) (m (Top r))) first.1 in
-        (leb-true c.region_words x first.0, ltb-true r c.regions rest.0, last.1, ltb-true (x - base_of c r) (m (Top r)) rest.1)
+        let last = and_parts (is_in_use config memory address) (stays config memory r) parts.0.0 in
+        let first = and_parts (nat_le config.region_words address) (nat_lt r config.regions && nat_lt (address - base_of config r) (memory (Top r))) last.0 in
+        let rest = and_parts (nat_lt r config.regions) (nat_lt (address - base_of config r) (memory (Top r))) first.1 in
+        (leb-true config.region_words address first.0, ltb-true r config.regions rest.0, last.1, ltb-true (address - base_of config r) (memory (Top r)) rest.1)
 
-    from : base_of c r ≤ x
-    from = let again = from_base c.region_words x (regions.some_words c) lies.0 in omega (arith, again)
+    from : base_of config r ≤ address
+    from = let again = from_base config.region_words address (regions.some_words config) lies.0 in omega (arith, again)
 
-    found : (b : Block) × (block a ≡ Some b) × (a ≤ x) × (x < a + words_of b)
+    found : (piece : Block) × (block a ≡ Some piece) × (a ≤ address) × (address < a + words_of piece)
     found =
-        let at = covered c m block holds.objects.plotted holds.filled some (λ q. stays c m q ≡ true) sizes r (x - base_of c r) lies.1 lies.2 lies.3 in
+        let at = covered config memory block holds.objects.plotted holds.filled some (λ q. stays config memory q ≡ true) sizes r (address - base_of config r) lies.1 lies.2 lies.3 in
         let start = from in
         let low = at.2 in
         let high = at.3 in
         (at.0, at.1, omega (arith, start, low), omega (arith, start, high))
 
-    region_is : region_with c a ≡ r
+    region_is : region_with config a ≡ r
     region_is =
         let low = found.2 in
         let high = found.3 in
-        let offset : ℕ = x - a in
-        let back : a + (x - a) ≡ x = omega (arith, low) in
-        sym (same_region c m block holds.objects.plotted holds.filled some sizes a (x - a) found.0 found.1 (omega (arith, low, high))) ∙ ap (region_with c) back
+        let offset : ℕ = address - a in
+        let back : a + (address - a) ≡ address = omega (arith, low) in
+        sym (same_region config memory block holds.objects.plotted holds.filled some sizes a (address - a) found.0 found.1 (omega (arith, low, high))) ∙ ap (region_with config) back
 
-    tests : ((is_filler (m (Heap a)) ≡ false) × (a + 3 ≤ x)) × (x < a + 3 + refs_in (m (Heap (a + 1))))
+    tests : ((is_filler (memory (Heap a)) ≡ false) × (a + 3 ≤ address)) × (address < a + 3 + refs_in (memory (Heap (a + 1))))
     tests =
-        let both = and_parts (not (is_filler (m (Heap a))) && nat_le (a + 3) x) (nat_lt x (a + 3 + refs_in (m (Heap (a + 1))))) parts.1 in
-        let first = and_parts (not (is_filler (m (Heap a)))) (nat_le (a + 3) x) both.0 in
-        ((not-true (is_filler (m (Heap a))) first.0, leb-true (a + 3) x first.1), ltb-true x (a + 3 + refs_in (m (Heap (a + 1)))) both.1)
+        let both = and_parts (not (is_filler (memory (Heap a))) && nat_le (a + 3) address) (nat_lt address (a + 3 + refs_in (memory (Heap (a + 1))))) parts.1 in
+        let first = and_parts (not (is_filler (memory (Heap a)))) (nat_le (a + 3) address) both.0 in
+        ((not-true (is_filler (memory (Heap a))) first.0, leb-true (a + 3) address first.1), ltb-true address (a + 3 + refs_in (memory (Heap (a + 1)))) both.1)
 
     -- words that only fill have another header
     object_there : is_loose found.0 ≡ false
@@ -101,35 +101,35 @@ module _ (c : Config) (m : Word → ℕ) (block : Plot) (owner : ℕ → Option 
         loose)
         (kind_of found.0)
 
-    pub field_is : IsFieldOfKept c m block x
+    pub field_is : IsFieldOfKept config memory block address
     field_is = record {
       object = a;
       piece = found.0;
       here = found.1;
       is_object = object_there;
-      stays_there = ap (stays c m) region_is ∙ lies.2;
+      stays_there = ap (stays config memory) region_is ∙ lies.2;
       unmoved = kept_here.0;
-      kept = kept_is c m a (below_top c (λ q. m (Top q)) block holds.objects.plotted a found.0 found.1 (some a found.0 found.1)).1 kept_here.1;
-      field = x - (a + 3);
+      kept = kept_is config memory a (below_top config (λ q. memory (Top q)) block holds.objects.plotted a found.0 found.1 (some a found.0 found.1)).1 kept_here.1;
+      field = address - (a + 3);
       few = (let low = tests.0.1 in let high = tests.1 in omega (arith, low, high));
       at = (let low = tests.0.1 in omega (arith, low));
     }
 
   -- and the walk finds each
-  pub is_field : (x : ℕ) → IsFieldOfKept c m block x → is_kept_field c m x ≡ true
-  is_field x field =
+  pub is_field : (address : ℕ) → IsFieldOfKept config memory block address → is_kept_field config memory address ≡ true
+  is_field address field =
       let size = sized.objects field.object field.piece field.here field.is_object in
       let few = field.few in
-      let place : field.object + (3 + field.field) ≡ x = (let at = field.at in omega (arith, at)) in
+      let place : field.object + (3 + field.field) ≡ address = (let at = field.at in omega (arith, at)) in
       let below : 3 + field.field < words_of field.piece = omega (arith, size, few) in
-      subst (λ y. is_kept_field c m y ≡ true) place
-      (kept_field c m block holds.objects.plotted holds.filled some sizes field.object (3 + field.field) field.piece field.here below field.stays_there field.unmoved
-      (is_kept_is c m field.object field.kept)
-      (and_from (not (is_filler (m (Heap field.object))) && nat_le (field.object + 3) (field.object + (3 + field.field))) (nat_lt (field.object + (3 + field.field)) (field.object + 3 + refs_in (m (Heap (field.object + 1)))))
-      (and_from (not (is_filler (m (Heap field.object)))) (nat_le (field.object + 3) (field.object + (3 + field.field)))
-      (not_from_false (is_filler (m (Heap field.object))) (sized.headers field.object field.piece field.here field.is_object))
+      subst (λ y. is_kept_field config memory y ≡ true) place
+      (kept_field config memory block holds.objects.plotted holds.filled some sizes field.object (3 + field.field) field.piece field.here below field.stays_there field.unmoved
+      (is_kept_is config memory field.object field.kept)
+      (and_from (not (is_filler (memory (Heap field.object))) && nat_le (field.object + 3) (field.object + (3 + field.field))) (nat_lt (field.object + (3 + field.field)) (field.object + 3 + refs_in (memory (Heap (field.object + 1)))))
+      (and_from (not (is_filler (memory (Heap field.object)))) (nat_le (field.object + 3) (field.object + (3 + field.field)))
+      (not_from_false (is_filler (memory (Heap field.object))) (sized.headers field.object field.piece field.here field.is_object))
       (le-leb (field.object + 3) (field.object + (3 + field.field)) (omega arith)))
-      (lt-ltb (field.object + (3 + field.field)) (field.object + 3 + refs_in (m (Heap (field.object + 1)))) (omega (arith, few)))))
+      (lt-ltb (field.object + (3 + field.field)) (field.object + 3 + refs_in (memory (Heap (field.object + 1)))) (omega (arith, few)))))
 
 pub kept_fields_are_fields : KeptFieldsAreFields
 kept_fields_are_fields c m block owner p g holds sized none x = (field_is c m block owner p g holds sized none x, is_field c m block owner p g holds sized none x)

@@ -22,15 +22,15 @@ use Rattle.cycle_words.proofs.Marking.Pruned.{from_option}
 use Rattle.cycle_words.proofs.Marking.Trimmed.{IsTrimmed, trimmed_objects, trimmed_rooted}
 
 -- a piece was the same one, which does not pass a test; or it passes, and only fills
-pub data WasLeft (passes : Bool) (x y : Block) : Type 0 where
-  stays : x ≡ y → passes ≡ false → WasLeft passes x y
-  fills : y ≡ filler (words_of x) → passes ≡ true → WasLeft passes x y
+pub data WasLeft (passes : Bool) (piece other_piece : Block) : Type 0 where
+  stays : piece ≡ other_piece → passes ≡ false → WasLeft passes piece other_piece
+  fills : other_piece ≡ filler (words_of piece) → passes ≡ true → WasLeft passes piece other_piece
 
-was_left : (passes : Bool) (x : Block) → WasLeft passes x (piece_left passes x)
-was_left true x = WasLeft.fills refl refl
-was_left false x = WasLeft.stays refl refl
+was_left : (passes : Bool) (piece : Block) → WasLeft passes piece (piece_left passes piece)
+was_left true piece = WasLeft.fills refl refl
+was_left false piece = WasLeft.stays refl refl
 
-none_fills : (o : Option Block) → option_map (piece_left false) o ≡ o
+none_fills : (found : Option Block) → option_map (piece_left false) found ≡ found
 none_fills None = refl
 none_fills (Some x) = refl
 
@@ -39,17 +39,17 @@ module _ (fill : ℕ → Bool) (block : Plot) where
   abbrev pub plot_left : Plot
   plot_left a = option_map (piece_left (fill a)) (block a)
 
-  pub piece_was : (a : ℕ) (y : Block) → plot_left a ≡ Some y → (x : Block) × (block a ≡ Some x) × WasLeft (fill a) x y
-  piece_was a y is =
-      let was = from_option (piece_left (fill a)) (block a) y is in
-      (was.0, was.1, subst (WasLeft (fill a) was.0) was.2 (was_left (fill a) was.0))
+  pub piece_was : (address : ℕ) (piece : Block) → plot_left address ≡ Some piece → (other_piece : Block) × (block address ≡ Some other_piece) × WasLeft (fill address) other_piece piece
+  piece_was address piece is =
+      let was = from_option (piece_left (fill address)) (block address) piece is in
+      (was.0, was.1, subst (WasLeft (fill address) was.0) was.2 (was_left (fill address) was.0))
 
-  pub same_there : (a : ℕ) → fill a ≡ false → plot_left a ≡ block a
-  same_there a stands = ap (λ b. option_map (piece_left b) (block a)) stands ∙ none_fills (block a)
+  pub same_there : (address : ℕ) → fill address ≡ false → plot_left address ≡ block address
+  same_there address stands = ap (λ b. option_map (piece_left b) (block address)) stands ∙ none_fills (block address)
 
-  words_were : (x y : Block) (b : Bool) → WasLeft b x y → words_of x ≡ words_of y
-  words_were x y b (WasLeft.stays same stands) = ap words_of same
-  words_were x y b (WasLeft.fills is passed) = sym (ap words_of is)
+  words_were : (piece other_piece : Block) (holds : Bool) → WasLeft holds piece other_piece → words_of piece ≡ words_of other_piece
+  words_were piece other_piece holds (WasLeft.stays same stands) = ap words_of same
+  words_were piece other_piece holds (WasLeft.fills is passed) = sym (ap words_of is)
 
   pub resized : IsResized block plot_left
   resized = record {
@@ -58,69 +58,69 @@ module _ (fill : ℕ → Bool) (block : Plot) where
   }
 
   -- a piece that is not loose was there
-  object_of_left : (a : ℕ) (x y : Block) → is_loose y ≡ false → block a ≡ Some x → WasLeft (fill a) x y → (block a ≡ Some y) × (fill a ≡ false)
-  object_of_left a x y fixed here (WasLeft.stays same stands) = (here ∙ ap Some same, stands)
-  object_of_left a x y fixed here (WasLeft.fills is passed) = absurd (true≢false (sym (ap is_loose is) ∙ fixed))
+  object_of_left : (address : ℕ) (piece other_piece : Block) → is_loose other_piece ≡ false → block address ≡ Some piece → WasLeft (fill address) piece other_piece → (block address ≡ Some other_piece) × (fill address ≡ false)
+  object_of_left address piece other_piece fixed here (WasLeft.stays same stands) = (here ∙ ap Some same, stands)
+  object_of_left address piece other_piece fixed here (WasLeft.fills is passed) = absurd (true≢false (sym (ap is_loose is) ∙ fixed))
 
-  pub object_was : (a : ℕ) (y : Block) → is_loose y ≡ false → plot_left a ≡ Some y → (block a ≡ Some y) × (fill a ≡ false)
-  object_was a y fixed is = let was = piece_was a y is in object_of_left a was.0 y fixed was.1 was.2
+  pub object_was : (address : ℕ) (piece : Block) → is_loose piece ≡ false → plot_left address ≡ Some piece → (block address ≡ Some piece) × (fill address ≡ false)
+  object_was address piece fixed is = let was = piece_was address piece is in object_of_left address was.0 piece fixed was.1 was.2
 
   -- so was room
-  room_of_left : (a seat : ℕ) (x y : Block) → room_of y ≡ Some seat → block a ≡ Some x → WasLeft (fill a) x y → block a ≡ Some y
-  room_of_left a seat x y room here (WasLeft.stays same stands) = here ∙ ap Some same
-  room_of_left a seat x y room here (WasLeft.fills is passed) = absurd (none-some seat (sym (ap room_of is) ∙ room))
+  room_of_left : (address seat : ℕ) (piece other_piece : Block) → room_of other_piece ≡ Some seat → block address ≡ Some piece → WasLeft (fill address) piece other_piece → block address ≡ Some other_piece
+  room_of_left address seat piece other_piece room here (WasLeft.stays same stands) = here ∙ ap Some same
+  room_of_left address seat piece other_piece room here (WasLeft.fills is passed) = absurd (none-some seat (sym (ap room_of is) ∙ room))
 
-  pub room_was : (a seat : ℕ) (y : Block) → room_of y ≡ Some seat → plot_left a ≡ Some y → block a ≡ Some y
-  room_was a seat y room is = let was = piece_was a y is in room_of_left a seat was.0 y room was.1 was.2
+  pub room_was : (address seat : ℕ) (piece : Block) → room_of piece ≡ Some seat → plot_left address ≡ Some piece → block address ≡ Some piece
+  room_was address seat piece room is = let was = piece_was address piece is in room_of_left address seat was.0 piece room was.1 was.2
 
   -- and what stands for a name
-  named_of_left : (a : ℕ) (name : Name) (x y : Block) → name_at (Some y) ≡ Some name → block a ≡ Some x → WasLeft (fill a) x y → (name_at (block a) ≡ Some name) × (fill a ≡ false)
-  named_of_left a name x y named here (WasLeft.stays same stands) = (ap name_at (here ∙ ap Some same) ∙ named, stands)
-  named_of_left a name x y named here (WasLeft.fills is passed) = absurd (none-some name (sym (ap (λ b. name_at (Some b)) is) ∙ named))
+  named_of_left : (address : ℕ) (name : Name) (piece other_piece : Block) → name_at (Some other_piece) ≡ Some name → block address ≡ Some piece → WasLeft (fill address) piece other_piece → (name_at (block address) ≡ Some name) × (fill address ≡ false)
+  named_of_left address name piece other_piece named here (WasLeft.stays same stands) = (ap name_at (here ∙ ap Some same) ∙ named, stands)
+  named_of_left address name piece other_piece named here (WasLeft.fills is passed) = absurd (none-some name (sym (ap (λ b. name_at (Some b)) is) ∙ named))
 
-  pub named_was : (a : ℕ) (name : Name) → name_at (plot_left a) ≡ Some name → (name_at (block a) ≡ Some name) × (fill a ≡ false)
-  named_was a name is =
-      let piece = named_piece (plot_left a) name is in
-      let was = piece_was a piece.0 piece.1 in
-      named_of_left a name was.0 piece.0 piece.2 was.1 was.2
+  pub named_was : (address : ℕ) (name : Name) → name_at (plot_left address) ≡ Some name → (name_at (block address) ≡ Some name) × (fill address ≡ false)
+  named_was address name is =
+      let piece = named_piece (plot_left address) name is in
+      let was = piece_was address piece.0 piece.1 in
+      named_of_left address name was.0 piece.0 piece.2 was.1 was.2
 
 -- No root, answer, pin slot and field of what can be reached names what passes; nor does the header of an old copy, and no room passes.
-pub record CanBeFilled (c : Config) (m : Word → ℕ) (block : Plot) (fill : ℕ → Bool) : Type 0 where
-  pub unnamed_roots : (word : ℕ) → IsAmong (held_words c m) word → word ≢ 0 → fill word ≡ false
-  pub unnamed_fields : (a i : ℕ) → CanBeReached c m a → i < refs_in (m (Heap (a + 1))) → m (Heap (a + 3 + i)) ≢ 0 → fill (m (Heap (a + 3 + i))) ≡ false
-  pub copies : (a refs nums : ℕ) (name : Name) → block a ≡ Some (thing name refs nums) → is_forwarded (m (Heap a)) ≡ true → fill (now_in m a) ≡ false
-  pub rooms : (a seat : ℕ) (x : Block) → block a ≡ Some x → room_of x ≡ Some seat → fill a ≡ false
+pub record CanBeFilled (config : Config) (memory : Word → ℕ) (block : Plot) (fill : ℕ → Bool) : Type 0 where
+  pub unnamed_roots : (word : ℕ) → IsAmong (held_words config memory) word → word ≢ 0 → fill word ≡ false
+  pub unnamed_fields : (address i : ℕ) → CanBeReached config memory address → i < refs_in (memory (Heap (address + 1))) → memory (Heap (address + 3 + i)) ≢ 0 → fill (memory (Heap (address + 3 + i))) ≡ false
+  pub copies : (address refs nums : ℕ) (name : Name) → block address ≡ Some (thing name refs nums) → is_forwarded (memory (Heap address)) ≡ true → fill (now_in memory address) ≡ false
+  pub rooms : (address seat : ℕ) (piece : Block) → block address ≡ Some piece → room_of piece ≡ Some seat → fill address ≡ false
 
-module _ (c : Config) (m : Word → ℕ) (block : Plot) (owner : ℕ → Option ℕ) (p : Promises) (g : Graph) (holds : HoldsBy c m block owner p g) (fill : ℕ → Bool)
-    (can : CanBeFilled c m block fill) where
+module _ (config : Config) (memory : Word → ℕ) (block : Plot) (owner : ℕ → Option ℕ) (promises : Promises) (graph : Graph) (holds : HoldsBy config memory block owner promises graph) (fill : ℕ → Bool)
+    (can : CanBeFilled config memory block fill) where
   abbrev left : Plot
   left = plot_left fill block
 
   abbrev top : ℕ → ℕ
-  top r = m (Top r)
+  top region = memory (Top region)
 
   -- what is left and stands for a name is an object, and so is its current copy
-  named : (a : ℕ) (name : Name) → name_at (left a) ≡ Some name → IsCopy left a name
-  named a name is =
-      let was = named_was fill block a name is in
-      let at = holds.pieces.named a name was.0 in
-      (at.0, at.1, same_there fill block a was.1 ∙ at.2)
+  named : (address : ℕ) (name : Name) → name_at (left address) ≡ Some name → IsCopy left address name
+  named address name is =
+      let was = named_was fill block address name is in
+      let at = holds.pieces.named address name was.0 in
+      (at.0, at.1, same_there fill block address was.1 ∙ at.2)
 
-  current : (a : ℕ) (name : Name) → name_at (left a) ≡ Some name → IsCopy left (now_in m a) name
-  current a name is =
-      let at = named a name is in
-      let was = (object_was fill block a (thing name at.0 at.1) refl at.2).0 in
+  current : (address : ℕ) (name : Name) → name_at (left address) ≡ Some name → IsCopy left (now_in memory address) name
+  current address name is =
+      let at = named address name is in
+      let was = (object_was fill block address (thing name at.0 at.1) refl at.2).0 in
       ⊎_elim
-      (λ (moved : is_forwarded (m (Heap a)) ≡ true).
-      (at.0, at.1, same_there fill block (now_in m a) (can.copies a at.0 at.1 name was moved) ∙ (holds.moved a at.0 at.1 name was moved).copy))
-      (λ (plain : is_forwarded (m (Heap a)) ≡ false). (at.0, at.1, ap left (cond-false (is_forwarded (m (Heap a))) (forwardee_in (m (Heap a))) a plain) ∙ at.2))
-      (cases_Bool (is_forwarded (m (Heap a))))
+      (λ (moved : is_forwarded (memory (Heap address)) ≡ true).
+      (at.0, at.1, same_there fill block (now_in memory address) (can.copies address at.0 at.1 name was moved) ∙ (holds.moved address at.0 at.1 name was moved).copy))
+      (λ (plain : is_forwarded (memory (Heap address)) ≡ false). (at.0, at.1, ap left (cond-false (is_forwarded (memory (Heap address))) (forwardee_in (memory (Heap address))) address plain) ∙ at.2))
+      (cases_Bool (is_forwarded (memory (Heap address))))
 
-  trimmed : IsTrimmed c m block top left
+  trimmed : IsTrimmed config memory block top left
   trimmed = record {
-    plotted = resized_plotted c top block left (resized fill block) holds.objects.plotted;
+    plotted = resized_plotted config top block left (resized fill block) holds.objects.plotted;
     roots = λ word among some. same_there fill block word (can.unnamed_roots word among some);
-    fields = λ a i held few some. same_there fill block (m (Heap (a + 3 + i))) (can.unnamed_fields a i held few some);
+    fields = λ a i held few some. same_there fill block (memory (Heap (a + 3 + i))) (can.unnamed_fields a i held few some);
     current = current;
     was = λ a refs nums name is. (object_was fill block a (thing name refs nums) refl is).0;
   }
@@ -131,15 +131,15 @@ module _ (c : Config) (m : Word → ℕ) (block : Plot) (owner : ℕ → Option 
     came = λ a seat x room is. room_was fill block a seat x room is;
   }
 
-  pub left_holds : HoldsBy c m left owner p g
+  pub left_holds : HoldsBy config memory left owner promises graph
   left_holds = record {
-    objects = trimmed_objects c m block owner p g holds top left trimmed;
-    rooted = trimmed_rooted c m block owner p g holds top left trimmed;
+    objects = trimmed_objects config memory block owner promises graph holds top left trimmed;
+    rooted = trimmed_rooted config memory block owner promises graph holds top left trimmed;
     moved = λ a refs nums name is forwarded.
         let here = (object_was fill block a (thing name refs nums) refl is).0 in
         let was = holds.moved a refs nums name here forwarded in
-        record { in_set = was.in_set; copy = same_there fill block (now_in m a) (can.copies a refs nums name here forwarded) ∙ was.copy; outside = was.outside; current = was.current };
-    filled = resized_filled c top block left (resized fill block) holds.filled;
+        record { in_set = was.in_set; copy = same_there fill block (now_in memory a) (can.copies a refs nums name here forwarded) ∙ was.copy; outside = was.outside; current = was.current };
+    filled = resized_filled config top block left (resized fill block) holds.filled;
     pieces = record {
       named = named;
       unpromised = λ a seat words is. holds.pieces.unpromised a seat words (object_was fill block a (promised seat words) refl is).0;
@@ -149,7 +149,7 @@ module _ (c : Config) (m : Word → ℕ) (block : Plot) (owner : ℕ → Option 
     };
     free_word = holds.free_word;
     shared_one = holds.shared_one;
-    buffers = buffers_stay c top top (λ s. m (Current s)) block left same_room holds.buffers (λ seat some. omega arith);
+    buffers = buffers_stay config top top (λ s. memory (Current s)) block left same_room holds.buffers (λ seat some. omega arith);
     asking = holds.asking;
     next = holds.next;
     unreached = holds.unreached;

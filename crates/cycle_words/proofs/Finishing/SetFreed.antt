@@ -21,45 +21,45 @@ use Rattle.cycle_words.proofs.Marking.Alike.{sized_alike, holds_alike}
 use Rattle.cycle_words.proofs.Marking.Vanished.{freed_sized}
 use Rattle.cycle_words.proofs.Marking.Freed.{CanFree, left_unmoved, freed_holds}
 
-module _ (c : Config) (m : Word → ℕ) (block : Plot) (owner : ℕ → Option ℕ) (p : Promises) (g : Graph) (holds : HoldsBy c m block owner p g) (nothing : NothingNames c m) where
+module _ (config : Config) (memory : Word → ℕ) (block : Plot) (owner : ℕ → Option ℕ) (promises : Promises) (graph : Graph) (holds : HoldsBy config memory block owner promises graph) (nothing : NothingNames config memory) where
   abbrev out : ℕ → Bool
-  out = is_chosen m
+  out = is_chosen memory
 
-  not_out : (r : ℕ) → (IsIn (m Cset) r → ⊥) → out r ≡ false
-  not_out r away = ne_eqb (bit_at (m Cset) r) 1 away
+  not_out : (region : ℕ) → (IsIn (memory Cset) region → ⊥) → out region ≡ false
+  not_out region away = ne_eqb (bit_at (memory Cset) region) 1 away
 
-  can : CanFree c out m block
+  can : CanFree config out memory block
   can = record {
     unseated = λ seat r is. not_out r (nothing.unseated seat r is);
     unshared = λ r is. not_out r (holds.shared_one r is).outside;
-    unnamed_roots = λ word among some. not_out (region_with c word) (nothing.roots word among some);
-    unnamed_fields = λ a i held few some. not_out (region_with c (m (Heap (a + 3 + i)))) (nothing.fields a i held few some);
-    unmoved = λ a refs nums name is left. false_from_ne_true (is_forwarded (m (Heap a))) (λ forwarded.
+    unnamed_roots = λ word among some. not_out (region_with config word) (nothing.roots word among some);
+    unnamed_fields = λ a i held few some. not_out (region_with config (memory (Heap (a + 3 + i)))) (nothing.fields a i held few some);
+    unmoved = λ a refs nums name is left. false_from_ne_true (is_forwarded (memory (Heap a))) (λ forwarded.
         let was = holds.moved a refs nums name is forwarded in
-        true≢false (sym (eq-eqb (bit_at (m Cset) (region_with c a)) 1 was.in_set) ∙ left));
+        true≢false (sym (eq-eqb (bit_at (memory Cset) (region_with config a)) 1 was.in_set) ∙ left));
   }
 
   abbrev n : Word → ℕ
-  n = freed c out m
+  n = freed config out memory
 
   abbrev left : Plot
-  left = freed_block c out block
+  left = freed_block config out block
 
   abbrev owned : ℕ → Option ℕ
   owned = freed_owner out owner
 
   -- nothing that is left has moved, so no region need be in the set
-  calm_holds : HoldsBy c (with_set n 0) left owned p g
-  calm_holds = set_stored_holds c n left owned p g (freed_holds c out m block owner p g holds can) (λ a refs nums name is. left_unmoved c out m block owner p g holds can a refs nums name is) 0
+  calm_holds : HoldsBy config (with_set n 0) left owned promises graph
+  calm_holds = set_stored_holds config n left owned promises graph (freed_holds config out memory block owner promises graph holds can) (λ a refs nums name is. left_unmoved config out memory block owner promises graph holds can a refs nums name is) 0
       (λ r is member. (let none = bit_at-zero r in omega (arith, member, none)))
 
-  pub set_ended_holds : HoldsBy c (final_updated c m) left owned p g
-  set_ended_holds = holds_alike (with_set n 0) (final_updated c m)
+  pub set_ended_holds : HoldsBy config (final_updated config memory) left owned promises graph
+  set_ended_holds = holds_alike (with_set n 0) (final_updated config memory)
       (record { heap = λ a. refl; top = λ r. refl; root = λ t i. refl; answer = λ t. refl; wait = λ t. refl; current = λ s. refl; free = refl; cset = refl; share = refl; pin = λ t i. refl })
-      c left owned p g calm_holds
+      config left owned promises graph calm_holds
 
-pub ending_holds : (c : Config) (m : Word → ℕ) → EndingHolds c m (final_updated c m)
-ending_holds c m block owner p g holds nothing = record {
-  holds = set_ended_holds c m block owner p g holds nothing;
-  sized = λ sized. sized_alike m (final_updated c m) (freed_block c (is_chosen m) block) (λ a. refl) (freed_sized c (is_chosen m) m block sized);
+pub ending_holds : (config : Config) (memory : Word → ℕ) → EndingHolds config memory (final_updated config memory)
+ending_holds config memory block owner p g holds nothing = record {
+  holds = set_ended_holds config memory block owner p g holds nothing;
+  sized = λ sized. sized_alike memory (final_updated config memory) (freed_block config (is_chosen memory) block) (λ a. refl) (freed_sized config (is_chosen memory) memory block sized);
 }

@@ -53,75 +53,75 @@ left_plain true true f member kept left = left
 filler_stays : (words : ℕ) → is_forwarded (filler_header words) ≡ false
 filler_stays words = ne_eqb _ 3 (λ same. omega (arith, same))
 
-module _ (c : Config) (m : Word → ℕ) (block : Plot) (owner : ℕ → Option ℕ) (p : Promises) (g : Graph) (holds : HoldsBy c m block owner p g) (sized : AreSized m block) (nothing : NothingNamesGone c m) where
+module _ (config : Config) (memory : Word → ℕ) (block : Plot) (owner : ℕ → Option ℕ) (promises : Promises) (graph : Graph) (holds : HoldsBy config memory block owner promises graph) (sized : AreSized memory block) (nothing : NothingNamesGone config memory) where
   abbrev out : ℕ → Bool
-  out = is_to_free c m
+  out = is_to_free config memory
 
   -- what becomes filler
   abbrev fill : ℕ → Bool
-  fill a = is_to_stay c m (region_with c a) && has_moved m a
+  fill address = is_to_stay config memory (region_with config address) && has_moved memory address
 
   abbrev top : ℕ → ℕ
-  top r = m (Top r)
+  top region = memory (Top region)
 
   -- a region outside of the set is neither freed nor filled
-  not_chosen : (r : ℕ) → (IsIn (m Cset) r → ⊥) → is_chosen m r ≡ false
-  not_chosen r away = ne_eqb (bit_at (m Cset) r) 1 away
+  not_chosen : (region : ℕ) → (IsIn (memory Cset) region → ⊥) → is_chosen memory region ≡ false
+  not_chosen region away = ne_eqb (bit_at (memory Cset) region) 1 away
 
-  not_out : (r : ℕ) → (IsIn (m Cset) r → ⊥) → out r ≡ false
-  not_out r away = and_left (is_chosen m r) (not (is_pinned c m r)) (not_chosen r away)
+  not_out : (region : ℕ) → (IsIn (memory Cset) region → ⊥) → out region ≡ false
+  not_out region away = and_left (is_chosen memory region) (not (is_pinned config memory region)) (not_chosen region away)
 
-  not_filled : (a : ℕ) → (IsIn (m Cset) (region_with c a) → ⊥) → fill a ≡ false
-  not_filled a away = and_left (is_to_stay c m (region_with c a)) (has_moved m a) (and_left (is_chosen m (region_with c a)) (is_pinned c m (region_with c a)) (not_chosen (region_with c a) away))
+  not_filled : (address : ℕ) → (IsIn (memory Cset) (region_with config address) → ⊥) → fill address ≡ false
+  not_filled address away = and_left (is_to_stay config memory (region_with config address)) (has_moved memory address) (and_left (is_chosen memory (region_with config address)) (is_pinned config memory (region_with config address)) (not_chosen (region_with config address) away))
 
-  high : (word : ℕ) (name : Name) → name_at (block word) ≡ Some name → c.region_words ≤ word
-  high word name is = let piece = named_piece (block word) name is in (piece_inside c top block holds.objects.plotted word piece.0 piece.1).0
+  high : (word : ℕ) (name : Name) → name_at (block word) ≡ Some name → config.region_words ≤ word
+  high word name is = let piece = named_piece (block word) name is in (piece_inside config top block holds.objects.plotted word piece.0 piece.1).0
 
-  spared : (word : ℕ) (name : Name) → name_at (block word) ≡ Some name → is_going c m word ≡ false → (out (region_with c word) ≡ false) × (fill word ≡ false)
+  spared : (word : ℕ) (name : Name) → name_at (block word) ≡ Some name → is_going config memory word ≡ false → (out (region_with config word) ≡ false) × (fill word ≡ false)
   spared word name named left =
-      not_going (nat_le c.region_words word) (bit_at (m Cset) (region_with c word) == 1) (is_pinned c m (region_with c word)) (is_forwarded (m (Heap word)))
-      (le-leb c.region_words word (high word name named)) left
+      not_going (nat_le config.region_words word) (bit_at (memory Cset) (region_with config word) == 1) (is_pinned config memory (region_with config word)) (is_forwarded (memory (Heap word)))
+      (le-leb config.region_words word (high word name named)) left
 
-  root_spared : (word : ℕ) → IsAmong (held_words c m) word → word ≢ 0 → (out (region_with c word) ≡ false) × (fill word ≡ false)
+  root_spared : (word : ℕ) → IsAmong (held_words config memory) word → word ≢ 0 → (out (region_with config word) ≡ false) × (fill word ≡ false)
   root_spared word among some = let to = holds.objects.root_named word among some in spared word to.2 to.4 (nothing.roots word among some)
 
-  field_spared : (a i : ℕ) → CanBeReached c m a → i < refs_in (m (Heap (a + 1))) → m (Heap (a + 3 + i)) ≢ 0
-      → (out (region_with c (m (Heap (a + 3 + i)))) ≡ false) × (fill (m (Heap (a + 3 + i))) ≡ false)
-  field_spared a i held few some =
-      let to = field_named c m block owner p g holds a i held few some in
-      spared (m (Heap (a + 3 + i))) to.0 to.1 (nothing.fields a i held few some)
+  field_spared : (address i : ℕ) → CanBeReached config memory address → i < refs_in (memory (Heap (address + 1))) → memory (Heap (address + 3 + i)) ≢ 0
+      → (out (region_with config (memory (Heap (address + 3 + i)))) ≡ false) × (fill (memory (Heap (address + 3 + i))) ≡ false)
+  field_spared address i held few some =
+      let to = field_named config memory block owner promises graph holds address i held few some in
+      spared (memory (Heap (address + 3 + i))) to.0 to.1 (nothing.fields address i held few some)
 
   -- no room is in the set
-  room_outside : (a seat : ℕ) (x : Block) → block a ≡ Some x → room_of x ≡ Some seat → IsIn (m Cset) (region_with c a) → ⊥
-  room_outside a seat x is room =
-      let free = only_spares block holds.pieces.unheld holds.pieces.uncarved a seat x is room in
-      nothing.unseated seat (region_with c a) (spare_ends c m block owner p g holds a seat free.0 (is ∙ ap Some free.1))
+  room_outside : (address seat : ℕ) (piece : Block) → block address ≡ Some piece → room_of piece ≡ Some seat → IsIn (memory Cset) (region_with config address) → ⊥
+  room_outside address seat piece is room =
+      let free = only_spares block holds.pieces.unheld holds.pieces.uncarved address seat piece is room in
+      nothing.unseated seat (region_with config address) (spare_ends config memory block owner promises graph holds address seat free.0 (is ∙ ap Some free.1))
 
-  can_fill : CanBeFilled c m block fill
+  can_fill : CanBeFilled config memory block fill
   can_fill = record {
     unnamed_roots = λ word among some. (root_spared word among some).1;
     unnamed_fields = λ a i held few some. (field_spared a i held few some).1;
     copies = λ a refs nums name is forwarded.
         let away = (holds.moved a refs nums name is forwarded).outside in
-        not_filled (now_in m a) (λ member. omega (arith, away, member));
+        not_filled (now_in memory a) (λ member. omega (arith, away, member));
     rooms = λ a seat x is room. not_filled a (room_outside a seat x is room);
   }
 
   abbrev filled : Plot
   filled = plot_left fill block
 
-  filled_holds : HoldsBy c m filled owner p g
-  filled_holds = left_holds c m block owner p g holds fill can_fill
+  filled_holds : HoldsBy config memory filled owner promises graph
+  filled_holds = left_holds config memory block owner promises graph holds fill can_fill
 
   -- what is left in the regions that are not freed has not moved
-  unmoved : (a refs nums : ℕ) (name : Name) → filled a ≡ Some (thing name refs nums) → out (region_with c a) ≡ false → is_forwarded (m (Heap a)) ≡ false
-  unmoved a refs nums name is stays = false_from_ne_true (is_forwarded (m (Heap a))) (λ forwarded.
-      let was = object_was fill block a (thing name refs nums) refl is in
-      let member = (holds.moved a refs nums name was.0 forwarded).in_set in
-      true≢false (sym forwarded ∙ left_plain (is_chosen m (region_with c a)) (is_pinned c m (region_with c a)) (is_forwarded (m (Heap a)))
-      (eq-eqb (bit_at (m Cset) (region_with c a)) 1 member) stays was.1))
+  unmoved : (address refs nums : ℕ) (name : Name) → filled address ≡ Some (thing name refs nums) → out (region_with config address) ≡ false → is_forwarded (memory (Heap address)) ≡ false
+  unmoved address refs nums name is stays = false_from_ne_true (is_forwarded (memory (Heap address))) (λ forwarded.
+      let was = object_was fill block address (thing name refs nums) refl is in
+      let member = (holds.moved address refs nums name was.0 forwarded).in_set in
+      true≢false (sym forwarded ∙ left_plain (is_chosen memory (region_with config address)) (is_pinned config memory (region_with config address)) (is_forwarded (memory (Heap address)))
+      (eq-eqb (bit_at (memory Cset) (region_with config address)) 1 member) stays was.1))
 
-  can : CanFree c out m filled
+  can : CanFree config out memory filled
   can = record {
     unseated = λ seat r is. not_out r (nothing.unseated seat r is);
     unshared = λ r is. not_out r (holds.shared_one r is).outside;
@@ -131,87 +131,87 @@ module _ (c : Config) (m : Word → ℕ) (block : Plot) (owner : ℕ → Option 
   }
 
   abbrev left : Plot
-  left = left_block c m block
+  left = left_block config memory block
 
   abbrev owned : ℕ → Option ℕ
   owned = freed_owner out owner
 
   -- the words once the regions were freed, without a set
   abbrev k : Word → ℕ
-  k = with_set (freed c out m) 0
+  k = with_set (freed config out memory) 0
 
-  calm_holds : HoldsBy c k left owned p g
-  calm_holds = set_stored_holds c (freed c out m) left owned p g (freed_holds c out m filled owner p g filled_holds can)
-      (λ a refs nums name is. left_unmoved c out m filled owner p g filled_holds can a refs nums name is) 0
+  calm_holds : HoldsBy config k left owned promises graph
+  calm_holds = set_stored_holds config (freed config out memory) left owned promises graph (freed_holds config out memory filled owner promises graph filled_holds can)
+      (λ a refs nums name is. left_unmoved config out memory filled owner promises graph filled_holds can a refs nums name is) 0
       (λ r is member. (let none = bit_at-zero r in omega (arith, member, none)))
 
   abbrev n : Word → ℕ
-  n = set_freed c m
+  n = set_freed config memory
 
   -- Pinned regions of the set can be walked.
   abbrev IsWalked : ℕ → Type 0
-  IsWalked r = is_to_stay c m r ≡ true
+  IsWalked r = is_to_stay config memory r ≡ true
 
-  sizes : (a : ℕ) (x : Block) → block a ≡ Some x → IsWalked (region_with c a) → stride_at (λ y. m (Heap y)) a ≡ words_of x
-  sizes a x is walked =
-      let member = eqb-true (bit_at (m Cset) (region_with c a)) 1 (and_parts (is_chosen m (region_with c a)) (is_pinned c m (region_with c a)) walked).0 in
-      stride_of m block sized a x is (λ seat room. room_outside a seat x is room member)
+  sizes : (address : ℕ) (piece : Block) → block address ≡ Some piece → IsWalked (region_with config address) → stride_at (λ y. memory (Heap y)) address ≡ words_of piece
+  sizes address piece is walked =
+      let member = eqb-true (bit_at (memory Cset) (region_with config address)) 1 (and_parts (is_chosen memory (region_with config address)) (is_pinned config memory (region_with config address)) walked).0 in
+      stride_of memory block sized address piece is (λ seat room. room_outside address seat piece is room member)
 
   -- a word becomes the header of filler
   abbrev changes : ℕ → Bool
-  changes y = is_to_stay c m (region_with c y) && begins c m y && has_moved m y
+  changes address = is_to_stay config memory (region_with config address) && begins config memory address && has_moved memory address
 
-  change_parts : (y : ℕ) → changes y ≡ true → (is_to_stay c m (region_with c y) ≡ true) × (begins c m y ≡ true) × (has_moved m y ≡ true)
-  change_parts y is =
-      let both = and_parts (is_to_stay c m (region_with c y) && begins c m y) (has_moved m y) is in
-      let first = and_parts (is_to_stay c m (region_with c y)) (begins c m y) both.0 in
+  change_parts : (address : ℕ) → changes address ≡ true → (is_to_stay config memory (region_with config address) ≡ true) × (begins config memory address ≡ true) × (has_moved memory address ≡ true)
+  change_parts address is =
+      let both = and_parts (is_to_stay config memory (region_with config address) && begins config memory address) (has_moved memory address) is in
+      let first = and_parts (is_to_stay config memory (region_with config address)) (begins config memory address) both.0 in
       (first.0, first.1, both.1)
 
   -- the words of other pieces stay
-  no_change : (a j : ℕ) (x : Block) → block a ≡ Some x → fill a ≡ false → j < words_of x → changes (a + j) ≡ true → ⊥
-  no_change a zero x is stands below change =
-      let first : a + 0 ≡ a = omega arith in
-      let parts = change_parts a (sym (ap changes first) ∙ change) in
-      true≢false (sym (and_from (is_to_stay c m (region_with c a)) (has_moved m a) parts.0 parts.2) ∙ stands)
-  no_change a (suc j) x is stands below change =
-      let parts = change_parts (a + suc j) change in
-      let same = walking.same_region c m block holds.objects.plotted holds.filled holds.pieces.some IsWalked sizes a (suc j) x is below in
-      let walked : IsWalked (region_with c a) = sym (ap (is_to_stay c m) same) ∙ parts.0 in
-      true≢false (sym parts.1 ∙ walking.begins_not c m block holds.objects.plotted holds.filled holds.pieces.some IsWalked sizes a (suc j) x is below walked (omega arith))
+  no_change : (address j : ℕ) (piece : Block) → block address ≡ Some piece → fill address ≡ false → j < words_of piece → changes (address + j) ≡ true → ⊥
+  no_change address zero piece is stands below change =
+      let first : address + 0 ≡ address = omega arith in
+      let parts = change_parts address (sym (ap changes first) ∙ change) in
+      true≢false (sym (and_from (is_to_stay config memory (region_with config address)) (has_moved memory address) parts.0 parts.2) ∙ stands)
+  no_change address (suc j) piece is stands below change =
+      let parts = change_parts (address + suc j) change in
+      let same = walking.same_region config memory block holds.objects.plotted holds.filled holds.pieces.some IsWalked sizes address (suc j) piece is below in
+      let walked : IsWalked (region_with config address) = sym (ap (is_to_stay config memory) same) ∙ parts.0 in
+      true≢false (sym parts.1 ∙ walking.begins_not config memory block holds.objects.plotted holds.filled holds.pieces.some IsWalked sizes address (suc j) piece is below walked (omega arith))
 
-  word_same : (a j : ℕ) (x : Block) → block a ≡ Some x → fill a ≡ false → j < words_of x → n (Heap (a + j)) ≡ m (Heap (a + j))
-  word_same a j x is stands below =
-      cond-false (changes (a + j)) (filler_header (object_words (m (Heap (a + j + 1))))) (m (Heap (a + j)))
-      (false_from_ne_true (changes (a + j)) (no_change a j x is stands below))
+  word_same : (address j : ℕ) (piece : Block) → block address ≡ Some piece → fill address ≡ false → j < words_of piece → n (Heap (address + j)) ≡ memory (Heap (address + j))
+  word_same address j piece is stands below =
+      cond-false (changes (address + j)) (filler_header (object_words (memory (Heap (address + j + 1))))) (memory (Heap (address + j)))
+      (false_from_ne_true (changes (address + j)) (no_change address j piece is stands below))
 
-  header_same : (a : ℕ) (x : Block) → block a ≡ Some x → fill a ≡ false → n (Heap a) ≡ m (Heap a)
-  header_same a x is stands =
-      let first : a + 0 ≡ a = omega arith in
-      sym (ap (λ y. n (Heap y)) first) ∙ word_same a 0 x is stands (holds.pieces.some a x is) ∙ ap (λ y. m (Heap y)) first
+  header_same : (address : ℕ) (piece : Block) → block address ≡ Some piece → fill address ≡ false → n (Heap address) ≡ memory (Heap address)
+  header_same address piece is stands =
+      let first : address + 0 ≡ address = omega arith in
+      sym (ap (λ y. n (Heap y)) first) ∙ word_same address 0 piece is stands (holds.pieces.some address piece is) ∙ ap (λ y. memory (Heap y)) first
 
   -- and what has moved has the header of filler of its words
-  header_filled : (a : ℕ) (x : Block) → block a ≡ Some x → fill a ≡ true → n (Heap a) ≡ filler_header (object_words (m (Heap (a + 1))))
-  header_filled a x is passed =
-      let parts = and_parts (is_to_stay c m (region_with c a)) (has_moved m a) passed in
-      let begins_here = walking.piece_begins c m block holds.objects.plotted holds.filled holds.pieces.some IsWalked sizes a x is parts.0 in
-      cond-true (changes a) (filler_header (object_words (m (Heap (a + 1))))) (m (Heap a))
-      (and_from (is_to_stay c m (region_with c a) && begins c m a) (has_moved m a) (and_from (is_to_stay c m (region_with c a)) (begins c m a) parts.0 begins_here) parts.1)
+  header_filled : (address : ℕ) (piece : Block) → block address ≡ Some piece → fill address ≡ true → n (Heap address) ≡ filler_header (object_words (memory (Heap (address + 1))))
+  header_filled address piece is passed =
+      let parts = and_parts (is_to_stay config memory (region_with config address)) (has_moved memory address) passed in
+      let begins_here = walking.piece_begins config memory block holds.objects.plotted holds.filled holds.pieces.some IsWalked sizes address piece is parts.0 in
+      cond-true (changes address) (filler_header (object_words (memory (Heap (address + 1))))) (memory (Heap address))
+      (and_from (is_to_stay config memory (region_with config address) && begins config memory address) (has_moved memory address) (and_from (is_to_stay config memory (region_with config address)) (begins config memory address) parts.0 begins_here) parts.1)
 
   -- a piece that is left and is not loose was there
-  there : (a : ℕ) (x : Block) → is_loose x ≡ false → left a ≡ Some x → (block a ≡ Some x) × (fill a ≡ false)
-  there a x fixed is = object_was fill block a x fixed (vanished.piece_was c out filled a x is).1
+  there : (address : ℕ) (piece : Block) → is_loose piece ≡ false → left address ≡ Some piece → (block address ≡ Some piece) × (fill address ≡ false)
+  there address piece fixed is = object_was fill block address piece fixed (vanished.piece_was config out filled address piece is).1
 
-  renaming : IsRenaming c k n left
+  renaming : IsRenaming config k n left
   renaming = record {
     headers = λ a refs nums name here. let was = there a (thing name refs nums) refl here in header_same a (thing name refs nums) was.0 was.1;
     words = λ a j refs nums name here reads below other. let was = there a (thing name refs nums) refl here in word_same a j (thing name refs nums) was.0 was.1 below;
     fields = λ a i refs nums name here few.
         let was = there a (thing name refs nums) refl here in
         let place : a + (3 + i) ≡ a + 3 + i = omega arith in
-        not_renamed k (m (Heap (a + 3 + i))) (n (Heap (a + 3 + i)))
-        (sym (ap (λ y. n (Heap y)) place) ∙ word_same a (3 + i) (thing name refs nums) was.0 was.1 (omega (arith, few)) ∙ ap (λ y. m (Heap y)) place);
-    roots = λ t i inside few. not_renamed k (m (Root t i)) (m (Root t i)) refl;
-    answers = λ t inside. not_renamed k (m (Answer t)) (m (Answer t)) refl;
+        not_renamed k (memory (Heap (a + 3 + i))) (n (Heap (a + 3 + i)))
+        (sym (ap (λ y. n (Heap y)) place) ∙ word_same a (3 + i) (thing name refs nums) was.0 was.1 (omega (arith, few)) ∙ ap (λ y. memory (Heap y)) place);
+    roots = λ t i inside few. not_renamed k (memory (Root t i)) (memory (Root t i)) refl;
+    answers = λ t inside. not_renamed k (memory (Answer t)) (memory (Answer t)) refl;
     waits = λ t. refl;
     tops = λ r. refl;
     free = refl;
@@ -221,26 +221,26 @@ module _ (c : Config) (m : Word → ℕ) (block : Plot) (owner : ℕ → Option 
     pins = λ t i. refl;
   }
 
-  pub set_left_holds : HoldsBy c n left owned p g
-  set_left_holds = renamed_holds c k n left owned p g calm_holds renaming
+  pub set_left_holds : HoldsBy config n left owned promises graph
+  set_left_holds = renamed_holds config k n left owned promises graph calm_holds renaming
 
   -- what has moved is an object
-  moved_fixed : (a : ℕ) (x : Block) → block a ≡ Some x → fill a ≡ true → is_loose x ≡ false
-  moved_fixed a x is passed =
-      let parts = and_parts (is_to_stay c m (region_with c a)) (has_moved m a) passed in
+  moved_fixed : (address : ℕ) (piece : Block) → block address ≡ Some piece → fill address ≡ true → is_loose piece ≡ false
+  moved_fixed address piece is passed =
+      let parts = and_parts (is_to_stay config memory (region_with config address)) (has_moved memory address) passed in
       ⊎_elim
-      (λ (fixed : is_loose x ≡ false). fixed)
+      (λ (fixed : is_loose piece ≡ false). fixed)
       (λ loose. ⊎_elim
-      (λ (room : (seat : ℕ) × (room_of x ≡ Some seat)). absurd (true≢false (sym passed ∙ not_filled a (room_outside a room.0 x is room.1))))
-      (λ (fills : (words : ℕ) × (x ≡ filler words)).
-      absurd (true≢false (sym parts.1 ∙ ap is_forwarded (sized.fillers a fills.0 (is ∙ ap Some fills.1)) ∙ filler_stays fills.0)))
+      (λ (room : (seat : ℕ) × (room_of piece ≡ Some seat)). absurd (true≢false (sym passed ∙ not_filled address (room_outside address room.0 piece is room.1))))
+      (λ (fills : (words : ℕ) × (piece ≡ filler words)).
+      absurd (true≢false (sym parts.1 ∙ ap is_forwarded (sized.fillers address fills.0 (is ∙ ap Some fills.1)) ∙ filler_stays fills.0)))
       loose)
-      (kind_of x)
+      (kind_of piece)
 
-  filler_said : (a words : ℕ) (x : Block) → block a ≡ Some x → WasLeft (fill a) x (filler words) → n (Heap a) ≡ filler_header words
-  filler_said a words x is (WasLeft.stays same stands) = header_same a x is stands ∙ sized.fillers a words (is ∙ ap Some same)
-  filler_said a words x is (WasLeft.fills fills passed) =
-      header_filled a x is passed ∙ ap filler_header (sized.objects a x is (moved_fixed a x is passed)) ∙ ap filler_header (sym (ap words_of fills))
+  filler_said : (address words : ℕ) (piece : Block) → block address ≡ Some piece → WasLeft (fill address) piece (filler words) → n (Heap address) ≡ filler_header words
+  filler_said address words piece is (WasLeft.stays same stands) = header_same address piece is stands ∙ sized.fillers address words (is ∙ ap Some same)
+  filler_said address words piece is (WasLeft.fills fills passed) =
+      header_filled address piece is passed ∙ ap filler_header (sized.objects address piece is (moved_fixed address piece is passed)) ∙ ap filler_header (sym (ap words_of fills))
 
   pub set_left_sized : AreSized n left
   set_left_sized = record {
@@ -250,10 +250,10 @@ module _ (c : Config) (m : Word → ℕ) (block : Plot) (owner : ℕ → Option 
         ap object_words (word_same a 1 b was.0 was.1 (omega (arith, words))) ∙ words;
     headers = λ a b is fixed. let was = there a b fixed is in ap is_filler (header_same a b was.0 was.1) ∙ sized.headers a b was.0 fixed;
     fillers = λ a words is.
-        let was = piece_was fill block a (filler words) (vanished.piece_was c out filled a (filler words) is).1 in
+        let was = piece_was fill block a (filler words) (vanished.piece_was config out filled a (filler words) is).1 in
         filler_said a words was.0 was.1 was.2;
   }
 
-pub leaving_holds : (c : Config) (m : Word → ℕ) → LeavingHolds c m (set_freed c m)
-leaving_holds c m block owner p g holds sized nothing =
-    record { holds = set_left_holds c m block owner p g holds sized nothing; sized = set_left_sized c m block owner p g holds sized nothing }
+pub leaving_holds : (config : Config) (memory : Word → ℕ) → LeavingHolds config memory (set_freed config memory)
+leaving_holds config memory block owner p g holds sized nothing =
+    record { holds = set_left_holds config memory block owner p g holds sized nothing; sized = set_left_sized config memory block owner p g holds sized nothing }

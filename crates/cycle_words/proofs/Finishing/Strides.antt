@@ -12,23 +12,23 @@ use Rattle.image_graph.proofs.Loosening.Loosened.{kind_of}
 pub filler_fills : (words : ℕ) → is_filler (filler_header words) ≡ true
 filler_fills words = eq-eqb _ 2 (omega arith)
 
-module _ (m : Word → ℕ) (block : Plot) (sized : AreSized m block) where
-  fills : (a words : ℕ) → block a ≡ Some (filler words) → stride_at (λ y. m (Heap y)) a ≡ words
-  fills a words here =
-      let header = sized.fillers a words here in
+module _ (memory : Word → ℕ) (block : Plot) (sized : AreSized memory block) where
+  fills : (address words : ℕ) → block address ≡ Some (filler words) → stride_at (λ y. memory (Heap y)) address ≡ words
+  fills address words here =
+      let header = sized.fillers address words here in
       let quarter : filler_header words / 4 ≡ words = omega arith in
-      cond-true (is_filler (m (Heap a))) (m (Heap a) / 4) (object_words (m (Heap (a + 1)))) (ap is_filler header ∙ filler_fills words) ∙ ap (λ k. k / 4) header ∙ quarter
+      cond-true (is_filler (memory (Heap address))) (memory (Heap address) / 4) (object_words (memory (Heap (address + 1)))) (ap is_filler header ∙ filler_fills words) ∙ ap (λ k. k / 4) header ∙ quarter
 
-  pub stride_of : (a : ℕ) (x : Block) → block a ≡ Some x → ((seat : ℕ) → room_of x ≡ Some seat → ⊥) → stride_at (λ y. m (Heap y)) a ≡ words_of x
-  stride_of a x here none = ⊎_elim
-      (λ (fixed : is_loose x ≡ false).
-      cond-false (is_filler (m (Heap a))) (m (Heap a) / 4) (object_words (m (Heap (a + 1)))) (sized.headers a x here fixed) ∙ sized.objects a x here fixed)
+  pub stride_of : (address : ℕ) (piece : Block) → block address ≡ Some piece → ((seat : ℕ) → room_of piece ≡ Some seat → ⊥) → stride_at (λ y. memory (Heap y)) address ≡ words_of piece
+  stride_of address piece here none = ⊎_elim
+      (λ (fixed : is_loose piece ≡ false).
+      cond-false (is_filler (memory (Heap address))) (memory (Heap address) / 4) (object_words (memory (Heap (address + 1)))) (sized.headers address piece here fixed) ∙ sized.objects address piece here fixed)
       (λ loose. ⊎_elim
-      (λ (room : (seat : ℕ) × (room_of x ≡ Some seat)). absurd (none room.0 room.1))
-      (λ (only : (words : ℕ) × (x ≡ filler words)). fills a only.0 (here ∙ ap Some only.1) ∙ sym (ap words_of only.1))
+      (λ (room : (seat : ℕ) × (room_of piece ≡ Some seat)). absurd (none room.0 room.1))
+      (λ (only : (words : ℕ) × (piece ≡ filler words)). fills address only.0 (here ∙ ap Some only.1) ∙ sym (ap words_of only.1))
       loose)
-      (kind_of x)
+      (kind_of piece)
 
 -- so over each piece, where none is room
-pub strides : (m : Word → ℕ) (block : Plot) → AreSized m block → HasNoRoom block → (a : ℕ) (x : Block) → block a ≡ Some x → stride_at (λ y. m (Heap y)) a ≡ words_of x
-strides m block sized none a x here = stride_of m block sized a x here (λ seat room. none a seat x here room)
+pub strides : (memory : Word → ℕ) (block : Plot) → AreSized memory block → HasNoRoom block → (address : ℕ) (piece : Block) → block address ≡ Some piece → stride_at (λ y. memory (Heap y)) address ≡ words_of piece
+strides memory block sized none address piece here = stride_of memory block sized address piece here (λ seat room. none address seat piece here room)

@@ -19,64 +19,64 @@ use Rattle.cycle_words.proofs.Finishing.Strides.{strides}
 use Rattle.cycle_words.proofs.Finishing.Fields.{low_spared, other_stays, gone_stays}
 
 -- an updated word is renamed
-pub updated_renamed : (c : Config) (m : Word → ℕ) (v : ℕ) → IsRenamed m v (updated_word c m v)
-updated_renamed c m v = record {
-  small = low_spared c m v;
+pub updated_renamed : (config : Config) (memory : Word → ℕ) (v : ℕ) → IsRenamed memory v (updated_word config memory v)
+updated_renamed config memory v = record {
+  small = low_spared config memory v;
   either = ⊎_elim
-      (λ (yes : is_collected c m v ≡ true). inr (cond-true (is_collected c m v) (now_in m v) v yes))
-      (λ (no : is_collected c m v ≡ false). inl (cond-false (is_collected c m v) (now_in m v) v no))
-      (cases_Bool (is_collected c m v));
+      (λ (yes : is_collected config memory v ≡ true). inr (cond-true (is_collected config memory v) (now_in memory v) v yes))
+      (λ (no : is_collected config memory v ≡ false). inl (cond-false (is_collected config memory v) (now_in memory v) v no))
+      (cases_Bool (is_collected config memory v));
 }
 
-module _ (c : Config) (m : Word → ℕ) (block : Plot) (owner : ℕ → Option ℕ) (p : Promises) (g : Graph) (holds : HoldsBy c m block owner p g) (sized : AreSized m block) (none : HasNoRoom block) where
+module _ (config : Config) (memory : Word → ℕ) (block : Plot) (owner : ℕ → Option ℕ) (promises : Promises) (graph : Graph) (holds : HoldsBy config memory block owner promises graph) (sized : AreSized memory block) (none : HasNoRoom block) where
   abbrev n : Word → ℕ
-  n = all_updated c m
+  n = all_updated config memory
 
   abbrev heap : ℕ → ℕ
-  heap y = m (Heap y)
+  heap address = memory (Heap address)
 
   -- the words of a piece that are no references stay
-  not_reference : (a k refs : ℕ) → (k < 3) ⊎ ((3 + refs ≤ k) × (refs_in (heap (a + 1)) ≡ refs)) → is_reference m a (a + k) ≡ false
-  not_reference a k refs out = ⊎_elim
-      (λ (low : k < 3). and_left (not (is_filler (heap a)) && nat_le (a + 3) (a + k)) (nat_lt (a + k) (a + 3 + refs_in (heap (a + 1))))
-      (and_right (not (is_filler (heap a))) (nat_le (a + 3) (a + k)) (lt-leb (a + 3) (a + k) (omega (arith, low)))))
-      (λ (high : (3 + refs ≤ k) × (refs_in (heap (a + 1)) ≡ refs)).
+  not_reference : (address k refs : ℕ) → (k < 3) ⊎ ((3 + refs ≤ k) × (refs_in (heap (address + 1)) ≡ refs)) → is_reference memory address (address + k) ≡ false
+  not_reference address k refs out = ⊎_elim
+      (λ (low : k < 3). and_left (not (is_filler (heap address)) && nat_le (address + 3) (address + k)) (nat_lt (address + k) (address + 3 + refs_in (heap (address + 1))))
+      (and_right (not (is_filler (heap address))) (nat_le (address + 3) (address + k)) (lt-leb (address + 3) (address + k) (omega (arith, low)))))
+      (λ (high : (3 + refs ≤ k) × (refs_in (heap (address + 1)) ≡ refs)).
       let above = high.0 in
       let reads = high.1 in
-      and_right (not (is_filler (heap a)) && nat_le (a + 3) (a + k)) (nat_lt (a + k) (a + 3 + refs_in (heap (a + 1)))) (le-ltb (a + k) (a + 3 + refs_in (heap (a + 1))) (omega (arith, above, reads))))
+      and_right (not (is_filler (heap address)) && nat_le (address + 3) (address + k)) (nat_lt (address + k) (address + 3 + refs_in (heap (address + 1)))) (le-ltb (address + k) (address + 3 + refs_in (heap (address + 1))) (omega (arith, above, reads))))
       out
 
-  pub word_stays : (a k refs : ℕ) (b : Block) → block a ≡ Some b → k < words_of b → (k < 3) ⊎ ((3 + refs ≤ k) × (refs_in (heap (a + 1)) ≡ refs)) → n (Heap (a + k)) ≡ m (Heap (a + k))
-  word_stays a k refs b is below out = ⊎_elim
-      (λ (stay : stays c m (region_with c a) ≡ true).
-      other_stays c m block holds.objects.plotted holds.filled holds.pieces.some (λ q z here off. strides m block sized none q z here) a k b is below stay (not_reference a k refs out))
-      (λ (gone : stays c m (region_with c a) ≡ false).
-      gone_stays c m block holds.objects.plotted holds.filled holds.pieces.some (λ q z here off. strides m block sized none q z here) a k b is below gone)
-      (cases_Bool (stays c m (region_with c a)))
+  pub word_stays : (address k refs : ℕ) (piece : Block) → block address ≡ Some piece → k < words_of piece → (k < 3) ⊎ ((3 + refs ≤ k) × (refs_in (heap (address + 1)) ≡ refs)) → n (Heap (address + k)) ≡ memory (Heap (address + k))
+  word_stays address k refs piece is below out = ⊎_elim
+      (λ (stay : stays config memory (region_with config address) ≡ true).
+      other_stays config memory block holds.objects.plotted holds.filled holds.pieces.some (λ q z here off. strides memory block sized none q z here) address k piece is below stay (not_reference address k refs out))
+      (λ (gone : stays config memory (region_with config address) ≡ false).
+      gone_stays config memory block holds.objects.plotted holds.filled holds.pieces.some (λ q z here off. strides memory block sized none q z here) address k piece is below gone)
+      (cases_Bool (stays config memory (region_with config address)))
 
-  pub header_stays : (a : ℕ) (b : Block) → block a ≡ Some b → n (Heap a) ≡ m (Heap a)
-  header_stays a b is =
-      let first : a + 0 ≡ a = omega arith in
-      sym (ap (λ y. n (Heap y)) first) ∙ word_stays a 0 0 b is (holds.pieces.some a b is) (inl (omega arith)) ∙ ap heap first
+  pub header_stays : (address : ℕ) (piece : Block) → block address ≡ Some piece → n (Heap address) ≡ memory (Heap address)
+  header_stays address piece is =
+      let first : address + 0 ≡ address = omega arith in
+      sym (ap (λ y. n (Heap y)) first) ∙ word_stays address 0 0 piece is (holds.pieces.some address piece is) (inl (omega arith)) ∙ ap heap first
 
-  pub renaming : IsRenaming c m n block
+  pub renaming : IsRenaming config memory n block
   renaming = record {
     headers = λ a refs nums name here. header_stays a (thing name refs nums) here;
     words = λ a k refs nums name here reads below other. word_stays a k refs (thing name refs nums) here below
         (⊎_elim (λ (low : k < 3). inl low) (λ (high : 3 + refs ≤ k). inr (high, reads)) other);
     fields = λ a i refs nums name here few. ⊎_elim
-        (λ (kept : is_kept_field c m (a + 3 + i) ≡ true). record {
-          small = λ low. cond-true (is_kept_field c m (a + 3 + i)) (updated_word c m (heap (a + 3 + i))) (heap (a + 3 + i)) kept ∙ low_spared c m (heap (a + 3 + i)) low;
+        (λ (kept : is_kept_field config memory (a + 3 + i) ≡ true). record {
+          small = λ low. cond-true (is_kept_field config memory (a + 3 + i)) (updated_word config memory (heap (a + 3 + i))) (heap (a + 3 + i)) kept ∙ low_spared config memory (heap (a + 3 + i)) low;
           either = ⊎_elim
-              (λ same. inl (cond-true (is_kept_field c m (a + 3 + i)) (updated_word c m (heap (a + 3 + i))) (heap (a + 3 + i)) kept ∙ same))
-              (λ now. inr (cond-true (is_kept_field c m (a + 3 + i)) (updated_word c m (heap (a + 3 + i))) (heap (a + 3 + i)) kept ∙ now))
-              (updated_renamed c m (heap (a + 3 + i))).either;
+              (λ same. inl (cond-true (is_kept_field config memory (a + 3 + i)) (updated_word config memory (heap (a + 3 + i))) (heap (a + 3 + i)) kept ∙ same))
+              (λ now. inr (cond-true (is_kept_field config memory (a + 3 + i)) (updated_word config memory (heap (a + 3 + i))) (heap (a + 3 + i)) kept ∙ now))
+              (updated_renamed config memory (heap (a + 3 + i))).either;
         })
-        (λ (other : is_kept_field c m (a + 3 + i) ≡ false).
-        not_renamed m (heap (a + 3 + i)) (n (Heap (a + 3 + i))) (cond-false (is_kept_field c m (a + 3 + i)) (updated_word c m (heap (a + 3 + i))) (heap (a + 3 + i)) other))
-        (cases_Bool (is_kept_field c m (a + 3 + i)));
-    roots = λ t i inside few. updated_renamed c m (m (Root t i));
-    answers = λ t inside. updated_renamed c m (m (Answer t));
+        (λ (other : is_kept_field config memory (a + 3 + i) ≡ false).
+        not_renamed memory (heap (a + 3 + i)) (n (Heap (a + 3 + i))) (cond-false (is_kept_field config memory (a + 3 + i)) (updated_word config memory (heap (a + 3 + i))) (heap (a + 3 + i)) other))
+        (cases_Bool (is_kept_field config memory (a + 3 + i)));
+    roots = λ t i inside few. updated_renamed config memory (memory (Root t i));
+    answers = λ t inside. updated_renamed config memory (memory (Answer t));
     waits = λ t. refl;
     tops = λ r. refl;
     free = refl;
@@ -86,8 +86,8 @@ module _ (c : Config) (m : Word → ℕ) (block : Plot) (owner : ℕ → Option 
     pins = λ t i. refl;
   }
 
-  pub updated_holds : HoldsBy c n block owner p g
-  updated_holds = renamed_holds c m n block owner p g holds renaming
+  pub updated_holds : HoldsBy config n block owner promises graph
+  updated_holds = renamed_holds config memory n block owner promises graph holds renaming
 
   pub updated_sized : AreSized n block
   updated_sized = record {

@@ -29,49 +29,49 @@ all_from p first (suc n) each =
     (let same : first + 0 ≡ first = omega arith in ap p (sym same) ∙ each 0 (omega arith))
     (all_from p (first + 1) n (λ k below. let same : first + 1 + k ≡ first + suc k = omega arith in ap p same ∙ each (suc k) (omega (arith, below))))
 
-pub nobody_is : (c : Config) (m : Word → ℕ) → nobody_waits c m ≡ true → (t : ℕ) → t < c.mutators → m (Wait t) ≡ 0
-nobody_is c m none t inside =
-    let same : 0 + t ≡ t = omega arith in
-    ap (λ u. m (Wait u)) (sym same) ∙ eqb-true (m (Wait (0 + t))) 0 (all_at (λ u. m (Wait u) == 0) 0 c.mutators t inside none)
+pub nobody_is : (config : Config) (memory : Word → ℕ) → nobody_waits config memory ≡ true → (mutator : ℕ) → mutator < config.mutators → memory (Wait mutator) ≡ 0
+nobody_is config memory none mutator inside =
+    let same : 0 + mutator ≡ mutator = omega arith in
+    ap (λ u. memory (Wait u)) (sym same) ∙ eqb-true (memory (Wait (0 + mutator))) 0 (all_at (λ u. memory (Wait u) == 0) 0 config.mutators mutator inside none)
 
-pub nobody_from : (c : Config) (m : Word → ℕ) → ((t : ℕ) → t < c.mutators → m (Wait t) ≡ 0) → nobody_waits c m ≡ true
-nobody_from c m each = all_from (λ u. m (Wait u) == 0) 0 c.mutators (λ t inside. let same : 0 + t ≡ t = omega arith in eq-eqb (m (Wait (0 + t))) 0 (ap (λ u. m (Wait u)) same ∙ each t inside))
+pub nobody_from : (config : Config) (memory : Word → ℕ) → ((mutator : ℕ) → mutator < config.mutators → memory (Wait mutator) ≡ 0) → nobody_waits config memory ≡ true
+nobody_from config memory each = all_from (λ u. memory (Wait u) == 0) 0 config.mutators (λ mutator inside. let same : 0 + mutator ≡ mutator = omega arith in eq-eqb (memory (Wait (0 + mutator))) 0 (ap (λ u. memory (Wait u)) same ∙ each mutator inside))
 
-module _ (c : Config) (m : Word → ℕ) (t : ℕ) where
+module _ (config : Config) (memory : Word → ℕ) (mutator : ℕ) where
   -- what a thread that waits asks for at its turn
-  asks : m (Wait t) ≢ 0 → asked_in m t ≡ object_words (request_shape_in (served c m t (Wait t)))
+  asks : memory (Wait mutator) ≢ 0 → asked_in memory mutator ≡ object_words (request_shape_in (served config memory mutator (Wait mutator)))
   asks some =
-      cond-false (m (Wait t) == 0) 0 (object_words (request_shape_in (m (Wait t)))) (ne_eqb (m (Wait t)) 0 some)
-      ∙ ap (λ word. object_words (request_shape_in word)) (sym (before_turn c m t t (omega arith)).0)
+      cond-false (memory (Wait mutator) == 0) 0 (object_words (request_shape_in (memory (Wait mutator)))) (ne_eqb (memory (Wait mutator)) 0 some)
+      ∙ ap (λ word. object_words (request_shape_in word)) (sym (before_turn config memory mutator mutator (omega arith)).0)
 
-  finds : m (Wait t) ≢ 0 → room_for c (served c m t) t ≡ lowest_room c.region_words (tops_at_turn c m t) (asked_in m t) c.regions
-  finds some = ap (λ n. lowest_room c.region_words (tops_at_turn c m t) n c.regions) (sym (asks some))
+  finds : memory (Wait mutator) ≢ 0 → room_for config (served config memory mutator) mutator ≡ lowest_room config.region_words (tops_at_turn config memory mutator) (asked_in memory mutator) config.regions
+  finds some = ap (λ n. lowest_room config.region_words (tops_at_turn config memory mutator) n config.regions) (sym (asks some))
 
-  waits_then : m (Wait t) ≢ 0 → served c m t (Wait t) ≢ 0
-  waits_then some none = some (sym (before_turn c m t t (omega arith)).0 ∙ none)
+  waits_then : memory (Wait mutator) ≢ 0 → served config memory mutator (Wait mutator) ≢ 0
+  waits_then some none = some (sym (before_turn config memory mutator mutator (omega arith)).0 ∙ none)
 
   -- a request that is left is there afterwards
-  pub waits_if_left : IsLeft c m t → served c m c.mutators (Wait t) ≢ 0
+  pub waits_if_left : IsLeft config memory mutator → served config memory config.mutators (Wait mutator) ≢ 0
   waits_if_left left none =
-      let room : room_for c (served c m t) t ≡ None = finds left.waits ∙ all_full c.region_words (tops_at_turn c m t) (asked_in m t) c.regions left.no_room in
-      let stays : served c m c.mutators (Wait t) ≡ m (Wait t) =
-      (after_turn c m c.mutators t left.below).0 ∙ turn_waits c m t (Wait t) (waits_then left.waits)
-      ∙ ap (λ o. served_in c (served c m t) t o (Wait t)) room ∙ (before_turn c m t t (omega arith)).0 in
+      let room : room_for config (served config memory mutator) mutator ≡ None = finds left.waits ∙ all_full config.region_words (tops_at_turn config memory mutator) (asked_in memory mutator) config.regions left.no_room in
+      let stays : served config memory config.mutators (Wait mutator) ≡ memory (Wait mutator) =
+      (after_turn config memory config.mutators mutator left.below).0 ∙ turn_waits config memory mutator (Wait mutator) (waits_then left.waits)
+      ∙ ap (λ o. served_in config (served config memory mutator) mutator o (Wait mutator)) room ∙ (before_turn config memory mutator mutator (omega arith)).0 in
       left.waits (sym stays ∙ none)
 
   -- and one that is there was left
-  pub left_if_waits : t < c.mutators → served c m c.mutators (Wait t) ≢ 0 → IsLeft c m t
-  left_if_waits inside some = by_room (room_for c (served c m t) t) refl
+  pub left_if_waits : mutator < config.mutators → served config memory config.mutators (Wait mutator) ≢ 0 → IsLeft config memory mutator
+  left_if_waits inside some = by_room (room_for config (served config memory mutator) mutator) refl
     where
-      was : m (Wait t) ≢ 0
-      was none = some ((after_turn c m c.mutators t inside).0 ∙ turn_idle c m t (Wait t) ((before_turn c m t t (omega arith)).0 ∙ none) ∙ (before_turn c m t t (omega arith)).0 ∙ none)
+      was : memory (Wait mutator) ≢ 0
+      was none = some ((after_turn config memory config.mutators mutator inside).0 ∙ turn_idle config memory mutator (Wait mutator) ((before_turn config memory mutator mutator (omega arith)).0 ∙ none) ∙ (before_turn config memory mutator mutator (omega arith)).0 ∙ none)
 
-      by_room : (o : Option ℕ) → room_for c (served c m t) t ≡ o → IsLeft c m t
+      by_room : (o : Option ℕ) → room_for config (served config memory mutator) mutator ≡ o → IsLeft config memory mutator
       by_room None none = record {
         below = inside;
         waits = was;
-        no_room = none_has_room c.region_words (tops_at_turn c m t) (asked_in m t) c.regions (sym (finds was) ∙ none);
+        no_room = none_has_room config.region_words (tops_at_turn config memory mutator) (asked_in memory mutator) config.regions (sym (finds was) ∙ none);
       }
       by_room (Some r) found =
-          absurd (some ((after_turn c m c.mutators t inside).0 ∙ turn_waits c m t (Wait t) (waits_then was)
-          ∙ ap (λ o. served_in c (served c m t) t o (Wait t)) found ∙ own_wait c (served c m t) t r))
+          absurd (some ((after_turn config memory config.mutators mutator inside).0 ∙ turn_waits config memory mutator (Wait mutator) (waits_then was)
+          ∙ ap (λ o. served_in config (served config memory mutator) mutator o (Wait mutator)) found ∙ own_wait config (served config memory mutator) mutator r))

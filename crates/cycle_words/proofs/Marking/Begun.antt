@@ -34,12 +34,12 @@ use Rattle.cycle_words.proofs.Marking.Pruned.{thing_stays, thing_was, room_was, 
 use Rattle.cycle_words.proofs.Marking.FirstSnapshot.{first_snapshot, is_first, first_marked}
 
 -- Marking begins at words that hold a graph, and leaves those objects that are found: exactly what can be reached.
-module _ (c : Config) (m : Word → ℕ) (block : Plot) (owner : ℕ → Option ℕ) (p : Promises) (g : Graph) (holds : HoldsBy c m block owner p g) (calm : m Cset ≡ 0)
-    (found : ℕ → Bool) (is_found : (a : ℕ) → CanBeReached c m a → found a ≡ true) (reached : (a : ℕ) → found a ≡ true → CanBeReached c m a) where
+module _ (config : Config) (memory : Word → ℕ) (block : Plot) (owner : ℕ → Option ℕ) (promises : Promises) (graph : Graph) (holds : HoldsBy config memory block owner promises graph) (calm : memory Cset ≡ 0)
+    (found : ℕ → Bool) (is_found : (a : ℕ) → CanBeReached config memory a → found a ≡ true) (reached : (a : ℕ) → found a ≡ true → CanBeReached config memory a) where
   abbrev n : Word → ℕ
-  n = marking_begun c m
+  n = marking_begun config memory
 
-  alike : AreAlike m n
+  alike : AreAlike memory n
   alike = record {
     heap = λ a. refl;
     top = λ r. refl;
@@ -54,48 +54,48 @@ module _ (c : Config) (m : Word → ℕ) (block : Plot) (owner : ℕ → Option 
   }
 
   abbrev heap : ℕ → ℕ
-  heap a = m (Heap a)
+  heap address = memory (Heap address)
 
   abbrev top : ℕ → ℕ
-  top q = m (Top q)
+  top region = memory (Top region)
 
   abbrev pub left : Plot
   left = pruned found block
 
   -- what can be reached stays an object, and no other
-  reached_stays : (a : ℕ) → CanBeReached c m a → left a ≡ block a
-  reached_stays a held =
-      let at = reached_object c m block owner p g holds calm a held in
-      thing_stays found block a at.refs at.nums at.name (is_found a held) at.here ∙ sym at.here
+  reached_stays : (address : ℕ) → CanBeReached config memory address → left address ≡ block address
+  reached_stays address held =
+      let at = reached_object config memory block owner promises graph holds calm address held in
+      thing_stays found block address at.refs at.nums at.name (is_found address held) at.here ∙ sym at.here
 
-  was : (a refs nums : ℕ) (name : Name) → left a ≡ Some (thing name refs nums) → block a ≡ Some (thing name refs nums)
-  was a refs nums name is = (thing_was found block a refs nums name is).0
+  was : (address refs nums : ℕ) (name : Name) → left address ≡ Some (thing name refs nums) → block address ≡ Some (thing name refs nums)
+  was address refs nums name is = (thing_was found block address refs nums name is).0
 
-  unmoved : (a refs nums to : ℕ) (name : Name) → left a ≡ Some (moved name refs nums to) → ⊥
-  unmoved a refs nums to name is =
-      let there = moved_was found block a refs nums to name is in
-      let object = holds.pieces.named a name (ap name_at there) in
+  unmoved : (address refs nums to : ℕ) (name : Name) → left address ≡ Some (moved name refs nums to) → ⊥
+  unmoved address refs nums to name is =
+      let there = moved_was found block address refs nums to name is in
+      let object = holds.pieces.named address name (ap name_at there) in
       let differ = sym there ∙ object.2 in
       cc
 
   named : (a : ℕ) (name : Name) → name_at (left a) ≡ Some name → IsCopy left a name
   named a name is = named_thing (left a) name (λ refs nums to. unmoved a refs nums to name) is
 
-  plotted : IsPlotted c top left
-  plotted = pruned_plotted found block c top holds.objects.plotted
+  plotted : IsPlotted config top left
+  plotted = pruned_plotted found block config top holds.objects.plotted
 
-  trimmed : IsTrimmed c m block top left
-  trimmed = calm_trimmed c m block owner p g holds calm top left plotted reached_stays named was
+  trimmed : IsTrimmed config memory block top left
+  trimmed = calm_trimmed config memory block owner promises graph holds calm top left plotted reached_stays named was
 
-  buffers : AreBuffers c top (λ s. m (Current s)) left
-  buffers = buffers_stay c top top (λ s. m (Current s)) block left (pruned_rooms found block) holds.buffers (λ seat some. omega arith)
+  buffers : AreBuffers config top (λ s. memory (Current s)) left
+  buffers = buffers_stay config top top (λ s. memory (Current s)) block left (pruned_rooms found block) holds.buffers (λ seat some. omega arith)
 
-  pub left_holds : HoldsBy c m left owner p g
+  pub left_holds : HoldsBy config memory left owner promises graph
   left_holds = record {
-    objects = trimmed_objects c m block owner p g holds top left trimmed;
-    rooted = trimmed_rooted c m block owner p g holds top left trimmed;
-    moved = λ a refs nums name is forwarded. absurd (true≢false (sym forwarded ∙ calm_unmoved c m block owner p g holds calm a refs nums name (was a refs nums name is)));
-    filled = pruned_filled found block c top holds.filled;
+    objects = trimmed_objects config memory block owner promises graph holds top left trimmed;
+    rooted = trimmed_rooted config memory block owner promises graph holds top left trimmed;
+    moved = λ a refs nums name is forwarded. absurd (true≢false (sym forwarded ∙ calm_unmoved config memory block owner promises graph holds calm a refs nums name (was a refs nums name is)));
+    filled = pruned_filled found block config top holds.filled;
     pieces = record {
       named = named;
       unpromised = λ a seat words is. holds.pieces.unpromised a seat words (promised_was found block a seat words is);
@@ -112,105 +112,105 @@ module _ (c : Config) (m : Word → ℕ) (block : Plot) (owner : ℕ → Option 
   }
 
   -- each object that is left can be reached, so it is one of the graph
-  thing_reached : (a refs nums : ℕ) (name : Name) → left a ≡ Some (thing name refs nums) → CanBeReached c m a
-  thing_reached a refs nums name is = reached a (thing_was found block a refs nums name is).1
+  thing_reached : (address refs nums : ℕ) (name : Name) → left address ≡ Some (thing name refs nums) → CanBeReached config memory address
+  thing_reached address refs nums name is = reached address (thing_was found block address refs nums name is).1
 
-  objects : AreObjects heap left (with_promised g p).object
+  objects : AreObjects heap left (with_promised graph promises).object
   objects = record {
     each = λ a refs nums name is. left_holds.objects.each a refs nums name (thing_reached a refs nums name is) is;
     once = λ a b refs nums more_refs more_nums name is_a is_b.
         left_holds.objects.once a b refs nums more_refs more_nums name (thing_reached a refs nums name is_a) (thing_reached b more_refs more_nums name is_b) is_a is_b;
   }
 
-  reached_thing : (a : ℕ) → CanBeReached c m a → IsMarkable left a
-  reached_thing a held = let at = reached_object c m left owner p g left_holds calm a held in IsMarkable.object at.name at.refs at.nums at.here
+  reached_thing : (address : ℕ) → CanBeReached config memory address → IsMarkable left address
+  reached_thing address held = let at = reached_object config memory left owner promises graph left_holds calm address held in IsMarkable.object at.name at.refs at.nums at.here
 
-  root_markable : (a : ℕ) → IsAmong (held_words c m) a → a ≢ 0 → IsMarkable left a
-  root_markable a among some = reached_thing a (root_reached c m left owner p g left_holds calm a among some)
+  root_markable : (address : ℕ) → IsAmong (held_words config memory) address → address ≢ 0 → IsMarkable left address
+  root_markable address among some = reached_thing address (root_reached config memory left owner promises graph left_holds calm address among some)
 
   -- roots, answers and pin slots lead to it
-  led : (a : ℕ) → CanBeReached c m a → IsLed (first_snapshot c m left) a
-  led = reach_ind c m left owner p g left_holds calm (IsLed (first_snapshot c m left))
+  led : (address : ℕ) → CanBeReached config memory address → IsLed (first_snapshot config memory left) address
+  led = reach_ind config memory left owner promises graph left_holds calm (IsLed (first_snapshot config memory left))
       (λ word is some.
-      let at = reached_object c m left owner p g left_holds calm word (root_reached c m left owner p g left_holds calm word is some) in
-      IsLed.by_start word (is_first c m left word (object_above c m left owner p g left_holds calm word at.refs at.nums at.name at.here).0 is))
-      (λ a i held so_far few some.
-      let at = reached_object c m left owner p g left_holds calm a held in
-      let shape : refs_in (heap (a + 1)) ≡ at.refs = ap refs_in at.shape ∙ refs_read at.refs at.nums at.few_refs at.few_nums in
-      IsLed.by_field a at.refs at.nums i at.name so_far at.here (omega (arith, few, shape)) some)
+      let at = reached_object config memory left owner promises graph left_holds calm word (root_reached config memory left owner promises graph left_holds calm word is some) in
+      IsLed.by_start word (is_first config memory left word (object_above config memory left owner promises graph left_holds calm word at.refs at.nums at.name at.here).0 is))
+      (λ address i held so_far few some.
+      let at = reached_object config memory left owner promises graph left_holds calm address held in
+      let shape : refs_in (heap (address + 1)) ≡ at.refs = ap refs_in at.shape ∙ refs_read at.refs at.nums at.few_refs at.few_nums in
+      IsLed.by_field address at.refs at.nums i at.name so_far at.here (omega (arith, few, shape)) some)
 
   -- where edges divide these pieces
-  pub marking : AreDivided c m left → IsMarking c n left
+  pub marking : AreDivided config memory left → IsMarking config n left
   marking divided = record {
-    ghost = record { owner = no_ghost.owner; snapshot = first_snapshot c m left; recording = no_ghost.recording; scanning = no_ghost.scanning; copying = no_ghost.copying; working = no_ghost.working };
-    object = (with_promised g p).object;
-    marked = first_marked c m left no_ghost.recording no_ghost.scanning (λ a refs nums name is. led a (thing_reached a refs nums name is)) root_markable
+    ghost = record { owner = no_ghost.owner; snapshot = first_snapshot config memory left; recording = no_ghost.recording; scanning = no_ghost.scanning; copying = no_ghost.copying; working = no_ghost.working };
+    object = (with_promised graph promises).object;
+    marked = first_marked config memory left no_ghost.recording no_ghost.scanning (λ a refs nums name is. led a (thing_reached a refs nums name is)) root_markable
         (λ a seat words is. absurd (left_holds.pieces.unpromised a seat words is)) divided;
     unmarking = record { records_none = λ seat inside. refl; scans_none = λ seat inside. refl };
     objects = objects;
     uncollected = calm;
   }
 
-  pub begun : (plot : Plot) → HoldsBy c m plot owner p g → HoldsBy c n plot owner p g
-  begun plot held = holds_alike m n alike c plot owner p g held
+  pub begun : (plot : Plot) → HoldsBy config memory plot owner promises graph → HoldsBy config n plot owner promises graph
+  begun plot held = holds_alike memory n alike config plot owner promises graph held
 
 -- Buffers are settled first, by which nothing becomes reachable, or ceases to be.
-module _ (c : Config) (m : Word → ℕ) (block : Plot) (owner : ℕ → Option ℕ) (p : Promises) (g : Graph) (holds : HoldsBy c m block owner p g) (calm : m Cset ≡ 0) (seats : HasNoMoreSeats c m) where
+module _ (config : Config) (memory : Word → ℕ) (block : Plot) (owner : ℕ → Option ℕ) (promises : Promises) (graph : Graph) (holds : HoldsBy config memory block owner promises graph) (calm : memory Cset ≡ 0) (seats : HasNoMoreSeats config memory) where
   abbrev s : Word → ℕ
-  s = buffers_settled c m
+  s = buffers_settled config memory
 
   abbrev settled : Plot
-  settled = settled_block c m block
+  settled = settled_block config memory block
 
-  after : HoldsLoosened c m s block settled owner p g
-  after = settled_holds c m block owner p g holds seats
+  after : HoldsLoosened config memory s block settled owner promises graph
+  after = settled_holds config memory block owner promises graph holds seats
 
   still_calm : s Cset ≡ 0
   still_calm = after.loosened.others Cset refl ∙ calm
 
-  still_seats : HasNoMoreSeats c s
-  still_seats = loosened_seats c m s block settled after.loosened seats
+  still_seats : HasNoMoreSeats config s
+  still_seats = loosened_seats config memory s block settled after.loosened seats
 
   abbrev found : ℕ → Bool
-  found = has (held_in c m)
+  found = has (held_in config memory)
 
-  same_roots : held_words c s ≡ held_words c m
-  same_roots = same_held_words m s (λ t i. after.loosened.others (Root t i) refl) (λ t. after.loosened.others (Answer t) refl) (λ t i. after.loosened.others (Pin t i) refl) c
+  same_roots : held_words config s ≡ held_words config memory
+  same_roots = same_held_words memory s (λ t i. after.loosened.others (Root t i) refl) (λ t. after.loosened.others (Answer t) refl) (λ t i. after.loosened.others (Pin t i) refl) config
 
-  was_reached : (a : ℕ) → CanBeReached c s a → CanBeReached c m a
-  was_reached = loosened_reached c m s block settled owner p g holds after.loosened after.holds.objects.plotted
+  was_reached : (a : ℕ) → CanBeReached config s a → CanBeReached config memory a
+  was_reached = loosened_reached config memory s block settled owner promises graph holds after.loosened after.holds.objects.plotted
 
-  still_reached : (a : ℕ) → CanBeReached c m a → CanBeReached c s a
-  still_reached = reach_ind c m block owner p g holds calm (CanBeReached c s)
-      (λ word is some. root_reached c s settled owner p g after.holds still_calm word (ap (λ xs. has xs word) same_roots ∙ is) some)
-      (λ a i held so_far few some.
-      let at = reached_object c m block owner p g holds calm a held in
-      let reads : refs_in (m (Heap (a + 1))) ≡ at.refs = ap refs_in at.shape ∙ refs_read at.refs at.nums at.few_refs at.few_nums in
-      let shape : s (Heap (a + 1)) ≡ m (Heap (a + 1)) = after.loosened.words a 1 (thing at.name at.refs at.nums) refl at.here (omega arith) in
-      let place : a + 3 + i ≡ a + (3 + i) = omega arith in
-      let same : s (Heap (a + 3 + i)) ≡ m (Heap (a + 3 + i)) =
-      ap (λ k. s (Heap k)) place ∙ after.loosened.words a (3 + i) (thing at.name at.refs at.nums) refl at.here (omega (arith, few, reads)) ∙ ap (λ k. m (Heap k)) (sym place) in
-      subst (CanBeReached c s) same
-      (field_reached c s settled owner p g after.holds still_calm a i so_far (subst (λ k. i < k) (sym (ap refs_in shape)) few) (λ none. some (sym same ∙ none))))
+  still_reached : (address : ℕ) → CanBeReached config memory address → CanBeReached config s address
+  still_reached = reach_ind config memory block owner promises graph holds calm (CanBeReached config s)
+      (λ word is some. root_reached config s settled owner promises graph after.holds still_calm word (ap (λ xs. has xs word) same_roots ∙ is) some)
+      (λ address i held so_far few some.
+      let at = reached_object config memory block owner promises graph holds calm address held in
+      let reads : refs_in (memory (Heap (address + 1))) ≡ at.refs = ap refs_in at.shape ∙ refs_read at.refs at.nums at.few_refs at.few_nums in
+      let shape : s (Heap (address + 1)) ≡ memory (Heap (address + 1)) = after.loosened.words address 1 (thing at.name at.refs at.nums) refl at.here (omega arith) in
+      let place : address + 3 + i ≡ address + (3 + i) = omega arith in
+      let same : s (Heap (address + 3 + i)) ≡ memory (Heap (address + 3 + i)) =
+      ap (λ k. s (Heap k)) place ∙ after.loosened.words address (3 + i) (thing at.name at.refs at.nums) refl at.here (omega (arith, few, reads)) ∙ ap (λ k. memory (Heap k)) (sym place) in
+      subst (CanBeReached config s) same
+      (field_reached config s settled owner promises graph after.holds still_calm address i so_far (subst (λ k. i < k) (sym (ap refs_in shape)) few) (λ none. some (sym same ∙ none))))
 
-  is_found : (a : ℕ) → CanBeReached c s a → found a ≡ true
-  is_found a held = held_is_found c m block (with_promised g p) holds.objects a (was_reached a held)
+  is_found : (a : ℕ) → CanBeReached config s a → found a ≡ true
+  is_found a held = held_is_found config memory block (with_promised graph promises) holds.objects a (was_reached a held)
 
-  reached : (a : ℕ) → found a ≡ true → CanBeReached c s a
-  reached a is = still_reached a (found_is_held c m block (with_promised g p) holds.objects a is)
+  reached : (a : ℕ) → found a ≡ true → CanBeReached config s a
+  reached a is = still_reached a (found_is_held config memory block (with_promised graph promises) holds.objects a is)
 
   abbrev plot : Plot
-  plot = left c s settled owner p g after.holds still_calm found is_found reached
+  plot = left config s settled owner promises graph after.holds still_calm found is_found reached
 
-  left_then : HoldsBy c s plot owner p g
-  left_then = left_holds c s settled owner p g after.holds still_calm found is_found reached
+  left_then : HoldsBy config s plot owner promises graph
+  left_then = left_holds config s settled owner promises graph after.holds still_calm found is_found reached
 
-  pub marking_begins : BeginsMarking c m (init_marked c m) block owner p g
+  pub marking_begins : BeginsMarking config memory (init_marked config memory) block owner promises graph
   marking_begins = record {
-    holds = begun c s settled owner p g after.holds still_calm found is_found reached settled after.holds;
-    left = begun c s settled owner p g after.holds still_calm found is_found reached plot left_then;
-    marking = marking c s settled owner p g after.holds still_calm found is_found reached (holds_divided c s plot owner p g left_then still_seats (settling_leaves c m).last);
-    sized = λ sized. sized_alike s (init_marked c m) plot (λ a. refl) (pruned_sized found settled s (loosened_sized c m s block settled owner p g holds after.loosened sized));
+    holds = begun config s settled owner promises graph after.holds still_calm found is_found reached settled after.holds;
+    left = begun config s settled owner promises graph after.holds still_calm found is_found reached plot left_then;
+    marking = marking config s settled owner promises graph after.holds still_calm found is_found reached (holds_divided config s plot owner promises graph left_then still_seats (settling_leaves config memory).last);
+    sized = λ sized. sized_alike s (init_marked config memory) plot (λ a. refl) (pruned_sized found settled s (loosened_sized config memory s block settled owner promises graph holds after.loosened sized));
   }
 
 pub init_marks : InitMarks

@@ -9,7 +9,7 @@ use Rattle.regions.specs.Marks.{mark_word, mark_bit}
 use Rattle.cycle_words.specs.Marking.Marks.{bits_of, mark_bits}
 
 abbrev pub one : Bool → ℕ
-one b = cond b 1 0
+one holds = cond holds 1 0
 
 pub bits_small : (test : ℕ → Bool) (first n : ℕ) → bits_of test first n < 2 ^ n
 unfolding bits_of
@@ -19,7 +19,7 @@ bits_small test first (suc k) =
     let double : 2 ^ suc k ≡ 2 ^ k * 2 = pow-suc 2 k in
     omega (arith, less, double)
   where
-    more : (b : Bool) (x y : ℕ) → x < y → one b * y + x < 2 * y
+    more : (holds : Bool) (x y : ℕ) → x < y → one holds * y + x < 2 * y
     more true x y less = omega (arith, less)
     more false x y less = omega (arith, less)
 
@@ -38,15 +38,15 @@ bits_at test first (suc k) j below = ⊎_elim
     ∙ ap (λ x. one (test (first + x))) (sym same))
     (cases_lt j k)
   where
-    lowest : (b : Bool) → bit_at (one b) 0 ≡ one b
+    lowest : (holds : Bool) → bit_at (one holds) 0 ≡ one holds
     lowest true = refl
     lowest false = refl
 
 -- an address by its word and bit
-pub address_again : (c : Config) (a : ℕ) → c.region_words ≤ a → c.region_words + 64 * mark_word c a + mark_bit c a ≡ a
-address_again c a above = omega (arith, above)
+pub address_again : (config : Config) (a : ℕ) → config.region_words ≤ a → config.region_words + 64 * mark_word config a + mark_bit config a ≡ a
+address_again config a above = omega (arith, above)
 
 -- whether an address of a set has its bit
-pub mark_at : (c : Config) (set : ℕ → Bool) (a : ℕ) → c.region_words ≤ a → bit_at (mark_bits c set (mark_word c a)) (mark_bit c a) ≡ one (set a)
-mark_at c set a above =
-    bits_at set (c.region_words + 64 * mark_word c a) 64 (mark_bit c a) (omega arith) ∙ ap (λ x. one (set x)) (address_again c a above)
+pub mark_at : (config : Config) (set : ℕ → Bool) (address : ℕ) → config.region_words ≤ address → bit_at (mark_bits config set (mark_word config address)) (mark_bit config address) ≡ one (set address)
+mark_at config set address above =
+    bits_at set (config.region_words + 64 * mark_word config address) 64 (mark_bit config address) (omega arith) ∙ ap (λ x. one (set x)) (address_again config address above)

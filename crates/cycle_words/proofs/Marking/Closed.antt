@@ -30,34 +30,34 @@ use Rattle.cycle_words.proofs.Marking.Traced.{listed_traced, traced_listed}
 use Rattle.cycle_words.proofs.Marking.Dead.{dead_is_dead}
 
 -- a bit of two words together
-or_true : (x : ℕ) (b : Bool) → (max x (one b) == 1) ≡ true → x < 2 → ((x == 1) ≡ true) ⊎ (b ≡ true)
+or_true : (x : ℕ) (holds : Bool) → (max x (one holds) == 1) ≡ true → x < 2 → ((x == 1) ≡ true) ⊎ (holds ≡ true)
 or_true x true is small = inr refl
 or_true x false is small = inl (eq-eqb x 1 (let same = eqb-true (max x 0) 1 is in omega (arith, same)))
 
-true_or : (x : ℕ) (b : Bool) → x < 2 → ((x == 1) ≡ true) ⊎ (b ≡ true) → (max x (one b) == 1) ≡ true
+true_or : (x : ℕ) (holds : Bool) → x < 2 → ((x == 1) ≡ true) ⊎ (holds ≡ true) → (max x (one holds) == 1) ≡ true
 true_or x true small is = eq-eqb (max x 1) 1 (omega (arith, small))
 true_or x false small is = ⊎_elim (λ (set : (x == 1) ≡ true). eq-eqb (max x 0) 1 (let same = eqb-true x 1 set in omega (arith, same))) (λ (no_bit : false ≡ true). absurd (true≢false (sym no_bit))) is
 
-module _ (c : Config) (m : Word → ℕ) (block : Plot) (owner : ℕ → Option ℕ) (p : Promises) (g : Graph) (holds : HoldsBy c m block owner p g) (marking : IsMarking c m block) where
+module _ (config : Config) (memory : Word → ℕ) (block : Plot) (owner : ℕ → Option ℕ) (promises : Promises) (graph : Graph) (holds : HoldsBy config memory block owner promises graph) (marking : IsMarking config memory block) where
   abbrev n : Word → ℕ
-  n = closed c m
+  n = closed config memory
 
-  alike : AreAlike m n
+  alike : AreAlike memory n
   alike = record { heap = λ a. refl; top = λ r. refl; root = λ t i. refl; answer = λ t. refl; wait = λ t. refl; current = λ s. refl; free = refl; cset = refl; share = refl; pin = λ t i. refl }
 
-  pub closed_holds : HoldsBy c n block owner p g
-  closed_holds = holds_alike m n alike c block owner p g holds
+  pub closed_holds : HoldsBy config n block owner promises graph
+  closed_holds = holds_alike memory n alike config block owner promises graph holds
 
   abbrev heap : ℕ → ℕ
-  heap a = m (Heap a)
+  heap a = memory (Heap a)
 
   -- what can be marked is an object
-  object_at : (a refs nums : ℕ) (name : Name) → block a ≡ Some (thing name refs nums) → IsObjectAt m block a
+  object_at : (a refs nums : ℕ) (name : Name) → block a ≡ Some (thing name refs nums) → IsObjectAt memory block a
   object_at a refs nums name is =
       let o = marking.objects.each a refs nums name is in
       record { name = name; refs = refs; nums = nums; here = is; shape = o.2.shape; few_refs = o.2.few_refs; few_nums = o.2.few_nums }
 
-  pub markable_object : (a : ℕ) → IsMarkable block a → IsObjectAt m block a
+  pub markable_object : (a : ℕ) → IsMarkable block a → IsObjectAt memory block a
   markable_object a (IsMarkable.object name refs nums is) = object_at a refs nums name is
   markable_object a (IsMarkable.to_come seat words is) = absurd (holds.pieces.unpromised a seat words is)
 
@@ -67,179 +67,179 @@ module _ (c : Config) (m : Word → ℕ) (block : Plot) (owner : ℕ → Option 
       ap refs_in o.2.shape ∙ refs_read refs nums o.2.few_refs o.2.few_nums
 
   -- and what a field of an object names is one
-  field_markable : (a i : ℕ) → IsObjectAt m block a → i < refs_in (heap (a + 1)) → heap (a + 3 + i) ≢ 0 → IsMarkable block (heap (a + 3 + i))
+  field_markable : (a i : ℕ) → IsObjectAt memory block a → i < refs_in (heap (a + 1)) → heap (a + 3 + i) ≢ 0 → IsMarkable block (heap (a + 3 + i))
   field_markable a i is few some =
       let o = marking.objects.each a is.refs is.nums is.name is.here in
       let shape = object_refs a is.refs is.nums is.name is.here in
       let reference : Reference = get_or o.0.refs i None in
       let there : slice_get o.0.refs i ≡ Some reference = slice_get-get_or o.0.refs i None (omega (arith, few, shape, o.2.refs_are)) in
-      let to = named_if_not_0 c (λ r. m (Top r)) block holds.objects.plotted (heap (a + 3 + i)) reference (o.2.references i reference there) some in
+      let to = named_if_not_0 config (λ r. memory (Top r)) block holds.objects.plotted (heap (a + 3 + i)) reference (o.2.references i reference there) some in
       let piece = holds.pieces.named (heap (a + 3 + i)) to.0 to.2 in
       IsMarkable.object to.0 piece.0 piece.1 piece.2
 
   -- so what is grey, black or an entry, and what tracing comes to, can be marked
-  marked_at : (marks : ℕ → ℕ) (a : ℕ) → AreMarks c marks block → (nat_le c.region_words a && (bit_at (marks (mark_word c a)) (mark_bit c a) == 1)) ≡ true → IsMarkable block a
+  marked_at : (marks : ℕ → ℕ) (a : ℕ) → AreMarks config marks block → (nat_le config.region_words a && (bit_at (marks (mark_word config a)) (mark_bit config a) == 1)) ≡ true → IsMarkable block a
   marked_at marks a are is =
-      let both = and_parts (nat_le c.region_words a) (bit_at (marks (mark_word c a)) (mark_bit c a) == 1) is in
-      subst (IsMarkable block) (address_again c a (leb-true c.region_words a both.0))
-      (are.of_objects (mark_word c a) (mark_bit c a) (omega arith) (eqb-true (bit_at (marks (mark_word c a)) (mark_bit c a)) 1 both.1))
+      let both = and_parts (nat_le config.region_words a) (bit_at (marks (mark_word config a)) (mark_bit config a) == 1) is in
+      subst (IsMarkable block) (address_again config a (leb-true config.region_words a both.0))
+      (are.of_objects (mark_word config a) (mark_bit config a) (omega arith) (eqb-true (bit_at (marks (mark_word config a)) (mark_bit config a)) 1 both.1))
 
-  pub black_markable : (a : ℕ) → is_black c m a ≡ true → IsMarkable block a
-  black_markable a is = marked_at (λ k. m (Black k)) a (marking.marked.marking refl).blacks is
+  pub black_markable : (a : ℕ) → is_black config memory a ≡ true → IsMarkable block a
+  black_markable a is = marked_at (λ index. memory (Black index)) a (marking.marked.marking refl).blacks is
 
-  pub traced_markable : (a : ℕ) → IsTraced c m a → IsMarkable block a
-  traced_markable _ (from_grey a is) = marked_at (λ k. m (Grey k)) a (marking.marked.marking refl).greys is
+  pub traced_markable : (a : ℕ) → IsTraced config memory a → IsMarkable block a
+  traced_markable _ (from_grey a is) = marked_at (λ index. memory (Grey index)) a (marking.marked.marking refl).greys is
   traced_markable _ (from_buffer t i below few some) = (marking.marked.marking refl).entries.of_objects t i below few
   traced_markable _ (from_field a i traced plain few some) = field_markable a i (markable_object a (traced_markable a traced)) few some
 
-  object_inside : (a : ℕ) → IsObjectAt m block a → (c.region_words ≤ a) × (a < c.region_words + c.regions * c.region_words)
+  object_inside : (a : ℕ) → IsObjectAt memory block a → (config.region_words ≤ a) × (a < config.region_words + config.regions * config.region_words)
   object_inside a is =
-      let at = object_above c m block owner p g holds marking.uncollected a is.refs is.nums is.name is.here in
+      let at = object_above config memory block owner promises graph holds marking.uncollected a is.refs is.nums is.name is.here in
       (at.0, omega (arith, at.1))
 
-  pub inside : (a : ℕ) → IsTraced c m a → (c.region_words ≤ a) × (a < c.region_words + c.regions * c.region_words)
+  pub inside : (a : ℕ) → IsTraced config memory a → (config.region_words ≤ a) × (a < config.region_words + config.regions * config.region_words)
   inside a traced = object_inside a (markable_object a (traced_markable a traced))
 
-  listed : (a : ℕ) → IsTraced c m a → has (traced_in c m) a ≡ true
-  listed = traced_listed c m inside
+  listed : (a : ℕ) → IsTraced config memory a → has (traced_in config memory) a ≡ true
+  listed = traced_listed config memory inside
 
-  traced : (a : ℕ) → has (traced_in c m) a ≡ true → IsTraced c m a
-  traced = listed_traced c m (c.regions * c.region_words)
+  traced : (a : ℕ) → has (traced_in config memory) a ≡ true → IsTraced config memory a
+  traced = listed_traced config memory (config.regions * config.region_words)
 
   -- the bits of an address afterwards
-  bit_is : (x a : ℕ) → c.region_words ≤ a → bit_at (bit_or x (mark_bits c (has (traced_in c m)) (mark_word c a))) (mark_bit c a) ≡ max (bit_at x (mark_bit c a)) (one (has (traced_in c m) a))
-  bit_is x a high = bit_at_or x (mark_bits c (has (traced_in c m)) (mark_word c a)) (mark_bit c a) ∙ ap (max (bit_at x (mark_bit c a))) (mark_at c (has (traced_in c m)) a high)
+  bit_is : (x a : ℕ) → config.region_words ≤ a → bit_at (bit_or x (mark_bits config (has (traced_in config memory)) (mark_word config a))) (mark_bit config a) ≡ max (bit_at x (mark_bit config a)) (one (has (traced_in config memory) a))
+  bit_is x a high = bit_at_or x (mark_bits config (has (traced_in config memory)) (mark_word config a)) (mark_bit config a) ∙ ap (max (bit_at x (mark_bit config a))) (mark_at config (has (traced_in config memory)) a high)
 
   -- a colour after it was or-ed with what is traced
-  made : (x a : ℕ) → (c.region_words ≤ a) → ((bit_at x (mark_bit c a) == 1) ≡ true) ⊎ IsTraced c m a
-      → (nat_le c.region_words a && (bit_at (bit_or x (mark_bits c (has (traced_in c m)) (mark_word c a))) (mark_bit c a) == 1)) ≡ true
+  made : (x a : ℕ) → (config.region_words ≤ a) → ((bit_at x (mark_bit config a) == 1) ≡ true) ⊎ IsTraced config memory a
+      → (nat_le config.region_words a && (bit_at (bit_or x (mark_bits config (has (traced_in config memory)) (mark_word config a))) (mark_bit config a) == 1)) ≡ true
   made x a high is =
-      and_from (nat_le c.region_words a) _ (le-leb c.region_words a high)
-      (ap (λ k. k == 1) (bit_is x a high) ∙ true_or (bit_at x (mark_bit c a)) (has (traced_in c m) a) (bit_at-lt x (mark_bit c a))
-      (⊎_elim (λ (was : (bit_at x (mark_bit c a) == 1) ≡ true). inl was) (λ (now : IsTraced c m a). inr (listed a now)) is))
+      and_from (nat_le config.region_words a) _ (le-leb config.region_words a high)
+      (ap (λ index. index == 1) (bit_is x a high) ∙ true_or (bit_at x (mark_bit config a)) (has (traced_in config memory) a) (bit_at-lt x (mark_bit config a))
+      (⊎_elim (λ (was : (bit_at x (mark_bit config a) == 1) ≡ true). inl was) (λ (now : IsTraced config memory a). inr (listed a now)) is))
 
-  was : (x a : ℕ) → (nat_le c.region_words a && (bit_at (bit_or x (mark_bits c (has (traced_in c m)) (mark_word c a))) (mark_bit c a) == 1)) ≡ true
-      → ((nat_le c.region_words a && (bit_at x (mark_bit c a) == 1)) ≡ true) ⊎ IsTraced c m a
+  was : (x a : ℕ) → (nat_le config.region_words a && (bit_at (bit_or x (mark_bits config (has (traced_in config memory)) (mark_word config a))) (mark_bit config a) == 1)) ≡ true
+      → ((nat_le config.region_words a && (bit_at x (mark_bit config a) == 1)) ≡ true) ⊎ IsTraced config memory a
   was x a is =
-      let both = and_parts (nat_le c.region_words a) _ is in
-      let high = leb-true c.region_words a both.0 in
+      let both = and_parts (nat_le config.region_words a) _ is in
+      let high = leb-true config.region_words a both.0 in
       ⊎_elim
-      (λ (old : (bit_at x (mark_bit c a) == 1) ≡ true). inl (and_from (nat_le c.region_words a) (bit_at x (mark_bit c a) == 1) both.0 old))
-      (λ (new : has (traced_in c m) a ≡ true). inr (traced a new))
-      (or_true (bit_at x (mark_bit c a)) (has (traced_in c m) a) (ap (λ k. k == 1) (sym (bit_is x a high)) ∙ both.1) (bit_at-lt x (mark_bit c a)))
+      (λ (old : (bit_at x (mark_bit config a) == 1) ≡ true). inl (and_from (nat_le config.region_words a) (bit_at x (mark_bit config a) == 1) both.0 old))
+      (λ (new : has (traced_in config memory) a ≡ true). inr (traced a new))
+      (or_true (bit_at x (mark_bit config a)) (has (traced_in config memory) a) (ap (λ index. index == 1) (sym (bit_is x a high)) ∙ both.1) (bit_at-lt x (mark_bit config a)))
 
-  black_after : (a : ℕ) → is_black c n a ≡ true → (is_black c m a ≡ true) ⊎ IsTraced c m a
-  black_after a is = was (m (Black (mark_word c a))) a is
+  black_after : (a : ℕ) → is_black config n a ≡ true → (is_black config memory a ≡ true) ⊎ IsTraced config memory a
+  black_after a is = was (memory (Black (mark_word config a))) a is
 
-  black_stays : (a : ℕ) → is_black c m a ≡ true → is_black c n a ≡ true
+  black_stays : (a : ℕ) → is_black config memory a ≡ true → is_black config n a ≡ true
   black_stays a is =
-      let both = and_parts (nat_le c.region_words a) _ is in
-      made (m (Black (mark_word c a))) a (leb-true c.region_words a both.0) (inl both.1)
+      let both = and_parts (nat_le config.region_words a) _ is in
+      made (memory (Black (mark_word config a))) a (leb-true config.region_words a both.0) (inl both.1)
 
-  traced_black : (a : ℕ) → IsTraced c m a → is_black c n a ≡ true
-  traced_black a is = made (m (Black (mark_word c a))) a (inside a is).0 (inr is)
+  traced_black : (a : ℕ) → IsTraced config memory a → is_black config n a ≡ true
+  traced_black a is = made (memory (Black (mark_word config a))) a (inside a is).0 (inr is)
 
-  pub are_closed : AreClosed c m n
+  pub are_closed : AreClosed config memory n
   are_closed = record {
     black = λ a. (black_after a, λ is. ⊎_elim (black_stays a) (traced_black a) is);
     grey = λ a. (
-      (λ is. ⊎_elim (λ (old : is_grey c m a ≡ true). from_grey a old) (λ (new : IsTraced c m a). new) (was (m (Grey (mark_word c a))) a is)),
-      (λ is. made (m (Grey (mark_word c a))) a (inside a is).0 (inr is)),
+      (λ is. ⊎_elim (λ (old : is_grey config memory a ≡ true). from_grey a old) (λ (new : IsTraced config memory a). new) (was (memory (Grey (mark_word config a))) a is)),
+      (λ is. made (memory (Grey (mark_word config a))) a (inside a is).0 (inr is)),
     );
   }
 
-  not_null : (a : ℕ) → IsObjectAt m block a → a ≢ 0
-  not_null a is is_zero = let at = object_inside a is in let long = c.in_range.least_words in omega (arith, at.0, is_zero, long)
+  not_null : (a : ℕ) → IsObjectAt memory block a → a ≢ 0
+  not_null a is is_zero = let at = object_inside a is in let long = config.in_range.least_words in omega (arith, at.0, is_zero, long)
 
   abbrev s : Snapshot
   s = marking.ghost.snapshot
 
   abbrev Noted : ℕ → Type 0
-  Noted = IsNoted c (λ k. m (Grey k)) (λ t. m (Count t)) (λ t k. m (Buffer t k)) marking.ghost.recording
+  Noted = IsNoted config (λ index. memory (Grey index)) (λ t. memory (Count t)) (λ t index. memory (Buffer t index)) marking.ghost.recording
 
   -- what is noted becomes black
-  noted_black : (a : ℕ) → IsMarkable block a → Noted a → is_black c n a ≡ true
+  noted_black : (a : ℕ) → IsMarkable block a → Noted a → is_black config n a ≡ true
   noted_black a now (IsNoted.by_mark mark) =
       let at = object_inside a (markable_object a now) in
-      traced_black a (from_grey a (and_from (nat_le c.region_words a) _ (le-leb c.region_words a at.0) (eq-eqb (bit_at (m (Grey (mark_word c a))) (mark_bit c a)) 1 mark)))
-  noted_black a now (IsNoted.by_entry t k within below is) =
+      traced_black a (from_grey a (and_from (nat_le config.region_words a) _ (le-leb config.region_words a at.0) (eq-eqb (bit_at (memory (Grey (mark_word config a))) (mark_bit config a)) 1 mark)))
+  noted_black a now (IsNoted.by_entry t index within below is) =
       let some = not_null a (markable_object a now) in
-      subst (λ x. is_black c n x ≡ true) is (traced_black (m (Buffer t k)) (from_buffer t k within below (λ e. some (sym is ∙ e))))
+      subst (λ x. is_black config n x ≡ true) is (traced_black (memory (Buffer t index)) (from_buffer t index within below (λ e. some (sym is ∙ e))))
   noted_black a now (IsNoted.by_hand t within is) = absurd (none-some a (sym (marking.unmarking.records_none t (omega (arith, within))) ∙ is))
 
   -- A field of an object of the snapshot that becomes black: what it named then becomes black.
-  module _ (a refs nums k : ℕ) (name : Name) (here : s.block a ≡ Some (thing name refs nums)) (below : k < refs) (some : was_at s a k ≢ 0) (now : IsMarkable block (was_at s a k)) (black : is_black c n a ≡ true) where
-    from_white : heap (a + 3 + k) ≡ was_at s a k → is_black c m a ≡ false → is_black c n (was_at s a k) ≡ true
+  module _ (a refs nums index : ℕ) (name : Name) (here : s.block a ≡ Some (thing name refs nums)) (below : index < refs) (some : was_at s a index ≢ 0) (now : IsMarkable block (was_at s a index)) (black : is_black config n a ≡ true) where
+    from_white : heap (a + 3 + index) ≡ was_at s a index → is_black config memory a ≡ false → is_black config n (was_at s a index) ≡ true
     from_white same white =
-        let traced_one : IsTraced c m a = ⊎_elim (λ (old : is_black c m a ≡ true). absurd (true≢false (sym old ∙ white))) (λ (new : IsTraced c m a). new) (black_after a black) in
+        let traced_one : IsTraced config memory a = ⊎_elim (λ (old : is_black config memory a ≡ true). absurd (true≢false (sym old ∙ white))) (λ (new : IsTraced config memory a). new) (black_after a black) in
         let shape = object_refs a refs nums name (marking.marked.kept a refs nums name here) in
-        subst (λ x. is_black c n x ≡ true) same (traced_black (heap (a + 3 + k)) (from_field a k traced_one white (omega (arith, below, shape)) (λ none. some (sym same ∙ none))))
+        subst (λ x. is_black config n x ≡ true) same (traced_black (heap (a + 3 + index)) (from_field a index traced_one white (omega (arith, below, shape)) (λ none. some (sym same ∙ none))))
 
-    from_scan : heap (a + 3 + k) ≡ was_at s a k → IsToScan c (λ q. m (Black q)) marking.ghost.scanning a k → is_black c n (was_at s a k) ≡ true
-    from_scan same (IsToScan.is_white white) = from_white same (false_from_ne_true (is_black c m a) (λ old.
-        let bit = eqb-true (bit_at (m (Black (mark_word c a))) (mark_bit c a)) 1 (and_parts (nat_le c.region_words a) _ old).1 in
+    from_scan : heap (a + 3 + index) ≡ was_at s a index → IsToScan config (λ q. memory (Black q)) marking.ghost.scanning a index → is_black config n (was_at s a index) ≡ true
+    from_scan same (IsToScan.is_white white) = from_white same (false_from_ne_true (is_black config memory a) (λ old.
+        let bit = eqb-true (bit_at (memory (Black (mark_word config a))) (mark_bit config a)) 1 (and_parts (nat_le config.region_words a) _ old).1 in
         omega (arith, bit, white)))
     from_scan same (IsToScan.in_scan seat at within is before) = absurd (none-some _ (sym (marking.unmarking.scans_none seat within) ∙ is))
 
-    from_edge : IsTracedAt c s heap (λ q. m (Black q)) marking.ghost.scanning Noted a k → is_black c n (was_at s a k) ≡ true
-    from_edge (IsTracedAt.done is) = ⊎_elim (λ (null : was_at s a k ≡ 0). absurd (some null)) (λ (noted : Noted (was_at s a k)). noted_black (was_at s a k) now noted) is
+    from_edge : IsTracedAt config s heap (λ q. memory (Black q)) marking.ghost.scanning Noted a index → is_black config n (was_at s a index) ≡ true
+    from_edge (IsTracedAt.done is) = ⊎_elim (λ (null : was_at s a index ≡ 0). absurd (some null)) (λ (noted : Noted (was_at s a index)). noted_black (was_at s a index) now noted) is
     from_edge (IsTracedAt.stands same scan) = from_scan same scan
 
   -- so what the snapshot leads to becomes black
-  led_black : (a : ℕ) → IsLed s a → IsMarkable block a → is_black c n a ≡ true
+  led_black : (a : ℕ) → IsLed s a → IsMarkable block a → is_black config n a ≡ true
   led_black _ (IsLed.by_start a is) now = noted_black a now (marking.marked.traced.starts a is)
-  led_black _ (IsLed.by_field a refs nums k name led here below some) now =
-      from_edge a refs nums k name here below some now (led_black a led (IsMarkable.object name refs nums (marking.marked.kept a refs nums name here)))
-      (marking.marked.traced.edges a refs nums k name here below)
+  led_black _ (IsLed.by_field a refs nums index name led here below some) now =
+      from_edge a refs nums index name here below some now (led_black a led (IsMarkable.object name refs nums (marking.marked.kept a refs nums name here)))
+      (marking.marked.traced.edges a refs nums index name here below)
 
-  young_new : (a refs nums : ℕ) (name : Name) → block a ≡ Some (thing name refs nums) → IsYoung c s.top a → IsNew c n a
+  young_new : (a refs nums : ℕ) (name : Name) → block a ≡ Some (thing name refs nums) → IsYoung config s.top a → IsNew config n a
   young_new a refs nums name is young =
-      let at = object_below c m block owner p g holds marking.uncollected a refs nums name is in
-      let floor = (marking.marked.marking refl).tams_are (region_with c a) at.0 in
+      let at = object_below config memory block owner promises graph holds marking.uncollected a refs nums name is in
+      let floor = (marking.marked.marking refl).tams_are (region_with config a) at.0 in
       omega (arith, young, floor, at.1)
 
   -- and each object is kept afterwards
-  thing_kept : (a refs nums : ℕ) (name : Name) → block a ≡ Some (thing name refs nums) → IsKept c n a
+  thing_kept : (a refs nums : ℕ) (name : Name) → block a ≡ Some (thing name refs nums) → IsKept config n a
   thing_kept a refs nums name is =
       let now : IsMarkable block a = IsMarkable.object name refs nums is in
       ⊎_elim
       (λ (old : s.block a ≡ Some (thing name refs nums)). inl (led_black a (marking.marked.led a refs nums name old) now))
-      (λ (other : (s.starts a ≡ true) ⊎ IsYoung c s.top a). ⊎_elim
+      (λ (other : (s.starts a ≡ true) ⊎ IsYoung config s.top a). ⊎_elim
       (λ (start : s.starts a ≡ true). inl (noted_black a now (marking.marked.traced.starts a start)))
-      (λ (young : IsYoung c s.top a). inr (young_new a refs nums name is young))
+      (λ (young : IsYoung config s.top a). inr (young_new a refs nums name is young))
       other)
       ((marking.marked.marking refl).older a refs nums name is)
 
-  pub object_kept : (a : ℕ) → IsObjectAt m block a → IsKept c n a
+  pub object_kept : (a : ℕ) → IsObjectAt memory block a → IsKept config n a
   object_kept a is = thing_kept a is.refs is.nums is.name is.here
 
   -- each object that can be reached
-  reached_before : (a : ℕ) → CanBeReached c n a → CanBeReached c m a
-  reached_before = reach_ind c n block owner p g closed_holds marking.uncollected (CanBeReached c m)
-      (λ word is some. root_reached c m block owner p g holds marking.uncollected word (ap (λ xs. has xs word) (sym (held_words_same m n alike c)) ∙ is) some)
-      (λ a i held before few some. field_reached c m block owner p g holds marking.uncollected a i before few some)
+  reached_before : (a : ℕ) → CanBeReached config n a → CanBeReached config memory a
+  reached_before = reach_ind config n block owner promises graph closed_holds marking.uncollected (CanBeReached config memory)
+      (λ word is some. root_reached config memory block owner promises graph holds marking.uncollected word (ap (λ xs. has xs word) (sym (held_words_same memory n alike config)) ∙ is) some)
+      (λ a i held before few some. field_reached config memory block owner promises graph holds marking.uncollected a i before few some)
 
   -- so none lies in a dead region
-  pub object_alive : (a : ℕ) → IsObjectAt m block a → dead_in c m (region_with c a) ≡ false
+  pub object_alive : (a : ℕ) → IsObjectAt memory block a → dead_in config memory (region_with config a) ≡ false
   object_alive a is =
-      let at = object_below c m block owner p g holds marking.uncollected a is.refs is.nums is.name is.here in
-      let most = holds.objects.plotted.tops (region_with c a) at.0 in
-      false_from_ne_true (dead_in c m (region_with c a)) (λ told.
-      let dead : IsDead c n (region_with c a) = (dead_is_dead c n (region_with c a)).0 told in
+      let at = object_below config memory block owner promises graph holds marking.uncollected a is.refs is.nums is.name is.here in
+      let most = holds.objects.plotted.tops (region_with config a) at.0 in
+      false_from_ne_true (dead_in config memory (region_with config a)) (λ told.
+      let dead : IsDead config n (region_with config a) = (dead_is_dead config n (region_with config a)).0 told in
       ⊎_elim
-      (λ (black : is_black c n a ≡ true). true≢false (sym black ∙ dead.unmarked a (record { from = at.1; before = omega (arith, at.1, at.2, most) })))
-      (λ (fresh : IsNew c n a). omega (arith, fresh, at.2, dead.no_new))
+      (λ (black : is_black config n a ≡ true). true≢false (sym black ∙ dead.unmarked a (record { from = at.1; before = omega (arith, at.1, at.2, most) })))
+      (λ (fresh : IsNew config n a). omega (arith, fresh, at.2, dead.no_new))
       (object_kept a is))
 
-  object_same : (a : ℕ) → IsObjectAt m block a → IsObjectAt n block a
+  object_same : (a : ℕ) → IsObjectAt memory block a → IsObjectAt n block a
   object_same a is = record { name = is.name; refs = is.refs; nums = is.nums; here = is.here; shape = is.shape; few_refs = is.few_refs; few_nums = is.few_nums }
 
-  pub object_back : (a : ℕ) → IsObjectAt n block a → IsObjectAt m block a
+  pub object_back : (a : ℕ) → IsObjectAt n block a → IsObjectAt memory block a
   object_back a is = record { name = is.name; refs = is.refs; nums = is.nums; here = is.here; shape = is.shape; few_refs = is.few_refs; few_nums = is.few_nums }
 
-  pub closed_through : IsMarkedThrough c n block
+  pub closed_through : IsMarkedThrough config n block
   closed_through = record {
-    reachable = λ a held. object_kept a (reached_object c m block owner p g holds marking.uncollected a (reached_before a held));
+    reachable = λ a held. object_kept a (reached_object config memory block owner promises graph holds marking.uncollected a (reached_before a held));
     fields = λ a i is kept few some.
         let at = markable_object (heap (a + 3 + i)) (field_markable a i (object_back a is) few some) in
         (object_same (heap (a + 3 + i)) at, object_kept (heap (a + 3 + i)) at);

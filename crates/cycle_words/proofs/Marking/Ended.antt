@@ -20,84 +20,84 @@ use Rattle.cycle_words.proofs.Marking.Dead.{shared_alive, current_alive}
 use Rattle.cycle_words.proofs.Marking.Vanished.{piece_was, piece_stays}
 use Rattle.cycle_words.proofs.Marking.Freed.{CanFree, calm_can_free, same_roots, freed_holds}
 
-module _ (c : Config) (m : Word → ℕ) (block : Plot) (owner : ℕ → Option ℕ) (p : Promises) (g : Graph) (holds : HoldsBy c m block owner p g) (marking : IsMarking c m block) (seats : HasNoMoreSeats c m) where
+module _ (config : Config) (memory : Word → ℕ) (block : Plot) (owner : ℕ → Option ℕ) (promises : Promises) (graph : Graph) (holds : HoldsBy config memory block owner promises graph) (marking : IsMarking config memory block) (seats : HasNoMoreSeats config memory) where
   -- the words once the marks are closed, and once the dead regions are freed
   abbrev k : Word → ℕ
-  k = closed c m
+  k = closed config memory
 
   abbrev n : Word → ℕ
-  n = final_marked c m
+  n = final_marked config memory
 
   abbrev out : ℕ → Bool
-  out = dead_in c m
+  out = dead_in config memory
 
   abbrev left : Plot
-  left = freed_block c out block
+  left = freed_block config out block
 
-  held : HoldsBy c k block owner p g
-  held = closed_holds c m block owner p g holds marking
+  held : HoldsBy config k block owner promises graph
+  held = closed_holds config memory block owner promises graph holds marking
 
-  through : IsMarkedThrough c k block
-  through = closed_through c m block owner p g holds marking
+  through : IsMarkedThrough config k block
+  through = closed_through config memory block owner promises graph holds marking
 
   -- no object lies in a dead region
-  alive : (a : ℕ) → IsObjectAt k block a → out (region_with c a) ≡ false
-  alive a is = object_alive c m block owner p g holds marking a (object_back c m block owner p g holds marking a is)
+  alive : (address : ℕ) → IsObjectAt k block address → out (region_with config address) ≡ false
+  alive address is = object_alive config memory block owner promises graph holds marking address (object_back config memory block owner promises graph holds marking address is)
 
-  can : CanFree c out k block
+  can : CanFree config out k block
   can =
-      calm_can_free c out k block owner p g held marking.uncollected
-      (λ a reached. alive a (reached_object c k block owner p g held marking.uncollected a reached)) (current_alive c m seats) (shared_alive c m)
+      calm_can_free config out k block owner promises graph held marking.uncollected
+      (λ a reached. alive a (reached_object config k block owner promises graph held marking.uncollected a reached)) (current_alive config memory seats) (shared_alive config memory)
 
-  pub ended_holds : HoldsBy c n left (freed_owner out owner) p g
-  ended_holds = freed_holds c out k block owner p g held can
+  pub ended_holds : HoldsBy config n left (freed_owner out owner) promises graph
+  ended_holds = freed_holds config out k block owner promises graph held can
 
   -- what is kept and left was kept before, and what was kept is kept
 
-  kept_was : (a : ℕ) → out (region_with c a) ≡ false → IsKept c n a → IsKept c k a
-  kept_was a stays kept = ⊎_elim
-      (λ (black : is_black c n a ≡ true). inl black)
-      (λ (fresh : IsNew c n a).
-      inr (let same : cond (out (region_with c a)) 0 (k (Tams (region_with c a))) ≡ k (Tams (region_with c a)) = cond-false (out (region_with c a)) 0 (k (Tams (region_with c a))) stays in
+  kept_was : (address : ℕ) → out (region_with config address) ≡ false → IsKept config n address → IsKept config k address
+  kept_was address stays kept = ⊎_elim
+      (λ (black : is_black config n address ≡ true). inl black)
+      (λ (fresh : IsNew config n address).
+      inr (let same : cond (out (region_with config address)) 0 (k (Tams (region_with config address))) ≡ k (Tams (region_with config address)) = cond-false (out (region_with config address)) 0 (k (Tams (region_with config address))) stays in
       omega (arith, fresh, same)))
       kept
 
-  kept_is : (a : ℕ) → IsKept c k a → IsKept c n a
-  kept_is a kept = ⊎_elim
-      (λ (black : is_black c k a ≡ true). inl black)
-      (λ (fresh : IsNew c k a). inr (let low = lower (out (region_with c a)) (k (Tams (region_with c a))) in omega (arith, fresh, low)))
+  kept_is : (address : ℕ) → IsKept config k address → IsKept config n address
+  kept_is address kept = ⊎_elim
+      (λ (black : is_black config k address ≡ true). inl black)
+      (λ (fresh : IsNew config k address). inr (let low = lower (out (region_with config address)) (k (Tams (region_with config address))) in omega (arith, fresh, low)))
       kept
     where
-      lower : (b : Bool) (x : ℕ) → cond b 0 x ≤ x
+      lower : (holds : Bool) (x : ℕ) → cond holds 0 x ≤ x
       lower true x = omega arith
       lower false x = omega arith
 
   -- reaching is as before
-  reached_was : (a : ℕ) → CanBeReached c n a → CanBeReached c k a
-  reached_was = reach_ind c n left (freed_owner out owner) p g ended_holds marking.uncollected (CanBeReached c k)
+  reached_was : (a : ℕ) → CanBeReached config n a → CanBeReached config k a
+  reached_was = reach_ind config n left (freed_owner out owner) promises graph ended_holds marking.uncollected (CanBeReached config k)
       (λ word is some.
-      root_reached c k block owner p g held marking.uncollected word
-      (ap (λ xs. has xs word) (sym (same_roots c out k block owner p g held can)) ∙ is) some)
-      (λ a i reached before few some. field_reached c k block owner p g held marking.uncollected a i before few some)
+      root_reached config k block owner promises graph held marking.uncollected word
+      (ap (λ xs. has xs word) (sym (same_roots config out k block owner promises graph held can)) ∙ is) some)
+      (λ a i reached before few some. field_reached config k block owner promises graph held marking.uncollected a i before few some)
 
-  object_was : (a : ℕ) → IsObjectAt n left a → (out (region_with c a) ≡ false) × IsObjectAt k block a
-  object_was a is =
-      let was = piece_was c out block a _ is.here in
+  object_was : (address : ℕ) → IsObjectAt n left address → (out (region_with config address) ≡ false) × IsObjectAt k block address
+  object_was address is =
+      let was = piece_was config out block address _ is.here in
       (was.0, record { name = is.name; refs = is.refs; nums = is.nums; here = was.1; shape = is.shape; few_refs = is.few_refs; few_nums = is.few_nums })
 
-  object_is : (a : ℕ) → out (region_with c a) ≡ false → IsObjectAt k block a → IsObjectAt n left a
-  object_is a stays is =
+  object_is : (address : ℕ) → out (region_with config address) ≡ false → IsObjectAt k block address → IsObjectAt n left address
+  object_is address stays is =
       record {
         name = is.name;
         refs = is.refs;
         nums = is.nums;
-        here = piece_stays c out block a stays ∙ is.here;
+        here = piece_stays config out block address stays ∙ is.here;
         shape = is.shape;
         few_refs = is.few_refs;
         few_nums = is.few_nums;
       }
 
-  pub ended_through : IsMarkedThrough c n left
+  pub ended_through : IsMarkedThrough config n left
   ended_through = record {
     reachable = λ a reached. kept_is a (through.reachable a (reached_was a reached));
     fields = λ a i is kept few some.

@@ -15,49 +15,49 @@ use Rattle.image_graph.specs.Full.{held_words}
 use Rattle.cycle_words.specs.Marking.Marks.{mark_bits}
 use Rattle.cycle_words.proofs.Marking.Bits.{one, bits_small, bits_at, mark_at}
 
-one_is : (b : Bool) → one b ≡ 1 → b ≡ true
+one_is : (holds : Bool) → one holds ≡ 1 → holds ≡ true
 one_is true is = refl
 one_is false is = absurd (omega (arith, is))
 
-module _ (c : Config) (m : Word → ℕ) (plot : Plot) where
+module _ (config : Config) (memory : Word → ℕ) (plot : Plot) where
   abbrev named : ℕ → Bool
-  named = has (held_words c m)
+  named = has (held_words config memory)
 
   abbrev pub first : ℕ → Bool
-  first a = nat_le c.region_words a && named a
+  first a = nat_le config.region_words a && named a
 
   abbrev pub first_snapshot : Snapshot
-  first_snapshot = record { block = plot; heap = λ a. m (Heap a); starts = first; top = edge c m }
+  first_snapshot = record { block = plot; heap = λ a. memory (Heap a); starts = first; top = edge config memory }
 
-  pub is_first : (a : ℕ) → c.region_words ≤ a → IsAmong (held_words c m) a → first a ≡ true
-  is_first a above is = and_from (nat_le c.region_words a) (named a) (le-leb c.region_words a above) is
+  pub is_first : (a : ℕ) → config.region_words ≤ a → IsAmong (held_words config memory) a → first a ≡ true
+  is_first a above is = and_from (nat_le config.region_words a) (named a) (le-leb config.region_words a above) is
 
   -- Where its objects are those that it leads to, what roots, answers and pin slots hold can be marked, and what is promised is so held.
   module _ (recording : ℕ → Option ℕ) (scanning : ℕ → Option Scan) (led : (a refs nums : ℕ) (name : Name) → plot a ≡ Some (thing name refs nums) → IsLed first_snapshot a)
-      (markable : (a : ℕ) → IsAmong (held_words c m) a → a ≢ 0 → IsMarkable plot a) (promises : (a seat words : ℕ) → plot a ≡ Some (promised seat words) → first a ≡ true)
-      (divided : AreDivided c m plot) where
+      (markable : (a : ℕ) → IsAmong (held_words config memory) a → a ≢ 0 → IsMarkable plot a) (promises : (a seat words : ℕ) → plot a ≡ Some (promised seat words) → first a ≡ true)
+      (divided : AreDivided config memory plot) where
     -- what they hold is grey
-    first_noted : (a : ℕ) → first a ≡ true → IsNoted c (mark_bits c named) (λ t. 0) (λ t k. m (Buffer t k)) recording a
-    first_noted a is =
-        let both = and_parts (nat_le c.region_words a) (named a) is in
-        IsNoted.by_mark (mark_at c named a (leb-true c.region_words a both.0) ∙ ap one both.1)
+    first_noted : (address : ℕ) → first address ≡ true → IsNoted config (mark_bits config named) (λ t. 0) (λ t k. memory (Buffer t k)) recording address
+    first_noted address is =
+        let both = and_parts (nat_le config.region_words address) (named address) is in
+        IsNoted.by_mark (mark_at config named address (leb-true config.region_words address both.0) ∙ ap one both.1)
 
     -- and nothing else
-    greys_are : AreMarks c (mark_bits c named) plot
+    greys_are : AreMarks config (mark_bits config named) plot
     greys_are = record {
-      small = λ q. bits_small named (c.region_words + 64 * q) 64;
+      small = λ q. bits_small named (config.region_words + 64 * q) 64;
       of_objects = λ q k below set.
-          let a : ℕ = c.region_words + 64 * q + k in
-          let among = one_is (named a) (sym (bits_at named (c.region_words + 64 * q) 64 k below) ∙ set) in
-          let long = c.in_range.least_words in
+          let a : ℕ = config.region_words + 64 * q + k in
+          let among = one_is (named a) (sym (bits_at named (config.region_words + 64 * q) 64 k below) ∙ set) in
+          let long = config.in_range.least_words in
           markable a among (λ none. omega (arith, none, long));
     }
 
-    pub first_marked : KeepsSnapshot c 1 (mark_bits c named) (λ q. 0) (λ t. 0) (λ t k. m (Buffer t k)) (λ q. m (Top q)) (edge c m) (λ a. m (Heap a)) plot first_snapshot recording scanning
+    pub first_marked : KeepsSnapshot config 1 (mark_bits config named) (λ q. 0) (λ t. 0) (λ t k. memory (Buffer t k)) (λ q. memory (Top q)) (edge config memory) (λ a. memory (Heap a)) plot first_snapshot recording scanning
     first_marked = record {
       empty = λ other. absurd (other refl);
       traced = record {
-        edges = λ a refs nums k name is below. IsTracedAt.stands refl (IsToScan.is_white (bit_at-zero (mark_bit c a)));
+        edges = λ a refs nums k name is below. IsTracedAt.stands refl (IsToScan.is_white (bit_at-zero (mark_bit config a)));
         starts = first_noted;
       };
       led = led;

@@ -29,160 +29,160 @@ use Rattle.cycle_words.proofs.Marking.Trimmed.{IsTrimmed, calm_unmoved, own_curr
 use Rattle.cycle_words.proofs.Marking.Vanished.{free_was, top_stays, piece_was, piece_stays, plotted_again, filled_again, free_again}
 
 -- Free words of a buffer lie in the region in which it ends.
-pub spare_ends : (c : Config) (m : Word → ℕ) (block : Plot) (owner : ℕ → Option ℕ) (p : Promises) (g : Graph) → HoldsBy c m block owner p g
-    → (a seat words : ℕ) → block a ≡ Some (spare seat words) → EndsIn c m seat (region_with c a)
-spare_ends c m block owner p g holds a seat words is =
-    let own = holds.buffers.spares a seat words is in
+pub spare_ends : (config : Config) (memory : Word → ℕ) (block : Plot) (owner : ℕ → Option ℕ) (promises : Promises) (graph : Graph) → HoldsBy config memory block owner promises graph
+    → (address seat words : ℕ) → block address ≡ Some (spare seat words) → EndsIn config memory seat (region_with config address)
+spare_ends config memory block owner promises graph holds address seat words is =
+    let own = holds.buffers.spares address seat words is in
     let one = own.0 in
     let two = own.1 in
-    let long = holds.pieces.some a (spare seat words) is in
-    let some : m (Current seat) ≢ 0 = λ none. (let zero_end = ap end_in none in omega (arith, zero_end, two, long)) in
+    let long = holds.pieces.some address (spare seat words) is in
+    let some : memory (Current seat) ≢ 0 = λ none. (let zero_end = ap end_in none in omega (arith, zero_end, two, long)) in
     let b = holds.buffers.each seat some in
     let low = b.from_base in
     let high = b.to_top in
     let most = holds.objects.plotted.tops b.region b.within in
-    let of : region_with c a ≡ b.region = regions_tile.of_no_other c b.region a (record { from = omega (arith, low, one); before = omega (arith, high, most, two, long) }) in
-    subst (EndsIn c m seat) (sym of) (some, buffer_ends c (λ r. m (Top r)) block seat (m (Current seat)) b most)
+    let of : region_with config address ≡ b.region = regions_tile.of_no_other config b.region address (record { from = omega (arith, low, one); before = omega (arith, high, most, two, long) }) in
+    subst (EndsIn config memory seat) (sym of) (some, buffer_ends config (λ r. memory (Top r)) block seat (memory (Current seat)) b most)
 
 -- What is freed: regions in which nothing lies that a root, or a field of what can be reached, names, and that are not current. All that has
 -- moved lies there.
-pub record CanFree (c : Config) (out : ℕ → Bool) (m : Word → ℕ) (block : Plot) : Type 0 where
-  pub unseated : (seat r : ℕ) → EndsIn c m seat r → out r ≡ false
-  pub unshared : (r : ℕ) → m Share ≡ r + 1 → out r ≡ false
-  pub unnamed_roots : (word : ℕ) → IsAmong (held_words c m) word → word ≢ 0 → out (region_with c word) ≡ false
-  pub unnamed_fields : (a i : ℕ) → CanBeReached c m a → i < refs_in (m (Heap (a + 1))) → m (Heap (a + 3 + i)) ≢ 0 → out (region_with c (m (Heap (a + 3 + i)))) ≡ false
-  pub unmoved : (a refs nums : ℕ) (name : Name) → block a ≡ Some (thing name refs nums) → out (region_with c a) ≡ false → is_forwarded (m (Heap a)) ≡ false
+pub record CanFree (config : Config) (out : ℕ → Bool) (memory : Word → ℕ) (block : Plot) : Type 0 where
+  pub unseated : (seat r : ℕ) → EndsIn config memory seat r → out r ≡ false
+  pub unshared : (r : ℕ) → memory Share ≡ r + 1 → out r ≡ false
+  pub unnamed_roots : (word : ℕ) → IsAmong (held_words config memory) word → word ≢ 0 → out (region_with config word) ≡ false
+  pub unnamed_fields : (address i : ℕ) → CanBeReached config memory address → i < refs_in (memory (Heap (address + 1))) → memory (Heap (address + 3 + i)) ≢ 0 → out (region_with config (memory (Heap (address + 3 + i)))) ≡ false
+  pub unmoved : (address refs nums : ℕ) (name : Name) → block address ≡ Some (thing name refs nums) → out (region_with config address) ≡ false → is_forwarded (memory (Heap address)) ≡ false
 
 -- While no region is in the collection set it is enough that nothing that can be reached lies there.
-pub calm_can_free : (c : Config) (out : ℕ → Bool) (m : Word → ℕ) (block : Plot) (owner : ℕ → Option ℕ) (p : Promises) (g : Graph) → HoldsBy c m block owner p g → m Cset ≡ 0
-    → ((a : ℕ) → CanBeReached c m a → out (region_with c a) ≡ false) → ((seat r : ℕ) → EndsIn c m seat r → out r ≡ false) → ((r : ℕ) → m Share ≡ r + 1 → out r ≡ false)
-    → CanFree c out m block
-calm_can_free c out m block owner p g holds calm unreached unseated unshared = record {
+pub calm_can_free : (config : Config) (out : ℕ → Bool) (memory : Word → ℕ) (block : Plot) (owner : ℕ → Option ℕ) (promises : Promises) (graph : Graph) → HoldsBy config memory block owner promises graph → memory Cset ≡ 0
+    → ((address : ℕ) → CanBeReached config memory address → out (region_with config address) ≡ false) → ((seat r : ℕ) → EndsIn config memory seat r → out r ≡ false) → ((r : ℕ) → memory Share ≡ r + 1 → out r ≡ false)
+    → CanFree config out memory block
+calm_can_free config out memory block owner promises graph holds calm unreached unseated unshared = record {
   unseated = unseated;
   unshared = unshared;
-  unnamed_roots = λ word among some. unreached word (root_reached c m block owner p g holds calm word among some);
-  unnamed_fields = λ a i held few some. unreached (m (Heap (a + 3 + i))) (field_reached c m block owner p g holds calm a i held few some);
-  unmoved = λ a refs nums name is left. calm_unmoved c m block owner p g holds calm a refs nums name is;
+  unnamed_roots = λ word among some. unreached word (root_reached config memory block owner promises graph holds calm word among some);
+  unnamed_fields = λ address i held few some. unreached (memory (Heap (address + 3 + i))) (field_reached config memory block owner promises graph holds calm address i held few some);
+  unmoved = λ address refs nums name is left. calm_unmoved config memory block owner promises graph holds calm address refs nums name is;
 }
 
-module _ (c : Config) (out : ℕ → Bool) (m : Word → ℕ) (block : Plot) (owner : ℕ → Option ℕ) (p : Promises) (g : Graph) (holds : HoldsBy c m block owner p g) (can : CanFree c out m block) where
+module _ (config : Config) (out : ℕ → Bool) (memory : Word → ℕ) (block : Plot) (owner : ℕ → Option ℕ) (promises : Promises) (graph : Graph) (holds : HoldsBy config memory block owner promises graph) (can : CanFree config out memory block) where
   abbrev n : Word → ℕ
-  n = freed c out m
+  n = freed config out memory
 
   abbrev left : Plot
-  left = freed_block c out block
+  left = freed_block config out block
 
   abbrev owned : ℕ → Option ℕ
   owned = freed_owner out owner
 
   abbrev heap : ℕ → ℕ
-  heap a = m (Heap a)
+  heap address = memory (Heap address)
 
   abbrev top : ℕ → ℕ
-  top r = m (Top r)
+  top region = memory (Top region)
 
   abbrev IsRoot : ℕ → Type 0
-  IsRoot = IsAmong (held_words c m)
+  IsRoot = IsAmong (held_words config memory)
 
   abbrev more : Graph
-  more = with_promised g p
+  more = with_promised graph promises
 
-  plotted : IsPlotted c (λ r. n (Top r)) left
-  plotted = plotted_again c out m block holds.objects.plotted holds.pieces.some
+  plotted : IsPlotted config (λ r. n (Top r)) left
+  plotted = plotted_again config out memory block holds.objects.plotted holds.pieces.some
 
   -- what is left and stands for a name is an object
   named : (word : ℕ) (name : Name) → name_at (left word) ≡ Some name → IsCopy left word name
   named word name is =
       let piece = named_piece (left word) name is in
-      let stays = piece_stays c out block word (piece_was c out block word piece.0 piece.1).0 in
+      let stays = piece_stays config out block word (piece_was config out block word piece.0 piece.1).0 in
       let was = holds.pieces.named word name (sym (ap name_at stays) ∙ is) in
       (was.0, was.1, stays ∙ was.2)
 
   -- no object that is left has moved
-  pub left_unmoved : (a refs nums : ℕ) (name : Name) → left a ≡ Some (thing name refs nums) → is_forwarded (heap a) ≡ false
-  left_unmoved a refs nums name is = let was = piece_was c out block a (thing name refs nums) is in can.unmoved a refs nums name was.1 was.0
+  pub left_unmoved : (address refs nums : ℕ) (name : Name) → left address ≡ Some (thing name refs nums) → is_forwarded (heap address) ≡ false
+  left_unmoved address refs nums name is = let was = piece_was config out block address (thing name refs nums) is in can.unmoved address refs nums name was.1 was.0
 
-  trimmed : IsTrimmed c m block (λ r. n (Top r)) left
+  trimmed : IsTrimmed config memory block (λ r. n (Top r)) left
   trimmed = record {
     plotted = plotted;
-    roots = λ word among some. piece_stays c out block word (can.unnamed_roots word among some);
-    fields = λ a i held few some. piece_stays c out block (m (Heap (a + 3 + i))) (can.unnamed_fields a i held few some);
-    current = own_current m left named left_unmoved;
-    was = λ a refs nums name is. (piece_was c out block a (thing name refs nums) is).1;
+    roots = λ word among some. piece_stays config out block word (can.unnamed_roots word among some);
+    fields = λ a i held few some. piece_stays config out block (memory (Heap (a + 3 + i))) (can.unnamed_fields a i held few some);
+    current = own_current memory left named left_unmoved;
+    was = λ a refs nums name is. (piece_was config out block a (thing name refs nums) is).1;
   }
 
-  objects : HoldsGraph c (λ r. n (Top r)) heap left (now_in m) IsRoot more
-  objects = trimmed_objects c m block owner p g holds (λ r. n (Top r)) left trimmed
+  objects : HoldsGraph config (λ r. n (Top r)) heap left (now_in memory) IsRoot more
+  objects = trimmed_objects config memory block owner promises graph holds (λ r. n (Top r)) left trimmed
 
-  rooted : RootsStand c m left g p
-  rooted = trimmed_rooted c m block owner p g holds (λ r. n (Top r)) left trimmed
+  rooted : RootsStand config memory left graph promises
+  rooted = trimmed_rooted config memory block owner promises graph holds (λ r. n (Top r)) left trimmed
 
-  owned_by : (r : ℕ) → out r ≡ false → owned r ≡ owner r
-  owned_by r other = let none : Option ℕ = None in cond-false (out r) none (owner r) other
+  owned_by : (region : ℕ) → out region ≡ false → owned region ≡ owner region
+  owned_by region other = let none : Option ℕ = None in cond-false (out region) none (owner region) other
 
-  owned_none : (r : ℕ) → out r ≡ true → owned r ≡ None
-  owned_none r gone = let none : Option ℕ = None in cond-true (out r) none (owner r) gone
+  owned_none : (region : ℕ) → out region ≡ true → owned region ≡ None
+  owned_none region gone = let none : Option ℕ = None in cond-true (out region) none (owner region) gone
 
-  still_none : (r : ℕ) → owner r ≡ None → owned r ≡ None
-  still_none r none = ⊎_elim (λ (gone : out r ≡ true). owned_none r gone) (λ (other : out r ≡ false). owned_by r other ∙ none) (cases_Bool (out r))
+  still_none : (region : ℕ) → owner region ≡ None → owned region ≡ None
+  still_none region none = ⊎_elim (λ (gone : out region ≡ true). owned_none region gone) (λ (other : out region ≡ false). owned_by region other ∙ none) (cases_Bool (out region))
 
-  shared_one : ShareIsOpen c (m Share) (n Free) (m Cset) owned
+  shared_one : ShareIsOpen config (memory Share) (n Free) (memory Cset) owned
   shared_one r is =
       let was = holds.shared_one r is in
       record {
         within = was.within;
         in_use = λ free. ⊎_elim
-            (λ (before : IsIn (m Free) r). was.in_use before)
+            (λ (before : IsIn (memory Free) r). was.in_use before)
             (λ (gone : out r ≡ true). true≢false (sym gone ∙ can.unshared r is))
-            (free_was c out m r was.within free);
+            (free_was config out memory r was.within free);
         nobodys = still_none r was.nobodys;
         outside = was.outside;
       }
 
   -- the region of a buffer is not freed
-  buffer_stays : (seat : ℕ) (some : m (Current seat) ≢ 0) → out (holds.buffers.each seat some).region ≡ false
+  buffer_stays : (seat : ℕ) (some : memory (Current seat) ≢ 0) → out (holds.buffers.each seat some).region ≡ false
   buffer_stays seat some =
       let b = holds.buffers.each seat some in
-      can.unseated seat b.region (some, buffer_ends c top block seat (m (Current seat)) b (holds.objects.plotted.tops b.region b.within))
+      can.unseated seat b.region (some, buffer_ends config top block seat (memory (Current seat)) b (holds.objects.plotted.tops b.region b.within))
 
   -- nor that of its free words
-  free_stays : (a seat words : ℕ) → block a ≡ Some (spare seat words) → out (region_with c a) ≡ false
-  free_stays a seat words is = can.unseated seat (region_with c a) (spare_ends c m block owner p g holds a seat words is)
+  free_stays : (address seat words : ℕ) → block address ≡ Some (spare seat words) → out (region_with config address) ≡ false
+  free_stays address seat words is = can.unseated seat (region_with config address) (spare_ends config memory block owner promises graph holds address seat words is)
 
   same_room : SameRoom block left
   same_room = record {
     stays = λ a seat b room is.
         let free = only_spares block holds.pieces.unheld holds.pieces.uncarved a seat b is room in
-        piece_stays c out block a (free_stays a seat free.0 (is ∙ ap Some free.1)) ∙ is;
-    came = λ a seat b room is. (piece_was c out block a b is).1;
+        piece_stays config out block a (free_stays a seat free.0 (is ∙ ap Some free.1)) ∙ is;
+    came = λ a seat b room is. (piece_was config out block a b is).1;
   }
 
-  buffers : AreBuffers c (λ r. n (Top r)) (λ s. m (Current s)) left
-  buffers = buffers_stay c top (λ r. n (Top r)) (λ s. m (Current s)) block left same_room holds.buffers
-      (λ seat some. (let same = top_stays c out m (holds.buffers.each seat some).region (buffer_stays seat some) in omega (arith, same)))
+  buffers : AreBuffers config (λ r. n (Top r)) (λ s. memory (Current s)) left
+  buffers = buffers_stay config top (λ r. n (Top r)) (λ s. memory (Current s)) block left same_room holds.buffers
+      (λ seat some. (let same = top_stays config out memory (holds.buffers.each seat some).region (buffer_stays seat some) in omega (arith, same)))
 
-  asking : AreAsking c n g p 0
+  asking : AreAsking config n graph promises 0
   asking t from below some =
       let was = holds.asking t from below some in
       record { shape = was.shape; few_refs = was.few_refs; few_nums = was.few_nums; unanswered = was.unanswered; new = was.new }
 
-  pub same_roots : held_words c n ≡ held_words c m
-  same_roots = same_held_words m n (λ t i. refl) (λ t. refl) (λ t i. refl) c
+  pub same_roots : held_words config n ≡ held_words config memory
+  same_roots = same_held_words memory n (λ t i. refl) (λ t. refl) (λ t i. refl) config
 
-  pub freed_holds : HoldsBy c n left owned p g
+  pub freed_holds : HoldsBy config n left owned promises graph
   freed_holds = record {
-    objects = subst (λ xs. HoldsGraph c (λ r. n (Top r)) heap left (now_in m) (IsAmong xs) more) (sym same_roots) objects;
+    objects = subst (λ xs. HoldsGraph config (λ r. n (Top r)) heap left (now_in memory) (IsAmong xs) more) (sym same_roots) objects;
     rooted = record { roots = rooted.roots; answers = rooted.answers; no_more_roots = rooted.no_more_roots; pins = rooted.pins; no_more_pins = rooted.no_more_pins; no_more_promised = rooted.no_more_promised };
     moved = λ a refs nums name is forwarded. absurd (true≢false (sym forwarded ∙ left_unmoved a refs nums name is));
-    filled = filled_again c out m block holds.objects.plotted holds.pieces.some holds.filled;
+    filled = filled_again config out memory block holds.objects.plotted holds.pieces.some holds.filled;
     pieces = record {
       named = named;
-      unpromised = λ a seat words is. holds.pieces.unpromised a seat words (piece_was c out block a (promised seat words) is).1;
-      unheld = λ a seat words is. holds.pieces.unheld a seat words (piece_was c out block a (hand seat words) is).1;
-      uncarved = λ a seat words is. holds.pieces.uncarved a seat words (piece_was c out block a (carved seat words) is).1;
-      some = λ a b is. holds.pieces.some a b (piece_was c out block a b is).1;
+      unpromised = λ a seat words is. holds.pieces.unpromised a seat words (piece_was config out block a (promised seat words) is).1;
+      unheld = λ a seat words is. holds.pieces.unheld a seat words (piece_was config out block a (hand seat words) is).1;
+      uncarved = λ a seat words is. holds.pieces.uncarved a seat words (piece_was config out block a (carved seat words) is).1;
+      some = λ a b is. holds.pieces.some a b (piece_was config out block a b is).1;
     };
-    free_word = free_again c out m block holds.objects.plotted holds.pieces.some owner owned holds.free_word owned_none still_none;
+    free_word = free_again config out memory block holds.objects.plotted holds.pieces.some owner owned holds.free_word owned_none still_none;
     shared_one = shared_one;
     buffers = buffers;
     asking = asking;

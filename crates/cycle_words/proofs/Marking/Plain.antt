@@ -22,96 +22,96 @@ use Rattle.image_graph.specs.Holds.{HoldsBy}
 use Rattle.cycle_words.specs.Marking.WhileMarking.{IsObjectAt, CanBeReached}
 
 -- a piece of words begins below the top of its region
-pub below_top : (c : Config) (top : ℕ → ℕ) (block : Plot) → IsPlotted c top block → (a : ℕ) (b : Block) → block a ≡ Some b → 0 < words_of b
-    → (region_with c a < c.regions) × (base_of c (region_with c a) ≤ a) × (a + words_of b ≤ base_of c (region_with c a) + top (region_with c a))
-below_top c top block plotted a b is some =
-    let used = plotted.in_use a b is in
-    let most : top used.region ≤ c.region_words = plotted.tops used.region used.within in
-    let of : IsOf c used.region a = record { from = used.from_base; before = omega (arith, used.to_top, most, some) } in
-    let same : used.region ≡ region_with c a = sym (regions_tile.of_no_other c used.region a of) in
-    subst (λ r. (r < c.regions) × (base_of c r ≤ a) × (a + words_of b ≤ base_of c r + top r)) same (used.within, used.from_base, used.to_top)
+pub below_top : (config : Config) (top : ℕ → ℕ) (block : Plot) → IsPlotted config top block → (a : ℕ) (piece : Block) → block a ≡ Some piece → 0 < words_of piece
+    → (region_with config a < config.regions) × (base_of config (region_with config a) ≤ a) × (a + words_of piece ≤ base_of config (region_with config a) + top (region_with config a))
+below_top config top block plotted a piece is some =
+    let used = plotted.in_use a piece is in
+    let most : top used.region ≤ config.region_words = plotted.tops used.region used.within in
+    let of : IsOf config used.region a = record { from = used.from_base; before = omega (arith, used.to_top, most, some) } in
+    let same : used.region ≡ region_with config a = sym (regions_tile.of_no_other config used.region a of) in
+    subst (λ r. (r < config.regions) × (base_of config r ≤ a) × (a + words_of piece ≤ base_of config r + top r)) same (used.within, used.from_base, used.to_top)
 
 -- a field of what can be reached names an object
-pub field_named : (c : Config) (m : Word → ℕ) (block : Plot) (owner : ℕ → Option ℕ) (p : Promises) (g : Graph) → HoldsBy c m block owner p g
-    → (a i : ℕ) → CanBeReached c m a → i < refs_in (m (Heap (a + 1))) → m (Heap (a + 3 + i)) ≢ 0 → (name : Name) × (name_at (block (m (Heap (a + 3 + i)))) ≡ Some name)
-field_named c m block owner p g holds a i held few some =
-    let at = held_is_reached c (λ r. m (Top r)) (λ y. m (Heap y)) block (now_in m) (IsAmong (held_words c m)) (with_promised g p) holds.objects a held in
-    let object = holds.objects.each a at.1 at.2 at.0 held at.3 in
+pub field_named : (config : Config) (memory : Word → ℕ) (block : Plot) (owner : ℕ → Option ℕ) (promises : Promises) (graph : Graph) → HoldsBy config memory block owner promises graph
+    → (address i : ℕ) → CanBeReached config memory address → i < refs_in (memory (Heap (address + 1))) → memory (Heap (address + 3 + i)) ≢ 0 → (name : Name) × (name_at (block (memory (Heap (address + 3 + i)))) ≡ Some name)
+field_named config memory block owner promises graph holds address i held few some =
+    let at = held_is_reached config (λ r. memory (Top r)) (λ y. memory (Heap y)) block (now_in memory) (IsAmong (held_words config memory)) (with_promised graph promises) holds.objects address held in
+    let object = holds.objects.each address at.1 at.2 at.0 held at.3 in
     let is = object.2 in
-    let shape : refs_in (m (Heap (a + 1))) ≡ at.1 = ap refs_in is.shape ∙ refs_read at.1 at.2 is.few_refs is.few_nums in
+    let shape : refs_in (memory (Heap (address + 1))) ≡ at.1 = ap refs_in is.shape ∙ refs_read at.1 at.2 is.few_refs is.few_nums in
     let r : Reference = get_or object.0.refs i None in
     let there : slice_get object.0.refs i ≡ Some r = slice_get-get_or object.0.refs i None (omega (arith, few, shape, is.refs_are)) in
-    let to = named_if_not_0 c (λ q. m (Top q)) block holds.objects.plotted (m (Heap (a + 3 + i))) r (is.references i r there) some in
+    let to = named_if_not_0 config (λ q. memory (Top q)) block holds.objects.plotted (memory (Heap (address + 3 + i))) r (is.references i r there) some in
     (to.0, to.2)
 
-module _ (c : Config) (m : Word → ℕ) (block : Plot) (owner : ℕ → Option ℕ) (p : Promises) (g : Graph) (holds : HoldsBy c m block owner p g) (calm : m Cset ≡ 0) where
+module _ (config : Config) (memory : Word → ℕ) (block : Plot) (owner : ℕ → Option ℕ) (promises : Promises) (graph : Graph) (holds : HoldsBy config memory block owner promises graph) (calm : memory Cset ≡ 0) where
   abbrev top : ℕ → ℕ
-  top r = m (Top r)
+  top region = memory (Top region)
 
   abbrev heap : ℕ → ℕ
-  heap a = m (Heap a)
+  heap address = memory (Heap address)
 
   abbrev more : Graph
-  more = with_promised g p
+  more = with_promised graph promises
 
   -- each object is its own current copy
-  pub own_copy : (a refs nums : ℕ) (name : Name) → block a ≡ Some (thing name refs nums) → now_in m a ≡ a
-  own_copy a refs nums name is = ⊎_elim
-      (λ (moved : is_forwarded (heap a) ≡ true).
-      let was = holds.moved a refs nums name is moved in
-      let none : bit_at (m Cset) (region_with c a) ≡ 0 = ap (λ k. bit_at k (region_with c a)) calm ∙ bit_at-zero (region_with c a) in
+  pub own_copy : (address refs nums : ℕ) (name : Name) → block address ≡ Some (thing name refs nums) → now_in memory address ≡ address
+  own_copy address refs nums name is = ⊎_elim
+      (λ (moved : is_forwarded (heap address) ≡ true).
+      let was = holds.moved address refs nums name is moved in
+      let none : bit_at (memory Cset) (region_with config address) ≡ 0 = ap (λ k. bit_at k (region_with config address)) calm ∙ bit_at-zero (region_with config address) in
       absurd (let set = was.in_set in omega (arith, set, none)))
-      (λ (plain : is_forwarded (heap a) ≡ false). cond-false (is_forwarded (heap a)) (forwardee_in (heap a)) a plain)
-      (cases_Bool (is_forwarded (heap a)))
+      (λ (plain : is_forwarded (heap address) ≡ false). cond-false (is_forwarded (heap address)) (forwardee_in (heap address)) address plain)
+      (cases_Bool (is_forwarded (heap address)))
 
   -- what can be reached is an object
-  pub reached_object : (a : ℕ) → CanBeReached c m a → IsObjectAt m block a
-  reached_object a held =
-      let at = held_is_reached c top heap block (now_in m) (IsAmong (held_words c m)) more holds.objects a held in
-      let object = holds.objects.each a at.1 at.2 at.0 held at.3 in
+  pub reached_object : (address : ℕ) → CanBeReached config memory address → IsObjectAt memory block address
+  reached_object address held =
+      let at = held_is_reached config top heap block (now_in memory) (IsAmong (held_words config memory)) more holds.objects address held in
+      let object = holds.objects.each address at.1 at.2 at.0 held at.3 in
       record { name = at.0; refs = at.1; nums = at.2; here = at.3; shape = object.2.shape; few_refs = object.2.few_refs; few_nums = object.2.few_nums }
 
   -- so roots and fields lead to themselves
-  pub root_own : (word : ℕ) → IsAmong (held_words c m) word → word ≢ 0 → now_in m word ≡ word
+  pub root_own : (word : ℕ) → IsAmong (held_words config memory) word → word ≢ 0 → now_in memory word ≡ word
   root_own word is some =
       let named = holds.objects.root_named word is some in
       let piece = holds.pieces.named word named.2 named.4 in
       own_copy word piece.0 piece.1 named.2 piece.2
 
-  pub field_own : (a i : ℕ) → CanBeReached c m a → i < refs_in (heap (a + 1)) → heap (a + 3 + i) ≢ 0 → now_in m (heap (a + 3 + i)) ≡ heap (a + 3 + i)
-  field_own a i held few some =
-      let to = field_named c m block owner p g holds a i held few some in
-      let piece = holds.pieces.named (heap (a + 3 + i)) to.0 to.1 in
-      own_copy (heap (a + 3 + i)) piece.0 piece.1 to.0 piece.2
+  pub field_own : (address i : ℕ) → CanBeReached config memory address → i < refs_in (heap (address + 1)) → heap (address + 3 + i) ≢ 0 → now_in memory (heap (address + 3 + i)) ≡ heap (address + 3 + i)
+  field_own address i held few some =
+      let to = field_named config memory block owner promises graph holds address i held few some in
+      let piece = holds.pieces.named (heap (address + 3 + i)) to.0 to.1 in
+      own_copy (heap (address + 3 + i)) piece.0 piece.1 to.0 piece.2
 
   -- in a simpler form
-  pub root_reached : (word : ℕ) → IsAmong (held_words c m) word → word ≢ 0 → CanBeReached c m word
-  root_reached word is some = subst (CanBeReached c m) (root_own word is some) (from_root word is some)
+  pub root_reached : (word : ℕ) → IsAmong (held_words config memory) word → word ≢ 0 → CanBeReached config memory word
+  root_reached word is some = subst (CanBeReached config memory) (root_own word is some) (from_root word is some)
 
-  pub field_reached : (a i : ℕ) → CanBeReached c m a → i < refs_in (heap (a + 1)) → heap (a + 3 + i) ≢ 0 → CanBeReached c m (heap (a + 3 + i))
-  field_reached a i held few some = subst (CanBeReached c m) (field_own a i held few some) (from_field a i held few some)
+  pub field_reached : (address i : ℕ) → CanBeReached config memory address → i < refs_in (heap (address + 1)) → heap (address + 3 + i) ≢ 0 → CanBeReached config memory (heap (address + 3 + i))
+  field_reached address i held few some = subst (CanBeReached config memory) (field_own address i held few some) (from_field address i held few some)
 
   -- an object lies in the part of its region that is in use
   pub object_below : (a refs nums : ℕ) (name : Name) → block a ≡ Some (thing name refs nums)
-      → (region_with c a < c.regions) × (base_of c (region_with c a) ≤ a) × (a - base_of c (region_with c a) < m (Top (region_with c a)))
+      → (region_with config a < config.regions) × (base_of config (region_with config a) ≤ a) × (a - base_of config (region_with config a) < memory (Top (region_with config a)))
   object_below a refs nums name is =
-      let at = below_top c top block holds.objects.plotted a (thing name refs nums) is (omega arith) in
+      let at = below_top config top block holds.objects.plotted a (thing name refs nums) is (omega arith) in
       (at.0, at.1, omega (arith, at.1, at.2))
 
   -- and in the heap
-  pub object_above : (a refs nums : ℕ) (name : Name) → block a ≡ Some (thing name refs nums) → (c.region_words ≤ a) × (a + 3 + refs + nums ≤ heap_end c)
-  object_above a refs nums name is =
-      let at = piece_inside c top block holds.objects.plotted a (thing name refs nums) is in
+  pub object_above : (address refs nums : ℕ) (name : Name) → block address ≡ Some (thing name refs nums) → (config.region_words ≤ address) × (address + 3 + refs + nums ≤ heap_end config)
+  object_above address refs nums name is =
+      let at = piece_inside config top block holds.objects.plotted address (thing name refs nums) is in
       (at.0, omega (arith, at.1))
 
 -- what is true of roots, and of what a field names where it is true of the object, is true of all that can be reached
-pub reach_ind : (c : Config) (m : Word → ℕ) (block : Plot) (owner : ℕ → Option ℕ) (p : Promises) (g : Graph) → HoldsBy c m block owner p g → m Cset ≡ 0
+pub reach_ind : (config : Config) (memory : Word → ℕ) (block : Plot) (owner : ℕ → Option ℕ) (promises : Promises) (graph : Graph) → HoldsBy config memory block owner promises graph → memory Cset ≡ 0
     → (P : ℕ → Type 0)
-    → ((word : ℕ) → IsAmong (held_words c m) word → word ≢ 0 → P word)
-    → ((a i : ℕ) → CanBeReached c m a → P a → i < refs_in (m (Heap (a + 1))) → m (Heap (a + 3 + i)) ≢ 0 → P (m (Heap (a + 3 + i))))
-    → (a : ℕ) → CanBeReached c m a → P a
-reach_ind c m block owner p g holds calm P root field _ (from_root word is some) =
-    subst P (sym (root_own c m block owner p g holds calm word is some)) (root word is some)
-reach_ind c m block owner p g holds calm P root field _ (from_field a i held few some) =
-    subst P (sym (field_own c m block owner p g holds calm a i held few some))
-    (field a i held (reach_ind c m block owner p g holds calm P root field a held) few some)
+    → ((word : ℕ) → IsAmong (held_words config memory) word → word ≢ 0 → P word)
+    → ((address i : ℕ) → CanBeReached config memory address → P address → i < refs_in (memory (Heap (address + 1))) → memory (Heap (address + 3 + i)) ≢ 0 → P (memory (Heap (address + 3 + i))))
+    → (address : ℕ) → CanBeReached config memory address → P address
+reach_ind config memory block owner promises graph holds calm P root field _ (from_root word is some) =
+    subst P (sym (root_own config memory block owner promises graph holds calm word is some)) (root word is some)
+reach_ind config memory block owner promises graph holds calm P root field _ (from_field address i held few some) =
+    subst P (sym (field_own config memory block owner promises graph holds calm address i held few some))
+    (field address i held (reach_ind config memory block owner promises graph holds calm P root field address held) few some)

@@ -22,48 +22,48 @@ use Rattle.cycle_words.proofs.Pinned.{same_pinned}
 use Rattle.cycle_words.proofs.Finishing.Collecting.{loosened_collecting}
 use Rattle.cycle_words.proofs.Marking.Alike.{sized_alike, same_held_words, holds_alike}
 
-reached_before : (c : Config) (m : Word → ℕ) (a : ℕ) → CanBeReached c (updating_begun c m) a → CanBeReached c m a
-reached_before c m a = subst (λ xs. IsLedTo (now_in m) (λ y. m (Heap y)) (IsAmong xs) a) (same_held_words m (updating_begun c m) (λ t i. refl) (λ t. refl) (λ t i. refl) c)
+reached_before : (config : Config) (memory : Word → ℕ) (a : ℕ) → CanBeReached config (updating_begun config memory) a → CanBeReached config memory a
+reached_before config memory a = subst (λ xs. IsLedTo (now_in memory) (λ y. memory (Heap y)) (IsAmong xs) a) (same_held_words memory (updating_begun config memory) (λ t i. refl) (λ t. refl) (λ t i. refl) config)
 
-collecting_then : (c : Config) (m : Word → ℕ) (block : Plot) → WhileCollecting c m block → NothingInside c m → WhileCollecting c (updating_begun c m) block
-collecting_then c m block while nothing = record {
+collecting_then : (config : Config) (memory : Word → ℕ) (block : Plot) → WhileCollecting config memory block → NothingInside config memory → WhileCollecting config (updating_begun config memory) block
+collecting_then config memory block while nothing = record {
   marked = while.marked;
-  reachable = λ some a reached. while.reachable some a (reached_before c m a reached);
+  reachable = λ some a reached. while.reachable some a (reached_before config memory a reached);
   no_new = while.no_new;
   floors = while.floors;
   unseated = while.unseated;
   young = while.young;
-  outside = λ off a reached. nothing a (reached_before c m a reached);
+  outside = λ off a reached. nothing a (reached_before config memory a reached);
 }
 
-module _ (c : Config) (m : Word → ℕ) (block : Plot) (owner : ℕ → Option ℕ) (p : Promises) (g : Graph) (holds : HoldsBy c m block owner p g) (seats : HasNoMoreSeats c m) where
+module _ (config : Config) (memory : Word → ℕ) (block : Plot) (owner : ℕ → Option ℕ) (promises : Promises) (graph : Graph) (holds : HoldsBy config memory block owner promises graph) (seats : HasNoMoreSeats config memory) where
   abbrev s : Word → ℕ
-  s = buffers_settled c m
+  s = buffers_settled config memory
 
   abbrev settled : Plot
-  settled = settled_block c m block
+  settled = settled_block config memory block
 
-  after : HoldsLoosened c m s block settled owner p g
-  after = settled_holds c m block owner p g holds seats
+  after : HoldsLoosened config memory s block settled owner promises graph
+  after = settled_holds config memory block owner promises graph holds seats
 
   -- nothing inside that can be reached, but in pinned regions, and no top changed
-  nothing_inside : NothingInside c m → NothingInside c s
+  nothing_inside : NothingInside config memory → NothingInside config s
   nothing_inside nothing a reached inside =
-      same_pinned c m s (λ t i. after.loosened.others (Pin t i) refl) (region_with c a)
-      ∙ nothing a (loosened_reached c m s block settled owner p g holds after.loosened after.holds.objects.plotted a reached) (subst (λ k. IsCollected c k a) (after.loosened.others Cset refl) inside)
+      same_pinned config memory s (λ t i. after.loosened.others (Pin t i) refl) (region_with config a)
+      ∙ nothing a (loosened_reached config memory s block settled owner promises graph holds after.loosened after.holds.objects.plotted a reached) (subst (λ k. IsCollected config k a) (after.loosened.others Cset refl) inside)
 
-  collecting_settled : WhileCollecting c m block → WhileCollecting c s settled
-  collecting_settled while = loosened_collecting c m s block settled owner p g holds after.loosened after.holds.objects.plotted while
-      (λ r member. (settling_leaves c m).tops r)
-      (λ some r below. (let floor = while.floors some r below in let same = (settling_leaves c m).tops r in omega (arith, floor, same)))
+  collecting_settled : WhileCollecting config memory block → WhileCollecting config s settled
+  collecting_settled while = loosened_collecting config memory s block settled owner promises graph holds after.loosened after.holds.objects.plotted while
+      (λ r member. (settling_leaves config memory).tops r)
+      (λ some r below. (let floor = while.floors some r below in let same = (settling_leaves config memory).tops r in omega (arith, floor, same)))
 
-  pub holds_limited : HoldsLimited c m (init_updated c m) block owner p g
+  pub holds_limited : HoldsLimited config memory (init_updated config memory) block owner promises graph
   holds_limited = record {
-    holds = holds_alike s (init_updated c m)
-        (record { heap = λ a. refl; top = λ r. refl; root = λ t i. refl; answer = λ t. refl; wait = λ t. refl; current = λ s. refl; free = refl; cset = refl; share = refl; pin = λ t i. refl }) c settled owner p g after.holds;
-    sized = λ sized. sized_alike s (init_updated c m) settled (λ a. refl) (loosened_sized c m s block settled owner p g holds after.loosened sized);
-    collecting = λ while nothing. collecting_then c s settled (collecting_settled while) (nothing_inside nothing);
+    holds = holds_alike s (init_updated config memory)
+        (record { heap = λ a. refl; top = λ r. refl; root = λ t i. refl; answer = λ t. refl; wait = λ t. refl; current = λ s. refl; free = refl; cset = refl; share = refl; pin = λ t i. refl }) config settled owner promises graph after.holds;
+    sized = λ sized. sized_alike s (init_updated config memory) settled (λ a. refl) (loosened_sized config memory s block settled owner promises graph holds after.loosened sized);
+    collecting = λ while nothing. collecting_then config s settled (collecting_settled while) (nothing_inside nothing);
   }
 
-pub limits_hold : (c : Config) (m : Word → ℕ) → HasNoMoreSeats c m → LimitsHold c m (init_updated c m)
-limits_hold c m seats block owner p g holds = holds_limited c m block owner p g holds seats
+pub limits_hold : (config : Config) (memory : Word → ℕ) → HasNoMoreSeats config memory → LimitsHold config memory (init_updated config memory)
+limits_hold config memory seats block owner p g holds = holds_limited config memory block owner p g holds seats

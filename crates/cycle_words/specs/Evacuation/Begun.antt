@@ -24,7 +24,7 @@ root_places zero = []
 root_places (suc t) = root_places t ++ map (Root t) (range_with_len 0 16)
 
 abbrev pub naming_places : Config → List Word
-naming_places c = root_places c.mutators ++ map Answer (range_with_len 0 c.mutators)
+naming_places config = root_places config.mutators ++ map Answer (range_with_len 0 config.mutators)
 
 abbrev pub IsNaming : Word → Type 0
 IsNaming (Root t i) = ⊤
@@ -33,22 +33,22 @@ IsNaming word = ⊥
 
 -- a word is the address of something in the collection set
 abbrev pub is_collected : Config → (Word → ℕ) → ℕ → Bool
-is_collected c memory a = nat_le c.region_words a && (bit_at (memory Cset) (region_with c a) == 1)
+is_collected config memory address = nat_le config.region_words address && (bit_at (memory Cset) (region_with config address) == 1)
 
 -- the words after an object of the collection set was copied out, unless it had been before
 abbrev pub moved_out : Config → (Word → ℕ) → ℕ → Word → ℕ
-moved_out c memory a word = if is_forwarded (memory (Heap a)) then memory word else copied_out c memory a word
+moved_out config memory address word = if is_forwarded (memory (Heap address)) then memory word else copied_out config memory address word
 
 -- the words after one place was cleared: what it named in the collection set has a copy, and it names that
 unfoldable pub cleared_at : Config → (Word → ℕ) → (place : Word) → Word → ℕ
-cleared_at c memory place word = if is_collected c memory (memory place) then
-    (if same_word place word then now_in (moved_out c memory (memory place)) (memory place) else moved_out c memory (memory place) word)
+cleared_at config memory place word = if is_collected config memory (memory place) then
+    (if same_word place word then now_in (moved_out config memory (memory place)) (memory place) else moved_out config memory (memory place) word)
     else memory word
 
 -- the words after these places were cleared, one after the other
 unfoldable pub cleared_in_turn : Config → (Word → ℕ) → List Word → Word → ℕ
-cleared_in_turn c memory [] word = memory word
-cleared_in_turn c memory (place ∷ places) word = cleared_in_turn c (cleared_at c memory place) places word
+cleared_in_turn config memory [] word = memory word
+cleared_in_turn config memory (place ∷ places) word = cleared_in_turn config (cleared_at config memory place) places word
 
 -- the words with a collection set
 abbrev pub with_set : (Word → ℕ) → (set : ℕ) → Word → ℕ
@@ -57,7 +57,7 @@ with_set memory set word = memory word
 
 -- the words with a collection set that no root and no answer names
 abbrev pub roots_cleared : Config → (Word → ℕ) → (set : ℕ) → Word → ℕ
-roots_cleared c memory set = cleared_in_turn c (with_set memory set) (naming_places c)
+roots_cleared config memory set = cleared_in_turn config (with_set memory set) (naming_places config)
 
 -- evacuation runs: no copier is counted, and no unit is claimed
 abbrev pub evac_started : (Word → ℕ) → Word → ℕ
@@ -74,50 +74,50 @@ evac_spared memory Claim = 0
 evac_spared memory word = memory word
 
 abbrev pub evac_begun : Config → (Word → ℕ) → (set : ℕ) → Word → ℕ
-evac_begun c memory set word = if set == 0 then evac_spared memory word else evac_started (roots_cleared c memory set) word
+evac_begun config memory set word = if set == 0 then evac_spared memory word else evac_started (roots_cleared config memory set) word
 
 -- What roots and answers name in the collection set can be copied: it is marked, of a region of the heap, and has at most 35
 -- words.
-pub record IsCopyable (c : Config) (memory : Word → ℕ) (a : ℕ) : Type 0 where
-  pub marked : is_black c memory a ≡ true
-  pub of_region : region_with c a < c.regions
+pub record IsCopyable (config : Config) (memory : Word → ℕ) (a : ℕ) : Type 0 where
+  pub marked : is_black config memory a ≡ true
+  pub of_region : region_with config a < config.regions
   pub short : words_at memory a ≤ 35
 
 -- no word of a free region is in use
 abbrev pub FreeAreEmpty : Config → (Word → ℕ) → Type 0
-FreeAreEmpty c memory = (r : ℕ) → r < c.regions → IsIn (memory Free) r → memory (Top r) ≡ 0
+FreeAreEmpty config memory = (region : ℕ) → region < config.regions → IsIn (memory Free) region → memory (Top region) ≡ 0
 
 -- Evacuation can begin: only regions of the heap are free, and they are empty; no region uses more words than it has; marked
 -- objects lie apart, each in one region, and none has moved; and what roots and answers name in the chosen regions can be
 -- copied.
-pub record CanBegin (c : Config) (memory : Word → ℕ) : Type 0 where
-  pub free : memory Free < 2 ^ c.regions
-  pub empty : FreeAreEmpty c memory
-  pub within : AreWithin c memory
-  pub apart : LieApart c.region_words (marked_words c memory)
-  pub unmoved : (a : ℕ) → is_black c memory a ≡ true → is_forwarded (memory (Heap a)) ≡ false
-  pub copyable : (place : Word) → Contains (naming_places c) place → is_collected c (with_set memory (chosen c memory)) (memory place) ≡ true
-      → IsCopyable c memory (memory place)
+pub record CanBegin (config : Config) (memory : Word → ℕ) : Type 0 where
+  pub free : memory Free < 2 ^ config.regions
+  pub empty : FreeAreEmpty config memory
+  pub within : AreWithin config memory
+  pub apart : LieApart config.region_words (marked_words config memory)
+  pub unmoved : (address : ℕ) → is_black config memory address ≡ true → is_forwarded (memory (Heap address)) ≡ false
+  pub copyable : (place : Word) → Contains (naming_places config) place → is_collected config (with_set memory (chosen config memory)) (memory place) ≡ true
+      → IsCopyable config memory (memory place)
 
 -- Roots and answers were cleared, and for that these objects were copied out.
-pub record AreCleared (c : Config) (before after : Word → ℕ) (objects : List ℕ) : Type 0 where
-  pub to_copy : AreToCopy c before (before Cset) objects
+pub record AreCleared (config : Config) (before after : Word → ℕ) (objects : List ℕ) : Type 0 where
+  pub to_copy : AreToCopy config before (before Cset) objects
   -- each of them was named
-  pub named : (a : ℕ) → Contains objects a → (place : Word) × Contains (naming_places c) place × (before place ≡ a)
+  pub named : (a : ℕ) → Contains objects a → (place : Word) × Contains (naming_places config) place × (before place ≡ a)
   -- other words are as copying them leaves them
-  pub copied : (word : Word) → (IsNaming word → ⊥) → after word ≡ copied_by c before objects (length objects) word
+  pub copied : (word : Word) → (IsNaming word → ⊥) → after word ≡ copied_by config before objects (length objects) word
   -- what named something in the collection set names its copy, which is outside; else it is as it was
-  pub renewed : (place : Word) → Contains (naming_places c) place → after place ≡ (if is_collected c before (before place) then now_in after (before place) else before place)
-  pub cleared : (place : Word) → Contains (naming_places c) place → is_collected c before (after place) ≡ false
+  pub renewed : (place : Word) → Contains (naming_places config) place → after place ≡ (if is_collected config before (before place) then now_in after (before place) else before place)
+  pub cleared : (place : Word) → Contains (naming_places config) place → is_collected config before (after place) ≡ false
 
 -- what an address names can be cleared: if it is an object of the collection set that has not moved, it can be copied out, and
 -- some region has room for it
-pub record CanClear (c : Config) (memory : Word → ℕ) (a : ℕ) : Type 0 where
-  pub set : memory Cset < 2 ^ c.regions
-  pub object : is_collected c memory a ≡ true → is_forwarded (memory (Heap a)) ≡ false → CanCopyOut c memory a
-  pub room : is_collected c memory a ≡ true → is_forwarded (memory (Heap a)) ≡ false → copy_room c memory a ≢ None
+pub record CanClear (config : Config) (memory : Word → ℕ) (address : ℕ) : Type 0 where
+  pub set : memory Cset < 2 ^ config.regions
+  pub object : is_collected config memory address ≡ true → is_forwarded (memory (Heap address)) ≡ false → CanCopyOut config memory address
+  pub room : is_collected config memory address ≡ true → is_forwarded (memory (Heap address)) ≡ false → copy_room config memory address ≢ None
 
 -- what these places name can be cleared, one after the other
 unfoldable pub CanClearInTurn : Config → (Word → ℕ) → List Word → Type 0
-CanClearInTurn c memory [] = ⊤
-CanClearInTurn c memory (place ∷ places) = CanClear c memory (memory place) × CanClearInTurn c (cleared_at c memory place) places
+CanClearInTurn config memory [] = ⊤
+CanClearInTurn config memory (place ∷ places) = CanClear config memory (memory place) × CanClearInTurn config (cleared_at config memory place) places

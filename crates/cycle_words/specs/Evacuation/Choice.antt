@@ -9,12 +9,12 @@ use Rattle.cycle_words.specs.Evacuation.Front.{IsLongestFront, longest_front}
 -- The words that may be copied: those of the free regions, less 35 in each, which is the most that an object has. So
 -- what may be left of a region at its end never leaves an object without room.
 abbrev pub copy_limit : Config → (Word → ℕ) → ℕ
-copy_limit c memory = members_below (memory Free) c.regions * (c.region_words - 35)
+copy_limit config memory = members_below (memory Free) config.regions * (config.region_words - 35)
 
 -- a set is the longest front of the candidates whose live words are within that limit
 abbrev pub IsChoice : Config → (Word → ℕ) → (set : ℕ) → Type 0
-IsChoice c memory = IsLongestFront c.regions (copy_limit c memory) (live_words c memory) (is_candidate c memory)
+IsChoice config memory = IsLongestFront config.regions (copy_limit config memory) (live_words config memory) (is_candidate config memory)
 
 -- that set
 abbrev pub chosen : Config → (Word → ℕ) → ℕ
-chosen c memory = longest_front c.regions (copy_limit c memory) (live_words c memory) (is_candidate c memory)
+chosen config memory = longest_front config.regions (copy_limit config memory) (live_words config memory) (is_candidate config memory)

@@ -13,49 +13,49 @@ use Rattle.cycle_words.specs.Evacuation.Copying.{tops_outside}
 
 -- the region to which an object is copied: the lowest one outside the collection set that has room
 abbrev pub copy_room : Config → (Word → ℕ) → ℕ → Option ℕ
-copy_room c memory a = lowest_room c.region_words (tops_outside c.region_words (memory Cset) (λ r. memory (Top r))) (words_at memory a) c.regions
+copy_room config memory a = lowest_room config.region_words (tops_outside config.region_words (memory Cset) (λ r. memory (Top r))) (words_at memory a) config.regions
 
 -- An object can be copied out: it lies in one region, which is of the collection set, and no region uses more words than it
 -- has.
-pub record CanCopyOut (c : Config) (memory : Word → ℕ) (a : ℕ) : Type 0 where
-  pub above : c.region_words ≤ a
-  pub of_region : region_with c a < c.regions
-  pub in_set : IsIn (memory Cset) (region_with c a)
-  pub lies : a % c.region_words + words_at memory a ≤ c.region_words
-  pub tops : AreWithin c memory
+pub record CanCopyOut (config : Config) (memory : Word → ℕ) (a : ℕ) : Type 0 where
+  pub above : config.region_words ≤ a
+  pub of_region : region_with config a < config.regions
+  pub in_set : IsIn (memory Cset) (region_with config a)
+  pub lies : a % config.region_words + words_at memory a ≤ config.region_words
+  pub tops : AreWithin config memory
 
 -- the address behind all that is in use in a region
 abbrev pub top_address : Config → (Word → ℕ) → ℕ → ℕ
-top_address c memory r = base_of c r + memory (Top r)
+top_address config memory region = base_of config region + memory (Top region)
 
 -- the address of the copy, if some region has room
 abbrev pub copy_in : Config → (Word → ℕ) → Option ℕ → Option ℕ
-copy_in c memory None = None
-copy_in c memory (Some r) = Some (top_address c memory r)
+copy_in config memory None = None
+copy_in config memory (Some r) = Some (top_address config memory r)
 
 abbrev pub copy_address : Config → (Word → ℕ) → ℕ → Option ℕ
-copy_address c memory a = copy_in c memory (copy_room c memory a)
+copy_address config memory a = copy_in config memory (copy_room config memory a)
 
 -- the word at an address after so many words were copied from one address to another; the header of the copy is plain
 abbrev pub copied_word : (heap : ℕ → ℕ) (from to words : ℕ) → ℕ → ℕ
-copied_word heap from to words x =
-    if to == x then plain_header else (if nat_lt to x && nat_lt x (to + words) then heap (from + (x - to)) else heap x)
+copied_word heap from to words address =
+    if to == address then plain_header else (if nat_lt to address && nat_lt address (to + words) then heap (from + (address - to)) else heap address)
 
 -- The words after an object was copied to the top of a region: its words stand there, the top has grown, the region is not
 -- free, and the old copy is forwarded to the new one. All other words stay.
 unfoldable pub copied_to : Config → (Word → ℕ) → (address region : ℕ) → Word → ℕ
-copied_to c memory a r (Heap x) = if a == x then header_word (top_address c memory r) else copied_word (λ y. memory (Heap y)) a (top_address c memory r) (words_at memory a) x
-copied_to c memory a r (Top q) = if r == q then memory (Top r) + words_at memory a else memory (Top q)
-copied_to c memory a r Free = bit_and (memory Free) (all_but r)
-copied_to c memory a r word = memory word
+copied_to config memory a other_region (Heap x) = if a == x then header_word (top_address config memory other_region) else copied_word (λ y. memory (Heap y)) a (top_address config memory other_region) (words_at memory a) x
+copied_to config memory a other_region (Top q) = if other_region == q then memory (Top other_region) + words_at memory a else memory (Top q)
+copied_to config memory a other_region Free = bit_and (memory Free) (all_but other_region)
+copied_to config memory a other_region word = memory word
 
 -- and where no region has room, as they were
 abbrev pub copied_in : Config → (Word → ℕ) → ℕ → Option ℕ → Word → ℕ
-copied_in c memory a None word = memory word
-copied_in c memory a (Some r) word = copied_to c memory a r word
+copied_in config memory a None word = memory word
+copied_in config memory a (Some r) word = copied_to config memory a r word
 
 abbrev pub copied_out : Config → (Word → ℕ) → ℕ → Word → ℕ
-copied_out c memory a = copied_in c memory a (copy_room c memory a)
+copied_out config memory a = copied_in config memory a (copy_room config memory a)
 
 -- the words of which copying may change some
 abbrev pub MayChange : Word → Type 0
@@ -65,27 +65,27 @@ MayChange Free = ⊤
 MayChange word = ⊥
 
 -- The same as a relation: an object was copied from an address to the top of a region.
-pub record IsCopiedTo (c : Config) (before after : Word → ℕ) (a r : ℕ) : Type 0 where
-  pub header : after (Heap (top_address c before r)) ≡ plain_header
-  pub words : (k : ℕ) → 0 < k → k < words_at before a → after (Heap (top_address c before r + k)) ≡ before (Heap (a + k))
-  pub forwarded : after (Heap a) ≡ header_word (top_address c before r)
-  pub elsewhere : (x : ℕ) → x ≢ a → (x < top_address c before r) ⊎ (top_address c before r + words_at before a ≤ x) → after (Heap x) ≡ before (Heap x)
-  pub top : after (Top r) ≡ before (Top r) + words_at before a
-  pub other_tops : (q : ℕ) → q ≢ r → after (Top q) ≡ before (Top q)
-  pub in_use : IsOutside (after Free) r
-  pub others_free : (q : ℕ) → q < c.regions → q ≢ r → bit_at (after Free) q ≡ bit_at (before Free) q
+pub record IsCopiedTo (config : Config) (before after : Word → ℕ) (address other_region : ℕ) : Type 0 where
+  pub header : after (Heap (top_address config before other_region)) ≡ plain_header
+  pub words : (k : ℕ) → 0 < k → k < words_at before address → after (Heap (top_address config before other_region + k)) ≡ before (Heap (address + k))
+  pub forwarded : after (Heap address) ≡ header_word (top_address config before other_region)
+  pub elsewhere : (other_address : ℕ) → other_address ≢ address → (other_address < top_address config before other_region) ⊎ (top_address config before other_region + words_at before address ≤ other_address) → after (Heap other_address) ≡ before (Heap other_address)
+  pub top : after (Top other_region) ≡ before (Top other_region) + words_at before address
+  pub other_tops : (region : ℕ) → region ≢ other_region → after (Top region) ≡ before (Top region)
+  pub in_use : IsOutside (after Free) other_region
+  pub others_free : (region : ℕ) → region < config.regions → region ≢ other_region → bit_at (after Free) region ≡ bit_at (before Free) region
   pub others : (word : Word) → (MayChange word → ⊥) → after word ≡ before word
 
 -- the words after so many objects of a list were copied out, one after the other
 unfoldable pub copied_by : Config → (Word → ℕ) → List ℕ → (turns : ℕ) → Word → ℕ
-copied_by c memory objects zero word = memory word
-copied_by c memory objects (suc k) word = copied_out c (copied_by c memory objects k) (slice_index objects k) word
+copied_by config memory objects zero word = memory word
+copied_by config memory objects (suc k) word = copied_out config (copied_by config memory objects k) (slice_index objects k) word
 
 -- an object was copied out of the collection set, to a region outside
-pub record IsCopiedOut (c : Config) (before after : Word → ℕ) (a : ℕ) : Type 0 where
+pub record IsCopiedOut (config : Config) (before after : Word → ℕ) (a : ℕ) : Type 0 where
   pub region : ℕ
-  pub found : copy_room c before a ≡ Some region
-  pub below : region < c.regions
+  pub found : copy_room config before a ≡ Some region
+  pub below : region < config.regions
   pub outside : IsOutside (before Cset) region
-  pub room : before (Top region) + words_at before a ≤ c.region_words
-  pub copied : IsCopiedTo c before after a region
+  pub room : before (Top region) + words_at before a ≤ config.region_words
+  pub copied : IsCopiedTo config before after a region

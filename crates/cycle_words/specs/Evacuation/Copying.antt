@@ -15,26 +15,26 @@ abbrev pub tops_outside : (region_words set : ℕ) (top : ℕ → ℕ) → ℕ �
 tops_outside region_words set top r = if bit_at set r == 1 then region_words else top r
 
 -- objects to copy: each is marked, lies in a region of the set, has at most 35 words, and comes once
-pub record AreToCopy (c : Config) (memory : Word → ℕ) (set : ℕ) (objects : List ℕ) : Type 0 where
+pub record AreToCopy (config : Config) (memory : Word → ℕ) (set : ℕ) (objects : List ℕ) : Type 0 where
   pub once : IsDistinct nat_eq objects
-  pub marked : (a : ℕ) → Contains objects a → is_black c memory a ≡ true
-  pub of_region : (a : ℕ) → Contains objects a → region_with c a < c.regions
-  pub in_set : (a : ℕ) → Contains objects a → IsIn set (region_with c a)
+  pub marked : (a : ℕ) → Contains objects a → is_black config memory a ≡ true
+  pub of_region : (a : ℕ) → Contains objects a → region_with config a < config.regions
+  pub in_set : (a : ℕ) → Contains objects a → IsIn set (region_with config a)
   pub short : (a : ℕ) → Contains objects a → words_at memory a ≤ 35
 
 -- the words of each of them, by its turn
 abbrev pub words_by_turn : (Word → ℕ) → List ℕ → ℕ → ℕ
-words_by_turn memory objects k = words_at memory (slice_index objects k)
+words_by_turn memory objects index = words_at memory (slice_index objects index)
 
 -- the tops after so many turns, each object copied to the lowest region outside the set that has room
 abbrev pub tops_after_copies : Config → (Word → ℕ) → (set : ℕ) → List ℕ → ℕ → ℕ → ℕ
-tops_after_copies c memory set objects = tops_served c.region_words c.regions (words_by_turn memory objects) (tops_outside c.region_words set (λ r. memory (Top r)))
+tops_after_copies config memory set objects = tops_served config.region_words config.regions (words_by_turn memory objects) (tops_outside config.region_words set (λ r. memory (Top r)))
 
 -- an object finds room at its turn, in the lowest region outside the set that has it
-pub record FindsRoom (c : Config) (memory : Word → ℕ) (set : ℕ) (objects : List ℕ) (turn : ℕ) : Type 0 where
+pub record FindsRoom (config : Config) (memory : Word → ℕ) (set : ℕ) (objects : List ℕ) (turn : ℕ) : Type 0 where
   pub region : ℕ
-  pub found : room_at_turn c.region_words c.regions (words_by_turn memory objects) (tops_outside c.region_words set (λ r. memory (Top r))) turn ≡ Some region
-  pub below : region < c.regions
+  pub found : room_at_turn config.region_words config.regions (words_by_turn memory objects) (tops_outside config.region_words set (λ r. memory (Top r))) turn ≡ Some region
+  pub below : region < config.regions
   pub outside : IsOutside set region
-  pub room : tops_after_copies c memory set objects turn region + words_by_turn memory objects turn ≤ c.region_words
-  pub none_lower : (q : ℕ) → q < region → c.region_words < tops_after_copies c memory set objects turn q + words_by_turn memory objects turn
+  pub room : tops_after_copies config memory set objects turn region + words_by_turn memory objects turn ≤ config.region_words
+  pub none_lower : (q : ℕ) → q < region → config.region_words < tops_after_copies config memory set objects turn q + words_by_turn memory objects turn

@@ -22,45 +22,45 @@ live_in regions live set = sum_below (λ r. if bit_at set r == 1 then live r els
 -- what lives in it is within a limit.
 pub record IsFront (regions limit : ℕ) (live : ℕ → ℕ) (candidate : ℕ → Bool) (set : ℕ) : Type 0 where
   pub in_heap : set < 2 ^ regions
-  pub candidates : (r : ℕ) → IsIn set r → candidate r ≡ true
-  pub from_front : (q r : ℕ) → q < regions → candidate q ≡ true → ComesBefore live q r → IsIn set r → IsIn set q
+  pub candidates : (other_region : ℕ) → IsIn set other_region → candidate other_region ≡ true
+  pub from_front : (region other_region : ℕ) → region < regions → candidate region ≡ true → ComesBefore live region other_region → IsIn set other_region → IsIn set region
   pub fits : live_in regions live set ≤ limit
 
 -- it is the longest one: each other one lies in it
 pub record IsLongestFront (regions limit : ℕ) (live : ℕ → ℕ) (candidate : ℕ → Bool) (set : ℕ) : Type 0 where
   pub front : IsFront regions limit live candidate set
-  pub longest : (other : ℕ) → IsFront regions limit live candidate other → (r : ℕ) → IsIn other r → IsIn set r
+  pub longest : (other : ℕ) → IsFront regions limit live candidate other → (region : ℕ) → IsIn other region → IsIn set region
 
 -- what lives in all candidates up to a region, in their order
 abbrev pub live_up_to : (regions : ℕ) (live : ℕ → ℕ) (candidate : ℕ → Bool) → ℕ → ℕ
-live_up_to regions live candidate r = sum_below (λ q. if candidate q && not (comes_before live r q) then live q else 0) regions
+live_up_to regions live candidate region = sum_below (λ q. if candidate q && not (comes_before live region q) then live q else 0) regions
 
 -- a candidate is in the longest front: up to it all fits
 abbrev pub is_in_front : (regions limit : ℕ) (live : ℕ → ℕ) (candidate : ℕ → Bool) → ℕ → Bool
-is_in_front regions limit live candidate r = candidate r && nat_le (live_up_to regions live candidate r) limit
+is_in_front regions limit live candidate region = candidate region && nat_le (live_up_to regions live candidate region) limit
 
 -- the longest front
 abbrev pub longest_front : (regions limit : ℕ) (live : ℕ → ℕ) (candidate : ℕ → Bool) → ℕ
 longest_front regions limit live candidate = bits_of (is_in_front regions limit live candidate) 0 regions
 
 -- A region is the next one of the candidates outside a set: none of these comes before it.
-pub record IsNext (regions : ℕ) (live : ℕ → ℕ) (candidate : ℕ → Bool) (set r : ℕ) : Type 0 where
-  pub below : r < regions
-  pub is : candidate r ≡ true
-  pub outside : IsOutside set r
-  pub none_before : (q : ℕ) → q < regions → candidate q ≡ true → IsOutside set q → ComesBefore live q r → ⊥
+pub record IsNext (regions : ℕ) (live : ℕ → ℕ) (candidate : ℕ → Bool) (set other_region : ℕ) : Type 0 where
+  pub below : other_region < regions
+  pub is : candidate other_region ≡ true
+  pub outside : IsOutside set other_region
+  pub none_before : (region : ℕ) → region < regions → candidate region ≡ true → IsOutside set region → ComesBefore live region other_region → ⊥
 
 -- a set has one region more than another
-pub record HasOneMore (set r more : ℕ) : Type 0 where
-  pub member : IsIn more r
-  pub others : (q : ℕ) → q ≢ r → bit_at more q ≡ bit_at set q
+pub record HasOneMore (set region more : ℕ) : Type 0 where
+  pub member : IsIn more region
+  pub others : (q : ℕ) → q ≢ region → bit_at more q ≡ bit_at set q
 
 -- The longest front is taken candidate by candidate, in their order, while what lives in them fits.
 pub record FrontsAreTaken (regions limit : ℕ) (live : ℕ → ℕ) (candidate : ℕ → Bool) : Type 0 where
   pub begins : IsFront regions limit live candidate 0
-  pub goes_on : (set r more : ℕ) → IsFront regions limit live candidate set → IsNext regions live candidate set r → HasOneMore set r more
-      → live_in regions live set + live r ≤ limit → IsFront regions limit live candidate more
-  pub is_full : (set r : ℕ) → IsFront regions limit live candidate set → IsNext regions live candidate set r
-      → limit < live_in regions live set + live r → IsLongestFront regions limit live candidate set
-  pub has_all : (set : ℕ) → IsFront regions limit live candidate set → ((r : ℕ) → r < regions → candidate r ≡ true → IsIn set r)
+  pub goes_on : (set region more : ℕ) → IsFront regions limit live candidate set → IsNext regions live candidate set region → HasOneMore set region more
+      → live_in regions live set + live region ≤ limit → IsFront regions limit live candidate more
+  pub is_full : (set region : ℕ) → IsFront regions limit live candidate set → IsNext regions live candidate set region
+      → limit < live_in regions live set + live region → IsLongestFront regions limit live candidate set
+  pub has_all : (set : ℕ) → IsFront regions limit live candidate set → ((region : ℕ) → region < regions → candidate region ≡ true → IsIn set region)
       → IsLongestFront regions limit live candidate set

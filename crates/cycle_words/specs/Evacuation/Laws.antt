@@ -24,12 +24,12 @@ use Rattle.cycle_words.specs.StillHolds.{WhileCollecting}
 
 -- The test of a candidate says what it is to be one.
 abbrev pub CandidateIsCandidate : Type 0
-CandidateIsCandidate = (c : Config) (memory : Word → ℕ) (r : ℕ) → (is_candidate c memory r ≡ true) ↔ IsCandidate c memory r
+CandidateIsCandidate = (config : Config) (memory : Word → ℕ) (r : ℕ) → (is_candidate config memory r ≡ true) ↔ IsCandidate config memory r
 
 -- What is chosen is the choice, and there is no other.
 pub record ChosenIsTheChoice : Type 0 where
-  pub is : (c : Config) (memory : Word → ℕ) → IsChoice c memory (chosen c memory)
-  pub only : (c : Config) (memory : Word → ℕ) (set : ℕ) → IsChoice c memory set → set ≡ chosen c memory
+  pub is : (config : Config) (memory : Word → ℕ) → IsChoice config memory (chosen config memory)
+  pub only : (config : Config) (memory : Word → ℕ) (set : ℕ) → IsChoice config memory set → set ≡ chosen config memory
 
 -- It is what is taken candidate by candidate while it fits.
 abbrev pub ChoiceIsTaken : Type 0
@@ -38,43 +38,43 @@ ChoiceIsTaken = (regions limit : ℕ) (live : ℕ → ℕ) (candidate : ℕ → 
 -- Whichever marked objects of the chosen regions are copied, and in whatever order: each finds room at its turn. Else each
 -- region that was free would hold more than may be copied to it.
 abbrev pub RoomIsFound : Type 0
-RoomIsFound = (c : Config) (memory : Word → ℕ) (objects : List ℕ) → FreeAreEmpty c memory → AreToCopy c memory (chosen c memory) objects
-    → (turn : ℕ) → turn < length objects → FindsRoom c memory (chosen c memory) objects turn
+RoomIsFound = (config : Config) (memory : Word → ℕ) (objects : List ℕ) → FreeAreEmpty config memory → AreToCopy config memory (chosen config memory) objects
+    → (turn : ℕ) → turn < length objects → FindsRoom config memory (chosen config memory) objects turn
 
 -- Copying an object of the collection set to a region that has room for it, outside of the set, does what it is said to do.
 abbrev pub CopyingCopies : Type 0
-CopyingCopies = (c : Config) (memory : Word → ℕ) (a r : ℕ) → c.region_words ≤ a → IsIn (memory Cset) (region_with c a) → copy_room c memory a ≡ Some r
-    → IsCopiedOut c memory (copied_out c memory a) a
+CopyingCopies = (config : Config) (memory : Word → ℕ) (address r : ℕ) → config.region_words ≤ address → IsIn (memory Cset) (region_with config address) → copy_room config memory address ≡ Some r
+    → IsCopiedOut config memory (copied_out config memory address) address
 
 -- Whichever marked objects of the chosen regions are copied out, one after the other, where marked objects lie apart and each
 -- in one region: none is left where it is.
 abbrev pub EachIsCopied : Type 0
-EachIsCopied = (c : Config) (memory : Word → ℕ) (objects : List ℕ) → FreeAreEmpty c memory → LieApart c.region_words (marked_words c memory)
-    → memory Cset ≡ chosen c memory → AreToCopy c memory (chosen c memory) objects
+EachIsCopied = (config : Config) (memory : Word → ℕ) (objects : List ℕ) → FreeAreEmpty config memory → LieApart config.region_words (marked_words config memory)
+    → memory Cset ≡ chosen config memory → AreToCopy config memory (chosen config memory) objects
     → (turn : ℕ) → turn < length objects
-    → IsCopiedOut c (copied_by c memory objects turn) (copied_by c memory objects (turn + 1)) (slice_index objects turn)
+    → IsCopiedOut config (copied_by config memory objects turn) (copied_by config memory objects (turn + 1)) (slice_index objects turn)
 
 -- In the beginning of evacuation roots and answers are cleared.
 abbrev pub RootsAreCleared : Type 0
-RootsAreCleared = (c : Config) (memory : Word → ℕ) → CanBegin c memory
-    → (objects : List ℕ) × AreCleared c (with_set memory (chosen c memory)) (roots_cleared c memory (chosen c memory)) objects
+RootsAreCleared = (config : Config) (memory : Word → ℕ) → CanBegin config memory
+    → (objects : List ℕ) × AreCleared config (with_set memory (chosen config memory)) (roots_cleared config memory (chosen config memory)) objects
 
 -- Where marking has run, evacuation can begin once it is ended: what is marked are objects, and what roots and answers name is
 -- marked, or new, and no chosen region has a new object.
 abbrev pub EvacuationCanBegin : Type 0
-EvacuationCanBegin = (c : Config) (memory : Word → ℕ) (block : Plot) (owner : ℕ → Option ℕ) (p : Promises) (g : Graph)
-    → HoldsBy c memory block owner p g → IsMarking c memory block → HasNoMoreSeats c memory → CanBegin c (final_marked c memory)
+EvacuationCanBegin = (config : Config) (memory : Word → ℕ) (block : Plot) (owner : ℕ → Option ℕ) (promises : Promises) (graph : Graph)
+    → HoldsBy config memory block owner promises graph → IsMarking config memory block → HasNoMoreSeats config memory → CanBegin config (final_marked config memory)
 
 -- So it can begin wherever the words hold a graph, no region is collected, what can be reached is kept, and what is marked is an object.
 abbrev pub MarkedCanBegin : Type 0
-MarkedCanBegin = (c : Config) (memory : Word → ℕ) (block : Plot) (owner : ℕ → Option ℕ) (p : Promises) (g : Graph)
-    → HoldsBy c memory block owner p g → IsMarkedThrough c memory block → memory Cset ≡ 0
-    → ((a : ℕ) → is_black c memory a ≡ true → IsObjectAt memory block a) → CanBegin c memory
+MarkedCanBegin = (config : Config) (memory : Word → ℕ) (block : Plot) (owner : ℕ → Option ℕ) (promises : Promises) (graph : Graph)
+    → HoldsBy config memory block owner promises graph → IsMarkedThrough config memory block → memory Cset ≡ 0
+    → ((address : ℕ) → is_black config memory address ≡ true → IsObjectAt memory block address) → CanBegin config memory
 
 -- An object of the collection set can be copied out.
 abbrev pub ObjectCanBeCopied : Type 0
-ObjectCanBeCopied = (c : Config) (memory : Word → ℕ) (block : Plot) (owner : ℕ → Option ℕ) (p : Promises) (g : Graph) → HoldsBy c memory block owner p g → AreSized memory block
-    → (a : ℕ) → HasObject block a → IsIn (memory Cset) (region_with c a) → CanCopyOut c memory a
+ObjectCanBeCopied = (config : Config) (memory : Word → ℕ) (block : Plot) (owner : ℕ → Option ℕ) (promises : Promises) (graph : Graph) → HoldsBy config memory block owner promises graph → AreSized memory block
+    → (address : ℕ) → HasObject block address → IsIn (memory Cset) (region_with config address) → CanCopyOut config memory address
 
 -- The words of a piece, if there is one, and those of the piece at an address if it is marked.
 abbrev pub piece_words : Option Block → ℕ
@@ -82,37 +82,37 @@ piece_words None = 0
 piece_words (Some b) = words_of b
 
 abbrev pub marked_in : Config → (Word → ℕ) → Plot → ℕ → ℕ
-marked_in c memory block a = if is_black c memory a then piece_words (block a) else 0
+marked_in config memory block address = if is_black config memory address then piece_words (block address) else 0
 
 -- So many words are those of the objects of a region that are marked, where what is marked are objects.
 abbrev pub IsMarkedIn : Config → (Word → ℕ) → (region words : ℕ) → Type 0
-IsMarkedIn c memory r words = (block : Plot) → AreSized memory block → ((a : ℕ) → is_black c memory a ≡ true → HasObject block a)
-    → words ≡ sum_below (λ k. marked_in c memory block (base_of c r + k)) c.region_words
+IsMarkedIn config memory other_region words = (block : Plot) → AreSized memory block → ((address : ℕ) → is_black config memory address ≡ true → HasObject block address)
+    → words ≡ sum_below (λ k. marked_in config memory block (base_of config other_region + k)) config.region_words
 
 -- That is what lives in the region.
 abbrev pub LiveIsMarked : Type 0
-LiveIsMarked = (c : Config) (memory : Word → ℕ) (r : ℕ) → IsMarkedIn c memory r (live_words c memory r)
+LiveIsMarked = (config : Config) (memory : Word → ℕ) (r : ℕ) → IsMarkedIn config memory r (live_words config memory r)
 
 -- Where the words hold a graph, and what can be reached is kept, each object of a set's regions that can be reached is marked, so that it
 -- counts as live there.
 abbrev pub ReachableAreLive : Config → (Word → ℕ) → (set : ℕ) → Type 0
-ReachableAreLive c memory set = (block : Plot) (owner : ℕ → Option ℕ) (p : Promises) (g : Graph) → HoldsBy c memory block owner p g → IsMarkedThrough c memory block
-    → (a : ℕ) → CanBeReached c memory a → IsIn set (region_with c a) → is_black c memory a ≡ true
+ReachableAreLive config memory set = (block : Plot) (owner : ℕ → Option ℕ) (promises : Promises) (graph : Graph) → HoldsBy config memory block owner promises graph → IsMarkedThrough config memory block
+    → (address : ℕ) → CanBeReached config memory address → IsIn set (region_with config address) → is_black config memory address ≡ true
 
 -- So it is in the regions that are chosen, as nothing new is there.
 abbrev pub ChosenAreLive : Type 0
-ChosenAreLive = (c : Config) (memory : Word → ℕ) → ReachableAreLive c memory (chosen c memory)
+ChosenAreLive = (config : Config) (memory : Word → ℕ) → ReachableAreLive config memory (chosen config memory)
 
 -- The words hold the graph, each piece says how many words it has, and what finishing a cycle asks for holds, of a set of the heap's regions.
-pub record HoldsCollecting (c : Config) (memory : Word → ℕ) (owner : ℕ → Option ℕ) (p : Promises) (g : Graph) : Type 0 where
+pub record HoldsCollecting (config : Config) (memory : Word → ℕ) (owner : ℕ → Option ℕ) (promises : Promises) (graph : Graph) : Type 0 where
   pub pieces : Plot
-  pub holds : HoldsBy c memory pieces owner p g
+  pub holds : HoldsBy config memory pieces owner promises graph
   pub sized : AreSized memory pieces
-  pub collecting : WhileCollecting c memory pieces
-  pub small : memory Cset < 2 ^ c.regions
+  pub collecting : WhileCollecting config memory pieces
+  pub small : memory Cset < 2 ^ config.regions
 
 -- So it is once marking was ended and evacuation begun, by the one call and then the other.
 abbrev pub EvacuationCollects : Type 0
-EvacuationCollects = (c : Config) (memory : Word → ℕ) (block : Plot) (owner : ℕ → Option ℕ) (p : Promises) (g : Graph) → HoldsBy c memory block owner p g → AreSized memory block
-    → IsMarking c memory block → HasNoMoreSeats c memory
-    → HoldsCollecting c (evac_begun c (final_marked c memory) (chosen c (final_marked c memory))) (freed_owner (dead_in c memory) owner) p g
+EvacuationCollects = (config : Config) (memory : Word → ℕ) (block : Plot) (owner : ℕ → Option ℕ) (promises : Promises) (graph : Graph) → HoldsBy config memory block owner promises graph → AreSized memory block
+    → IsMarking config memory block → HasNoMoreSeats config memory
+    → HoldsCollecting config (evac_begun config (final_marked config memory) (chosen config (final_marked config memory))) (freed_owner (dead_in config memory) owner) promises graph

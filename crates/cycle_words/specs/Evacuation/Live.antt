@@ -14,30 +14,30 @@ use Rattle.cycle_words.specs.Marking.Final.{is_current}
 
 -- the words of the object at an address
 abbrev pub words_at : (Word → ℕ) → ℕ → ℕ
-words_at memory a = object_words (memory (Heap (a + 1)))
+words_at memory address = object_words (memory (Heap (address + 1)))
 
 -- the same if the object is marked, and 0 else
 abbrev pub marked_words : Config → (Word → ℕ) → ℕ → ℕ
-marked_words c memory a = if is_black c memory a then words_at memory a else 0
+marked_words config memory a = if is_black config memory a then words_at memory a else 0
 
 -- the words of the marked objects of a region
 abbrev pub live_words : Config → (Word → ℕ) → ℕ → ℕ
-live_words c memory r = sum_below (λ k. marked_words c memory (base_of c r + k)) c.region_words
+live_words config memory region = sum_below (λ k. marked_words config memory (base_of config region + k)) config.region_words
 
 -- the words of a region that are in use and not live
 abbrev pub garbage : Config → (Word → ℕ) → ℕ → ℕ
-garbage c memory r = memory (Top r) - live_words c memory r
+garbage config memory region = memory (Top region) - live_words config memory region
 
 -- A region is a candidate: it is in use, neither pinned nor current, nothing was allocated in it since marking began, and a quarter
 -- of a region in it is garbage.
 abbrev pub is_candidate : Config → (Word → ℕ) → ℕ → Bool
-is_candidate c memory r =
-    (bit_at (memory Free) r == 0) && not (is_pinned c memory r) && not (is_current c memory r) && (memory (Top r) == memory (Tams r)) && nat_le (c.region_words / 4) (garbage c memory r)
+is_candidate config memory region =
+    (bit_at (memory Free) region == 0) && not (is_pinned config memory region) && not (is_current config memory region) && (memory (Top region) == memory (Tams region)) && nat_le (config.region_words / 4) (garbage config memory region)
 
 -- the same, as a relation
-pub record IsCandidate (c : Config) (memory : Word → ℕ) (r : ℕ) : Type 0 where
-  pub in_use : IsOutside (memory Free) r
-  pub unpinned : is_pinned c memory r ≡ false
-  pub nobodys : IsSomeSeats c memory r → ⊥
-  pub no_new : memory (Top r) ≡ memory (Tams r)
-  pub quarter : c.region_words / 4 ≤ garbage c memory r
+pub record IsCandidate (config : Config) (memory : Word → ℕ) (region : ℕ) : Type 0 where
+  pub in_use : IsOutside (memory Free) region
+  pub unpinned : is_pinned config memory region ≡ false
+  pub nobodys : IsSomeSeats config memory region → ⊥
+  pub no_new : memory (Top region) ≡ memory (Tams region)
+  pub quarter : config.region_words / 4 ≤ garbage config memory region

@@ -19,33 +19,33 @@ use Rattle.cycle_words.specs.Finishing.Updated.{stays, is_kept_field, all_update
 use Rattle.cycle_words.specs.StillHolds.{NothingInside, NothingNamesGone, WhileCollecting}
 
 -- An object is left in the collection set, and no region outside has room for it.
-pub record IsStuck (c : Config) (memory : Word → ℕ) : Type 0 where
+pub record IsStuck (config : Config) (memory : Word → ℕ) : Type 0 where
   pub object : ℕ
-  pub left : is_left c memory object ≡ true
-  pub no_room : copy_room c memory object ≡ None
+  pub left : is_left config memory object ≡ true
+  pub no_room : copy_room config memory object ≡ None
 
 -- So it is of the words at which copying ends early.
 abbrev pub StopsForRoom : Type 0
-StopsForRoom = (c : Config) (memory : Word → ℕ) → is_room_for_all c memory ≡ false → IsStuck c (all_copied c memory)
+StopsForRoom = (config : Config) (memory : Word → ℕ) → is_room_for_all config memory ≡ false → IsStuck config (all_copied config memory)
 
 -- Nobody waits after requests were served exactly where none was left. Who waits then was left, and who was left waits.
-pub record ServesAll (c : Config) (memory : Word → ℕ) : Type 0 where
-  pub nobody : (nobody_waits c (served c memory c.mutators) ≡ true) ↔ ((t : ℕ) → IsLeft c memory t → ⊥)
-  pub waits : (t : ℕ) → t < c.mutators → (served c memory c.mutators (Wait t) ≢ 0) ↔ IsLeft c memory t
+pub record ServesAll (config : Config) (memory : Word → ℕ) : Type 0 where
+  pub nobody : (nobody_waits config (served config memory config.mutators) ≡ true) ↔ ((mutator : ℕ) → IsLeft config memory mutator → ⊥)
+  pub waits : (mutator : ℕ) → mutator < config.mutators → (served config memory config.mutators (Wait mutator) ≢ 0) ↔ IsLeft config memory mutator
 
 abbrev pub ServingServesAll : Type 0
-ServingServesAll = (c : Config) (memory : Word → ℕ) → ServesAll c memory
+ServingServesAll = (config : Config) (memory : Word → ℕ) → ServesAll config memory
 
 -- An address is that of a reference of a kept object that stays: outside the collection set, or in a pinned region of it, an object lies that has
 -- not moved, and is marked or was allocated since marking began; and the address is one of the references that its shape word counts.
-pub record IsFieldOfKept (c : Config) (memory : Word → ℕ) (block : Plot) (x : ℕ) : Type 0 where
+pub record IsFieldOfKept (config : Config) (memory : Word → ℕ) (block : Plot) (x : ℕ) : Type 0 where
   pub object : ℕ
   pub piece : Block
   pub here : block object ≡ Some piece
   pub is_object : is_loose piece ≡ false
-  pub stays_there : stays c memory (region_with c object) ≡ true
+  pub stays_there : stays config memory (region_with config object) ≡ true
   pub unmoved : is_forwarded (memory (Heap object)) ≡ false
-  pub kept : IsKept c memory object
+  pub kept : IsKept config memory object
   pub field : ℕ
   pub few : field < refs_in (memory (Heap (object + 1)))
   pub at : x ≡ object + 3 + field
@@ -53,26 +53,26 @@ pub record IsFieldOfKept (c : Config) (memory : Word → ℕ) (block : Plot) (x 
 -- Where the words hold a graph, and nobody has a buffer, these are the fields that updating all references changes, though it finds them by
 -- walking over the regions.
 abbrev pub KeptFieldsAreFields : Type 0
-KeptFieldsAreFields = (c : Config) (memory : Word → ℕ) (block : Plot) (owner : ℕ → Option ℕ) (p : Promises) (g : Graph) → HoldsBy c memory block owner p g → AreSized memory block
-    → HasNoRoom block → (x : ℕ) → (is_kept_field c memory x ≡ true) ↔ IsFieldOfKept c memory block x
+KeptFieldsAreFields = (config : Config) (memory : Word → ℕ) (block : Plot) (owner : ℕ → Option ℕ) (promises : Promises) (graph : Graph) → HoldsBy config memory block owner promises graph → AreSized memory block
+    → HasNoRoom block → (address : ℕ) → (is_kept_field config memory address ≡ true) ↔ IsFieldOfKept config memory block address
 
 -- And references can be updated.
 abbrev pub ReferencesCanBeUpdated : Type 0
-ReferencesCanBeUpdated = (c : Config) (memory : Word → ℕ) (block : Plot) (owner : ℕ → Option ℕ) (p : Promises) (g : Graph) → HoldsBy c memory block owner p g → AreSized memory block
-    → HasNoRoom block → memory Cset < 2 ^ c.regions → CanUpdateAll c memory
+ReferencesCanBeUpdated = (config : Config) (memory : Word → ℕ) (block : Plot) (owner : ℕ → Option ℕ) (promises : Promises) (graph : Graph) → HoldsBy config memory block owner promises graph → AreSized memory block
+    → HasNoRoom block → memory Cset < 2 ^ config.regions → CanUpdateAll config memory
 
 -- Where the words hold a graph, and a set of the heap's regions is collected so that finishing the cycle keeps it, the cycle can be
 -- finished: what a marked object of the set says of its length is so, each time that one is copied out.
 abbrev pub CollectingCanFinish : Type 0
-CollectingCanFinish = (c : Config) (memory : Word → ℕ) (block : Plot) (owner : ℕ → Option ℕ) (p : Promises) (g : Graph) → HoldsBy c memory block owner p g → AreSized memory block
-    → HasNoMoreSeats c memory → WhileCollecting c memory block → memory Cset < 2 ^ c.regions → CanFinish c memory
+CollectingCanFinish = (config : Config) (memory : Word → ℕ) (block : Plot) (owner : ℕ → Option ℕ) (promises : Promises) (graph : Graph) → HoldsBy config memory block owner promises graph → AreSized memory block
+    → HasNoMoreSeats config memory → WhileCollecting config memory block → memory Cset < 2 ^ config.regions → CanFinish config memory
 
 -- Where no object is left in the set, nothing that can be reached lies there but in pinned regions, ..
 abbrev pub NoneLeftInside : Type 0
-NoneLeftInside = (c : Config) (memory : Word → ℕ) (block : Plot) (owner : ℕ → Option ℕ) (p : Promises) (g : Graph) → HoldsBy c memory block owner p g → AreSized memory block
-    → WhileCollecting c memory block → ((a : ℕ) → is_left c memory a ≡ false) → NothingInside c memory
+NoneLeftInside = (config : Config) (memory : Word → ℕ) (block : Plot) (owner : ℕ → Option ℕ) (promises : Promises) (graph : Graph) → HoldsBy config memory block owner promises graph → AreSized memory block
+    → WhileCollecting config memory block → ((a : ℕ) → is_left config memory a ≡ false) → NothingInside config memory
 
 -- .. and then nothing names what goes once all references were updated: it may be freed, and what has moved in pinned regions filled over.
 abbrev pub UpdatedNamesNothing : Type 0
-UpdatedNamesNothing = (c : Config) (memory : Word → ℕ) (block : Plot) (owner : ℕ → Option ℕ) (p : Promises) (g : Graph) → HoldsBy c memory block owner p g → AreSized memory block
-    → HasNoRoom block → WhileCollecting c memory block → NothingInside c memory → NothingNamesGone c (all_updated c memory)
+UpdatedNamesNothing = (config : Config) (memory : Word → ℕ) (block : Plot) (owner : ℕ → Option ℕ) (promises : Promises) (graph : Graph) → HoldsBy config memory block owner promises graph → AreSized memory block
+    → HasNoRoom block → WhileCollecting config memory block → NothingInside config memory → NothingNamesGone config (all_updated config memory)

@@ -14,42 +14,42 @@ use Rattle.cycle_words.specs.Evacuation.Begun.{is_collected}
 
 -- a word updated: the address of an object of the collection set that has moved becomes that of its copy
 abbrev pub updated_word : Config → (Word → ℕ) → ℕ → ℕ
-updated_word c memory word = if is_collected c memory word then now_in memory word else word
+updated_word config memory word = if is_collected config memory word then now_in memory word else word
 
 -- an object is kept: it is marked, or was allocated since marking began
 abbrev pub is_kept : Config → (Word → ℕ) → ℕ → Bool
-is_kept c memory a = is_black c memory a || nat_le (memory (Tams (region_with c a))) (a - base_of c (region_with c a))
+is_kept config memory address = is_black config memory address || nat_le (memory (Tams (region_with config address))) (address - base_of config (region_with config address))
 
 -- .. and it has not moved: in a pinned region of the collection set some have
 abbrev pub is_kept_here : Config → (Word → ℕ) → ℕ → Bool
-is_kept_here c memory a = not (is_forwarded (memory (Heap a))) && is_kept c memory a
+is_kept_here config memory address = not (is_forwarded (memory (Heap address))) && is_kept config memory address
 
 -- an address is that of a reference of the object at another one; words that only fill have none
 abbrev pub is_reference : (Word → ℕ) → (object : ℕ) → ℕ → Bool
-is_reference memory a x = not (is_filler (memory (Heap a))) && nat_le (a + 3) x && nat_lt x (a + 3 + refs_in (memory (Heap (a + 1))))
+is_reference memory address x = not (is_filler (memory (Heap address))) && nat_le (address + 3) x && nat_lt x (address + 3 + refs_in (memory (Heap (address + 1))))
 
 -- objects of a region stay: it is outside the collection set, or pinned
 abbrev pub stays : Config → (Word → ℕ) → ℕ → Bool
-stays c memory r = (bit_at (memory Cset) r == 0) || is_pinned c memory r
+stays config memory r = (bit_at (memory Cset) r == 0) || is_pinned config memory r
 
 -- an address lies in the part in use of such a region
 abbrev pub is_staying : Config → (Word → ℕ) → ℕ → Bool
-is_staying c memory x = is_in_use c memory x && stays c memory (region_with c x)
+is_staying config memory address = is_in_use config memory address && stays config memory (region_with config address)
 
 -- an address is that of a reference of a kept object that stays
 abbrev pub is_kept_field : Config → (Word → ℕ) → ℕ → Bool
-is_kept_field c memory x = is_staying c memory x && is_kept_here c memory (object_of c memory x) && is_reference memory (object_of c memory x) x
+is_kept_field config memory x = is_staying config memory x && is_kept_here config memory (object_of config memory x) && is_reference memory (object_of config memory x) x
 
 -- The words after all references were updated: those of kept objects that stay, roots and answers. All other words stay.
 abbrev pub all_updated : Config → (Word → ℕ) → Word → ℕ
-all_updated c memory (Heap x) = if is_kept_field c memory x then updated_word c memory (memory (Heap x)) else memory (Heap x)
-all_updated c memory (Root t i) = updated_word c memory (memory (Root t i))
-all_updated c memory (Answer t) = updated_word c memory (memory (Answer t))
-all_updated c memory word = memory word
+all_updated config memory (Heap x) = if is_kept_field config memory x then updated_word config memory (memory (Heap x)) else memory (Heap x)
+all_updated config memory (Root t i) = updated_word config memory (memory (Root t i))
+all_updated config memory (Answer t) = updated_word config memory (memory (Answer t))
+all_updated config memory word = memory word
 
 -- References can be updated: the collection set has regions of the heap alone, no region uses more words than it has, and where objects
 -- stay each ends at the top of its region, or before, and so do words that only fill.
-pub record CanUpdateAll (c : Config) (memory : Word → ℕ) : Type 0 where
-  pub set : memory Cset < 2 ^ c.regions
-  pub within : AreWithin c memory
-  pub objects : (r : ℕ) → r < c.regions → stays c memory r ≡ true → EndInRegion c memory r
+pub record CanUpdateAll (config : Config) (memory : Word → ℕ) : Type 0 where
+  pub set : memory Cset < 2 ^ config.regions
+  pub within : AreWithin config memory
+  pub objects : (region : ℕ) → region < config.regions → stays config memory region ≡ true → EndInRegion config memory region

@@ -12,18 +12,18 @@ use Rattle.cycle_words.specs.Marking.Marks.{is_grey, is_black, mark_bits}
 
 -- What closing the marks comes to: what is grey or an entry of a buffer, and what the fields of such a one name that was not
 -- black.
-pub data IsTraced (c : Config) (memory : Word → ℕ) : ℕ → Type 0 where
-  from_grey : (a : ℕ) → is_grey c memory a ≡ true → IsTraced c memory a
-  from_buffer : (t i : ℕ) → t < c.mutators → i < memory (Count t) → memory (Buffer t i) ≢ 0 → IsTraced c memory (memory (Buffer t i))
-  from_field : (a i : ℕ) → IsTraced c memory a → is_black c memory a ≡ false → i < refs_in (memory (Heap (a + 1))) → memory (Heap (a + 3 + i)) ≢ 0
-      → IsTraced c memory (memory (Heap (a + 3 + i)))
+pub data IsTraced (config : Config) (memory : Word → ℕ) : ℕ → Type 0 where
+  from_grey : (address : ℕ) → is_grey config memory address ≡ true → IsTraced config memory address
+  from_buffer : (mutator index : ℕ) → mutator < config.mutators → index < memory (Count mutator) → memory (Buffer mutator index) ≢ 0 → IsTraced config memory (memory (Buffer mutator index))
+  from_field : (address index : ℕ) → IsTraced config memory address → is_black config memory address ≡ false → index < refs_in (memory (Heap (address + 1))) → memory (Heap (address + 3 + index)) ≢ 0
+      → IsTraced config memory (memory (Heap (address + 3 + index)))
 
 -- The same as a list, found in turns.
 
 -- the grey ones among so many addresses from the heap's first on
 abbrev pub greys_below : Config → (Word → ℕ) → ℕ → List ℕ
-greys_below c memory zero = []
-greys_below c memory (suc k) = greys_below c memory k ++ (if is_grey c memory (c.region_words + k) then (c.region_words + k) ∷ [] else [])
+greys_below config memory zero = []
+greys_below config memory (suc k) = greys_below config memory k ++ (if is_grey config memory (config.region_words + k) then (config.region_words + k) ∷ [] else [])
 
 -- the entries of the buffers of so many mutators
 abbrev pub entries_below : (Word → ℕ) → ℕ → List ℕ
@@ -32,22 +32,22 @@ entries_below memory (suc t) = entries_below memory t ++ map (λ i. memory (Buff
 
 -- where tracing begins
 abbrev pub starts_in : Config → (Word → ℕ) → List ℕ
-starts_in c memory = greys_below c memory (c.regions * c.region_words) ++ entries_below memory c.mutators
+starts_in config memory = greys_below config memory (config.regions * config.region_words) ++ entries_below memory config.mutators
 
 -- what an object leads to: its fields, unless it was black
 abbrev pub open_fields : Config → (Word → ℕ) → ℕ → List ℕ
-open_fields c memory a = if is_black c memory a then [] else field_words memory a
+open_fields config memory a = if is_black config memory a then [] else field_words memory a
 
 -- the addresses that tracing has found after so many turns, and all of them
 abbrev pub traced_by : Config → (Word → ℕ) → ℕ → List ℕ
-traced_by c memory = found_in (open_fields c memory) (starts_in c memory)
+traced_by config memory = found_in (open_fields config memory) (starts_in config memory)
 
 abbrev pub traced_in : Config → (Word → ℕ) → List ℕ
-traced_in c memory = traced_by c memory (c.regions * c.region_words)
+traced_in config memory = traced_by config memory (config.regions * config.region_words)
 
 -- What tracing comes to becomes grey and black, and the buffers are empty. All other words stay.
 abbrev pub closed : Config → (Word → ℕ) → Word → ℕ
-closed c memory (Grey n) = bit_or (memory (Grey n)) (mark_bits c (has (traced_in c memory)) n)
-closed c memory (Black n) = bit_or (memory (Black n)) (mark_bits c (has (traced_in c memory)) n)
-closed c memory (Count t) = 0
-closed c memory word = memory word
+closed config memory (Grey n) = bit_or (memory (Grey n)) (mark_bits config (has (traced_in config memory)) n)
+closed config memory (Black n) = bit_or (memory (Black n)) (mark_bits config (has (traced_in config memory)) n)
+closed config memory (Count t) = 0
+closed config memory word = memory word

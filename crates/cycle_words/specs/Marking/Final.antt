@@ -17,49 +17,49 @@ use Rattle.cycle_words.specs.Marking.Close.{closed}
 
 -- a seat has a buffer that ends in a region
 abbrev pub ends_in : Config → (Word → ℕ) → (region seat : ℕ) → Bool
-ends_in c memory r seat =
-    not (memory (Current seat) == 0) && (nat_lt (base_of c r) (end_in (memory (Current seat))) && nat_le (end_in (memory (Current seat))) (base_of c r + c.region_words))
+ends_in config memory other_region seat =
+    not (memory (Current seat) == 0) && (nat_lt (base_of config other_region) (end_in (memory (Current seat))) && nat_le (end_in (memory (Current seat))) (base_of config other_region + config.region_words))
 
 -- a region is current: it is the one that is shared, or some seat's buffer ends in it
 abbrev pub is_current : Config → (Word → ℕ) → ℕ → Bool
-is_current c memory r = (memory Share == r + 1) || list_any (ends_in c memory r) (range_with_len 0 (seat_count c.mutators c.helpers))
+is_current config memory r = (memory Share == r + 1) || list_any (ends_in config memory r) (range_with_len 0 (seat_count config.mutators config.helpers))
 
 -- some address of a region is black
 abbrev pub has_black : Config → (Word → ℕ) → ℕ → Bool
-has_black c memory r = list_any (is_black c memory) (range_with_len (base_of c r) c.region_words)
+has_black config memory region = list_any (is_black config memory) (range_with_len (base_of config region) config.region_words)
 
 -- A region is dead: it is in use, neither pinned nor current, nothing was allocated in it since marking began, and nothing in it is
 -- marked.
 abbrev pub is_dead : Config → (Word → ℕ) → ℕ → Bool
-is_dead c memory r = (bit_at (memory Free) r == 0) && not (is_pinned c memory r) && not (is_current c memory r) && (memory (Top r) == memory (Tams r)) && not (has_black c memory r)
+is_dead config memory region = (bit_at (memory Free) region == 0) && not (is_pinned config memory region) && not (is_current config memory region) && (memory (Top region) == memory (Tams region)) && not (has_black config memory region)
 
 -- the same, as a relation
-pub record IsDead (c : Config) (memory : Word → ℕ) (r : ℕ) : Type 0 where
-  pub in_use : IsOutside (memory Free) r
-  pub unpinned : is_pinned c memory r ≡ false
-  pub nobodys : IsSomeSeats c memory r → ⊥
-  pub no_new : memory (Top r) ≡ memory (Tams r)
-  pub unmarked : (a : ℕ) → IsOf c r a → is_black c memory a ≡ false
+pub record IsDead (config : Config) (memory : Word → ℕ) (region : ℕ) : Type 0 where
+  pub in_use : IsOutside (memory Free) region
+  pub unpinned : is_pinned config memory region ≡ false
+  pub nobodys : IsSomeSeats config memory region → ⊥
+  pub no_new : memory (Top region) ≡ memory (Tams region)
+  pub unmarked : (a : ℕ) → IsOf config region a → is_black config memory a ≡ false
 
 -- Regions are freed: they are in the set of free regions besides, and no word of them is in use. All other words stay.
 abbrev pub freed : Config → (ℕ → Bool) → (Word → ℕ) → Word → ℕ
-freed c out memory Free = bit_or (memory Free) (bits_of out 0 c.regions)
-freed c out memory (Top r) = if out r then 0 else memory (Top r)
-freed c out memory (Tams r) = if out r then 0 else memory (Tams r)
-freed c out memory (Limit r) = if out r then 0 else memory (Limit r)
-freed c out memory word = memory word
+freed config out memory Free = bit_or (memory Free) (bits_of out 0 config.regions)
+freed config out memory (Top r) = if out r then 0 else memory (Top r)
+freed config out memory (Tams r) = if out r then 0 else memory (Tams r)
+freed config out memory (Limit r) = if out r then 0 else memory (Limit r)
+freed config out memory word = memory word
 
 -- the pieces that are left, and whose a region then is
 abbrev pub freed_block : Config → (ℕ → Bool) → Plot → Plot
-freed_block c out block a = if out (region_with c a) then None else block a
+freed_block config out block a = if out (region_with config a) then None else block a
 
 abbrev pub freed_owner : (ℕ → Bool) → (ℕ → Option ℕ) → ℕ → Option ℕ
-freed_owner out owner r = if out r then None else owner r
+freed_owner out owner region = if out region then None else owner region
 
 -- the regions that the end of marking frees: those that are dead once the marks are closed
 abbrev pub dead_in : Config → (Word → ℕ) → ℕ → Bool
-dead_in c memory = is_dead c (closed c memory)
+dead_in config memory = is_dead config (closed config memory)
 
 -- The marks are closed, and the dead regions freed.
 abbrev pub final_marked : Config → (Word → ℕ) → Word → ℕ
-final_marked c memory = freed c (dead_in c memory) (closed c memory)
+final_marked config memory = freed config (dead_in config memory) (closed config memory)

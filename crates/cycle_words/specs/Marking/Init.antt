@@ -14,18 +14,18 @@ use Rattle.cycle_words.specs.Marking.Marks.{mark_bits}
 -- Nothing is black, and exactly what roots, answers and pin slots hold is grey. The edges are noted, no SATB buffer has an entry, no unit is
 -- claimed and nothing is asked for. All other words stay.
 abbrev pub marking_begun : Config → (Word → ℕ) → Word → ℕ
-marking_begun c memory (Grey n) = mark_bits c (has (held_words c memory)) n
-marking_begun c memory (Black n) = 0
-marking_begun c memory (Tams r) = edge c memory r
-marking_begun c memory (Count t) = 0
-marking_begun c memory Claim = 0
-marking_begun c memory Ask = 0
-marking_begun c memory Phase = marking_phase
-marking_begun c memory word = memory word
+marking_begun config memory (Grey n) = mark_bits config (has (held_words config memory)) n
+marking_begun config memory (Black n) = 0
+marking_begun config memory (Tams r) = edge config memory r
+marking_begun config memory (Count t) = 0
+marking_begun config memory Claim = 0
+marking_begun config memory Ask = 0
+marking_begun config memory Phase = marking_phase
+marking_begun config memory word = memory word
 
 -- Buffers are settled, and marking begins: so what is allocated from now on lies at or above the edges.
 abbrev pub init_marked : Config → (Word → ℕ) → Word → ℕ
-init_marked c memory = marking_begun c (buffers_settled c memory)
+init_marked config memory = marking_begun config (buffers_settled config memory)
 
 -- a piece that stays, or of whose object only the words stay
 abbrev pub pruned_piece : Bool → Block → Block

@@ -17,39 +17,39 @@ use Rattle.cycle_words.specs.Marking.Final.{IsDead, is_dead, dead_in, freed_bloc
 
 -- The words stand for the same graph once buffers are settled, also where objects that nothing leads to are dead; and of these pieces what
 -- holds while marking runs holds. Where each piece said how many words it has, each of these does.
-pub record BeginsMarking (c : Config) (before after : Word → ℕ) (block : Plot) (owner : ℕ → Option ℕ) (p : Promises) (g : Graph) : Type 0 where
-  pub holds : HoldsBy c after (settled_block c before block) owner p g
-  pub left : HoldsBy c after (pruned (has (held_in c before)) (settled_block c before block)) owner p g
-  pub marking : IsMarking c after (pruned (has (held_in c before)) (settled_block c before block))
-  pub sized : AreSized before block → AreSized after (pruned (has (held_in c before)) (settled_block c before block))
+pub record BeginsMarking (config : Config) (before after : Word → ℕ) (block : Plot) (owner : ℕ → Option ℕ) (promises : Promises) (graph : Graph) : Type 0 where
+  pub holds : HoldsBy config after (settled_block config before block) owner promises graph
+  pub left : HoldsBy config after (pruned (has (held_in config before)) (settled_block config before block)) owner promises graph
+  pub marking : IsMarking config after (pruned (has (held_in config before)) (settled_block config before block))
+  pub sized : AreSized before block → AreSized after (pruned (has (held_in config before)) (settled_block config before block))
 
 -- So it is where marking begins.
 abbrev pub InitMarks : Type 0
-InitMarks = (c : Config) (memory : Word → ℕ) (block : Plot) (owner : ℕ → Option ℕ) (p : Promises) (g : Graph) → HoldsBy c memory block owner p g → memory Cset ≡ 0
-    → HasNoMoreSeats c memory → BeginsMarking c memory (init_marked c memory) block owner p g
+InitMarks = (config : Config) (memory : Word → ℕ) (block : Plot) (owner : ℕ → Option ℕ) (promises : Promises) (graph : Graph) → HoldsBy config memory block owner promises graph → memory Cset ≡ 0
+    → HasNoMoreSeats config memory → BeginsMarking config memory (init_marked config memory) block owner promises graph
 
 -- Closing the marks blackens exactly what tracing comes to, ..
-pub record AreClosed (c : Config) (before after : Word → ℕ) : Type 0 where
-  pub black : (a : ℕ) → (is_black c after a ≡ true) ↔ ((is_black c before a ≡ true) ⊎ IsTraced c before a)
-  pub grey : (a : ℕ) → (is_grey c after a ≡ true) ↔ IsTraced c before a
+pub record AreClosed (config : Config) (before after : Word → ℕ) : Type 0 where
+  pub black : (a : ℕ) → (is_black config after a ≡ true) ↔ ((is_black config before a ≡ true) ⊎ IsTraced config before a)
+  pub grey : (a : ℕ) → (is_grey config after a ≡ true) ↔ IsTraced config before a
 
 abbrev pub ClosingTraces : Type 0
-ClosingTraces = (c : Config) (memory : Word → ℕ) (block : Plot) (owner : ℕ → Option ℕ) (p : Promises) (g : Graph) → HoldsBy c memory block owner p g → IsMarking c memory block
-    → AreClosed c memory (closed c memory)
+ClosingTraces = (config : Config) (memory : Word → ℕ) (block : Plot) (owner : ℕ → Option ℕ) (promises : Promises) (graph : Graph) → HoldsBy config memory block owner promises graph → IsMarking config memory block
+    → AreClosed config memory (closed config memory)
 
 -- .. so that each object that can be reached is kept.
 abbrev pub ClosingKeeps : Type 0
-ClosingKeeps = (c : Config) (memory : Word → ℕ) (block : Plot) (owner : ℕ → Option ℕ) (p : Promises) (g : Graph) → HoldsBy c memory block owner p g → IsMarking c memory block
-    → HoldsBy c (closed c memory) block owner p g × IsMarkedThrough c (closed c memory) block
+ClosingKeeps = (config : Config) (memory : Word → ℕ) (block : Plot) (owner : ℕ → Option ℕ) (promises : Promises) (graph : Graph) → HoldsBy config memory block owner promises graph → IsMarking config memory block
+    → HoldsBy config (closed config memory) block owner promises graph × IsMarkedThrough config (closed config memory) block
 
 -- The test of a dead region says what it is to be dead.
 abbrev pub DeadIsDead : Type 0
-DeadIsDead = (c : Config) (memory : Word → ℕ) (r : ℕ) → (is_dead c memory r ≡ true) ↔ IsDead c memory r
+DeadIsDead = (config : Config) (memory : Word → ℕ) (r : ℕ) → (is_dead config memory r ≡ true) ↔ IsDead config memory r
 
 -- The end of marking: nothing that can be reached lies in a dead region, so that without the pieces of those the words stand
 -- for the same graph, and each object that can be reached is kept.
 abbrev pub EndKeeps : Type 0
-EndKeeps = (c : Config) (memory : Word → ℕ) (block : Plot) (owner : ℕ → Option ℕ) (p : Promises) (g : Graph) → HoldsBy c memory block owner p g → IsMarking c memory block
-    → HasNoMoreSeats c memory
-    → HoldsBy c (final_marked c memory) (freed_block c (dead_in c memory) block) (freed_owner (dead_in c memory) owner) p g
-    × IsMarkedThrough c (final_marked c memory) (freed_block c (dead_in c memory) block)
+EndKeeps = (config : Config) (memory : Word → ℕ) (block : Plot) (owner : ℕ → Option ℕ) (promises : Promises) (graph : Graph) → HoldsBy config memory block owner promises graph → IsMarking config memory block
+    → HasNoMoreSeats config memory
+    → HoldsBy config (final_marked config memory) (freed_block config (dead_in config memory) block) (freed_owner (dead_in config memory) owner) promises graph
+    × IsMarkedThrough config (final_marked config memory) (freed_block config (dead_in config memory) block)

@@ -8,19 +8,19 @@ use Rattle.heap_world.specs.World.{IsYoung}
 
 -- an address is grey: it was found by marking. Grey and not black, it has still to be scanned.
 abbrev pub is_grey : Config → (Word → ℕ) → ℕ → Bool
-is_grey c memory a = nat_le c.region_words a && (bit_at (memory (Grey (mark_word c a))) (mark_bit c a) == 1)
+is_grey config memory a = nat_le config.region_words a && (bit_at (memory (Grey (mark_word config a))) (mark_bit config a) == 1)
 
 -- an address is black: what begins there is marked
 abbrev pub is_black : Config → (Word → ℕ) → ℕ → Bool
-is_black c memory a = nat_le c.region_words a && (bit_at (memory (Black (mark_word c a))) (mark_bit c a) == 1)
+is_black config memory a = nat_le config.region_words a && (bit_at (memory (Black (mark_word config a))) (mark_bit config a) == 1)
 
 -- an address is at or above the top at mark start of its region: what begins there was allocated since
 abbrev pub IsNew : Config → (Word → ℕ) → ℕ → Type 0
-IsNew c memory = IsYoung c (λ r. memory (Tams r))
+IsNew config memory = IsYoung config (λ r. memory (Tams r))
 
 -- marking keeps what is marked and what is new
 abbrev pub IsKept : Config → (Word → ℕ) → ℕ → Type 0
-IsKept c memory a = (is_black c memory a ≡ true) ⊎ IsNew c memory a
+IsKept config memory a = (is_black config memory a ≡ true) ⊎ IsNew config memory a
 
 -- the number whose bits below a number are 1 where a test holds of their addresses, which are counted from a first one on
 unfoldable pub bits_of : (ℕ → Bool) → (first : ℕ) → ℕ → ℕ
@@ -29,4 +29,4 @@ bits_of test first (suc k) = (if test (first + k) then 1 else 0) * 2 ^ k + bits_
 
 -- the mark bits of a set of addresses, by the number of the word
 abbrev pub mark_bits : Config → (ℕ → Bool) → ℕ → ℕ
-mark_bits c set n = bits_of set (c.region_words + 64 * n) 64
+mark_bits config set n = bits_of set (config.region_words + 64 * n) 64

@@ -13,33 +13,33 @@ use Rattle.image_graph.specs.Full.{now_in, held_words}
 use Rattle.cycle_words.specs.Marking.Marks.{IsKept}
 
 -- an object stands at an address, and its shape word says so
-pub record IsObjectAt (memory : Word → ℕ) (block : Plot) (a : ℕ) : Type 0 where
+pub record IsObjectAt (memory : Word → ℕ) (block : Plot) (address : ℕ) : Type 0 where
   pub name : Name
   pub refs : ℕ
   pub nums : ℕ
-  pub here : block a ≡ Some (thing name refs nums)
-  pub shape : memory (Heap (a + 1)) ≡ shape_word refs nums
+  pub here : block address ≡ Some (thing name refs nums)
+  pub shape : memory (Heap (address + 1)) ≡ shape_word refs nums
   pub few_refs : refs ≤ 16
   pub few_nums : nums ≤ 16
 
 -- an object can be reached: roots, answers or pin slots lead to it
 abbrev pub CanBeReached : Config → (Word → ℕ) → ℕ → Type 0
-CanBeReached c memory = IsLedTo (now_in memory) (λ a. memory (Heap a)) (IsAmong (held_words c memory))
+CanBeReached config memory = IsLedTo (now_in memory) (λ a. memory (Heap a)) (IsAmong (held_words config memory))
 
 -- While marking runs: objects are marked from a snapshot, of which no machine holds back what it is about to record or scan; each piece that
 -- is an object is one of some graph, also where nothing leads to it; and no region is collected.
-pub record IsMarking (c : Config) (memory : Word → ℕ) (block : Plot) : Type 0 where
+pub record IsMarking (config : Config) (memory : Word → ℕ) (block : Plot) : Type 0 where
   pub ghost : Ghost
   pub object : Name → Option Object
-  pub marked : KeepsSnapshot c marking_phase (λ n. memory (Grey n)) (λ n. memory (Black n)) (λ t. memory (Count t)) (λ t k. memory (Buffer t k)) (λ r. memory (Top r)) (λ r. memory (Tams r))
+  pub marked : KeepsSnapshot config marking_phase (λ n. memory (Grey n)) (λ n. memory (Black n)) (λ t. memory (Count t)) (λ t k. memory (Buffer t k)) (λ r. memory (Top r)) (λ r. memory (Tams r))
       (λ a. memory (Heap a)) block ghost.snapshot ghost.recording ghost.scanning
-  pub unmarking : NobodyMarks c ghost
+  pub unmarking : NobodyMarks config ghost
   pub objects : AreObjects (λ a. memory (Heap a)) block object
   pub uncollected : memory Cset ≡ 0
 
 -- Once marking has ended: each object that can be reached is kept, and each field of a kept object is null or names a kept
 -- object.
-pub record IsMarkedThrough (c : Config) (memory : Word → ℕ) (block : Plot) : Type 0 where
-  pub reachable : (a : ℕ) → CanBeReached c memory a → IsKept c memory a
-  pub fields : (a i : ℕ) → IsObjectAt memory block a → IsKept c memory a → i < refs_in (memory (Heap (a + 1))) → memory (Heap (a + 3 + i)) ≢ 0
-      → IsObjectAt memory block (memory (Heap (a + 3 + i))) × IsKept c memory (memory (Heap (a + 3 + i)))
+pub record IsMarkedThrough (config : Config) (memory : Word → ℕ) (block : Plot) : Type 0 where
+  pub reachable : (address : ℕ) → CanBeReached config memory address → IsKept config memory address
+  pub fields : (address i : ℕ) → IsObjectAt memory block address → IsKept config memory address → i < refs_in (memory (Heap (address + 1))) → memory (Heap (address + 3 + i)) ≢ 0
+      → IsObjectAt memory block (memory (Heap (address + 3 + i))) × IsKept config memory (memory (Heap (address + 3 + i)))

@@ -15,15 +15,15 @@ is_chosen memory r = bit_at (memory Cset) r == 1
 -- The limit of each region outside of the collection set is its edge, and that of each region of the set is 0. No copier is counted, and no
 -- unit is claimed. All other words stay.
 abbrev pub updating_begun : Config → (Word → ℕ) → Word → ℕ
-updating_begun c memory Phase = updating_phase
-updating_begun c memory Evac = 0
-updating_begun c memory Claim = 0
-updating_begun c memory (Limit r) = if is_chosen memory r then 0 else edge c memory r
-updating_begun c memory word = memory word
+updating_begun config memory Phase = updating_phase
+updating_begun config memory Evac = 0
+updating_begun config memory Claim = 0
+updating_begun config memory (Limit r) = if is_chosen memory r then 0 else edge config memory r
+updating_begun config memory word = memory word
 
 -- Buffers are settled, and updating begins: so what is allocated from now on lies at or above the limits.
 abbrev pub init_updated : Config → (Word → ℕ) → Word → ℕ
-init_updated c memory = updating_begun c (buffers_settled c memory)
+init_updated config memory = updating_begun config (buffers_settled config memory)
 
 -- no cycle runs: the collection set is empty, and no unit is claimed
 abbrev pub cycle_ended : (Word → ℕ) → Word → ℕ
@@ -34,4 +34,4 @@ cycle_ended memory word = memory word
 
 -- Updating ends, and the cycle with it: the regions of the collection set are freed.
 abbrev pub final_updated : Config → (Word → ℕ) → Word → ℕ
-final_updated c memory = cycle_ended (freed c (is_chosen memory) memory)
+final_updated config memory = cycle_ended (freed config (is_chosen memory) memory)

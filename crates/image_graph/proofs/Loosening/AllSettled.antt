@@ -28,89 +28,89 @@ use Rattle.image_graph.proofs.Loosening.Divided.{spare_seats}
 
 -- The pieces as the words of buffers tell: the free words of a seat that has no buffer any more only fill.
 abbrev left_piece : (Word → ℕ) → Block → Block
-left_piece n (spare seat words) = if n (Current seat) == 0 then filler words else spare seat words
-left_piece n piece = piece
+left_piece memory (spare seat words) = if memory (Current seat) == 0 then filler words else spare seat words
+left_piece memory piece = piece
 
 abbrev left_block : (Word → ℕ) → Plot → Plot
-left_block n block a = option_map (left_piece n) (block a)
+left_block memory block a = option_map (left_piece memory) (block a)
 
 -- pieces are changed alike where free words are
-module _ (block : Plot) (f h : Block → Block) (alike : (b : Block) → ((seat words : ℕ) → b ≡ spare seat words → ⊥) → f b ≡ h b) (a : ℕ)
-    (spares : (seat words : ℕ) → block a ≡ Some (spare seat words) → f (spare seat words) ≡ h (spare seat words)) where
-  by_piece : (b : Block) → block a ≡ Some b → f b ≡ h b
+module _ (block : Plot) (f h : Block → Block) (alike : (b : Block) → ((seat words : ℕ) → b ≡ spare seat words → ⊥) → f b ≡ h b) (address : ℕ)
+    (spares : (seat words : ℕ) → block address ≡ Some (spare seat words) → f (spare seat words) ≡ h (spare seat words)) where
+  by_piece : (piece : Block) → block address ≡ Some piece → f piece ≡ h piece
   by_piece (spare seat words) is = spares seat words is
-  by_piece b is = alike b (λ s w wrong. cc)
+  by_piece piece is = alike piece (λ s w wrong. cc)
 
-  by_option : (o : Option Block) → block a ≡ o → option_map f o ≡ option_map h o
+  by_option : (found : Option Block) → block address ≡ found → option_map f found ≡ option_map h found
   by_option None is = refl
   by_option (Some b) is = ap Some (by_piece b is)
 
-  same_pieces : option_map f (block a) ≡ option_map h (block a)
-  same_pieces = by_option (block a) refl
+  same_pieces : option_map f (block address) ≡ option_map h (block address)
+  same_pieces = by_option (block address) refl
 
 -- all other pieces stay
-left_else : (n : Word → ℕ) (b : Block) → ((seat words : ℕ) → b ≡ spare seat words → ⊥) → left_piece n b ≡ b
-left_else n (spare seat words) other = absurd (other seat words refl)
-left_else n _ other = refl
+left_else : (memory : Word → ℕ) (piece : Block) → ((seat words : ℕ) → piece ≡ spare seat words → ⊥) → left_piece memory piece ≡ piece
+left_else memory (spare seat words) other = absurd (other seat words refl)
+left_else memory _ other = refl
 
-settled_else : (c : Config) (m : Word → ℕ) (b : Block) → ((seat words : ℕ) → b ≡ spare seat words → ⊥) → settled_piece c m b ≡ b
-settled_else c m (spare seat words) other = absurd (other seat words refl)
-settled_else c m _ other = refl
+settled_else : (config : Config) (memory : Word → ℕ) (piece : Block) → ((seat words : ℕ) → piece ≡ spare seat words → ⊥) → settled_piece config memory piece ≡ piece
+settled_else config memory (spare seat words) other = absurd (other seat words refl)
+settled_else config memory _ other = refl
 
 -- free words that are left are those of a seat that has a buffer
-left_spare : (n : Word → ℕ) (block : Plot) (a seat words : ℕ) → left_block n block a ≡ Some (spare seat words) → block a ≡ Some (spare seat words)
-left_spare n block a seat words is = by_option (block a) refl is
+left_spare : (memory : Word → ℕ) (block : Plot) (address seat words : ℕ) → left_block memory block address ≡ Some (spare seat words) → block address ≡ Some (spare seat words)
+left_spare memory block address seat words is = by_option (block address) refl is
   where
-    by_test : (s more : ℕ) (b : Bool) → (if b then filler more else spare s more) ≡ spare seat words → spare s more ≡ spare seat words
-    by_test s more true wrong = cc
-    by_test s more false same = same
+    by_test : (other_seat more : ℕ) (b : Bool) → (if b then filler more else spare other_seat more) ≡ spare seat words → spare other_seat more ≡ spare seat words
+    by_test other_seat more true wrong = cc
+    by_test other_seat more false same = same
 
-    by_piece : (b : Block) → block a ≡ Some b → left_piece n b ≡ spare seat words → block a ≡ Some (spare seat words)
-    by_piece (spare s more) here same = here ∙ ap Some (by_test s more (n (Current s) == 0) same)
+    by_piece : (b : Block) → block address ≡ Some b → left_piece memory b ≡ spare seat words → block address ≡ Some (spare seat words)
+    by_piece (spare other_seat more) here same = here ∙ ap Some (by_test other_seat more (memory (Current other_seat) == 0) same)
     by_piece _ here wrong = cc
 
-    by_option : (o : Option Block) → block a ≡ o → option_map (left_piece n) o ≡ Some (spare seat words) → block a ≡ Some (spare seat words)
+    by_option : (found : Option Block) → block address ≡ found → option_map (left_piece memory) found ≡ Some (spare seat words) → block address ≡ Some (spare seat words)
     by_option None here wrong = absurd (none-some (spare seat words) wrong)
-    by_option (Some b) here same = by_piece b here (same_Some (left_piece n b) (spare seat words) same)
+    by_option (Some b) here same = by_piece b here (same_Some (left_piece memory b) (spare seat words) same)
 
-module _ (c : Config) (m : Word → ℕ) (block : Plot) (owner : ℕ → Option ℕ) (p : Promises) (g : Graph) (holds : HoldsBy c m block owner p g) where
+module _ (config : Config) (other_memory : Word → ℕ) (block : Plot) (owner : ℕ → Option ℕ) (promises : Promises) (graph : Graph) (holds : HoldsBy config other_memory block owner promises graph) where
   -- free words that are a piece are a seat's
-  own_words : (a seat words : ℕ) → block a ≡ Some (spare seat words) → (m (Current seat) ≢ 0) × (next_in (m (Current seat)) < end_in (m (Current seat)))
-  own_words a seat words is =
-      let own = holds.buffers.spares a seat words is in
-      let long = holds.pieces.some a (spare seat words) is in
+  own_words : (address seat words : ℕ) → block address ≡ Some (spare seat words) → (other_memory (Current seat) ≢ 0) × (next_in (other_memory (Current seat)) < end_in (other_memory (Current seat)))
+  own_words address seat words is =
+      let own = holds.buffers.spares address seat words is in
+      let long = holds.pieces.some address (spare seat words) is in
       let one = own.0 in
       let two = own.1 in
-      (spare_seats c m block owner p g holds a seat words is, omega (arith, one, two, long))
+      (spare_seats config other_memory block owner promises graph holds address seat words is, omega (arith, one, two, long))
 
   -- What holds from one turn to the next: tops are as they were, a buffer with free words stays or was not the last, and the words hold the
   -- graph by the pieces of which they tell.
   record SettledSoFar (n : Word → ℕ) : Type 0 where
-    tops : (r : ℕ) → n (Top r) ≡ m (Top r)
-    currents : (seat : ℕ) → next_in (m (Current seat)) < end_in (m (Current seat)) → (n (Current seat) ≡ m (Current seat)) ⊎ ((n (Current seat) ≡ 0) × (is_last c m (m (Current seat)) ≡ false))
-    left : HoldsLoosened c m n block (left_block n block) owner p g
+    tops : (region : ℕ) → n (Top region) ≡ other_memory (Top region)
+    currents : (seat : ℕ) → next_in (other_memory (Current seat)) < end_in (other_memory (Current seat)) → (n (Current seat) ≡ other_memory (Current seat)) ⊎ ((n (Current seat) ≡ 0) × (is_last config other_memory (other_memory (Current seat)) ≡ false))
+    left : HoldsLoosened config other_memory n block (left_block n block) owner promises graph
 
   -- pieces are left alike where free words are
-  left_same : (n k : Word → ℕ) (a : ℕ) → ((seat words : ℕ) → block a ≡ Some (spare seat words) → (n (Current seat) == 0) ≡ (k (Current seat) == 0)) → left_block n block a ≡ left_block k block a
-  left_same n k a same = same_pieces block (left_piece n) (left_piece k) (λ b other. left_else n b other ∙ sym (left_else k b other)) a
+  left_same : (n memory : Word → ℕ) (address : ℕ) → ((seat words : ℕ) → block address ≡ Some (spare seat words) → (n (Current seat) == 0) ≡ (memory (Current seat) == 0)) → left_block n block address ≡ left_block memory block address
+  left_same n memory address same = same_pieces block (left_piece n) (left_piece memory) (λ b other. left_else n b other ∙ sym (left_else memory b other)) address
       (λ seat words is. ap (λ t. if t then filler words else spare seat words) (same seat words is))
 
-  left_first : block ≡ left_block m block
-  left_first = fun_ext (λ a. by_option a (block a) refl)
+  left_first : block ≡ left_block other_memory block
+  left_first = fun_ext (λ address. by_option address (block address) refl)
     where
-      by_piece : (a : ℕ) (b : Block) → block a ≡ Some b → b ≡ left_piece m b
-      by_piece a (spare seat words) is = sym (cond-false (m (Current seat) == 0) (filler words) (spare seat words) (ne_eqb (m (Current seat)) 0 (own_words a seat words is).0))
-      by_piece a _ is = refl
+      by_piece : (address : ℕ) (piece : Block) → block address ≡ Some piece → piece ≡ left_piece other_memory piece
+      by_piece address (spare seat words) is = sym (cond-false (other_memory (Current seat) == 0) (filler words) (spare seat words) (ne_eqb (other_memory (Current seat)) 0 (own_words address seat words is).0))
+      by_piece address _ is = refl
 
-      by_option : (a : ℕ) (o : Option Block) → block a ≡ o → block a ≡ option_map (left_piece m) o
-      by_option a None is = is
-      by_option a (Some b) is = is ∙ ap Some (by_piece a b is)
+      by_option : (address : ℕ) (found : Option Block) → block address ≡ found → block address ≡ option_map (left_piece other_memory) found
+      by_option address None is = is
+      by_option address (Some piece) is = is ∙ ap Some (by_piece address piece is)
 
-  first : SettledSoFar m
+  first : SettledSoFar other_memory
   first = record {
     tops = λ r. refl;
     currents = λ seat more. inl refl;
-    left = subst (λ plot. HoldsLoosened c m m block plot owner p g) left_first (record { loosened = loosened_none m block (λ a words is. holds.pieces.some a (filler words) is); holds = holds });
+    left = subst (λ plot. HoldsLoosened config other_memory other_memory block plot owner promises graph) left_first (record { loosened = loosened_none other_memory block (λ a words is. holds.pieces.some a (filler words) is); holds = holds });
   }
 
   -- One turn more.
@@ -118,27 +118,27 @@ module _ (c : Config) (m : Word → ℕ) (block : Plot) (owner : ℕ → Option 
     abbrev plot : Plot
     plot = left_block n block
 
-    abbrev held : HoldsBy c n plot owner p g
+    abbrev held : HoldsBy config n plot owner promises graph
     held = so_far.left.holds
 
     -- the words of a buffer in the pieces that are left
-    left_there : (a seat words : ℕ) → block a ≡ Some (spare seat words) → n (Current seat) ≢ 0 → plot a ≡ Some (spare seat words)
-    left_there a seat words is some = ap (option_map (left_piece n)) is ∙ ap Some (cond-false (n (Current seat) == 0) (filler words) (spare seat words) (ne_eqb (n (Current seat)) 0 some))
+    left_there : (address seat words : ℕ) → block address ≡ Some (spare seat words) → n (Current seat) ≢ 0 → plot address ≡ Some (spare seat words)
+    left_there address seat words is some = ap (option_map (left_piece n)) is ∙ ap Some (cond-false (n (Current seat) == 0) (filler words) (spare seat words) (ne_eqb (n (Current seat)) 0 some))
 
-    next_turn : (k : Word → ℕ) (more : Plot) → more ≡ left_block k block → HoldsLoosened c n k plot more owner p g → HoldsLoosened c m k block (left_block k block) owner p g
-    next_turn k more same next = subst (λ q. HoldsLoosened c m k block q owner p g) same
-        (record { loosened = loosened_on m n k block plot more so_far.left.loosened next.loosened; holds = next.holds })
+    next_turn : (memory : Word → ℕ) (more : Plot) → more ≡ left_block memory block → HoldsLoosened config n memory plot more owner promises graph → HoldsLoosened config other_memory memory block (left_block memory block) owner promises graph
+    next_turn memory more same next = subst (λ q. HoldsLoosened config other_memory memory block q owner promises graph) same
+        (record { loosened = loosened_on other_memory n memory block plot more so_far.left.loosened next.loosened; holds = next.holds })
 
     module _ (current : ℕ → ℕ) (dropped : (seat : ℕ) → IsDropped (currents_of n) current seat) where
-      same_test : (a seat words : ℕ) → block a ≡ Some (spare seat words) → (n (Current seat) == 0) ≡ (current seat == 0)
-      same_test a seat words is = ⊎_elim
+      same_test : (address seat words : ℕ) → block address ≡ Some (spare seat words) → (n (Current seat) == 0) ≡ (current seat == 0)
+      same_test address seat words is = ⊎_elim
           (λ (same : current seat ≡ n (Current seat)). ap (λ k. k == 0) (sym same))
           (λ (gone : (current seat ≡ 0) × (end_in (n (Current seat)) ≤ next_in (n (Current seat)))). ⊎_elim
           (λ (none : n (Current seat) ≡ 0). ap (λ k. k == 0) (none ∙ sym gone.0))
           (λ (some : n (Current seat) ≢ 0).
-          let there = left_there a seat words is some in
-          let own = held.buffers.spares a seat words there in
-          let long = held.pieces.some a (spare seat words) there in
+          let there = left_there address seat words is some in
+          let own = held.buffers.spares address seat words there in
+          let long = held.pieces.some address (spare seat words) there in
           let one = own.0 in
           let two = own.1 in
           let empty = gone.1 in
@@ -150,19 +150,19 @@ module _ (c : Config) (m : Word → ℕ) (block : Plot) (owner : ℕ → Option 
       after_drops = record {
         tops = so_far.tops;
         currents = λ seat more. ⊎_elim
-            (λ (same : current seat ≡ n (Current seat)). subst (λ k. (k ≡ m (Current seat)) ⊎ ((k ≡ 0) × (is_last c m (m (Current seat)) ≡ false))) (sym same) (so_far.currents seat more))
+            (λ (same : current seat ≡ n (Current seat)). subst (λ k. (k ≡ other_memory (Current seat)) ⊎ ((k ≡ 0) × (is_last config other_memory (other_memory (Current seat)) ≡ false))) (sym same) (so_far.currents seat more))
             (λ (gone : (current seat ≡ 0) × (end_in (n (Current seat)) ≤ next_in (n (Current seat)))). ⊎_elim
-            (λ (was : n (Current seat) ≡ m (Current seat)). let empty : end_in (m (Current seat)) ≤ next_in (m (Current seat)) = subst (λ k. end_in k ≤ next_in k) was gone.1 in absurd (omega (arith, empty, more)))
-            (λ (other : (n (Current seat) ≡ 0) × (is_last c m (m (Current seat)) ≡ false)). inr (gone.0, other.1))
+            (λ (was : n (Current seat) ≡ other_memory (Current seat)). let empty : end_in (other_memory (Current seat)) ≤ next_in (other_memory (Current seat)) = subst (λ k. end_in k ≤ next_in k) was gone.1 in absurd (omega (arith, empty, more)))
+            (λ (other : (n (Current seat) ≡ 0) × (is_last config other_memory (other_memory (Current seat)) ≡ false)). inr (gone.0, other.1))
             (so_far.currents seat more))
             (dropped seat);
         left = next_turn (refitted n (tops_of n) (heap_of n) current) plot (fun_ext (λ a. left_same n (refitted n (tops_of n) (heap_of n) current) a (same_test a)))
-            (turn.drops c n plot owner p g held current dropped);
+            (turn.drops config n plot owner promises graph held current dropped);
       }
 
-    module _ (seat word : ℕ) (is : n (Current seat) ≡ word) (some : word ≢ 0) (more : next_in word < end_in word) (other : is_last c n word ≡ false) where
+    module _ (seat word : ℕ) (is : n (Current seat) ≡ word) (some : word ≢ 0) (more : next_in word < end_in word) (other : is_last config n word ≡ false) where
       abbrev after : Word → ℕ
-      after = turn.fills_words c n plot owner p g held seat word is some more
+      after = turn.fills_words config n plot owner promises graph held seat word is some more
 
       own_gone : after (Current seat) ≡ 0
       own_gone = updated_there (currents_of n) seat 0
@@ -170,66 +170,66 @@ module _ (c : Config) (m : Word → ℕ) (block : Plot) (owner : ℕ → Option 
       others_stay : (s : ℕ) → seat ≢ s → after (Current s) ≡ n (Current s)
       others_stay s differs = updated_else (currents_of n) seat 0 s differs
 
-      same_plot : (a : ℕ) → turn.fills_plot c n plot owner p g held seat word is some more a ≡ left_block after block a
-      same_plot a = ⊎_elim
-          (λ (here : next_in word ≡ a).
-          let there = left_spare n block (next_in word) seat (end_in word - next_in word) (turn.free_piece c n plot owner p g held seat word is some more) in
-          updated_same plot (next_in word) (Some (filler (end_in word - next_in word))) a here
+      same_plot : (address : ℕ) → turn.fills_plot config n plot owner promises graph held seat word is some more address ≡ left_block after block address
+      same_plot address = ⊎_elim
+          (λ (here : next_in word ≡ address).
+          let there = left_spare n block (next_in word) seat (end_in word - next_in word) (turn.free_piece config n plot owner promises graph held seat word is some more) in
+          updated_same plot (next_in word) (Some (filler (end_in word - next_in word))) address here
           ∙ sym (ap (λ k. left_block after block k) (sym here) ∙ ap (option_map (left_piece after)) there
           ∙ ap Some (cond-true (after (Current seat) == 0) (filler (end_in word - next_in word)) (spare seat (end_in word - next_in word)) (eq-eqb (after (Current seat)) 0 own_gone))))
-          (λ (away : next_in word ≢ a).
-          updated_else plot (next_in word) (Some (filler (end_in word - next_in word))) a away
-          ∙ left_same n after a (λ s words there. ⊎_elim
+          (λ (away : next_in word ≢ address).
+          updated_else plot (next_in word) (Some (filler (end_in word - next_in word))) address away
+          ∙ left_same n after address (λ s words there. ⊎_elim
           (λ (same : seat ≡ s).
           let own : n (Current s) ≡ word = ap (λ k. n (Current k)) (sym same) ∙ is in
-          let begins = (held.buffers.spares a s words (left_there a s words there (λ none. some (sym own ∙ none)))).0 in
+          let begins = (held.buffers.spares address s words (left_there address s words there (λ none. some (sym own ∙ none)))).0 in
           absurd (away (sym (ap next_in own) ∙ begins)))
           (λ (differs : seat ≢ s). ap (λ k. k == 0) (sym (others_stay s differs)))
           (cases_eq seat s)))
-          (cases_eq (next_in word) a)
+          (cases_eq (next_in word) address)
 
       after_fills : SettledSoFar after
       after_fills = record {
         tops = so_far.tops;
         currents = λ s free. ⊎_elim
             (λ (same : seat ≡ s). ⊎_elim
-            (λ (was : n (Current s) ≡ m (Current s)).
-            let its : word ≡ m (Current s) = sym is ∙ ap (λ k. n (Current k)) same ∙ was in
-            inr (ap (λ k. after (Current k)) (sym same) ∙ own_gone, ap (is_last c m) (sym its) ∙ sym (last_same c m n word so_far.tops) ∙ other))
-            (λ (gone : (n (Current s) ≡ 0) × (is_last c m (m (Current s)) ≡ false)). absurd (some (sym is ∙ ap (λ k. n (Current k)) same ∙ gone.0)))
+            (λ (was : n (Current s) ≡ other_memory (Current s)).
+            let its : word ≡ other_memory (Current s) = sym is ∙ ap (λ k. n (Current k)) same ∙ was in
+            inr (ap (λ k. after (Current k)) (sym same) ∙ own_gone, ap (is_last config other_memory) (sym its) ∙ sym (last_same config other_memory n word so_far.tops) ∙ other))
+            (λ (gone : (n (Current s) ≡ 0) × (is_last config other_memory (other_memory (Current s)) ≡ false)). absurd (some (sym is ∙ ap (λ k. n (Current k)) same ∙ gone.0)))
             (so_far.currents s free))
-            (λ (differs : seat ≢ s). subst (λ k. (k ≡ m (Current s)) ⊎ ((k ≡ 0) × (is_last c m (m (Current s)) ≡ false))) (sym (others_stay s differs)) (so_far.currents s free))
+            (λ (differs : seat ≢ s). subst (λ k. (k ≡ other_memory (Current s)) ⊎ ((k ≡ 0) × (is_last config other_memory (other_memory (Current s)) ≡ false))) (sym (others_stay s differs)) (so_far.currents s free))
             (cases_eq seat s);
-        left = next_turn after (turn.fills_plot c n plot owner p g held seat word is some more) (fun_ext same_plot) (turn.fills c n plot owner p g held seat word is some more);
+        left = next_turn after (turn.fills_plot config n plot owner promises graph held seat word is some more) (fun_ext same_plot) (turn.fills config n plot owner promises graph held seat word is some more);
       }
 
-  keeps : KeepsFilling c SettledSoFar
+  keeps : KeepsFilling config SettledSoFar
   keeps = record { drops = after_drops; fills = after_fills }
 
   -- After all turns the pieces are those of settled buffers.
-  module _ (seats : (seat : ℕ) → seat_count c.mutators c.helpers ≤ seat → m (Current seat) ≡ 0) where
+  module _ (seats : (seat : ℕ) → seat_count config.mutators config.helpers ≤ seat → other_memory (Current seat) ≡ 0) where
     abbrev settled : Word → ℕ
-    settled = buffers_settled c m
+    settled = buffers_settled config other_memory
 
     settled_so : SettledSoFar settled
-    settled_so = settled_by_turns c SettledSoFar keeps m first (seat_count c.mutators c.helpers)
+    settled_so = settled_by_turns config SettledSoFar keeps other_memory first (seat_count config.mutators config.helpers)
 
-    same_end : (a : ℕ) → left_block settled block a ≡ settled_block c m block a
-    same_end a = same_pieces block (left_piece settled) (settled_piece c m) (λ b other. left_else settled b other ∙ sym (settled_else c m b other)) a (λ seat words is.
-        let own = own_words a seat words is in
-        let seated : seat < seat_count c.mutators c.helpers = ⊎_elim (λ below. below) (λ past. absurd (own.0 (seats seat past))) (cases_lt seat (seat_count c.mutators c.helpers)) in
+    same_end : (address : ℕ) → left_block settled block address ≡ settled_block config other_memory block address
+    same_end address = same_pieces block (left_piece settled) (settled_piece config other_memory) (λ b other. left_else settled b other ∙ sym (settled_else config other_memory b other)) address (λ seat words is.
+        let own = own_words address seat words is in
+        let seated : seat < seat_count config.mutators config.helpers = ⊎_elim (λ below. below) (λ past. absurd (own.0 (seats seat past))) (cases_lt seat (seat_count config.mutators config.helpers)) in
         ⊎_elim
-        (λ (same : settled (Current seat) ≡ m (Current seat)).
-        let last : is_last c m (m (Current seat)) ≡ true = ⊎_elim
+        (λ (same : settled (Current seat) ≡ other_memory (Current seat)).
+        let last : is_last config other_memory (other_memory (Current seat)) ≡ true = ⊎_elim
         (λ none. absurd (own.0 (sym same ∙ none)))
-        (λ yes. sym (last_same c m settled (m (Current seat)) settled_so.tops) ∙ ap (is_last c settled) (sym same) ∙ yes)
-        ((settling_leaves c m).last seat seated) in
+        (λ yes. sym (last_same config other_memory settled (other_memory (Current seat)) settled_so.tops) ∙ ap (is_last config settled) (sym same) ∙ yes)
+        ((settling_leaves config other_memory).last seat seated) in
         cond-false (settled (Current seat) == 0) (filler words) (spare seat words) (ne_eqb (settled (Current seat)) 0 (λ none. own.0 (sym same ∙ none)))
-        ∙ sym (cond-true (is_last c m (m (Current seat))) (spare seat words) (filler words) last))
-        (λ (gone : (settled (Current seat) ≡ 0) × (is_last c m (m (Current seat)) ≡ false)).
+        ∙ sym (cond-true (is_last config other_memory (other_memory (Current seat))) (spare seat words) (filler words) last))
+        (λ (gone : (settled (Current seat) ≡ 0) × (is_last config other_memory (other_memory (Current seat)) ≡ false)).
         cond-true (settled (Current seat) == 0) (filler words) (spare seat words) (eq-eqb (settled (Current seat)) 0 gone.0)
-        ∙ sym (cond-false (is_last c m (m (Current seat))) (spare seat words) (filler words) gone.1))
+        ∙ sym (cond-false (is_last config other_memory (other_memory (Current seat))) (spare seat words) (filler words) gone.1))
         (settled_so.currents seat own.1))
 
-    pub settled_holds : HoldsLoosened c m settled block (settled_block c m block) owner p g
-    settled_holds = subst (λ plot. HoldsLoosened c m settled block plot owner p g) (fun_ext same_end) settled_so.left
+    pub settled_holds : HoldsLoosened config other_memory settled block (settled_block config other_memory block) owner promises graph
+    settled_holds = subst (λ plot. HoldsLoosened config other_memory settled block plot owner promises graph) (fun_ext same_end) settled_so.left

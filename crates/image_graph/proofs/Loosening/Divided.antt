@@ -15,28 +15,28 @@ use Rattle.image_graph.specs.Promised.{Promises}
 use Rattle.image_graph.specs.Holds.{HoldsBy}
 use Rattle.image_graph.specs.Buffers.{HasNoMoreSeats}
 
-module _ (c : Config) (m : Word → ℕ) (block : Plot) (owner : ℕ → Option ℕ) (p : Promises) (g : Graph) (holds : HoldsBy c m block owner p g) where
+module _ (config : Config) (memory : Word → ℕ) (block : Plot) (owner : ℕ → Option ℕ) (promises : Promises) (graph : Graph) (holds : HoldsBy config memory block owner promises graph) where
   -- free words are those of a buffer
-  pub spare_seats : (a seat words : ℕ) → block a ≡ Some (spare seat words) → m (Current seat) ≢ 0
-  spare_seats a seat words is none =
-      let own = holds.buffers.spares a seat words is in
-      let long = holds.pieces.some a (spare seat words) is in
+  pub spare_seats : (address seat words : ℕ) → block address ≡ Some (spare seat words) → memory (Current seat) ≢ 0
+  spare_seats address seat words is none =
+      let own = holds.buffers.spares address seat words is in
+      let long = holds.pieces.some address (spare seat words) is in
       let zero_end = ap end_in none in
       let end = own.1 in
       omega (arith, zero_end, end, long)
 
   -- where nobody has a buffer, no piece is room
-  pub none_have_room : ((seat : ℕ) → m (Current seat) ≡ 0) → HasNoRoom block
+  pub none_have_room : ((seat : ℕ) → memory (Current seat) ≡ 0) → HasNoRoom block
   none_have_room none a seat x is room =
       let free = only_spares block holds.pieces.unheld holds.pieces.uncarved a seat x is room in
       spare_seats a seat free.0 (is ∙ ap Some free.1) (none seat)
 
-  module _ (seats : HasNoMoreSeats c m) where
-    seated : (a seat words : ℕ) → block a ≡ Some (spare seat words) → seat < seat_count c.mutators c.helpers
-    seated a seat words is = ⊎_elim
+  module _ (seats : HasNoMoreSeats config memory) where
+    seated : (address seat words : ℕ) → block address ≡ Some (spare seat words) → seat < seat_count config.mutators config.helpers
+    seated address seat words is = ⊎_elim
         (λ below. below)
-        (λ past. absurd (spare_seats a seat words is (seats seat past)))
-        (cases_lt seat (seat_count c.mutators c.helpers))
+        (λ past. absurd (spare_seats address seat words is (seats seat past)))
+        (cases_lt seat (seat_count config.mutators config.helpers))
 
-    pub holds_divided : AreLast c m → AreDivided c m block
-    holds_divided = divided c m block holds.objects.plotted holds.pieces.some holds.buffers holds.pieces.uncarved holds.pieces.unheld seated
+    pub holds_divided : AreLast config memory → AreDivided config memory block
+    holds_divided = divided config memory block holds.objects.plotted holds.pieces.some holds.buffers holds.pieces.uncarved holds.pieces.unheld seated

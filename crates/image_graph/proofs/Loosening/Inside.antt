@@ -8,8 +8,8 @@ use Rattle.image_graph.specs.SeatBuffers.{AreInside}
 use Rattle.image_graph.specs.Holds.{HoldsSome}
 use Rattle.image_graph.proofs.Inside.{buffers_inside}
 
-inside_prop : (c : Config) (m : Word → ℕ) → IsProp (AreInside c m)
-inside_prop c m = hlevel (le_prop)
+inside_prop : (config : Config) (memory : Word → ℕ) → IsProp (AreInside config memory)
+inside_prop config memory = hlevel (le_prop)
 
-pub inside_some : (c : Config) (m : Word → ℕ) → HoldsSome c m → AreInside c m
-inside_some c m holds = ∥∥₁_elim holds (inside_prop c m) (λ h. buffers_inside c m h.1.0 h.1.3.objects.plotted h.1.3.buffers)
+pub inside_some : (config : Config) (memory : Word → ℕ) → HoldsSome config memory → AreInside config memory
+inside_some config memory holds = ∥∥₁_elim holds (inside_prop config memory) (λ h. buffers_inside config memory h.1.0 h.1.3.objects.plotted h.1.3.buffers)

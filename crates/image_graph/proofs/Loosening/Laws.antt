@@ -10,20 +10,20 @@ use Rattle.image_graph.proofs.Loosening.Loosened.{loosened_sized}
 use Rattle.image_graph.proofs.Loosening.AllSettled.{settled_holds}
 use Rattle.image_graph.proofs.Loosening.LettingGo.{has_let_go, let_go_none}
 
-module _ (c : Config) (m : Word → ℕ) (seats : (seat : ℕ) → seat_count c.mutators c.helpers ≤ seat → m (Current seat) ≡ 0) where
-  pub settling_holds : SettlingHolds c m (buffers_settled c m)
+module _ (config : Config) (memory : Word → ℕ) (seats : (seat : ℕ) → seat_count config.mutators config.helpers ≤ seat → memory (Current seat) ≡ 0) where
+  pub settling_holds : SettlingHolds config memory (buffers_settled config memory)
   settling_holds block owner p g holds =
-      let after = settled_holds c m block owner p g holds seats in
-      record { holds = after.holds; sized = loosened_sized c m (buffers_settled c m) block (settled_block c m block) owner p g holds after.loosened }
+      let after = settled_holds config memory block owner p g holds seats in
+      record { holds = after.holds; sized = loosened_sized config memory (buffers_settled config memory) block (settled_block config memory block) owner p g holds after.loosened }
 
-  pub letting_go_holds : LettingGoHolds c m (let_go c m)
+  pub letting_go_holds : LettingGoHolds config memory (let_go config memory)
   letting_go_holds block owner p g holds =
-      let after = has_let_go c m block owner p g holds seats in
+      let after = has_let_go config memory block owner p g holds seats in
       record {
         pieces = after.plot;
         holds = after.left.holds;
-        none = let_go_none c m block owner p g holds seats;
+        none = let_go_none config memory block owner p g holds seats;
         stays = after.left.loosened.same.stays;
         came = after.left.loosened.same.came;
-        sized = loosened_sized c m (let_go c m) block after.plot owner p g holds after.left.loosened;
+        sized = loosened_sized config memory (let_go config memory) block after.plot owner p g holds after.left.loosened;
       }

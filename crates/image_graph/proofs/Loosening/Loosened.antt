@@ -27,24 +27,24 @@ is_of_buffers (Current seat) = true
 is_of_buffers _ = false
 
 -- All pieces but loose ones are the same, with their words; room was there, and so were buffers; and no top rises.
-pub record IsLoosened (m n : Word → ℕ) (block plot : Plot) : Type 0 where
+pub record IsLoosened (memory other_memory : Word → ℕ) (block plot : Plot) : Type 0 where
   pub same : SameButLoose block plot
-  pub rooms : (a seat : ℕ) (x : Block) → plot a ≡ Some x → room_of x ≡ Some seat → block a ≡ Some x
-  pub some : (a words : ℕ) → plot a ≡ Some (filler words) → 1 ≤ words
-  pub words : (a k : ℕ) (b : Block) → is_loose b ≡ false → block a ≡ Some b → k < words_of b → n (Heap (a + k)) ≡ m (Heap (a + k))
-  pub headers : (a words : ℕ) → plot a ≡ Some (filler words) → (n (Heap a) ≡ filler_header words) ⊎ ((block a ≡ Some (filler words)) × (n (Heap a) ≡ m (Heap a)))
-  pub others : (word : Word) → is_of_buffers word ≡ false → n word ≡ m word
-  pub lower : (r : ℕ) → n (Top r) ≤ m (Top r)
-  pub fewer : (s : ℕ) → n (Current s) ≢ 0 → n (Current s) ≡ m (Current s)
+  pub rooms : (address seat : ℕ) (piece : Block) → plot address ≡ Some piece → room_of piece ≡ Some seat → block address ≡ Some piece
+  pub some : (address words : ℕ) → plot address ≡ Some (filler words) → 1 ≤ words
+  pub words : (address k : ℕ) (other_piece : Block) → is_loose other_piece ≡ false → block address ≡ Some other_piece → k < words_of other_piece → other_memory (Heap (address + k)) ≡ memory (Heap (address + k))
+  pub headers : (address words : ℕ) → plot address ≡ Some (filler words) → (other_memory (Heap address) ≡ filler_header words) ⊎ ((block address ≡ Some (filler words)) × (other_memory (Heap address) ≡ memory (Heap address)))
+  pub others : (word : Word) → is_of_buffers word ≡ false → other_memory word ≡ memory word
+  pub lower : (region : ℕ) → other_memory (Top region) ≤ memory (Top region)
+  pub fewer : (other_seat : ℕ) → other_memory (Current other_seat) ≢ 0 → other_memory (Current other_seat) ≡ memory (Current other_seat)
 
 -- so it is where nothing changes
-pub loosened_none : (m : Word → ℕ) (block : Plot) → ((a words : ℕ) → block a ≡ Some (filler words) → 1 ≤ words) → IsLoosened m m block block
-loosened_none m block some = record {
-  same = record { stays = λ a b fixed is. is; came = λ a b fixed is. is };
-  rooms = λ a seat x is room. is;
+pub loosened_none : (memory : Word → ℕ) (block : Plot) → ((address words : ℕ) → block address ≡ Some (filler words) → 1 ≤ words) → IsLoosened memory memory block block
+loosened_none memory block some = record {
+  same = record { stays = λ address b fixed is. is; came = λ address b fixed is. is };
+  rooms = λ address seat x is room. is;
   some = some;
-  words = λ a k b fixed is below. refl;
-  headers = λ a words is. inr (is, refl);
+  words = λ address k b fixed is below. refl;
+  headers = λ address words is. inr (is, refl);
   others = λ word other. refl;
   lower = λ r. omega arith;
   fewer = λ s some. refl;
@@ -70,49 +70,49 @@ loosened_on m n k block plot more one two = record {
 }
 
 -- who is no seat has no buffer still
-pub loosened_seats : (c : Config) (m n : Word → ℕ) (block plot : Plot) → IsLoosened m n block plot → HasNoMoreSeats c m → HasNoMoreSeats c n
-loosened_seats c m n block plot is seats seat past = ⊎_elim
-    (λ (none : n (Current seat) ≡ 0). none)
-    (λ (some : n (Current seat) ≢ 0). is.fewer seat some ∙ seats seat past)
-    (cases_eq (n (Current seat)) 0)
+pub loosened_seats : (config : Config) (memory other_memory : Word → ℕ) (block plot : Plot) → IsLoosened memory other_memory block plot → HasNoMoreSeats config memory → HasNoMoreSeats config other_memory
+loosened_seats config memory other_memory block plot is seats seat past = ⊎_elim
+    (λ (none : other_memory (Current seat) ≡ 0). none)
+    (λ (some : other_memory (Current seat) ≢ 0). is.fewer seat some ∙ seats seat past)
+    (cases_eq (other_memory (Current seat)) 0)
 
 -- a piece is not loose, or it is room, or it only fills
-pub kind_of : (b : Block) → (is_loose b ≡ false) ⊎ (((seat : ℕ) × (room_of b ≡ Some seat)) ⊎ ((words : ℕ) × (b ≡ filler words)))
+pub kind_of : (piece : Block) → (is_loose piece ≡ false) ⊎ (((seat : ℕ) × (room_of piece ≡ Some seat)) ⊎ ((words : ℕ) × (piece ≡ filler words)))
 kind_of (hand seat words) = inr (inl (seat, refl))
 kind_of (spare seat words) = inr (inl (seat, refl))
 kind_of (carved seat words) = inr (inl (seat, refl))
 kind_of (filler words) = inr (inr (words, refl))
 kind_of _ = inl refl
 
-module _ (c : Config) (m n : Word → ℕ) (block plot : Plot) (owner : ℕ → Option ℕ) (p : Promises) (g : Graph) (holds : HoldsBy c m block owner p g) (is : IsLoosened m n block plot) where
+module _ (config : Config) (memory other_memory : Word → ℕ) (block plot : Plot) (owner : ℕ → Option ℕ) (promises : Promises) (graph : Graph) (holds : HoldsBy config memory block owner promises graph) (is : IsLoosened memory other_memory block plot) where
   -- the header of a piece that is not loose stays
-  pub header_stays : (a : ℕ) (b : Block) → is_loose b ≡ false → block a ≡ Some b → n (Heap a) ≡ m (Heap a)
-  header_stays a b fixed here =
-      let there : a ≡ a + 0 = omega arith in
-      ap (λ k. n (Heap k)) there ∙ is.words a 0 b fixed here (holds.pieces.some a b here) ∙ ap (λ k. m (Heap k)) (sym there)
+  pub header_stays : (address : ℕ) (piece : Block) → is_loose piece ≡ false → block address ≡ Some piece → other_memory (Heap address) ≡ memory (Heap address)
+  header_stays address piece fixed here =
+      let there : address ≡ address + 0 = omega arith in
+      ap (λ k. other_memory (Heap k)) there ∙ is.words address 0 piece fixed here (holds.pieces.some address piece here) ∙ ap (λ k. memory (Heap k)) (sym there)
 
-  thing_header : (a refs nums : ℕ) (name : Name) → block a ≡ Some (thing name refs nums) → n (Heap a) ≡ m (Heap a)
-  thing_header a refs nums name here = header_stays a (thing name refs nums) refl here
+  thing_header : (address refs nums : ℕ) (name : Name) → block address ≡ Some (thing name refs nums) → other_memory (Heap address) ≡ memory (Heap address)
+  thing_header address refs nums name here = header_stays address (thing name refs nums) refl here
 
   -- what has a name had it
-  named_was : (a : ℕ) (name : Name) → name_at (plot a) ≡ Some name → name_at (block a) ≡ Some name
-  named_was = names_stay c plot block (record { stays = is.same.came; came = is.same.stays })
+  named_was : (address : ℕ) (name : Name) → name_at (plot address) ≡ Some name → name_at (block address) ≡ Some name
+  named_was = names_stay config plot block (record { stays = is.same.came; came = is.same.stays })
 
-  named_now : (a : ℕ) (name : Name) → name_at (plot a) ≡ Some name → (refs : ℕ) × (nums : ℕ) × (plot a ≡ Some (thing name refs nums))
-  named_now a name named = let was = holds.pieces.named a name (named_was a name named) in (was.0, was.1, is.same.stays a (thing name was.0 was.1) refl was.2)
+  named_now : (address : ℕ) (name : Name) → name_at (plot address) ≡ Some name → (refs : ℕ) × (nums : ℕ) × (plot address ≡ Some (thing name refs nums))
+  named_now address name named = let was = holds.pieces.named address name (named_was address name named) in (was.0, was.1, is.same.stays address (thing name was.0 was.1) refl was.2)
 
-  now_again : (a : ℕ) (name : Name) → name_at (block a) ≡ Some name → now_in n a ≡ now_in m a
-  now_again a name named = let at = holds.pieces.named a name named in now_same n m a (thing_header a at.0 at.1 name at.2)
+  now_again : (address : ℕ) (name : Name) → name_at (block address) ≡ Some name → now_in other_memory address ≡ now_in memory address
+  now_again address name named = let at = holds.pieces.named address name named in now_same other_memory memory address (thing_header address at.0 at.1 name at.2)
 
   -- pieces have words
-  pub some_again : (a : ℕ) (b : Block) → plot a ≡ Some b → 1 ≤ words_of b
-  some_again a b here = ⊎_elim
-      (λ (fixed : is_loose b ≡ false). holds.pieces.some a b (is.same.came a b fixed here))
+  pub some_again : (address : ℕ) (piece : Block) → plot address ≡ Some piece → 1 ≤ words_of piece
+  some_again address piece here = ⊎_elim
+      (λ (fixed : is_loose piece ≡ false). holds.pieces.some address piece (is.same.came address piece fixed here))
       (λ loose. ⊎_elim
-      (λ (room : (seat : ℕ) × (room_of b ≡ Some seat)). holds.pieces.some a b (is.rooms a room.0 b here room.1))
-      (λ (fills : (words : ℕ) × (b ≡ filler words)). let long = is.some a fills.0 (here ∙ ap Some fills.1) in let same : words_of b ≡ fills.0 = ap words_of fills.1 in omega (arith, long, same))
+      (λ (room : (seat : ℕ) × (room_of piece ≡ Some seat)). holds.pieces.some address piece (is.rooms address room.0 piece here room.1))
+      (λ (fills : (words : ℕ) × (piece ≡ filler words)). let long = is.some address fills.0 (here ∙ ap Some fills.1) in let same : words_of piece ≡ fills.0 = ap words_of fills.1 in omega (arith, long, same))
       loose)
-      (kind_of b)
+      (kind_of piece)
 
   pieces_again : NamedAreThings plot
   pieces_again = record {
@@ -124,7 +124,7 @@ module _ (c : Config) (m n : Word → ℕ) (block plot : Plot) (owner : ℕ → 
   }
 
   -- each piece says how many words it has, where each did
-  pub loosened_sized : AreSized m block → AreSized n plot
+  pub loosened_sized : AreSized memory block → AreSized other_memory plot
   loosened_sized sized = record {
     objects = λ a b here fixed.
         let was = is.same.came a b fixed here in
@@ -141,15 +141,15 @@ module _ (c : Config) (m n : Word → ℕ) (block plot : Plot) (owner : ℕ → 
   Anywhere x = Unit {0}
 
   -- Where pieces fill the regions still, and the words of buffers tell of free words.
-  module _ (plotted : IsPlotted c (λ r. n (Top r)) plot) where
-    carried : IsCarried c m n block plot same_place Anywhere
+  module _ (plotted : IsPlotted config (λ r. other_memory (Top r)) plot) where
+    carried : IsCarried config memory other_memory block plot same_place Anywhere
     carried = record {
       plotted = plotted;
-      names = names_stay c block plot is.same;
+      names = names_stay config block plot is.same;
       current = λ v name named.
           let was = named_was v name named in
           let copy = holds.objects.current v name was in
-          (copy.0, copy.1, ap plot (now_again v name was) ∙ is.same.stays (now_in m v) (thing name copy.0 copy.1) refl copy.2);
+          (copy.0, copy.1, ap plot (now_again v name was) ∙ is.same.stays (now_in memory v) (thing name copy.0 copy.1) refl copy.2);
       now = now_again;
       lands = λ v name named. tt;
       one = λ x y at_x at_y same. same;
@@ -158,45 +158,45 @@ module _ (c : Config) (m n : Word → ℕ) (block plot : Plot) (owner : ℕ → 
       words = λ x k refs nums name here at reads some below other. is.words x k (thing name refs nums) refl (is.same.came x (thing name refs nums) refl here) below;
       fields = λ x i refs nums name here at few.
           let place : x + 3 + i ≡ x + (3 + i) = omega arith in
-          not_renamed m (m (Heap (x + 3 + i))) (n (Heap (x + 3 + i)))
-          (ap (λ k. n (Heap k)) place ∙ is.words x (3 + i) (thing name refs nums) refl (is.same.came x (thing name refs nums) refl here) (omega (arith, few)) ∙ ap (λ k. m (Heap k)) (sym place));
-      roots = λ t i inside few. not_renamed m (m (Root t i)) (n (Root t i)) (is.others (Root t i) refl);
-      answers = λ t inside. not_renamed m (m (Answer t)) (n (Answer t)) (is.others (Answer t) refl);
+          not_renamed memory (memory (Heap (x + 3 + i))) (other_memory (Heap (x + 3 + i)))
+          (ap (λ k. other_memory (Heap k)) place ∙ is.words x (3 + i) (thing name refs nums) refl (is.same.came x (thing name refs nums) refl here) (omega (arith, few)) ∙ ap (λ k. memory (Heap k)) (sym place));
+      roots = λ t i inside few. not_renamed memory (memory (Root t i)) (other_memory (Root t i)) (is.others (Root t i) refl);
+      answers = λ t inside. not_renamed memory (memory (Answer t)) (other_memory (Answer t)) (is.others (Answer t) refl);
       pins = λ t i inside few. is.others (Pin t i) refl;
-      pinned = λ t i inside few name copy plain. ap is_forwarded (thing_header (m (Pin t i)) copy.0 copy.1 name copy.2) ∙ plain;
+      pinned = λ t i inside few name copy plain. ap is_forwarded (thing_header (memory (Pin t i)) copy.0 copy.1 name copy.2) ∙ plain;
       waits = λ t. is.others (Wait t) refl;
     }
 
-    moved_again : (a refs nums : ℕ) (name : Name) → plot a ≡ Some (thing name refs nums) → is_forwarded (n (Heap a)) ≡ true → HasMoved c n plot a refs nums name
-    moved_again a refs nums name here forwarded =
-        let before = is.same.came a (thing name refs nums) refl here in
-        let was = holds.moved a refs nums name before (ap is_forwarded (sym (thing_header a refs nums name before)) ∙ forwarded) in
-        let now = now_again a name (ap name_at before) in
+    moved_again : (address refs nums : ℕ) (name : Name) → plot address ≡ Some (thing name refs nums) → is_forwarded (other_memory (Heap address)) ≡ true → HasMoved config other_memory plot address refs nums name
+    moved_again address refs nums name here forwarded =
+        let before = is.same.came address (thing name refs nums) refl here in
+        let was = holds.moved address refs nums name before (ap is_forwarded (sym (thing_header address refs nums name before)) ∙ forwarded) in
+        let now = now_again address name (ap name_at before) in
         let set = is.others Cset refl in
         record {
-          in_set = subst (λ s. IsIn s (region_with c a)) (sym set) was.in_set;
-          copy = ap plot now ∙ is.same.stays (now_in m a) (thing name refs nums) refl was.copy;
-          outside = subst (λ k. IsOutside (n Cset) (region_with c k)) (sym now) (subst (λ s. IsOutside s (region_with c (now_in m a))) (sym set) was.outside);
-          current = ap (λ k. is_forwarded (n (Heap k))) now ∙ ap is_forwarded (thing_header (now_in m a) refs nums name was.copy) ∙ was.current;
+          in_set = subst (λ s. IsIn s (region_with config address)) (sym set) was.in_set;
+          copy = ap plot now ∙ is.same.stays (now_in memory address) (thing name refs nums) refl was.copy;
+          outside = subst (λ k. IsOutside (other_memory Cset) (region_with config k)) (sym now) (subst (λ s. IsOutside s (region_with config (now_in memory address))) (sym set) was.outside);
+          current = ap (λ k. is_forwarded (other_memory (Heap k))) now ∙ ap is_forwarded (thing_header (now_in memory address) refs nums name was.copy) ∙ was.current;
         }
 
     -- a free region has no words still
-    free_again : IsFreeWord c (n Free) (λ r. n (Top r)) owner
-    free_again = subst (λ f. IsFreeWord c f (λ r. n (Top r)) owner) (sym (is.others Free refl)) (record {
+    free_again : IsFreeWord config (other_memory Free) (λ r. other_memory (Top r)) owner
+    free_again = subst (λ f. IsFreeWord config f (λ r. other_memory (Top r)) owner) (sym (is.others Free refl)) (record {
       no_more = holds.free_word.no_more;
       empty = λ r inside free. (let none = holds.free_word.empty r inside free in let less = is.lower r in omega (arith, none, less));
       nobodys = holds.free_word.nobodys;
     })
 
-    share_again : ShareIsOpen c (n Share) (n Free) (n Cset) owner
+    share_again : ShareIsOpen config (other_memory Share) (other_memory Free) (other_memory Cset) owner
     share_again =
-        subst (λ s. ShareIsOpen c s (n Free) (n Cset) owner) (sym (is.others Share refl))
-        (subst (λ f. ShareIsOpen c (m Share) f (n Cset) owner) (sym (is.others Free refl))
-        (subst (λ s. ShareIsOpen c (m Share) (m Free) s owner) (sym (is.others Cset refl)) holds.shared_one))
+        subst (λ s. ShareIsOpen config s (other_memory Free) (other_memory Cset) owner) (sym (is.others Share refl))
+        (subst (λ f. ShareIsOpen config (memory Share) f (other_memory Cset) owner) (sym (is.others Free refl))
+        (subst (λ s. ShareIsOpen config (memory Share) (memory Free) s owner) (sym (is.others Cset refl)) holds.shared_one))
 
-    pub loosened_holds : IsFilled c (λ r. n (Top r)) plot → AreBuffers c (λ r. n (Top r)) (λ s. n (Current s)) plot → HoldsBy c n plot owner p g
-    loosened_holds filled buffers = carried_holds c m n block plot owner p g holds same_place Anywhere carried moved_again filled pieces_again free_again share_again buffers
+    pub loosened_holds : IsFilled config (λ r. other_memory (Top r)) plot → AreBuffers config (λ r. other_memory (Top r)) (λ s. other_memory (Current s)) plot → HoldsBy config other_memory plot owner promises graph
+    loosened_holds filled buffers = carried_holds config memory other_memory block plot owner promises graph holds same_place Anywhere carried moved_again filled pieces_again free_again share_again buffers
 
     -- what can be reached could be
-    pub loosened_reached : (x : ℕ) → IsLedTo (now_in n) (λ a. n (Heap a)) (IsAmong (held_words c n)) x → IsLedTo (now_in m) (λ a. m (Heap a)) (IsAmong (held_words c m)) x
-    loosened_reached x reached = (led_comes c m n block plot owner p g holds same_place Anywhere carried x reached).led
+    pub loosened_reached : (x : ℕ) → IsLedTo (now_in other_memory) (λ a. other_memory (Heap a)) (IsAmong (held_words config other_memory)) x → IsLedTo (now_in memory) (λ a. memory (Heap a)) (IsAmong (held_words config memory)) x
+    loosened_reached x reached = (led_comes config memory other_memory block plot owner promises graph holds same_place Anywhere carried x reached).led

@@ -24,47 +24,47 @@ use Rattle.image_graph.proofs.Loosening.Resized.{IsResized, resized_plotted, res
 use Rattle.image_graph.proofs.Loosening.Loosened.{is_of_buffers, IsLoosened, loosened_holds}
 
 -- other words stay where only tops, words of the heap and buffers change
-refitted_others : (m : Word → ℕ) (top heap current : ℕ → ℕ) (word : Word) → is_of_buffers word ≡ false → refitted m top heap current word ≡ m word
-refitted_others m top heap current (Heap a) other = absurd (true≢false other)
-refitted_others m top heap current (Top r) other = absurd (true≢false other)
-refitted_others m top heap current (Current seat) other = absurd (true≢false other)
-refitted_others m top heap current _ other = refl
+refitted_others : (memory : Word → ℕ) (top heap current : ℕ → ℕ) (word : Word) → is_of_buffers word ≡ false → refitted memory top heap current word ≡ memory word
+refitted_others memory top heap current (Heap a) other = absurd (true≢false other)
+refitted_others memory top heap current (Top r) other = absurd (true≢false other)
+refitted_others memory top heap current (Current seat) other = absurd (true≢false other)
+refitted_others memory top heap current _ other = refl
 
 -- The words hold the graph by other pieces, of which all but loose ones are the same.
-pub record HoldsLoosened (c : Config) (m n : Word → ℕ) (block plot : Plot) (owner : ℕ → Option ℕ) (p : Promises) (g : Graph) : Type 0 where
-  pub loosened : IsLoosened m n block plot
-  pub holds : HoldsBy c n plot owner p g
+pub record HoldsLoosened (config : Config) (memory other_memory : Word → ℕ) (block plot : Plot) (owner : ℕ → Option ℕ) (promises : Promises) (graph : Graph) : Type 0 where
+  pub loosened : IsLoosened memory other_memory block plot
+  pub holds : HoldsBy config other_memory plot owner promises graph
 
-module _ (c : Config) (m : Word → ℕ) (block : Plot) (owner : ℕ → Option ℕ) (p : Promises) (g : Graph) (holds : HoldsBy c m block owner p g) where
+module _ (config : Config) (memory : Word → ℕ) (block : Plot) (owner : ℕ → Option ℕ) (promises : Promises) (graph : Graph) (holds : HoldsBy config memory block owner promises graph) where
   -- buffers without free words are dropped
-  module _ (current : ℕ → ℕ) (dropped : (seat : ℕ) → IsDropped (currents_of m) current seat) where
+  module _ (current : ℕ → ℕ) (dropped : (seat : ℕ) → IsDropped (currents_of memory) current seat) where
     abbrev without_them : Word → ℕ
-    without_them = refitted m (tops_of m) (heap_of m) current
+    without_them = refitted memory (tops_of memory) (heap_of memory) current
 
-    pub drops : HoldsLoosened c m without_them block block owner p g
+    pub drops : HoldsLoosened config memory without_them block block owner promises graph
     drops =
-        let loosened : IsLoosened m without_them block block = record {
+        let loosened : IsLoosened memory without_them block block = record {
           same = record { stays = λ a b fixed is. is; came = λ a b fixed is. is };
           rooms = λ a seat x is room. is;
           some = λ a words is. holds.pieces.some a (filler words) is;
           words = λ a k b fixed is below. refl;
           headers = λ a words is. inr (is, refl);
-          others = refitted_others m (tops_of m) (heap_of m) current;
+          others = refitted_others memory (tops_of memory) (heap_of memory) current;
           lower = λ r. omega arith;
-          fewer = dropped_fewer (currents_of m) current dropped;
+          fewer = dropped_fewer (currents_of memory) current dropped;
         } in
         record {
           loosened = loosened;
-          holds = loosened_holds c m without_them block block owner p g holds loosened holds.objects.plotted holds.filled
-              (buffers_dropped c (tops_of m) (currents_of m) current block dropped (λ a seat more is. holds.pieces.some a (spare seat more) is) holds.buffers);
+          holds = loosened_holds config memory without_them block block owner promises graph holds loosened holds.objects.plotted holds.filled
+              (buffers_dropped config (tops_of memory) (currents_of memory) current block dropped (λ a seat more is. holds.pieces.some a (spare seat more) is) holds.buffers);
         }
 
-  module _ (seat word : ℕ) (is : m (Current seat) ≡ word) (some : word ≢ 0) where
-    its : IsBuffer c (tops_of m) block seat word
-    its = subst (IsBuffer c (tops_of m) block seat) is (holds.buffers.each seat (λ none. some (sym is ∙ none)))
+  module _ (seat word : ℕ) (is : memory (Current seat) ≡ word) (some : word ≢ 0) where
+    its : IsBuffer config (tops_of memory) block seat word
+    its = subst (IsBuffer config (tops_of memory) block seat) is (holds.buffers.each seat (λ none. some (sym is ∙ none)))
 
-    pub lies : IsInside c word
-    lies = buffer_inside c (tops_of m) block seat word its (holds.objects.plotted.tops its.region its.within)
+    pub lies : IsInside config word
+    lies = buffer_inside config (tops_of memory) block seat word its (holds.objects.plotted.tops its.region its.within)
 
     module _ (more : next_in word < end_in word) where
       -- its free words are a piece
@@ -75,22 +75,22 @@ module _ (c : Config) (m : Word → ℕ) (block : Plot) (owner : ℕ → Option 
       free_piece = ⊎_elim (λ there. there) (λ has. absurd (holds.pieces.uncarved has.0 seat has.1 has.2)) (its.free more)
 
       -- the piece of another seat lies elsewhere
-      elsewhere : (x s words : ℕ) → s ≢ seat → block x ≡ Some (spare s words) → x ≢ next_in word
-      elsewhere x s words differs here at = differs (let both = same_Some (spare s words) free (sym here ∙ ap block at ∙ free_piece) in cc)
+      elsewhere : (address s words : ℕ) → s ≢ seat → block address ≡ Some (spare s words) → address ≢ next_in word
+      elsewhere address s words differs here at = differs (let both = same_Some (spare s words) free (sym here ∙ ap block at ∙ free_piece) in cc)
 
       -- They become words that only fill.
       abbrev pub fills_words : Word → ℕ
-      fills_words = refitted m (tops_of m) (updated (heap_of m) (next_in word) (filler_header (end_in word - next_in word))) (updated (currents_of m) seat 0)
+      fills_words = refitted memory (tops_of memory) (updated (heap_of memory) (next_in word) (filler_header (end_in word - next_in word))) (updated (currents_of memory) seat 0)
 
       abbrev pub fills_plot : Plot
       fills_plot = updated block (next_in word) (Some (filler (end_in word - next_in word)))
 
-      cases : (x : ℕ) (b : Block) → fills_plot x ≡ Some b → ((x ≡ next_in word) × (filler (end_in word - next_in word) ≡ b)) ⊎ ((x ≢ next_in word) × (block x ≡ Some b))
+      cases : (address : ℕ) (piece : Block) → fills_plot address ≡ Some piece → ((address ≡ next_in word) × (filler (end_in word - next_in word) ≡ piece)) ⊎ ((address ≢ next_in word) × (block address ≡ Some piece))
       cases = piece_cases block (next_in word) (filler (end_in word - next_in word))
 
       -- a piece of another kind than words that only fill was there
-      was_there : (x : ℕ) (b : Block) → (filler (end_in word - next_in word) ≡ b → ⊥) → fills_plot x ≡ Some b → (x ≢ next_in word) × (block x ≡ Some b)
-      was_there x b differs here = ⊎_elim (λ now. absurd (differs now.1)) (λ was. was) (cases x b here)
+      was_there : (address : ℕ) (piece : Block) → (filler (end_in word - next_in word) ≡ piece → ⊥) → fills_plot address ≡ Some piece → (address ≢ next_in word) × (block address ≡ Some piece)
+      was_there address piece differs here = ⊎_elim (λ now. absurd (differs now.1)) (λ was. was) (cases address piece here)
 
       resized : IsResized block fills_plot
       resized = record {
@@ -105,16 +105,16 @@ module _ (c : Config) (m : Word → ℕ) (block : Plot) (owner : ℕ → Option 
       }
 
       -- a piece that is not loose stays, and lies elsewhere
-      fixed_elsewhere : (x : ℕ) (b : Block) → is_loose b ≡ false → block x ≡ Some b → next_in word ≢ x
-      fixed_elsewhere x b fixed here at = true≢false (ap is_loose (same_Some free b (sym free_piece ∙ ap block at ∙ here)) ∙ fixed)
+      fixed_elsewhere : (address : ℕ) (piece : Block) → is_loose piece ≡ false → block address ≡ Some piece → next_in word ≢ address
+      fixed_elsewhere address piece fixed here at = true≢false (ap is_loose (same_Some free piece (sym free_piece ∙ ap block at ∙ here)) ∙ fixed)
 
-      not_fixed : (b : Block) → is_loose b ≡ false → filler (end_in word - next_in word) ≡ b → ⊥
-      not_fixed b fixed same = true≢false (ap is_loose same ∙ fixed)
+      not_fixed : (piece : Block) → is_loose piece ≡ false → filler (end_in word - next_in word) ≡ piece → ⊥
+      not_fixed piece fixed same = true≢false (ap is_loose same ∙ fixed)
 
-      heap_else : (x : ℕ) → next_in word ≢ x → fills_words (Heap x) ≡ m (Heap x)
-      heap_else x other = updated_else (heap_of m) (next_in word) (filler_header (end_in word - next_in word)) x other
+      heap_else : (address : ℕ) → next_in word ≢ address → fills_words (Heap address) ≡ memory (Heap address)
+      heap_else address other = updated_else (heap_of memory) (next_in word) (filler_header (end_in word - next_in word)) address other
 
-      fills_loosened : IsLoosened m fills_words block fills_plot
+      fills_loosened : IsLoosened memory fills_words block fills_plot
       fills_loosened = record {
         same = record {
           stays = λ x b fixed here. updated_else block (next_in word) (Some (filler (end_in word - next_in word))) x (fixed_elsewhere x b fixed here) ∙ here;
@@ -126,43 +126,43 @@ module _ (c : Config) (m : Word → ℕ) (block : Plot) (owner : ℕ → Option 
             (λ (was : (x ≢ next_in word) × (block x ≡ Some (filler words))). holds.pieces.some x (filler words) was.1)
             (cases x (filler words) here);
         words = λ x k b fixed here below.
-            let apart : x + k ≢ next_in word + 0 = far c (tops_of m) block holds.objects.plotted x (next_in word) k 0 b free here free_piece (λ at. fixed_elsewhere x b fixed here (sym at)) below (omega (arith, more)) in
+            let apart : x + k ≢ next_in word + 0 = far config (tops_of memory) block holds.objects.plotted x (next_in word) k 0 b free here free_piece (λ at. fixed_elsewhere x b fixed here (sym at)) below (omega (arith, more)) in
             heap_else (x + k) (λ at. apart (omega (arith, at)));
         headers = λ x words here. ⊎_elim
             (λ (now : (x ≡ next_in word) × (filler (end_in word - next_in word) ≡ filler words)).
             let long : end_in word - next_in word ≡ words = ap words_of now.1 in
-            inl (ap (λ k. fills_words (Heap k)) now.0 ∙ updated_there (heap_of m) (next_in word) (filler_header (end_in word - next_in word)) ∙ ap filler_header long))
+            inl (ap (λ k. fills_words (Heap k)) now.0 ∙ updated_there (heap_of memory) (next_in word) (filler_header (end_in word - next_in word)) ∙ ap filler_header long))
             (λ (was : (x ≢ next_in word) × (block x ≡ Some (filler words))). inr (was.1, heap_else x (λ at. was.0 (sym at))))
             (cases x (filler words) here);
-        others = refitted_others m (tops_of m) (updated (heap_of m) (next_in word) (filler_header (end_in word - next_in word))) (updated (currents_of m) seat 0);
+        others = refitted_others memory (tops_of memory) (updated (heap_of memory) (next_in word) (filler_header (end_in word - next_in word))) (updated (currents_of memory) seat 0);
         lower = λ r. omega arith;
-        fewer = without_fewer (currents_of m) seat;
+        fewer = without_fewer (currents_of memory) seat;
       }
 
-      fills_buffers : AreBuffers c (tops_of m) (updated (currents_of m) seat 0) fills_plot
-      fills_buffers = buffers_without c (tops_of m) (tops_of m) (currents_of m) block fills_plot seat holds.buffers holds.pieces.uncarved
+      fills_buffers : AreBuffers config (tops_of memory) (updated (currents_of memory) seat 0) fills_plot
+      fills_buffers = buffers_without config (tops_of memory) (tops_of memory) (currents_of memory) block fills_plot seat holds.buffers holds.pieces.uncarved
           (λ x s words differs here. updated_else block (next_in word) (Some (filler (end_in word - next_in word))) x (λ at. elsewhere x s words differs here (sym at)) ∙ here)
           (λ x s words here.
           let was = was_there x (spare s words) (λ same. cc) here in
           let there = holds.buffers.spares x s words was.1 in
-          ((λ at. was.0 (sym there.0 ∙ ap (λ k. next_in (m (Current k))) at ∙ ap next_in is)), was.1))
+          ((λ at. was.0 (sym there.0 ∙ ap (λ k. next_in (memory (Current k))) at ∙ ap next_in is)), was.1))
           (λ s differs is_some. (holds.buffers.each s is_some).to_top)
 
-      pub fills : HoldsLoosened c m fills_words block fills_plot owner p g
+      pub fills : HoldsLoosened config memory fills_words block fills_plot owner promises graph
       fills = record {
         loosened = fills_loosened;
-        holds = loosened_holds c m fills_words block fills_plot owner p g holds fills_loosened
-            (resized_plotted c (tops_of m) block fills_plot resized holds.objects.plotted) (resized_filled c (tops_of m) block fills_plot resized holds.filled) fills_buffers;
+        holds = loosened_holds config memory fills_words block fills_plot owner promises graph holds fills_loosened
+            (resized_plotted config (tops_of memory) block fills_plot resized holds.objects.plotted) (resized_filled config (tops_of memory) block fills_plot resized holds.filled) fills_buffers;
       }
 
       -- They are given back, where they end at the top, while each buffer has free words.
-      module _ (last : is_last c m word ≡ true) (full : AllHaveFree m) where
+      module _ (last : is_last config memory word ≡ true) (full : AllHaveFree memory) where
         abbrev region : ℕ
-        region = buffer_region c word
+        region = buffer_region config word
 
-        can : CanCutOff c (tops_of m) block region (next_in word) free
+        can : CanCutOff config (tops_of memory) block region (next_in word) free
         can =
-            let end : end_in word ≡ base_of c region + m (Top region) = eqb-true (end_in word) (base_of c region + m (Top region)) last in
+            let end : end_in word ≡ base_of config region + memory (Top region) = eqb-true (end_in word) (base_of config region + memory (Top region)) last in
             record {
               plotted = holds.objects.plotted;
               filled = holds.filled;
@@ -174,33 +174,33 @@ module _ (c : Config) (m : Word → ℕ) (block : Plot) (owner : ℕ → Option 
             }
 
         abbrev pub gives_words : Word → ℕ
-        gives_words = refitted m (updated (tops_of m) region (next_in word - base_of c region)) (heap_of m) (updated (currents_of m) seat 0)
+        gives_words = refitted memory (updated (tops_of memory) region (next_in word - base_of config region)) (heap_of memory) (updated (currents_of memory) seat 0)
 
         abbrev pub gives_plot : Plot
         gives_plot = updated block (next_in word) None
 
-        was_left : (x : ℕ) (b : Block) → gives_plot x ≡ Some b → (x ≢ next_in word) × (block x ≡ Some b)
-        was_left = came c (tops_of m) block region (next_in word) free can
+        was_left : (address : ℕ) (piece : Block) → gives_plot address ≡ Some piece → (address ≢ next_in word) × (block address ≡ Some piece)
+        was_left = came config (tops_of memory) block region (next_in word) free can
 
-        gives_loosened : IsLoosened m gives_words block gives_plot
+        gives_loosened : IsLoosened memory gives_words block gives_plot
         gives_loosened = record {
           same = record {
-            stays = λ x b fixed here. stays c (tops_of m) block region (next_in word) free can x (λ at. fixed_elsewhere x b fixed here (sym at)) ∙ here;
+            stays = λ x b fixed here. stays config (tops_of memory) block region (next_in word) free can x (λ at. fixed_elsewhere x b fixed here (sym at)) ∙ here;
             came = λ x b fixed here. (was_left x b here).1;
           };
           rooms = λ x s b here room. (was_left x b here).1;
           some = λ x words here. holds.pieces.some x (filler words) (was_left x (filler words) here).1;
           words = λ x k b fixed here below. refl;
           headers = λ x words here. inr ((was_left x (filler words) here).1, refl);
-          others = refitted_others m (updated (tops_of m) region (next_in word - base_of c region)) (heap_of m) (updated (currents_of m) seat 0);
-          lower = falls c (tops_of m) block region (next_in word) free can;
-          fewer = without_fewer (currents_of m) seat;
+          others = refitted_others memory (updated (tops_of memory) region (next_in word - base_of config region)) (heap_of memory) (updated (currents_of memory) seat 0);
+          lower = falls config (tops_of memory) block region (next_in word) free can;
+          fewer = without_fewer (currents_of memory) seat;
         }
 
-        pub gives : HoldsLoosened c m gives_words block gives_plot owner p g
+        pub gives : HoldsLoosened config memory gives_words block gives_plot owner promises graph
         gives = record {
           loosened = gives_loosened;
-          holds = loosened_holds c m gives_words block gives_plot owner p g holds gives_loosened
-              (plotted_without c (tops_of m) block region (next_in word) free can) (filled_without c (tops_of m) block region (next_in word) free can)
-              (buffers_cut c (tops_of m) (currents_of m) block seat (next_in word) (end_in word - next_in word) region can holds.buffers holds.pieces.uncarved full);
+          holds = loosened_holds config memory gives_words block gives_plot owner promises graph holds gives_loosened
+              (plotted_without config (tops_of memory) block region (next_in word) free can) (filled_without config (tops_of memory) block region (next_in word) free can)
+              (buffers_cut config (tops_of memory) (currents_of memory) block seat (next_in word) (end_in word - next_in word) region can holds.buffers holds.pieces.uncarved full);
         }

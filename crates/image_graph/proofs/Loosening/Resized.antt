@@ -6,14 +6,14 @@ use Rattle.heap_world.specs.World.{Block, words_of, Plot, IsInUse, IsPlotted, Is
 
 -- each piece was one of as many words, and where there was one there is one
 pub record IsResized (block plot : Plot) : Type 0 where
-  pub from : (a : ℕ) (b : Block) → plot a ≡ Some b → (x : Block) × (block a ≡ Some x) × (words_of x ≡ words_of b)
-  pub to : (a : ℕ) (x : Block) → block a ≡ Some x → (b : Block) × (plot a ≡ Some b)
+  pub from : (address : ℕ) (piece : Block) → plot address ≡ Some piece → (other_piece : Block) × (block address ≡ Some other_piece) × (words_of other_piece ≡ words_of piece)
+  pub to : (address : ℕ) (other_piece : Block) → block address ≡ Some other_piece → (piece : Block) × (plot address ≡ Some piece)
 
-module _ (c : Config) (top : ℕ → ℕ) (block plot : Plot) (is_resized : IsResized block plot) where
-  pub resized_plotted : IsPlotted c top block → IsPlotted c top plot
+module _ (config : Config) (top : ℕ → ℕ) (block plot : Plot) (is_resized : IsResized block plot) where
+  pub resized_plotted : IsPlotted config top block → IsPlotted config top plot
   resized_plotted plotted = record {
     tops = plotted.tops;
-    in_use = λ a b is. let was = is_resized.from a b is in subst (λ w. IsInUse c top a w) was.2 (plotted.in_use a was.0 was.1);
+    in_use = λ a b is. let was = is_resized.from a b is in subst (λ w. IsInUse config top a w) was.2 (plotted.in_use a was.0 was.1);
     apart = λ a b x y is_x is_y before.
         let was_x = is_resized.from a x is_x in
         let was_y = is_resized.from b y is_y in
@@ -21,14 +21,14 @@ module _ (c : Config) (top : ℕ → ℕ) (block plot : Plot) (is_resized : IsRe
         omega (arith, far, was_x.2);
   }
 
-  there : (a : ℕ) → (b : Block) × (block a ≡ Some b) → (b : Block) × (plot a ≡ Some b)
-  there a was = is_resized.to a was.0 was.1
+  there : (address : ℕ) → (piece : Block) × (block address ≡ Some piece) → (piece : Block) × (plot address ≡ Some piece)
+  there address was = is_resized.to address was.0 was.1
 
-  pub resized_filled : IsFilled c top block → IsFilled c top plot
+  pub resized_filled : IsFilled config top block → IsFilled config top plot
   resized_filled filled = record {
-    first = λ r inside used. there (base_of c r) (filled.first r inside used);
+    first = λ r inside used. there (base_of config r) (filled.first r inside used);
     next = λ r a x inside from is below.
         let was = is_resized.from a x is in
-        subst (λ w. (b : Block) × (plot (a + w) ≡ Some b)) was.2
+        subst (λ w. (piece : Block) × (plot (a + w) ≡ Some piece)) was.2
         (there (a + words_of was.0) (filled.next r a was.0 inside from was.1 (omega (arith, below, was.2))));
   }

@@ -22,22 +22,22 @@ use Rattle.step_core.proofs.Machines.Owed.{IsAim, Follows}
 use Rattle.step_core.proofs.Control.Held.{IsKept}
 use Rattle.step_core.proofs.Machines.Roles.{number_of}
 
-module _ (c : Config) (g : Graph) (s : Stage Actor) (past : List Entry) (follows : Follows c g s past) (shaken : IsKept c s) (number : ℕ) (old : Actor) (here : slice_get s.machines number ≡ Some old)
-    (below : number < control_number c) (words_then : List ℕ)
-    (stays : is_within (standing_of old.machine) ≡ false → (i : ℕ) → slice_index words_then (image_start c + i) ≡ slice_index s.words (image_start c + i)) where
+module _ (config : Config) (graph : Graph) (stage : Stage Actor) (past : List Entry) (follows : Follows config graph stage past) (shaken : IsKept config stage) (number : ℕ) (old : Actor) (here : slice_get stage.machines number ≡ Some old)
+    (below : number < control_number config) (words_then : List ℕ)
+    (stays : is_within (standing_of old.machine) ≡ false → (i : ℕ) → slice_index words_then (image_start config + i) ≡ slice_index stage.words (image_start config + i)) where
   -- while the control works in a pause, the machine is outside
-  out_then : (k : ℕ) (b : Actor) → slice_get s.machines k ≡ Some b → (control : Controlling) → b.machine ≡ controlling control → is_pausing (control_standing control.spot) ≡ true
+  out_then : (k : ℕ) (actor : Actor) → slice_get stage.machines k ≡ Some actor → (control : Controlling) → actor.machine ≡ controlling control → is_pausing (control_standing control.spot) ≡ true
       → is_within (standing_of old.machine) ≡ false
-  out_then k b there control is pausing =
-      let number_is : k ≡ control_number c = subst (λ machine. HasNumber c k machine) is (number_of c s.words (world_of c s follows.block follows.ghost (after g past)) (of_thread past (k + 1)) k b b.machine (follows.machines k b there)) in
-      let same : b ≡ shaken.control = same_Some b shaken.control (sym there ∙ ap (slice_get s.machines) number_is ∙ shaken.there) in
-      pause_empty c (λ a. standing_of a.machine) s shaken (ap (λ a. is_pausing (standing_of a.machine)) (sym same) ∙ ap (λ machine. is_pausing (standing_of machine)) is ∙ pausing)
+  out_then k actor there control is pausing =
+      let number_is : k ≡ control_number config = subst (λ machine. HasNumber config k machine) is (number_of config stage.words (world_of config stage follows.block follows.ghost (after graph past)) (of_thread past (k + 1)) k actor actor.machine (follows.machines k actor there)) in
+      let same : actor ≡ shaken.control = same_Some actor shaken.control (sym there ∙ ap (slice_get stage.machines) number_is ∙ shaken.there) in
+      pause_empty config (λ a. standing_of a.machine) stage shaken (ap (λ a. is_pausing (standing_of a.machine)) (sym same) ∙ ap (λ machine. is_pausing (standing_of machine)) is ∙ pausing)
       number old below here
 
-  pub aims_stay : (k : ℕ) (b : Actor) → slice_get s.machines k ≡ Some b → (control : Controlling) → b.machine ≡ controlling control → IsAim c s.words control.spot control.image → IsAim c words_then control.spot control.image
-  aims_stay k b there control is aim = by_spot control.spot (out_then k b there control is) aim
+  pub aims_stay : (k : ℕ) (actor : Actor) → slice_get stage.machines k ≡ Some actor → (control : Controlling) → actor.machine ≡ controlling control → IsAim config stage.words control.spot control.image → IsAim config words_then control.spot control.image
+  aims_stay k actor there control is aim = by_spot control.spot (out_then k actor there control is) aim
     where
-      by_spot : (spot : ControlSpot) → (is_pausing (control_standing spot) ≡ true → is_within (standing_of old.machine) ≡ false) → IsAim c s.words spot control.image → IsAim c words_then spot control.image
-      by_spot (LoadWord index extent) out known = (known.0, λ i less. known.1 i less ∙ ap (λ n. if is_of_extent c extent i then n else 0) (sym (stays (out refl) i)), known.2)
+      by_spot : (spot : ControlSpot) → (is_pausing (control_standing spot) ≡ true → is_within (standing_of old.machine) ≡ false) → IsAim config stage.words spot control.image → IsAim config words_then spot control.image
+      by_spot (LoadWord index extent) out known = (known.0, λ i less. known.1 i less ∙ ap (λ n. if is_of_extent config extent i then n else 0) (sym (stays (out refl) i)), known.2)
       by_spot (StoreWord index extent) out known = (known.0, λ i less counted. known.1 i less counted ∙ sym (stays (out refl) i), known.2)
       by_spot _ out known = tt

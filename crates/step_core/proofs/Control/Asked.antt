@@ -19,11 +19,11 @@ use Rattle.step_core.proofs.Machines.Owed.{words_promised}
 
 -- what a waiting mutator has asked for, by its answer and its command
 abbrev pub asking_by : ℕ → Command → Asking
-asking_by now k = if now == 0 then asks (refs_of k) (nums_of k) else (if now == 1 then refused else given (refs_of k) (nums_of k))
+asking_by now command = if now == 0 then asks (refs_of command) (nums_of command) else (if now == 1 then refused else given (refs_of command) (nums_of command))
 
 -- what a mutator at a spot has asked for
 abbrev pub asking_at : Spot → ℕ → Command → Asking
-asking_at spot now k = if is_waiting spot then asking_by now k else nothing
+asking_at spot now command = if is_waiting spot then asking_by now command else nothing
 
 abbrev pub asking_in : Machine → ℕ → Asking
 asking_in (mutating m) now = asking_at m.spot now m.kept.command
@@ -33,44 +33,44 @@ abbrev pub asking_of : Option Actor → ℕ → Asking
 asking_of None now = nothing
 asking_of (Some a) now = asking_in a.machine now
 
-pub asking_asks : (now : ℕ) (k : Command) → now ≡ 0 → asking_by now k ≡ asks (refs_of k) (nums_of k)
-asking_asks now k is = cond-true (now == 0) _ _ (eq-eqb now 0 is)
+pub asking_asks : (now : ℕ) (command : Command) → now ≡ 0 → asking_by now command ≡ asks (refs_of command) (nums_of command)
+asking_asks now command is = cond-true (now == 0) _ _ (eq-eqb now 0 is)
 
-pub asking_refused : (now : ℕ) (k : Command) → now ≡ 1 → asking_by now k ≡ refused
-asking_refused now k is = cond-false (now == 0) _ _ (ne_eqb now 0 (λ e. omega (arith, is, e))) ∙ cond-true (now == 1) _ _ (eq-eqb now 1 is)
+pub asking_refused : (now : ℕ) (command : Command) → now ≡ 1 → asking_by now command ≡ refused
+asking_refused now command is = cond-false (now == 0) _ _ (ne_eqb now 0 (λ e. omega (arith, is, e))) ∙ cond-true (now == 1) _ _ (eq-eqb now 1 is)
 
-pub asking_given : (now : ℕ) (k : Command) → 1 < now → asking_by now k ≡ given (refs_of k) (nums_of k)
-asking_given now k is = cond-false (now == 0) _ _ (ne_eqb now 0 (λ e. omega (arith, is, e))) ∙ cond-false (now == 1) _ _ (ne_eqb now 1 (λ e. omega (arith, is, e)))
+pub asking_given : (now : ℕ) (command : Command) → 1 < now → asking_by now command ≡ given (refs_of command) (nums_of command)
+asking_given now command is = cond-false (now == 0) _ _ (ne_eqb now 0 (λ e. omega (arith, is, e))) ∙ cond-false (now == 1) _ _ (ne_eqb now 1 (λ e. omega (arith, is, e)))
 
 -- a mutator that looks for its answer has asked so
-pub polling_asked : (w : World) (seat made : ℕ) (k command : Command) (fixed : Option Reply) → IsPolling w seat made k command fixed
-    → IsAsked w.memory w.block w.graph.count seat (asking_by (w.memory (Answer seat)) k)
-polling_asked w seat made k command fixed (inl waits) = subst (λ x. IsAsked w.memory w.block w.graph.count seat x) (sym (asking_asks _ k waits.0.1.1)) waits.0.1
-polling_asked w seat made k command fixed (inr (inl has)) = subst (λ x. IsAsked w.memory w.block w.graph.count seat x) (sym (asking_given _ k has.1.1)) has.1
-polling_asked w seat made k command fixed (inr (inr is)) = subst (λ x. IsAsked w.memory w.block w.graph.count seat x) (sym (asking_refused _ k is.1.1)) is.1
+pub polling_asked : (world : World) (seat made : ℕ) (other_command command : Command) (fixed : Option Reply) → IsPolling world seat made other_command command fixed
+    → IsAsked world.memory world.block world.graph.count seat (asking_by (world.memory (Answer seat)) other_command)
+polling_asked world seat made other_command command fixed (inl waits) = subst (λ x. IsAsked world.memory world.block world.graph.count seat x) (sym (asking_asks _ other_command waits.0.1.1)) waits.0.1
+polling_asked world seat made other_command command fixed (inr (inl has)) = subst (λ x. IsAsked world.memory world.block world.graph.count seat x) (sym (asking_given _ other_command has.1.1)) has.1
+polling_asked world seat made other_command command fixed (inr (inr is)) = subst (λ x. IsAsked world.memory world.block world.graph.count seat x) (sym (asking_refused _ other_command is.1.1)) is.1
 
 -- so has one that has its answer
-pub answered_asked : (w : World) (seat made : ℕ) (k command : Command) (fixed : Option Reply) → IsAnswered w seat made k command fixed
-    → IsAsked w.memory w.block w.graph.count seat (asking_by (w.memory (Answer seat)) k)
-answered_asked w seat made k command fixed (inl has) = subst (λ x. IsAsked w.memory w.block w.graph.count seat x) (sym (asking_given _ k has.1.1)) has.1
-answered_asked w seat made k command fixed (inr is) = subst (λ x. IsAsked w.memory w.block w.graph.count seat x) (sym (asking_refused _ k is.1.1)) is.1
+pub answered_asked : (world : World) (seat made : ℕ) (other_command command : Command) (fixed : Option Reply) → IsAnswered world seat made other_command command fixed
+    → IsAsked world.memory world.block world.graph.count seat (asking_by (world.memory (Answer seat)) other_command)
+answered_asked world seat made other_command command fixed (inl has) = subst (λ x. IsAsked world.memory world.block world.graph.count seat x) (sym (asking_given _ other_command has.1.1)) has.1
+answered_asked world seat made other_command command fixed (inr is) = subst (λ x. IsAsked world.memory world.block world.graph.count seat x) (sym (asking_refused _ other_command is.1.1)) is.1
 
 -- who asked for nothing is answered nothing
-pub nothing_then : (memory : Word → ℕ) (block : Plot) (count : ℕ → ℕ) (t : ℕ) (x : Asking) → Answers nothing x → IsAsked memory block count t x → IsAsked memory block count t nothing
+pub nothing_then : (memory : Word → ℕ) (block : Plot) (count : ℕ → ℕ) (t : ℕ) (asking : Asking) → Answers nothing asking → IsAsked memory block count t asking → IsAsked memory block count t nothing
 nothing_then memory block count t nothing answers asked = asked
 nothing_then memory block count t (asks refs nums) answers asked = absurd answers
 nothing_then memory block count t refused answers asked = absurd answers
 nothing_then memory block count t (given refs nums) answers asked = absurd answers
 
 -- who was refused stays refused
-pub refused_then : (memory : Word → ℕ) (block : Plot) (count : ℕ → ℕ) (t : ℕ) (x : Asking) → Answers refused x → IsAsked memory block count t x → IsAsked memory block count t refused
+pub refused_then : (memory : Word → ℕ) (block : Plot) (count : ℕ → ℕ) (t : ℕ) (asking : Asking) → Answers refused asking → IsAsked memory block count t asking → IsAsked memory block count t refused
 refused_then memory block count t nothing answers asked = absurd answers
 refused_then memory block count t (asks refs nums) answers asked = absurd answers
 refused_then memory block count t refused answers asked = asked
 refused_then memory block count t (given refs nums) answers asked = absurd answers
 
 -- who was given an object has it still
-pub given_then : (memory : Word → ℕ) (block : Plot) (count : ℕ → ℕ) (t refs nums : ℕ) (x : Asking) → Answers (given refs nums) x → IsAsked memory block count t x → IsAsked memory block count t (given refs nums)
+pub given_then : (memory : Word → ℕ) (block : Plot) (count : ℕ → ℕ) (t refs nums : ℕ) (asking : Asking) → Answers (given refs nums) asking → IsAsked memory block count t asking → IsAsked memory block count t (given refs nums)
 given_then memory block count t refs nums nothing answers asked = absurd answers
 given_then memory block count t refs nums (asks more_refs more_nums) answers asked = absurd answers
 given_then memory block count t refs nums refused answers asked = absurd answers
@@ -78,8 +78,8 @@ given_then memory block count t refs nums (given more_refs more_nums) answers as
     subst (λ r. IsAsked memory block count t (given r nums)) (sym answers.0) (subst (λ n. IsAsked memory block count t (given more_refs n)) (sym answers.1) asked)
 
 -- who asks is refused or given the object
-pub asks_then : (memory : Word → ℕ) (block : Plot) (count : ℕ → ℕ) (t refs nums : ℕ) (x : Asking) → Answers (asks refs nums) x → IsAsked memory block count t x
-    → (IsAsked memory block count t refused × (x ≡ refused)) ⊎ IsAsked memory block count t (given refs nums)
+pub asks_then : (memory : Word → ℕ) (block : Plot) (count : ℕ → ℕ) (t refs nums : ℕ) (asking : Asking) → Answers (asks refs nums) asking → IsAsked memory block count t asking
+    → (IsAsked memory block count t refused × (asking ≡ refused)) ⊎ IsAsked memory block count t (given refs nums)
 asks_then memory block count t refs nums nothing answers asked = absurd answers
 asks_then memory block count t refs nums (asks more_refs more_nums) answers asked = absurd answers
 asks_then memory block count t refs nums refused answers asked = inl (asked, refl)
@@ -87,18 +87,18 @@ asks_then memory block count t refs nums (given more_refs more_nums) answers ask
     inr (subst (λ r. IsAsked memory block count t (given r nums)) (sym answers.0) (subst (λ n. IsAsked memory block count t (given more_refs n)) (sym answers.1) asked))
 
 -- what was asked for stands in two memories that have the same requests, answers and objects
-pub asked_same : (m n : Word → ℕ) (block : Plot) (count : ℕ → ℕ) (t : ℕ) (x : Asking) → n (Wait t) ≡ m (Wait t) → n (Answer t) ≡ m (Answer t) → ((a : ℕ) → n (Heap a) ≡ m (Heap a))
-    → IsAsked m block count t x → IsAsked n block count t x
-asked_same m n block count t nothing wait answer heap asked = (wait ∙ asked.0, answer ∙ asked.1, asked.2)
-asked_same m n block count t (asks refs nums) wait answer heap asked =
+pub asked_same : (memory other_memory : Word → ℕ) (block : Plot) (count : ℕ → ℕ) (mutator : ℕ) (asking : Asking) → other_memory (Wait mutator) ≡ memory (Wait mutator) → other_memory (Answer mutator) ≡ memory (Answer mutator) → ((address : ℕ) → other_memory (Heap address) ≡ memory (Heap address))
+    → IsAsked memory block count mutator asking → IsAsked other_memory block count mutator asking
+asked_same memory other_memory block count mutator nothing wait answer heap asked = (wait ∙ asked.0, answer ∙ asked.1, asked.2)
+asked_same memory other_memory block count mutator (asks refs nums) wait answer heap asked =
     (record { wait_is = wait ∙ asked.0.wait_is; few_refs = asked.0.few_refs; few_nums = asked.0.few_nums; few = asked.0.few }, answer ∙ asked.1, asked.2)
-asked_same m n block count t refused wait answer heap asked = (wait ∙ asked.0, answer ∙ asked.1, asked.2)
-asked_same m n block count t (given refs nums) wait answer heap asked = (
+asked_same memory other_memory block count mutator refused wait answer heap asked = (wait ∙ asked.0, answer ∙ asked.1, asked.2)
+asked_same memory other_memory block count mutator (given refs nums) wait answer heap asked = (
   wait ∙ asked.0,
   subst (λ k. 1 < k) (sym answer) asked.1,
-  subst (λ k. IsPromise n block count t refs nums k) (sym answer) (record {
+  subst (λ k. IsPromise other_memory block count mutator refs nums k) (sym answer) (record {
     here = asked.2.here;
-    words = λ k below. heap (m (Answer t) + k) ∙ asked.2.words k below;
+    words = λ k below. heap (memory (Answer mutator) + k) ∙ asked.2.words k below;
     only = asked.2.only;
     few_refs = asked.2.few_refs;
     few_nums = asked.2.few_nums;
@@ -110,10 +110,10 @@ shape_words : (refs nums : ℕ) → refs ≤ 16 → nums ≤ 16 → object_words
 shape_words refs nums few less = omega (arith, few, less)
 
 -- the words of a promised object, by the answer and by what was asked for
-pub promised_given : (memory : Word → ℕ) (block : Plot) (count : ℕ → ℕ) (t : ℕ) (x : Asking) → IsAsked memory block count t x → words_promised memory t ≡ words_given x
-promised_given memory block count t nothing asked = cond-true (nat_le (memory (Answer t)) 1) _ _ (le-leb _ _ (let answer = asked.1 in omega (arith, answer)))
-promised_given memory block count t (asks refs nums) asked = cond-true (nat_le (memory (Answer t)) 1) _ _ (le-leb _ _ (let answer = asked.1 in omega (arith, answer)))
-promised_given memory block count t refused asked = cond-true (nat_le (memory (Answer t)) 1) _ _ (le-leb _ _ (let answer = asked.1 in omega (arith, answer)))
-promised_given memory block count t (given refs nums) asked =
-    let shape : memory (Heap (memory (Answer t) + 1)) ≡ shape_word refs nums = asked.2.words 1 (omega arith) in
-    cond-false (nat_le (memory (Answer t)) 1) _ _ (let answer = asked.1 in grind (arith, nat_tests)) ∙ ap object_words shape ∙ shape_words refs nums asked.2.few_refs asked.2.few_nums
+pub promised_given : (memory : Word → ℕ) (block : Plot) (count : ℕ → ℕ) (mutator : ℕ) (asking : Asking) → IsAsked memory block count mutator asking → words_promised memory mutator ≡ words_given asking
+promised_given memory block count mutator nothing asked = cond-true (nat_le (memory (Answer mutator)) 1) _ _ (le-leb _ _ (let answer = asked.1 in omega (arith, answer)))
+promised_given memory block count mutator (asks refs nums) asked = cond-true (nat_le (memory (Answer mutator)) 1) _ _ (le-leb _ _ (let answer = asked.1 in omega (arith, answer)))
+promised_given memory block count mutator refused asked = cond-true (nat_le (memory (Answer mutator)) 1) _ _ (le-leb _ _ (let answer = asked.1 in omega (arith, answer)))
+promised_given memory block count mutator (given refs nums) asked =
+    let shape : memory (Heap (memory (Answer mutator) + 1)) ≡ shape_word refs nums = asked.2.words 1 (omega arith) in
+    cond-false (nat_le (memory (Answer mutator)) 1) _ _ (let answer = asked.1 in grind (arith, nat_tests)) ∙ ap object_words shape ∙ shape_words refs nums asked.2.few_refs asked.2.few_nums

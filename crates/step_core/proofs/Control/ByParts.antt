@@ -19,11 +19,11 @@ use Rattle.step_core.proofs.Control.Images.{image_grows, loaded_early, loaded_pa
 pub length-snoc : (xs : List ℕ) (x : ℕ) → length (xs ++ x ∷ []) ≡ length xs + 1
 length-snoc xs x = length-append xs (x ∷ [])
 
-module _ (c : Config) (words : List ℕ) (phase : ℕ) (extent : Extent) (image : List ℕ) (index : ℕ) (below : index < image_words c) (long : length image ≡ index) (loaded : AreLoaded c words extent image index) (here : is_of_extent c extent index ≡ true)
-    (extent_is : extent ≡ extent_by c phase image) where
+module _ (config : Config) (words : List ℕ) (phase : ℕ) (extent : Extent) (image : List ℕ) (index : ℕ) (below : index < image_words config) (long : length image ≡ index) (loaded : AreLoaded config words extent image index) (here : is_of_extent config extent index ≡ true)
+    (extent_is : extent ≡ extent_by config phase image) where
   -- the word that is loaded, and the extent then
   abbrev got : ℕ
-  got = slice_index words (image_start c + index)
+  got = slice_index words (image_start config + index)
 
   abbrev pub extent_then : Extent
   extent_then = extent_after phase index extent got
@@ -35,56 +35,56 @@ module _ (c : Config) (words : List ℕ) (phase : ℕ) (extent : Extent) (image 
   more_long = length-snoc image got ∙ ap (λ n. n + 1) long
 
   -- it is that of the words loaded
-  then_is : extent_then ≡ extent_by c phase more
-  then_is = ap (λ e. extent_after phase index e got) extent_is ∙ sym (extent_on c phase image index got long)
+  then_is : extent_then ≡ extent_by config phase more
+  then_is = ap (λ e. extent_after phase index e got) extent_is ∙ sym (extent_on config phase image index got long)
 
-  padded_extent : (n : ℕ) → extent_then ≡ extent_by c phase (padded n more)
-  padded_extent n = then_is ∙ sym (same_extent c phase (padded n more) more (padded_reads n more 3) (padded_reads n more 5))
+  padded_extent : (n : ℕ) → extent_then ≡ extent_by config phase (padded n more)
+  padded_extent n = then_is ∙ sym (same_extent config phase (padded n more) more (padded_reads n more 3) (padded_reads n more 5))
 
   -- the words loaded are of it
-  more_loaded : AreLoaded c words extent_then more (index + 1)
+  more_loaded : AreLoaded config words extent_then more (index + 1)
   more_loaded =
-      let grown = image_grows c words extent image index long loaded here in
+      let grown = image_grows config words extent image index long loaded here in
       ⊎_elim
-      (λ (first : index < 6). loaded_early c words extent extent_then more (index + 1) (omega (arith, first)) grown)
-      (λ (late : 6 ≤ index). subst (λ e. AreLoaded c words e more (index + 1)) (sym (changes_early phase index extent got late)) grown)
+      (λ (first : index < 6). loaded_early config words extent extent_then more (index + 1) (omega (arith, first)) grown)
+      (λ (late : 6 ≤ index). subst (λ e. AreLoaded config words e more (index + 1)) (sym (changes_early phase index extent got late)) grown)
       (cases_lt index 6)
 
   -- the word that is loaded next
   abbrev pub next : ℕ
-  next = next_loaded c extent_then index
+  next = next_loaded config extent_then index
 
-  pub goes_next : IsNext c extent_then index next
-  goes_next = next_is c extent_then index below
+  pub goes_next : IsNext config extent_then index next
+  goes_next = next_is config extent_then index below
 
   -- where there is one
   pub next_long : length (loaded_on next image got) ≡ next
   next_long = padded_long next more (let after = goes_next.above in let longer = more_long in omega (arith, after, longer))
 
-  pub next_words : AreLoaded c words extent_then (loaded_on next image got) next
-  next_words = loaded_padded c words extent_then more (index + 1) next more_long more_loaded (λ i from to. goes_next.between i (omega (arith, from)) to)
+  pub next_words : AreLoaded config words extent_then (loaded_on next image got) next
+  next_words = loaded_padded config words extent_then more (index + 1) next more_long more_loaded (λ i from to. goes_next.between i (omega (arith, from)) to)
 
-  pub next_extent : extent_then ≡ extent_by c phase (loaded_on next image got)
+  pub next_extent : extent_then ≡ extent_by config phase (loaded_on next image got)
   next_extent = padded_extent next
 
   -- where there is none
-  module _ (all : image_words c ≤ next) (phase_is : phase ≡ view c words Phase) where
+  module _ (all : image_words config ≤ next) (phase_is : phase ≡ view config words Phase) where
     abbrev part : List ℕ
-    part = loaded_all c image got
+    part = loaded_all config image got
 
-    pub part_long : length part ≡ image_words c
-    part_long = padded_long (image_words c) more (let longer = more_long in omega (arith, below, longer))
+    pub part_long : length part ≡ image_words config
+    part_long = padded_long (image_words config) more (let longer = more_long in omega (arith, below, longer))
 
-    part_words : AreLoaded c words extent_then part (image_words c)
-    part_words = loaded_padded c words extent_then more (index + 1) (image_words c) more_long more_loaded (λ i from to. goes_next.between i (omega (arith, from)) (omega (arith, to, all)))
+    part_words : AreLoaded config words extent_then part (image_words config)
+    part_words = loaded_padded config words extent_then more (index + 1) (image_words config) more_long more_loaded (λ i from to. goes_next.between i (omega (arith, from)) (omega (arith, to, all)))
 
-    pub part_of : IsImagePart c extent_then (image_in c words) part
-    part_of k less = part_words k less ∙ ap (λ n. if is_of_extent c extent_then k then n else 0) (sym (image_in_reads c words k))
+    pub part_of : IsImagePart config extent_then (image_in config words) part
+    part_of k less = part_words k less ∙ ap (λ n. if is_of_extent config extent_then k then n else 0) (sym (image_in_reads config words k))
 
     first_word : slice_index part 0 ≡ phase
     first_word =
-        part_words 0 (omega (arith, below)) ∙ cond-true (is_of_extent c extent_then 0) _ _ (early c extent_then 0 (omega arith))
-        ∙ ap (λ k. slice_index words k) (omega arith) ∙ sym (view_word c words Phase tt) ∙ sym phase_is
+        part_words 0 (omega (arith, below)) ∙ cond-true (is_of_extent config extent_then 0) _ _ (early config extent_then 0 (omega arith))
+        ∙ ap (λ k. slice_index words k) (omega arith) ∙ sym (view_word config words Phase tt) ∙ sym phase_is
 
-    pub part_extent : extent_then ≡ extent_by c (slice_index part 0) part
-    part_extent = padded_extent (image_words c) ∙ ap (λ p. extent_by c p part) (sym first_word)
+    pub part_extent : extent_then ≡ extent_by config (slice_index part 0) part
+    part_extent = padded_extent (image_words config) ∙ ap (λ p. extent_by config p part) (sym first_word)

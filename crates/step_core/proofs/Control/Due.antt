@@ -9,19 +9,19 @@ use Rattle.heap_world.specs.Rely.{Rely}
 use Rattle.heap_world.specs.Change.{IsDue}
 
 -- what is due stays so
-pub due_stays : (c : Config) (u w : World) (seat : ℕ) → Rely c seat u w → IsDue c u.memory → IsDue c w.memory
-due_stays c u w seat rely due late quiet =
+pub due_stays : (config : Config) (world other_world : World) (seat : ℕ) → Rely config seat world other_world → IsDue config world.memory → IsDue config other_world.memory
+due_stays config world other_world seat rely due late quiet =
     let same = rely.marks.keeps.phase in
     let asks = rely.asked in
-    rely.fields.claims (due (omega (arith, late, same)) (still (bit_at (u.memory Ask) 1) (bit_at-lt (u.memory Ask) 1) (λ one. (let two = asks one in omega (arith, two, quiet)))))
+    rely.fields.claims (due (omega (arith, late, same)) (still (bit_at (world.memory Ask) 1) (bit_at-lt (world.memory Ask) 1) (λ one. (let two = asks one in omega (arith, two, quiet)))))
   where
     still : (n : ℕ) → n < 2 → (n ≡ 1 → ⊥) → n ≡ 0
     still n small other = grind (arith, small, other)
 
 -- A pause is due wherever all regions are claimed,
-pub claimed_due : (c : Config) (memory : Word → ℕ) → c.regions ≤ memory Claim → IsDue c memory
-claimed_due c memory claimed late quiet = claimed
+pub claimed_due : (config : Config) (memory : Word → ℕ) → config.regions ≤ memory Claim → IsDue config memory
+claimed_due config memory claimed late quiet = claimed
 
 -- and in phases 0 and 1
-pub early_due : (c : Config) (memory : Word → ℕ) → memory Phase ≤ 1 → IsDue c memory
-early_due c memory early late quiet = absurd (omega (arith, early, late))
+pub early_due : (config : Config) (memory : Word → ℕ) → memory Phase ≤ 1 → IsDue config memory
+early_due config memory early late quiet = absurd (omega (arith, early, late))

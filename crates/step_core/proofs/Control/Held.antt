@@ -17,7 +17,7 @@ use Rattle.step_core.proofs.Handshake.Machines.{standing}
 
 -- the handshake is kept in a stage
 abbrev pub IsKept : Config → Stage Actor → Type 0
-IsKept c s = IsShaken c standing s
+IsKept config stage = IsShaken config standing stage
 
 -- while an image counts the control works in a pause
 pub holding_pauses : (machine : Machine) (image : Counting) → image_read machine ≡ Some image → is_pausing (standing_of machine) ≡ true
@@ -28,17 +28,17 @@ holding_pauses (controlling k) image is = by_spot k.spot is
     by_spot _ held = absurd (cc (held))
 holding_pauses _ image is = absurd (cc (is))
 
-module _ (c : Config) (s : Stage Actor) where
+module _ (config : Config) (stage : Stage Actor) where
   -- the image that counts in the stage
   abbrev pub held_image : Option Counting
-  held_image = image_of (slice_get s.machines (control_number c))
+  held_image = image_of (slice_get stage.machines (control_number config))
 
   -- then every other machine is outside
-  pub outside_held : IsKept c s → (image : Counting) → held_image ≡ Some image → (k : ℕ) (b : Actor) → k < control_number c → slice_get s.machines k ≡ Some b → is_within (standing_of b.machine) ≡ false
-  outside_held shaken image held k b below there =
+  pub outside_held : IsKept config stage → (image : Counting) → held_image ≡ Some image → (k : ℕ) (actor : Actor) → k < control_number config → slice_get stage.machines k ≡ Some actor → is_within (standing_of actor.machine) ≡ false
+  outside_held shaken image held k actor below there =
       let is : image_read shaken.control.machine ≡ Some image = ap image_of (sym shaken.there) ∙ held in
-      pause_empty c (λ a. standing_of a.machine) s shaken (holding_pauses shaken.control.machine image is) k b below there
+      pause_empty config (λ a. standing_of a.machine) stage shaken (holding_pauses shaken.control.machine image is) k actor below there
 
   -- the image that counts after an event of another machine is the same
-  pub other_holds : (number : ℕ) (new : Actor) → number ≢ control_number c → image_of (slice_get (slice_set s.machines number new) (control_number c)) ≡ held_image
-  other_holds number new other = ap image_of (slice_get-set_other s.machines number (control_number c) new (λ e. other (sym e)))
+  pub other_holds : (number : ℕ) (new : Actor) → number ≢ control_number config → image_of (slice_get (slice_set stage.machines number new) (control_number config)) ≡ held_image
+  other_holds number new other = ap image_of (slice_get-set_other stage.machines number (control_number config) new (λ e. other (sym e)))

@@ -23,202 +23,202 @@ use Rattle.step_core.proofs.Machines.Owed.{AreRead, AreLoaded}
 
 -- the table after an access
 abbrev pub words_after : Config → List ℕ → Touch → List ℕ
-words_after c words t = slice_set words (table_index (placed c t)) (made_of (placed c t) (slice_index words (table_index (placed c t))))
+words_after config words t = slice_set words (table_index (placed config t)) (made_of (placed config t) (slice_index words (table_index (placed config t))))
 
 -- the word that an access finds, by its name
-pub found-placed : (c : Config) (words : List ℕ) (t : Touch) → is_word c t.word ≡ true → slice_index words (table_index (placed c t)) ≡ view c words t.word
-found-placed c words t is = ap (λ k. slice_index words k) (table_index-access_at (word_at c t.word) t.form) ∙ sym (view_word c words t.word (is_word_true c t.word is))
+pub found-placed : (config : Config) (words : List ℕ) (t : Touch) → is_word config t.word ≡ true → slice_index words (table_index (placed config t)) ≡ view config words t.word
+found-placed config words t is = ap (λ k. slice_index words k) (table_index-access_at (word_at config t.word) t.form) ∙ sym (view_word config words t.word (is_word_true config t.word is))
 
 -- the table after it, by the names of its words
-pub view-placed : (c : Config) (words : List ℕ) (t : Touch) → is_word c t.word ≡ true → length words ≡ table_words c → view c (words_after c words t) ≡ touched (view c words) t
-view-placed c words t is long =
-    rw (made_of-access_at (word_at c t.word) t.form, found-placed c words t is, table_index-access_at (word_at c t.word) t.form)
-    (view_set_all c words t.word (formed t.form (view c words t.word)) long (is_word_true c t.word is))
+pub view-placed : (config : Config) (words : List ℕ) (t : Touch) → is_word config t.word ≡ true → length words ≡ table_words config → view config (words_after config words t) ≡ touched (view config words) t
+view-placed config words t is long =
+    rw (made_of-access_at (word_at config t.word) t.form, found-placed config words t is, table_index-access_at (word_at config t.word) t.form)
+    (view_set_all config words t.word (formed t.form (view config words t.word)) long (is_word_true config t.word is))
 
 -- a load leaves the table as it is
-pub words_loaded : (c : Config) (words : List ℕ) (word : Word) → words_after c words (touch word loads) ≡ words
-words_loaded c words word = set-get_or words (word_at c word) 0
+pub words_loaded : (config : Config) (words : List ℕ) (word : Word) → words_after config words (touch word loads) ≡ words
+words_loaded config words word = set-get_or words (word_at config word) 0
 
 -- a word of the image stands where the image begins or behind it, and another one in front
-pub image_at : (c : Config) (w : Word) → is_word c w ≡ true → is_image w ≡ true → image_start c ≤ word_at c w
-image_at c w is image = leb-true _ _ (sym (is_image-word_at c w (is_word_true c w is)) ∙ image)
+pub image_at : (config : Config) (word : Word) → is_word config word ≡ true → is_image word ≡ true → image_start config ≤ word_at config word
+image_at config word is image = leb-true _ _ (sym (is_image-word_at config word (is_word_true config word is)) ∙ image)
 
-pub outside_at : (c : Config) (w : Word) → is_word c w ≡ true → is_image w ≡ false → word_at c w < image_start c
-outside_at c w is image = leb-false _ _ (sym (is_image-word_at c w (is_word_true c w is)) ∙ image)
+pub outside_at : (config : Config) (word : Word) → is_word config word ≡ true → is_image word ≡ false → word_at config word < image_start config
+outside_at config word is image = leb-false _ _ (sym (is_image-word_at config word (is_word_true config word is)) ∙ image)
 
 -- what a word of an image reads
-pub image_reads : (c : Config) (image : List ℕ) (w : Word) → is_word c w ≡ true → is_image w ≡ true → image_view c image w ≡ slice_index image (word_at c w - image_start c)
-image_reads c image w is in_image =
-    cond-true (is_word c w) _ _ is
-    ∙ get_or-append_right (replicate (image_start c) 0) image (image_start c) (word_at c w) 0 (length-replicate (image_start c) 0) (image_at c w is in_image)
+pub image_reads : (config : Config) (image : List ℕ) (word : Word) → is_word config word ≡ true → is_image word ≡ true → image_view config image word ≡ slice_index image (word_at config word - image_start config)
+image_reads config image word is in_image =
+    cond-true (is_word config word) _ _ is
+    ∙ get_or-append_right (replicate (image_start config) 0) image (image_start config) (word_at config word) 0 (length-replicate (image_start config) 0) (image_at config word is in_image)
 
 -- a word outside the image does not count there
-pub uncounted : (c : Config) (n : Counting) (w : Word) → is_image w ≡ false → is_counting c n w ≡ false
-uncounted c n w outside = ap (λ b. b && counts c n.extent n.image (word_at c w - image_start c)) outside
+pub uncounted : (config : Config) (n : Counting) (word : Word) → is_image word ≡ false → is_counting config n word ≡ false
+uncounted config n word outside = ap (λ b. b && counts config n.extent n.image (word_at config word - image_start config)) outside
 
 -- two memories of names read the same, if they do so at each word
-pub mixed_reads : (c : Config) (words : List ℕ) (n : Counting) (other : Word → ℕ)
-    → ((w : Word) → is_counting c n w ≡ true → image_view c n.image w ≡ other w) → ((w : Word) → is_counting c n w ≡ false → view c words w ≡ other w) → mixed c words n ≡ other
-mixed_reads c words n other counted uncounted = fun_ext (λ w. ⊎_elim
-    (λ (is : is_counting c n w ≡ true). cond-true (is_counting c n w) _ _ is ∙ counted w is)
-    (λ (no : is_counting c n w ≡ false). cond-false (is_counting c n w) _ _ no ∙ uncounted w no)
-    (cases_Bool (is_counting c n w)))
+pub mixed_reads : (config : Config) (words : List ℕ) (n : Counting) (other : Word → ℕ)
+    → ((word : Word) → is_counting config n word ≡ true → image_view config n.image word ≡ other word) → ((word : Word) → is_counting config n word ≡ false → view config words word ≡ other word) → mixed config words n ≡ other
+mixed_reads config words n other counted uncounted = fun_ext (λ word. ⊎_elim
+    (λ (is : is_counting config n word ≡ true). cond-true (is_counting config n word) _ _ is ∙ counted word is)
+    (λ (no : is_counting config n word ≡ false). cond-false (is_counting config n word) _ _ no ∙ uncounted word no)
+    (cases_Bool (is_counting config n word)))
 
 -- a word of the image that counts there is read there
-counted_reads : (c : Config) (n : Counting) (w : Word) → is_counting c n w ≡ true → is_word c w ≡ true → image_view c n.image w ≡ slice_index n.image (word_at c w - image_start c)
-counted_reads c n w counted is = image_reads c n.image w is (and_parts (is_image w) _ counted).0
+counted_reads : (config : Config) (n : Counting) (word : Word) → is_counting config n word ≡ true → is_word config word ≡ true → image_view config n.image word ≡ slice_index n.image (word_at config word - image_start config)
+counted_reads config n word counted is = image_reads config n.image word is (and_parts (is_image word) _ counted).0
 
 -- once all words of an image that count are those of the table, the table counts
-pub mixed_whole : (c : Config) (words : List ℕ) (n : Counting) → AreRead c words n (image_words c) → mixed c words n ≡ view c words
-mixed_whole c words n read = mixed_reads c words n (view c words)
+pub mixed_whole : (config : Config) (words : List ℕ) (n : Counting) → AreRead config words n (image_words config) → mixed config words n ≡ view config words
+mixed_whole config words n read = mixed_reads config words n (view config words)
     (λ w counted. ⊎_elim
-    (λ (is : is_word c w ≡ true).
-    let both = and_parts (is_image w) (counts c n.extent n.image (word_at c w - image_start c)) counted in
-    let from : image_start c ≤ word_at c w = image_at c w is both.0 in
-    let to : word_at c w < table_words c = word_inside c w (is_word_true c w is) in
-    let back : image_start c + (word_at c w - image_start c) ≡ word_at c w = omega (arith, from) in
-    counted_reads c n w counted is ∙ read (word_at c w - image_start c) (omega (arith, from, to)) both.1 ∙ ap (λ k. slice_index words k) back ∙ sym (view_word c words w (is_word_true c w is)))
-    (λ (no : is_word c w ≡ false). cond-false (is_word c w) _ _ no ∙ sym (cond-false (is_word c w) _ _ no))
-    (cases_Bool (is_word c w)))
+    (λ (is : is_word config w ≡ true).
+    let both = and_parts (is_image w) (counts config n.extent n.image (word_at config w - image_start config)) counted in
+    let from : image_start config ≤ word_at config w = image_at config w is both.0 in
+    let to : word_at config w < table_words config = word_inside config w (is_word_true config w is) in
+    let back : image_start config + (word_at config w - image_start config) ≡ word_at config w = omega (arith, from) in
+    counted_reads config n w counted is ∙ read (word_at config w - image_start config) (omega (arith, from, to)) both.1 ∙ ap (λ k. slice_index words k) back ∙ sym (view_word config words w (is_word_true config w is)))
+    (λ (no : is_word config w ≡ false). cond-false (is_word config w) _ _ no ∙ sym (cond-false (is_word config w) _ _ no))
+    (cases_Bool (is_word config w)))
     (λ w uncounted. refl)
 
 -- a store into the table of a word of the image that counts changes nothing that counts
-pub mixed_stored : (c : Config) (words : List ℕ) (n : Counting) (at value : ℕ) → image_start c ≤ at → counts c n.extent n.image (at - image_start c) ≡ true
-    → mixed c (slice_set words at value) n ≡ mixed c words n
-mixed_stored c words n at value from here = mixed_reads c (slice_set words at value) n (mixed c words n)
-    (λ w counted. sym (cond-true (is_counting c n w) _ _ counted))
+pub mixed_stored : (config : Config) (words : List ℕ) (n : Counting) (at value : ℕ) → image_start config ≤ at → counts config n.extent n.image (at - image_start config) ≡ true
+    → mixed config (slice_set words at value) n ≡ mixed config words n
+mixed_stored config words n at value from here = mixed_reads config (slice_set words at value) n (mixed config words n)
+    (λ w counted. sym (cond-true (is_counting config n w) _ _ counted))
     (λ w no. ⊎_elim
-    (λ (is : is_word c w ≡ true).
-    let differs : word_at c w ≡ at → ⊥ =
-    (λ e. true≢false (sym (and_from (is_image w) _ (is_image-word_at c w (is_word_true c w is) ∙ le-leb _ _ (omega (arith, e, from))) (ap (λ k. counts c n.extent n.image (k - image_start c)) e ∙ here)) ∙ no)) in
-    view_word c (slice_set words at value) w (is_word_true c w is)
-    ∙ get_or-set_other words at (word_at c w) value 0 differs
-    ∙ sym (view_word c words w (is_word_true c w is))
-    ∙ sym (cond-false (is_counting c n w) _ _ no))
-    (λ (none : is_word c w ≡ false). cond-false (is_word c w) _ _ none ∙ sym (cond-false (is_word c w) _ _ none) ∙ sym (cond-false (is_counting c n w) _ _ no))
-    (cases_Bool (is_word c w)))
+    (λ (is : is_word config w ≡ true).
+    let differs : word_at config w ≡ at → ⊥ =
+    (λ e. true≢false (sym (and_from (is_image w) _ (is_image-word_at config w (is_word_true config w is) ∙ le-leb _ _ (omega (arith, e, from))) (ap (λ k. counts config n.extent n.image (k - image_start config)) e ∙ here)) ∙ no)) in
+    view_word config (slice_set words at value) w (is_word_true config w is)
+    ∙ get_or-set_other words at (word_at config w) value 0 differs
+    ∙ sym (view_word config words w (is_word_true config w is))
+    ∙ sym (cond-false (is_counting config n w) _ _ no))
+    (λ (none : is_word config w ≡ false). cond-false (is_word config w) _ _ none ∙ sym (cond-false (is_word config w) _ _ none) ∙ sym (cond-false (is_counting config n w) _ _ no))
+    (cases_Bool (is_word config w)))
 
 -- an access of a word outside the image changes that word alone, of those that count too
-mixed_touched : (c : Config) (words : List ℕ) (n : Counting) (t : Touch) → is_word c t.word ≡ true → is_image t.word ≡ false → length words ≡ table_words c
-    → mixed c (words_after c words t) n ≡ touched (mixed c words n) t
-mixed_touched c words n t is outside long = mixed_reads c (words_after c words t) n (touched (mixed c words n) t)
+mixed_touched : (config : Config) (words : List ℕ) (n : Counting) (t : Touch) → is_word config t.word ≡ true → is_image t.word ≡ false → length words ≡ table_words config
+    → mixed config (words_after config words t) n ≡ touched (mixed config words n) t
+mixed_touched config words n t is outside long = mixed_reads config (words_after config words t) n (touched (mixed config words n) t)
     (λ w counted.
     let in_image : is_image w ≡ true = (and_parts (is_image w) _ counted).0 in
     let differs : same_word t.word w ≡ false = ⊎_elim
     (λ (same : same_word t.word w ≡ true). absurd (false≢true (sym outside ∙ ap is_image (same_word_true t.word w same) ∙ in_image)))
     (λ (no : same_word t.word w ≡ false). no)
     (cases_Bool (same_word t.word w)) in
-    sym (cond-false (same_word t.word w) _ _ differs ∙ cond-true (is_counting c n w) _ _ counted))
+    sym (cond-false (same_word t.word w) _ _ differs ∙ cond-true (is_counting config n w) _ _ counted))
     (λ w no.
-    let here : mixed c words n t.word ≡ view c words t.word = cond-false (is_counting c n t.word) _ _ (uncounted c n t.word outside) in
-    let there : mixed c words n w ≡ view c words w = cond-false (is_counting c n w) _ _ no in
-    ap (λ m. m w) (view-placed c words t is long)
-    ∙ ap (λ k. if same_word t.word w then formed t.form k else view c words w) (sym here)
-    ∙ ap (λ k. if same_word t.word w then formed t.form (mixed c words n t.word) else k) (sym there))
+    let here : mixed config words n t.word ≡ view config words t.word = cond-false (is_counting config n t.word) _ _ (uncounted config n t.word outside) in
+    let there : mixed config words n w ≡ view config words w = cond-false (is_counting config n w) _ _ no in
+    ap (λ m. m w) (view-placed config words t is long)
+    ∙ ap (λ k. if same_word t.word w then formed t.form k else view config words w) (sym here)
+    ∙ ap (λ k. if same_word t.word w then formed t.form (mixed config words n t.word) else k) (sym there))
 
 -- the words that count after an access that is not of the image while an image counts
-pub settled_touched : (c : Config) (words : List ℕ) (t : Touch) (o : Option Counting) → is_word c t.word ≡ true → length words ≡ table_words c
-    → ((image : Counting) → o ≡ Some image → is_image t.word ≡ false) → settled_by c (words_after c words t) o ≡ touched (settled_by c words o) t
-settled_touched c words t None is long outside = view-placed c words t is long
-settled_touched c words t (Some n) is long outside = mixed_touched c words n t is (outside n refl) long
+pub settled_touched : (config : Config) (words : List ℕ) (t : Touch) (found : Option Counting) → is_word config t.word ≡ true → length words ≡ table_words config
+    → ((image : Counting) → found ≡ Some image → is_image t.word ≡ false) → settled_by config (words_after config words t) found ≡ touched (settled_by config words found) t
+settled_touched config words t None is long outside = view-placed config words t is long
+settled_touched config words t (Some n) is long outside = mixed_touched config words n t is (outside n refl) long
 
 -- and the word that it finds
-pub settled_found : (c : Config) (words : List ℕ) (t : Touch) (o : Option Counting) → is_word c t.word ≡ true
-    → ((image : Counting) → o ≡ Some image → is_image t.word ≡ false) → slice_index words (table_index (placed c t)) ≡ settled_by c words o t.word
-settled_found c words t None is outside = found-placed c words t is
-settled_found c words t (Some n) is outside = found-placed c words t is ∙ sym (cond-false (is_counting c n t.word) _ _ (uncounted c n t.word (outside n refl)))
+pub settled_found : (config : Config) (words : List ℕ) (t : Touch) (found : Option Counting) → is_word config t.word ≡ true
+    → ((image : Counting) → found ≡ Some image → is_image t.word ≡ false) → slice_index words (table_index (placed config t)) ≡ settled_by config words found t.word
+settled_found config words t None is outside = found-placed config words t is
+settled_found config words t (Some n) is outside = found-placed config words t is ∙ sym (cond-false (is_counting config n t.word) _ _ (uncounted config n t.word (outside n refl)))
 
 -- it leaves the words of the image in the table as they were
-pub image_kept : (c : Config) (words : List ℕ) (t : Touch) (i : ℕ) → is_word c t.word ≡ true → is_image t.word ≡ false
-    → slice_index (words_after c words t) (image_start c + i) ≡ slice_index words (image_start c + i)
-image_kept c words t i is outside =
-    let below : word_at c t.word < image_start c = outside_at c t.word is outside in
-    let at : table_index (placed c t) ≡ word_at c t.word = table_index-access_at (word_at c t.word) t.form in
-    get_or-set_other words (table_index (placed c t)) (image_start c + i) _ 0 (λ e. omega (arith, below, at, e))
+pub image_kept : (config : Config) (words : List ℕ) (t : Touch) (i : ℕ) → is_word config t.word ≡ true → is_image t.word ≡ false
+    → slice_index (words_after config words t) (image_start config + i) ≡ slice_index words (image_start config + i)
+image_kept config words t i is outside =
+    let below : word_at config t.word < image_start config = outside_at config t.word is outside in
+    let at : table_index (placed config t) ≡ word_at config t.word = table_index-access_at (word_at config t.word) t.form in
+    get_or-set_other words (table_index (placed config t)) (image_start config + i) _ 0 (λ e. omega (arith, below, at, e))
 
 -- one word more is loaded, which is of the extent
-pub image_grows : (c : Config) (words : List ℕ) (extent : Extent) (image : List ℕ) (index : ℕ) → length image ≡ index → AreLoaded c words extent image index → is_of_extent c extent index ≡ true
-    → AreLoaded c words extent (image ++ slice_index words (image_start c + index) ∷ []) (index + 1)
-image_grows c words extent image index long loaded here i below = ⊎_elim
+pub image_grows : (config : Config) (words : List ℕ) (extent : Extent) (image : List ℕ) (index : ℕ) → length image ≡ index → AreLoaded config words extent image index → is_of_extent config extent index ≡ true
+    → AreLoaded config words extent (image ++ slice_index words (image_start config + index) ∷ []) (index + 1)
+image_grows config words extent image index long loaded here i below = ⊎_elim
     (λ (same : i ≡ index).
     let at : i ≡ length image = same ∙ sym long in
-    ap (λ k. slice_index (image ++ slice_index words (image_start c + index) ∷ []) k) at
-    ∙ get_or-append_seam image (slice_index words (image_start c + index)) [] 0 ∙ ap (λ k. slice_index words (image_start c + k)) (sym same)
-    ∙ sym (cond-true (is_of_extent c extent i) _ _ (ap (is_of_extent c extent) same ∙ here)))
+    ap (λ k. slice_index (image ++ slice_index words (image_start config + index) ∷ []) k) at
+    ∙ get_or-append_seam image (slice_index words (image_start config + index)) [] 0 ∙ ap (λ k. slice_index words (image_start config + k)) (sym same)
+    ∙ sym (cond-true (is_of_extent config extent i) _ _ (ap (is_of_extent config extent) same ∙ here)))
     (λ (other : i ≡ index → ⊥).
-    get_or_append_left image (slice_index words (image_start c + index) ∷ []) 0 i (omega (arith, below, other, long)) ∙ loaded i (omega (arith, below, other)))
+    get_or_append_left image (slice_index words (image_start config + index) ∷ []) 0 i (omega (arith, below, other, long)) ∙ loaded i (omega (arith, below, other)))
     (cases_eq i index)
 
 -- as far as the first words go, so it is of each extent
-pub loaded_early : (c : Config) (words : List ℕ) (one other : Extent) (image : List ℕ) (bound : ℕ) → bound ≤ 7 → AreLoaded c words one image bound → AreLoaded c words other image bound
-loaded_early c words one other image bound few loaded i below =
-    loaded i below ∙ cond-true (is_of_extent c one i) _ _ (early c one i (omega (arith, below, few))) ∙ sym (cond-true (is_of_extent c other i) _ _ (early c other i (omega (arith, below, few))))
+pub loaded_early : (config : Config) (words : List ℕ) (one other : Extent) (image : List ℕ) (bound : ℕ) → bound ≤ 7 → AreLoaded config words one image bound → AreLoaded config words other image bound
+loaded_early config words one other image bound few loaded i below =
+    loaded i below ∙ cond-true (is_of_extent config one i) _ _ (early config one i (omega (arith, below, few))) ∙ sym (cond-true (is_of_extent config other i) _ _ (early config other i (omega (arith, below, few))))
 
 -- and words are left out that are not of the extent
-pub loaded_padded : (c : Config) (words : List ℕ) (extent : Extent) (image : List ℕ) (from to : ℕ) → length image ≡ from → AreLoaded c words extent image from
-    → ((i : ℕ) → from ≤ i → i < to → is_of_extent c extent i ≡ false) → AreLoaded c words extent (padded to image) to
-loaded_padded c words extent image from to long loaded left_out i below = padded_reads to image i ∙ ⊎_elim
+pub loaded_padded : (config : Config) (words : List ℕ) (extent : Extent) (image : List ℕ) (from to : ℕ) → length image ≡ from → AreLoaded config words extent image from
+    → ((i : ℕ) → from ≤ i → i < to → is_of_extent config extent i ≡ false) → AreLoaded config words extent (padded to image) to
+loaded_padded config words extent image from to long loaded left_out i below = padded_reads to image i ∙ ⊎_elim
     (λ (less : i < from). loaded i less)
-    (λ (more : from ≤ i). get_or_past image i 0 (omega (arith, more, long)) ∙ sym (cond-false (is_of_extent c extent i) _ _ (left_out i more below)))
+    (λ (more : from ≤ i). get_or_past image i 0 (omega (arith, more, long)) ∙ sym (cond-false (is_of_extent config extent i) _ _ (left_out i more below)))
     (cases_lt i from)
 
 -- The image as the table has it.
 abbrev pub image_in : Config → List ℕ → List ℕ
-image_in c words = drop (image_start c) words
+image_in config words = drop (image_start config) words
 
-pub image_in_reads : (c : Config) (words : List ℕ) (i : ℕ) → slice_index (image_in c words) i ≡ slice_index words (image_start c + i)
-image_in_reads c words i = get_or-drop (image_start c) words i 0
+pub image_in_reads : (config : Config) (words : List ℕ) (index : ℕ) → slice_index (image_in config words) index ≡ slice_index words (image_start config + index)
+image_in_reads config words index = get_or-drop (image_start config) words index 0
 
-pub image_in_long : (c : Config) (words : List ℕ) → length words ≡ table_words c → length (image_in c words) ≡ image_words c
-image_in_long c words long = omega (arith, length-drop (image_start c) words, long)
+pub image_in_long : (config : Config) (words : List ℕ) → length words ≡ table_words config → length (image_in config words) ≡ image_words config
+image_in_long config words long = omega (arith, length-drop (image_start config) words, long)
 
 -- an image of which all counts
 abbrev pub all_of : List ℕ → Counting
 all_of image = record { extent = Whole; image = image }
 
 -- What a part of the image becomes, in a table, is what all of the image does.
-module _ (c : Config) (words : List ℕ) (extent : Extent) (made part_made : List ℕ) (is_made : IsMadeOf c extent (image_in c words) made part_made) where
+module _ (config : Config) (words : List ℕ) (extent : Extent) (made part_made : List ℕ) (is_made : IsMadeOf config extent (image_in config words) made part_made) where
   abbrev n : Counting
   n = record { extent = extent; image = part_made }
 
-  inside : (w : Word) → is_word c w ≡ true → is_image w ≡ true → word_at c w - image_start c < image_words c
-  inside w is image =
-      let from : image_start c ≤ word_at c w = image_at c w is image in
-      let to : word_at c w < table_words c = word_inside c w (is_word_true c w is) in
+  inside : (word : Word) → is_word config word ≡ true → is_image word ≡ true → word_at config word - image_start config < image_words config
+  inside word is image =
+      let from : image_start config ≤ word_at config word = image_at config word is image in
+      let to : word_at config word < table_words config = word_inside config word (is_word_true config word is) in
       omega (arith, from, to)
 
   -- what all of it reads
-  all_reads : (w : Word) → is_word c w ≡ true → is_image w ≡ true → mixed c words (all_of made) w ≡ slice_index made (word_at c w - image_start c)
-  all_reads w is image = cond-true (is_counting c (all_of made) w) _ _ (and_from (is_image w) _ image refl) ∙ image_reads c made w is image
+  all_reads : (word : Word) → is_word config word ≡ true → is_image word ≡ true → mixed config words (all_of made) word ≡ slice_index made (word_at config word - image_start config)
+  all_reads word is image = cond-true (is_counting config (all_of made) word) _ _ (and_from (is_image word) _ image refl) ∙ image_reads config made word is image
 
-  in_part : (w : Word) → is_counting c n w ≡ true → image_view c part_made w ≡ mixed c words (all_of made) w
-  in_part w counted = ⊎_elim
-      (λ (is : is_word c w ≡ true).
-      let both = and_parts (is_image w) (counts c extent part_made (word_at c w - image_start c)) counted in
-      image_reads c part_made w is both.0
-      ∙ sym (is_made (word_at c w - image_start c) (inside w is both.0) ∙ cond-true (counts c extent part_made (word_at c w - image_start c)) _ _ both.1)
-      ∙ sym (all_reads w is both.0))
-      (λ (no : is_word c w ≡ false).
-      cond-false (is_word c w) _ _ no
-      ∙ sym (cond-true (is_counting c (all_of made) w) _ _ (and_from (is_image w) _ (and_parts (is_image w) _ counted).0 refl) ∙ cond-false (is_word c w) _ _ no))
-      (cases_Bool (is_word c w))
+  in_part : (word : Word) → is_counting config n word ≡ true → image_view config part_made word ≡ mixed config words (all_of made) word
+  in_part word counted = ⊎_elim
+      (λ (is : is_word config word ≡ true).
+      let both = and_parts (is_image word) (counts config extent part_made (word_at config word - image_start config)) counted in
+      image_reads config part_made word is both.0
+      ∙ sym (is_made (word_at config word - image_start config) (inside word is both.0) ∙ cond-true (counts config extent part_made (word_at config word - image_start config)) _ _ both.1)
+      ∙ sym (all_reads word is both.0))
+      (λ (no : is_word config word ≡ false).
+      cond-false (is_word config word) _ _ no
+      ∙ sym (cond-true (is_counting config (all_of made) word) _ _ (and_from (is_image word) _ (and_parts (is_image word) _ counted).0 refl) ∙ cond-false (is_word config word) _ _ no))
+      (cases_Bool (is_word config word))
 
-  in_table : (w : Word) → is_counting c n w ≡ false → view c words w ≡ mixed c words (all_of made) w
-  in_table w none = ⊎_elim
-      (λ (image : is_image w ≡ true). ⊎_elim
-      (λ (is : is_word c w ≡ true).
-      let stays : counts c extent part_made (word_at c w - image_start c) ≡ false = ap (λ b. b && counts c extent part_made (word_at c w - image_start c)) (sym image) ∙ none in
-      let from : image_start c ≤ word_at c w = image_at c w is image in
-      view_word c words w (is_word_true c w is)
+  in_table : (word : Word) → is_counting config n word ≡ false → view config words word ≡ mixed config words (all_of made) word
+  in_table word none = ⊎_elim
+      (λ (image : is_image word ≡ true). ⊎_elim
+      (λ (is : is_word config word ≡ true).
+      let stays : counts config extent part_made (word_at config word - image_start config) ≡ false = ap (λ b. b && counts config extent part_made (word_at config word - image_start config)) (sym image) ∙ none in
+      let from : image_start config ≤ word_at config word = image_at config word is image in
+      view_word config words word (is_word_true config word is)
       ∙ ap (λ k. slice_index words k) (omega (arith, from))
-      ∙ sym (image_in_reads c words (word_at c w - image_start c))
-      ∙ sym (is_made (word_at c w - image_start c) (inside w is image) ∙ cond-false (counts c extent part_made (word_at c w - image_start c)) _ _ stays)
-      ∙ sym (all_reads w is image))
-      (λ (other : is_word c w ≡ false).
-      cond-false (is_word c w) _ _ other ∙ sym (cond-true (is_counting c (all_of made) w) _ _ (and_from (is_image w) _ image refl) ∙ cond-false (is_word c w) _ _ other))
-      (cases_Bool (is_word c w)))
-      (λ (outside : is_image w ≡ false). sym (cond-false (is_counting c (all_of made) w) _ _ (uncounted c (all_of made) w outside)))
-      (cases_Bool (is_image w))
+      ∙ sym (image_in_reads config words (word_at config word - image_start config))
+      ∙ sym (is_made (word_at config word - image_start config) (inside word is image) ∙ cond-false (counts config extent part_made (word_at config word - image_start config)) _ _ stays)
+      ∙ sym (all_reads word is image))
+      (λ (other : is_word config word ≡ false).
+      cond-false (is_word config word) _ _ other ∙ sym (cond-true (is_counting config (all_of made) word) _ _ (and_from (is_image word) _ image refl) ∙ cond-false (is_word config word) _ _ other))
+      (cases_Bool (is_word config word)))
+      (λ (outside : is_image word ≡ false). sym (cond-false (is_counting config (all_of made) word) _ _ (uncounted config (all_of made) word outside)))
+      (cases_Bool (is_image word))
 
-  pub parts_same : mixed c words n ≡ mixed c words (all_of made)
-  parts_same = mixed_reads c words n (mixed c words (all_of made)) in_part in_table
+  pub parts_same : mixed config words n ≡ mixed config words (all_of made)
+  parts_same = mixed_reads config words n (mixed config words (all_of made)) in_part in_table

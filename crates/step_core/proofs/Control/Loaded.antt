@@ -17,26 +17,26 @@ use Rattle.step_core.proofs.Control.Pauses.{open_world, no_other_control}
 use Rattle.step_core.proofs.Machines.Roles.{machine_stays}
 
 -- nothing changes but what the control has read
-pub read_owes : (c : Config) (words : List ℕ) (block : Plot) (ghost : Ghost) (g : Graph) (past : List Entry) (machines : List Actor) (command : Command) (calls : List Entry) (next : Controlling)
-    → Shared c (open_world c words block ghost g) → PromisedToMutators c block → IsControl c words (open_world c words block ghost g) (control_number c) next → stored_image next.spot next.image ≡ None
-    → Owes c words words (open_world c words block ghost g) past (control_number c) machines (settled_by c words (stored_image next.spot next.image)) []
+pub read_owes : (config : Config) (words : List ℕ) (block : Plot) (ghost : Ghost) (graph : Graph) (past : List Entry) (machines : List Actor) (command : Command) (calls : List Entry) (next : Controlling)
+    → Shared config (open_world config words block ghost graph) → PromisedToMutators config block → IsControl config words (open_world config words block ghost graph) (control_number config) next → stored_image next.spot next.image ≡ None
+    → Owes config words words (open_world config words block ghost graph) past (control_number config) machines (settled_by config words (stored_image next.spot next.image)) []
     (record { machine = controlling next; command = command; calls = calls ++ [] })
-read_owes c words block ghost g past machines command calls next shared promised_to stands none = record {
-  world = open_world c words block ghost g;
-  memory_is = ap (settled_by c words) (sym none);
+read_owes config words block ghost graph past machines command calls next shared promised_to stands none = record {
+  world = open_world config words block ghost graph;
+  memory_is = ap (settled_by config words) (sym none);
   graph_is = refl;
   legal = tt;
-  entries = All-nil (IsSettled c.mutators);
+  entries = All-nil (IsSettled config.mutators);
   shared = shared;
   promised_to = promised_to;
   own = stands;
   others = λ k b differs there known.
-      machine_stays c words words (open_world c words block ghost g) (open_world c words block ghost g) (of_thread past (k + 1)) (of_thread (past ++ []) (k + 1)) k b b.machine shared
+      machine_stays config words words (open_world config words block ghost graph) (open_world config words block ghost graph) (of_thread past (k + 1)) (of_thread (past ++ []) (k + 1)) k b b.machine shared
       (record {
-        rely = rely_same c k (open_world c words block ghost g);
+        rely = rely_same config k (open_world config words block ghost graph);
         answer = refl;
         counts = inl refl;
-        aims = λ control same. absurd (no_other_control c words (open_world c words block ghost g) (of_thread past (k + 1)) k b b.machine differs known control same);
+        aims = λ control same. absurd (no_other_control config words (open_world config words block ghost graph) (of_thread past (k + 1)) k b b.machine differs known control same);
       })
       (ap (λ es. of_thread es (k + 1)) (append-nil past)) known;
 }

@@ -57,17 +57,17 @@ use Rattle.step_core.proofs.Mutators.Within.{records_outside, copies_outside, ou
 use Rattle.step_core.proofs.Mutators.Spots.{mutator_at}
 
 -- an image has words
-some_words : (c : Config) → 0 < image_words c
-some_words c = omega arith
+some_words : (config : Config) → 0 < image_words config
+some_words config = omega arith
 
 -- a mutator that is not in the heap has no root's new value in hand
-root_outside : (w : World) (seat : ℕ) (kept : Kept) (spot : Spot) (i : ℕ) → is_within (standing_at spot) ≡ false → root_now w seat kept spot i ≡ w.memory (Root seat i)
-root_outside w seat kept Rest i out = refl
-root_outside w seat kept (Ended reply) i out = refl
-root_outside w seat kept (Entering at then_on) i out = refl
-root_outside w seat kept (Waiting at) i out = refl
-root_outside w seat kept Gone i out = refl
-root_outside w seat kept _ i out = cc
+root_outside : (world : World) (seat : ℕ) (kept : Kept) (spot : Spot) (index : ℕ) → is_within (standing_at spot) ≡ false → root_now world seat kept spot index ≡ world.memory (Root seat index)
+root_outside world seat kept Rest index out = refl
+root_outside world seat kept (Ended reply) index out = refl
+root_outside world seat kept (Entering at then_on) index out = refl
+root_outside world seat kept (Waiting at) index out = refl
+root_outside world seat kept Gone index out = refl
+root_outside world seat kept _ index out = cc
 
 -- its call has not loaded the phase, or knows it no more
 phase_outside : (spot : Spot) → is_within (standing_at spot) ≡ false → has_phase spot ≡ false
@@ -79,10 +79,10 @@ phase_outside Gone out = refl
 phase_outside _ out = absurd (cc (out))
 
 -- so where nobody marks, what it counts on of marking holds
-marking_outside : (c : Config) (w : World) (seat loaded : ℕ) (spot : Spot) → is_within (standing_at spot) ≡ false → NobodyMarks c w.ghost → seat < c.mutators → HasMarkingBy w seat (recording_of spot) loaded (has_phase spot)
-marking_outside c w seat loaded spot out unmarking below =
-    subst (λ in_hand. HasMarkingBy w seat in_hand loaded (has_phase spot)) (sym (records_outside spot out))
-    (subst (λ knows. HasMarkingBy w seat None loaded knows) (sym (phase_outside spot out)) (unmarking_by c w seat loaded unmarking below))
+marking_outside : (config : Config) (world : World) (seat loaded : ℕ) (spot : Spot) → is_within (standing_at spot) ≡ false → NobodyMarks config world.ghost → seat < config.mutators → HasMarkingBy world seat (recording_of spot) loaded (has_phase spot)
+marking_outside config world seat loaded spot out unmarking below =
+    subst (λ in_hand. HasMarkingBy world seat in_hand loaded (has_phase spot)) (sym (records_outside spot out))
+    (subst (λ knows. HasMarkingBy world seat None loaded knows) (sym (phase_outside spot out)) (unmarking_by config world seat loaded unmarking below))
 
 -- nor the collection set
 set_outside : (spot : Spot) → is_within (standing_at spot) ≡ false → has_set spot ≡ false
@@ -94,41 +94,41 @@ set_outside Gone out = refl
 set_outside _ out = absurd (cc (out))
 
 -- so where nobody copies, what it counts on of evacuation holds
-copying_outside : (c : Config) (w : World) (seat loaded : ℕ) (spot : Spot) → is_within (standing_at spot) ≡ false → NobodyCopies c w.ghost → seat < c.mutators → HasCopyingBy w seat (copies_at spot) loaded (has_set spot)
-copying_outside c w seat loaded spot out uncopying below =
-    subst (λ copies. HasCopyingBy w seat copies loaded (has_set spot)) (sym (copies_outside spot out))
-    (subst (λ knows. HasCopyingBy w seat false loaded knows) (sym (set_outside spot out)) (uncopying_by c w seat loaded uncopying below))
+copying_outside : (config : Config) (world : World) (seat loaded : ℕ) (spot : Spot) → is_within (standing_at spot) ≡ false → NobodyCopies config world.ghost → seat < config.mutators → HasCopyingBy world seat (copies_at spot) loaded (has_set spot)
+copying_outside config world seat loaded spot out uncopying below =
+    subst (λ copies. HasCopyingBy world seat copies loaded (has_set spot)) (sym (copies_outside spot out))
+    (subst (λ knows. HasCopyingBy world seat false loaded knows) (sym (set_outside spot out)) (uncopying_by config world seat loaded uncopying below))
 
 -- what it has asked for stands in the words
-pub asked_outside : (c : Config) (w : World) (seat made : ℕ) (kept : Kept) (spot : Spot) (command : Command) (fixed : Option Reply) → is_within (standing_at spot) ≡ false
-    → Mine c w (mutator_at seat made kept spot) command fixed → IsAsked w.memory w.block w.graph.count seat (asking_at spot (w.memory (Answer seat)) kept.command)
-asked_outside c w seat made kept Rest command fixed out mine = mine.seated.unasked refl
-asked_outside c w seat made kept (Ended reply) command fixed out mine = mine.seated.unasked refl
-asked_outside c w seat made kept Gone command fixed out mine = mine.seated.unasked refl
-asked_outside c w seat made kept (Entering at Call) command fixed out mine = mine.seated.unasked refl
-asked_outside c w seat made kept (Entering at Waited) command fixed out mine = answered_asked w seat made kept.command command fixed mine.facts
-asked_outside c w seat made kept (Waiting wait.Poll) command fixed out mine = polling_asked w seat made kept.command command fixed mine.facts
-asked_outside c w seat made kept (Waiting wait.StoreRequest) command fixed out mine = cc
-asked_outside c w seat made kept (Waiting wait.AskRoom) command fixed out mine = cc
-asked_outside c w seat made kept (Waiting wait.StepOut) command fixed out mine = cc
-asked_outside c w seat made kept (Waiting wait.LoadAnswer) command fixed out mine = cc
-asked_outside c w seat made kept (Waiting (wait.StoreRoot address)) command fixed out mine = cc
-asked_outside c w seat made kept (Waiting (wait.ClearAnswer reply)) command fixed out mine = cc
-asked_outside c w seat made kept _ command fixed out mine = cc
+pub asked_outside : (config : Config) (world : World) (seat made : ℕ) (kept : Kept) (spot : Spot) (command : Command) (fixed : Option Reply) → is_within (standing_at spot) ≡ false
+    → Mine config world (mutator_at seat made kept spot) command fixed → IsAsked world.memory world.block world.graph.count seat (asking_at spot (world.memory (Answer seat)) kept.command)
+asked_outside config world seat made kept Rest command fixed out mine = mine.seated.unasked refl
+asked_outside config world seat made kept (Ended reply) command fixed out mine = mine.seated.unasked refl
+asked_outside config world seat made kept Gone command fixed out mine = mine.seated.unasked refl
+asked_outside config world seat made kept (Entering at Call) command fixed out mine = mine.seated.unasked refl
+asked_outside config world seat made kept (Entering at Waited) command fixed out mine = answered_asked world seat made kept.command command fixed mine.facts
+asked_outside config world seat made kept (Waiting wait.Poll) command fixed out mine = polling_asked world seat made kept.command command fixed mine.facts
+asked_outside config world seat made kept (Waiting wait.StoreRequest) command fixed out mine = cc
+asked_outside config world seat made kept (Waiting wait.AskRoom) command fixed out mine = cc
+asked_outside config world seat made kept (Waiting wait.StepOut) command fixed out mine = cc
+asked_outside config world seat made kept (Waiting wait.LoadAnswer) command fixed out mine = cc
+asked_outside config world seat made kept (Waiting (wait.StoreRoot address)) command fixed out mine = cc
+asked_outside config world seat made kept (Waiting (wait.ClearAnswer reply)) command fixed out mine = cc
+asked_outside config world seat made kept _ command fixed out mine = cc
 
 -- who asks has said so: the word of what is asked has its bit
-heard_polling : (w : World) (seat made refs nums : ℕ) (k command : Command) (fixed : Option Reply) → IsPolling w seat made k command fixed → asking_by (w.memory (Answer seat)) k ≡ asks refs nums → bit_at (w.memory Ask) 1 ≡ 1
-heard_polling w seat made refs nums k command fixed (inl waits) is = waits.1
-heard_polling w seat made refs nums k command fixed (inr (inl has)) is = absurd (let other = sym (asking_given _ k has.1.1) ∙ is in cc (other))
-heard_polling w seat made refs nums k command fixed (inr (inr refused_so)) is = absurd (let other = sym (asking_refused _ k refused_so.1.1) ∙ is in cc (other))
+heard_polling : (world : World) (seat made refs nums : ℕ) (other_command command : Command) (fixed : Option Reply) → IsPolling world seat made other_command command fixed → asking_by (world.memory (Answer seat)) other_command ≡ asks refs nums → bit_at (world.memory Ask) 1 ≡ 1
+heard_polling world seat made refs nums other_command command fixed (inl waits) is = waits.1
+heard_polling world seat made refs nums other_command command fixed (inr (inl has)) is = absurd (let other = sym (asking_given _ other_command has.1.1) ∙ is in cc (other))
+heard_polling world seat made refs nums other_command command fixed (inr (inr refused_so)) is = absurd (let other = sym (asking_refused _ other_command refused_so.1.1) ∙ is in cc (other))
 
-heard_outside : (c : Config) (w : World) (seat made refs nums : ℕ) (kept : Kept) (spot : Spot) (command : Command) (fixed : Option Reply) → is_within (standing_at spot) ≡ false
-    → Mine c w (mutator_at seat made kept spot) command fixed → asking_at spot (w.memory (Answer seat)) kept.command ≡ asks refs nums → bit_at (w.memory Ask) 1 ≡ 1
-heard_outside c w seat made refs nums kept (Entering at Waited) command fixed out mine is =
-    heard_polling w seat made refs nums kept.command command fixed (answered_polls w seat made kept.command command fixed mine.facts) is
-heard_outside c w seat made refs nums kept (Waiting wait.Poll) command fixed out mine is = heard_polling w seat made refs nums kept.command command fixed mine.facts is
-heard_outside c w seat made refs nums kept (Waiting at) command fixed out mine is = absurd (cc (out))
-heard_outside c w seat made refs nums kept _ command fixed out mine is = absurd (cc (is))
+heard_outside : (config : Config) (world : World) (seat made refs nums : ℕ) (kept : Kept) (spot : Spot) (command : Command) (fixed : Option Reply) → is_within (standing_at spot) ≡ false
+    → Mine config world (mutator_at seat made kept spot) command fixed → asking_at spot (world.memory (Answer seat)) kept.command ≡ asks refs nums → bit_at (world.memory Ask) 1 ≡ 1
+heard_outside config world seat made refs nums kept (Entering at Waited) command fixed out mine is =
+    heard_polling world seat made refs nums kept.command command fixed (answered_polls world seat made kept.command command fixed mine.facts) is
+heard_outside config world seat made refs nums kept (Waiting wait.Poll) command fixed out mine is = heard_polling world seat made refs nums kept.command command fixed mine.facts is
+heard_outside config world seat made refs nums kept (Waiting at) command fixed out mine is = absurd (cc (out))
+heard_outside config world seat made refs nums kept _ command fixed out mine is = absurd (cc (is))
 
 -- an answer is one of three: none, full, or an address
 none_is_not_full : (n : ℕ) → n ≡ 0 → n ≡ 1 → ⊥
@@ -141,45 +141,45 @@ full_is_not_given : (n : ℕ) → n ≡ 1 → 1 < n → ⊥
 full_is_not_given n full more = omega arith
 
 -- a mutator is not the control
-mutator_is_not_control : (c : Config) (t : ℕ) → t < c.mutators → t ≢ control_number c
-mutator_is_not_control c t below is = omega arith
+mutator_is_not_control : (config : Config) (mutator : ℕ) → mutator < config.mutators → mutator ≢ control_number config
+mutator_is_not_control config mutator below is = omega arith
 
 -- The mutators in a new image: it stands for the same graph, nobody marks or copies in it, and it answers who asks.
-module _ (c : Config) (words : List ℕ) (u w : World) (t made : ℕ) (kept : Kept) (b : Actor) (x : Asking)
-    (asked : IsAsked w.memory w.block w.graph.count t x) (graph : w.graph ≡ u.graph)
-    (roots : (i : ℕ) → i < 16 → Points w.block (w.memory (Root t i)) (w.graph.root (t + 1) i)) (none : OnlySpares w t) (unmarking : NobodyMarks c w.ghost)
-    (uncopying : NobodyCopies c w.ghost) (usable : (i : ℕ) → i < 16 → UsableIn c w (w.memory (Root t i))) where
+module _ (config : Config) (words : List ℕ) (u w : World) (mutator made : ℕ) (kept : Kept) (actor : Actor) (asking : Asking)
+    (asked : IsAsked w.memory w.block w.graph.count mutator asking) (graph : w.graph ≡ u.graph)
+    (roots : (i : ℕ) → i < 16 → Points w.block (w.memory (Root mutator i)) (w.graph.root (mutator + 1) i)) (none : OnlySpares w mutator) (unmarking : NobodyMarks config w.ghost)
+    (uncopying : NobodyCopies config w.ghost) (usable : (i : ℕ) → i < 16 → UsableIn config w (w.memory (Root mutator i))) where
   -- what it counts on then, where it is outside
-  mine_outside : (spot : Spot) (fixed : Option Reply) → is_within (standing_at spot) ≡ false → Mine c u (mutator_at t made kept spot) b.command fixed
-      → (is_waiting spot ≡ false → IsAsked w.memory w.block w.graph.count t nothing) → SpotFacts c w t made kept b.command fixed spot → Mine c w (mutator_at t made kept spot) b.command fixed
+  mine_outside : (spot : Spot) (fixed : Option Reply) → is_within (standing_at spot) ≡ false → Mine config u (mutator_at mutator made kept spot) actor.command fixed
+      → (is_waiting spot ≡ false → IsAsked w.memory w.block w.graph.count mutator nothing) → SpotFacts config w mutator made kept actor.command fixed spot → Mine config w (mutator_at mutator made kept spot) actor.command fixed
   mine_outside spot fixed out mine unasked facts = record {
     seated = record {
       below = mine.seated.below;
-      counted = ap (λ g. g.count (t + 1)) graph ∙ mine.seated.counted;
+      counted = ap (λ g. g.count (mutator + 1)) graph ∙ mine.seated.counted;
       usable = usable;
       unasked = unasked;
     };
     ready = mine.ready;
-    marking = marking_outside c w t kept.phase spot out unmarking mine.seated.below;
-    copying = copying_outside c w t kept.cset spot out uncopying mine.seated.below;
-    roots = λ i small. subst (λ word. Points w.block word (w.graph.root (t + 1) i)) (sym (root_outside w t kept spot i out)) (roots i small);
-    rooms = λ a x is room. outside_spares t kept spot a x out (none a x is room);
+    marking = marking_outside config w mutator kept.phase spot out unmarking mine.seated.below;
+    copying = copying_outside config w mutator kept.cset spot out uncopying mine.seated.below;
+    roots = λ i small. subst (λ word. Points w.block word (w.graph.root (mutator + 1) i)) (sym (root_outside w mutator kept spot i out)) (roots i small);
+    rooms = λ a asking is room. outside_spares mutator kept spot a asking out (none a asking is room);
     facts = facts;
   }
 
   -- What holds of it then. The answer that it had was that of the table, and if it is refused now, the heap is crowded.
-  module _ (entries : List Entry) (whole : view c words (Answer t) ≡ u.memory (Answer t)) where
+  module _ (entries : List Entry) (whole : view config words (Answer mutator) ≡ u.memory (Answer mutator)) where
     abbrev IsCrowdedOut : Asking → Type 0
-    IsCrowdedOut before = (refs nums : ℕ) → before ≡ asks refs nums → x ≡ refused → IsShort c w.memory w.graph t (3 + refs + nums)
+    IsCrowdedOut before = (refs nums : ℕ) → before ≡ asks refs nums → asking ≡ refused → IsShort config w.memory w.graph mutator (3 + refs + nums)
 
     abbrev Thread : World → Spot → Type 0
-    Thread v spot = IsThread c words v entries t b (mutator_at t made kept spot)
+    Thread world spot = IsThread config words world entries mutator actor (mutator_at mutator made kept spot)
 
     -- where it does not wait
-    quiet_then : (spot : Spot) → is_within (standing_at spot) ≡ false → is_waiting spot ≡ false → Answers nothing x → (old : Thread u spot) → SpotFacts c w t made kept b.command old.fixed spot → Thread w spot
+    quiet_then : (spot : Spot) → is_within (standing_at spot) ≡ false → is_waiting spot ≡ false → Answers nothing asking → (old : Thread u spot) → SpotFacts config w mutator made kept actor.command old.fixed spot → Thread w spot
     quiet_then spot out quiet answers old facts =
-        let now : IsAsked w.memory w.block w.graph.count t nothing = nothing_then w.memory w.block w.graph.count t x answers asked in
-        let answer : w.memory (Answer t) ≡ 0 = now.1 in
+        let now : IsAsked w.memory w.block w.graph.count mutator nothing = nothing_then w.memory w.block w.graph.count mutator asking answers asked in
+        let answer : w.memory (Answer mutator) ≡ 0 = now.1 in
         record {
           fixed = old.fixed;
           number_is = refl;
@@ -195,7 +195,7 @@ module _ (c : Config) (words : List ℕ) (u w : World) (t made : ℕ) (kept : Ke
         }
 
     -- where it waits, and its answer is an address then
-    given_now : (spot : Spot) → is_within (standing_at spot) ≡ false → is_waiting spot ≡ true → view c words (Answer t) ≢ 1 → 1 < w.memory (Answer t) → (old : Thread u spot) → SpotFacts c w t made kept b.command old.fixed spot
+    given_now : (spot : Spot) → is_within (standing_at spot) ≡ false → is_waiting spot ≡ true → view config words (Answer mutator) ≢ 1 → 1 < w.memory (Answer mutator) → (old : Thread u spot) → SpotFacts config w mutator made kept actor.command old.fixed spot
         → Thread w spot
     given_now spot out waits other more old facts = record {
       fixed = old.fixed;
@@ -208,21 +208,21 @@ module _ (c : Config) (words : List ℕ) (u w : World) (t made : ℕ) (kept : Ke
     }
 
     -- where it waits, and was refused before
-    refused_now : (spot : Spot) → is_within (standing_at spot) ≡ false → is_waiting spot ≡ true → u.memory (Answer t) ≡ 1 → w.memory (Answer t) ≡ 1 → (old : Thread u spot) → SpotFacts c w t made kept b.command old.fixed spot
+    refused_now : (spot : Spot) → is_within (standing_at spot) ≡ false → is_waiting spot ≡ true → u.memory (Answer mutator) ≡ 1 → w.memory (Answer mutator) ≡ 1 → (old : Thread u spot) → SpotFacts config w mutator made kept actor.command old.fixed spot
         → Thread w spot
     refused_now spot out waits before now old facts = record {
       fixed = old.fixed;
       number_is = refl;
       valid = old.valid;
       mine = mine_outside spot old.fixed out old.mine (λ e. absurd (false≢true (sym e ∙ waits))) facts;
-      seen = subst (λ n. IsSeen (view c words (Answer t)) n old.fixed) (before ∙ sym now) old.seen;
+      seen = subst (λ n. IsSeen (view config words (Answer mutator)) n old.fixed) (before ∙ sym now) old.seen;
       short = λ e unsettled. absurd (full_settled _ _ old.fixed old.seen whole before unsettled);
       entries_are = old.entries_are;
     }
 
     -- where it waits, and is refused now
-    refused_first : IsCrowdedOut (asking_by (u.memory (Answer t)) kept.command) → u.memory (Answer t) ≡ 0 → IsAsked w.memory w.block w.graph.count t refused → x ≡ refused → (old : Thread u (Waiting wait.Poll))
-        → IsMaking made b.command old.fixed (dst_of kept.command) (refs_of kept.command) (nums_of kept.command) → Thread w (Waiting wait.Poll)
+    refused_first : IsCrowdedOut (asking_by (u.memory (Answer mutator)) kept.command) → u.memory (Answer mutator) ≡ 0 → IsAsked w.memory w.block w.graph.count mutator refused → asking ≡ refused → (old : Thread u (Waiting wait.Poll))
+        → IsMaking made actor.command old.fixed (dst_of kept.command) (refs_of kept.command) (nums_of kept.command) → Thread w (Waiting wait.Poll)
     refused_first short before now is old making = record {
       fixed = old.fixed;
       number_is = refl;
@@ -234,37 +234,37 @@ module _ (c : Config) (words : List ℕ) (u w : World) (t made : ℕ) (kept : Ke
         given = λ e. absurd (full_is_not_given _ now.1 e);
       };
       short = λ e unsettled.
-          subst (λ k. IsShort c w.memory w.graph t (words_asked (Some k))) (sym making.is)
+          subst (λ k. IsShort config w.memory w.graph mutator (words_asked (Some k))) (sym making.is)
           (short (refs_of kept.command) (nums_of kept.command) (asking_asks _ kept.command before) is);
       entries_are = old.entries_are;
     }
 
     -- where it polls
-    poll_then : IsCrowdedOut (asking_by (u.memory (Answer t)) kept.command) → Answers (asking_by (u.memory (Answer t)) kept.command) x → (old : Thread u (Waiting wait.Poll)) → IsPolling u t made kept.command b.command old.fixed → Thread w (Waiting wait.Poll)
+    poll_then : IsCrowdedOut (asking_by (u.memory (Answer mutator)) kept.command) → Answers (asking_by (u.memory (Answer mutator)) kept.command) asking → (old : Thread u (Waiting wait.Poll)) → IsPolling u mutator made kept.command actor.command old.fixed → Thread w (Waiting wait.Poll)
     poll_then short answers old (inl waits) = ⊎_elim
-        (λ (none_left : IsAsked w.memory w.block w.graph.count t refused × (x ≡ refused)). refused_first short waits.0.1.1 none_left.0 none_left.1 old waits.0.0)
-        (λ (has : IsAsked w.memory w.block w.graph.count t (given (refs_of kept.command) (nums_of kept.command))).
+        (λ (none_left : IsAsked w.memory w.block w.graph.count mutator refused × (asking ≡ refused)). refused_first short waits.0.1.1 none_left.0 none_left.1 old waits.0.0)
+        (λ (has : IsAsked w.memory w.block w.graph.count mutator (given (refs_of kept.command) (nums_of kept.command))).
         given_now (Waiting wait.Poll) refl refl (λ e. none_is_not_full _ waits.0.1.1 (sym whole ∙ e)) has.1 old (inr (inl (waits.0.0, has))))
-        (asks_then w.memory w.block w.graph.count t (refs_of kept.command) (nums_of kept.command) x (subst (λ y. Answers y x) (asking_asks _ kept.command waits.0.1.1) answers) asked)
+        (asks_then w.memory w.block w.graph.count mutator (refs_of kept.command) (nums_of kept.command) asking (subst (λ y. Answers y asking) (asking_asks _ kept.command waits.0.1.1) answers) asked)
     poll_then short answers old (inr (inl has)) =
-        let still = given_then w.memory w.block w.graph.count t (refs_of kept.command) (nums_of kept.command) x (subst (λ y. Answers y x) (asking_given _ kept.command has.1.1) answers) asked in
+        let still = given_then w.memory w.block w.graph.count mutator (refs_of kept.command) (nums_of kept.command) asking (subst (λ y. Answers y asking) (asking_given _ kept.command has.1.1) answers) asked in
         given_now (Waiting wait.Poll) refl refl (λ e. full_is_not_given _ (sym whole ∙ e) has.1.1) still.1 old (inr (inl (has.0, still)))
     poll_then short answers old (inr (inr is)) =
-        let still = refused_then w.memory w.block w.graph.count t x (subst (λ y. Answers y x) (asking_refused _ kept.command is.1.1) answers) asked in
+        let still = refused_then w.memory w.block w.graph.count mutator asking (subst (λ y. Answers y asking) (asking_refused _ kept.command is.1.1) answers) asked in
         refused_now (Waiting wait.Poll) refl refl is.1.1 still.1 old (inr (inr (is.0, still)))
 
     -- where it enters again with its answer
-    enter_then : (at : EnterSpot) → is_within (standing_at (Entering at Waited)) ≡ false → Answers (asking_by (u.memory (Answer t)) kept.command) x → (old : Thread u (Entering at Waited))
-        → IsAnswered u t made kept.command b.command old.fixed → Thread w (Entering at Waited)
+    enter_then : (at : EnterSpot) → is_within (standing_at (Entering at Waited)) ≡ false → Answers (asking_by (u.memory (Answer mutator)) kept.command) asking → (old : Thread u (Entering at Waited))
+        → IsAnswered u mutator made kept.command actor.command old.fixed → Thread w (Entering at Waited)
     enter_then at out answers old (inl has) =
-        let still = given_then w.memory w.block w.graph.count t (refs_of kept.command) (nums_of kept.command) x (subst (λ y. Answers y x) (asking_given _ kept.command has.1.1) answers) asked in
+        let still = given_then w.memory w.block w.graph.count mutator (refs_of kept.command) (nums_of kept.command) asking (subst (λ y. Answers y asking) (asking_given _ kept.command has.1.1) answers) asked in
         given_now (Entering at Waited) out refl (λ e. full_is_not_given _ (sym whole ∙ e) has.1.1) still.1 old (inl (has.0, still))
     enter_then at out answers old (inr is) =
-        let still = refused_then w.memory w.block w.graph.count t x (subst (λ y. Answers y x) (asking_refused _ kept.command is.1.1) answers) asked in
+        let still = refused_then w.memory w.block w.graph.count mutator asking (subst (λ y. Answers y asking) (asking_refused _ kept.command is.1.1) answers) asked in
         refused_now (Entering at Waited) out refl is.1.1 still.1 old (inr (is.0, still))
 
     -- wherever it is outside
-    pub thread_then : (spot : Spot) → is_within (standing_at spot) ≡ false → IsCrowdedOut (asking_at spot (u.memory (Answer t)) kept.command) → Answers (asking_at spot (u.memory (Answer t)) kept.command) x → Thread u spot → Thread w spot
+    pub thread_then : (spot : Spot) → is_within (standing_at spot) ≡ false → IsCrowdedOut (asking_at spot (u.memory (Answer mutator)) kept.command) → Answers (asking_at spot (u.memory (Answer mutator)) kept.command) asking → Thread u spot → Thread w spot
     thread_then Rest out short answers old = quiet_then Rest out refl answers old old.mine.facts
     thread_then (Ended reply) out short answers old = quiet_then (Ended reply) out refl answers old old.mine.facts
     thread_then Gone out short answers old = quiet_then Gone out refl answers old old.mine.facts
@@ -280,92 +280,92 @@ module _ (c : Config) (words : List ℕ) (u w : World) (t made : ℕ) (kept : Ke
     thread_then _ out short answers old = absurd (true≢false out)
 
 -- A stage in which the control rests, and every machine but it is outside.
-module _ (c : Config) (words : List ℕ) (block : Plot) (ghost : Ghost) (g : Graph) (past : List Entry) (machines : List Actor) (seats : length machines ≡ seat_count c.mutators c.helpers)
-    (still : IsResting (open_world c words block ghost g) (control_number c)) where
+module _ (config : Config) (words : List ℕ) (block : Plot) (ghost : Ghost) (graph : Graph) (past : List Entry) (machines : List Actor) (seats : length machines ≡ seat_count config.mutators config.helpers)
+    (still : IsResting (open_world config words block ghost graph) (control_number config)) where
   abbrev before : World
-  before = open_world c words block ghost g
+  before = open_world config words block ghost graph
 
   -- what each machine has asked for
   abbrev pub asking : ℕ → Asking
-  asking t = asking_of (slice_get machines t) (view c words (Answer t))
+  asking mutator = asking_of (slice_get machines mutator) (view config words (Answer mutator))
 
   -- what holds of the machines
   abbrev pub AllKnown : Type 0
-  AllKnown = (k : ℕ) (b : Actor) → slice_get machines k ≡ Some b → IsMachine c words before (of_thread past (k + 1)) k b b.machine
+  AllKnown = (index : ℕ) (actor : Actor) → slice_get machines index ≡ Some actor → IsMachine config words before (of_thread past (index + 1)) index actor actor.machine
 
   -- no machine but the control is in the heap
   abbrev pub AllOutside : Type 0
-  AllOutside = (k : ℕ) (b : Actor) → slice_get machines k ≡ Some b → k ≢ control_number c → is_within (standing_of b.machine) ≡ false
+  AllOutside = (index : ℕ) (actor : Actor) → slice_get machines index ≡ Some actor → index ≢ control_number config → is_within (standing_of actor.machine) ≡ false
 
   -- a mutator is not
-  mutator_out : AllOutside → (t : ℕ) (b : Actor) (m : Mutating) → t < c.mutators → slice_get machines t ≡ Some b → b.machine ≡ mutating m → is_within (standing_at m.spot) ≡ false
-  mutator_out outside t b m below there is = ap (λ machine. is_within (standing_of machine)) (sym is) ∙ outside t b there (mutator_is_not_control c t below)
+  mutator_out : AllOutside → (other_mutator : ℕ) (actor : Actor) (mutator : Mutating) → other_mutator < config.mutators → slice_get machines other_mutator ≡ Some actor → actor.machine ≡ mutating mutator → is_within (standing_at mutator.spot) ≡ false
+  mutator_out outside other_mutator actor mutator below there is = ap (λ machine. is_within (standing_of machine)) (sym is) ∙ outside other_mutator actor there (mutator_is_not_control config other_mutator below)
 
   -- and has asked for what its spot says
-  pub mutator_asks : (t : ℕ) (b : Actor) (m : Mutating) → slice_get machines t ≡ Some b → b.machine ≡ mutating m → asking t ≡ asking_at m.spot (view c words (Answer t)) m.kept.command
-  mutator_asks t b m there is = ap (λ o. asking_of o (view c words (Answer t))) there ∙ ap (λ machine. asking_in machine (view c words (Answer t))) is
+  pub mutator_asks : (other_mutator : ℕ) (actor : Actor) (mutator : Mutating) → slice_get machines other_mutator ≡ Some actor → actor.machine ≡ mutating mutator → asking other_mutator ≡ asking_at mutator.spot (view config words (Answer other_mutator)) mutator.kept.command
+  mutator_asks other_mutator actor mutator there is = ap (λ o. asking_of o (view config words (Answer other_mutator))) there ∙ ap (λ machine. asking_in machine (view config words (Answer other_mutator))) is
 
   -- every machine rests
-  all_rest : AllKnown → AllOutside → (seat : ℕ) → seat < seat_count c.mutators c.helpers → IsResting before seat
+  all_rest : AllKnown → AllOutside → (seat : ℕ) → seat < seat_count config.mutators config.helpers → IsResting before seat
   all_rest known outside seat below =
-      let there = machine_there c words before past machines seats seat below in
-      rests_there c words before (of_thread past (seat + 1)) seat there.0 there.0.machine (outside seat there.0 there.1) (λ e. subst (IsResting before) (sym e) still) (known seat there.0 there.1)
+      let there = machine_there config words before past machines seats seat below in
+      rests_there config words before (of_thread past (seat + 1)) seat there.0 there.0.machine (outside seat there.0 there.1) (λ e. subst (IsResting before) (sym e) still) (known seat there.0 there.1)
 
   -- all room is free words of buffers
-  spares_there : Shared c before → AllKnown → AllOutside → (a seat : ℕ) (x : Block) → block a ≡ Some x → room_of x ≡ Some seat → IsSpare seat x
-  spares_there shared known outside a seat x is room = (all_rest known outside seat (shared.owned.rooms.seated a seat x is room)).rooms a x is room
+  spares_there : Shared config before → AllKnown → AllOutside → (address seat : ℕ) (piece : Block) → block address ≡ Some piece → room_of piece ≡ Some seat → IsSpare seat piece
+  spares_there shared known outside address seat piece is room = (all_rest known outside seat (shared.owned.rooms.seated address seat piece is room)).rooms address piece is room
 
   -- what it has asked for stands in the words
-  asked_there : AllKnown → AllOutside → (t : ℕ) → t < c.mutators → IsAsked (view c words) block g.count t (asking t)
-  asked_there known outside t below =
-      let there = mutator_there c words before past machines seats known t below in
+  asked_there : AllKnown → AllOutside → (mutator : ℕ) → mutator < config.mutators → IsAsked (view config words) block graph.count mutator (asking mutator)
+  asked_there known outside mutator below =
+      let there = mutator_there config words before past machines seats known mutator below in
       let m = there.1 in
       let thread = there.4 in
-      let out = mutator_out outside t there.0 m below there.2 there.3 in
-      subst (λ y. IsAsked (view c words) block g.count t y) (sym (mutator_asks t there.0 m there.2 there.3))
-      (subst (λ j. IsAsked (view c words) block g.count j (asking_at m.spot (view c words (Answer j)) m.kept.command)) thread.number_is
-      (asked_outside c before m.seat m.made m.kept m.spot there.0.command thread.fixed out thread.mine))
+      let out = mutator_out outside mutator there.0 m below there.2 there.3 in
+      subst (λ y. IsAsked (view config words) block graph.count mutator y) (sym (mutator_asks mutator there.0 m there.2 there.3))
+      (subst (λ j. IsAsked (view config words) block graph.count j (asking_at m.spot (view config words (Answer j)) m.kept.command)) thread.number_is
+      (asked_outside config before m.seat m.made m.kept m.spot there.0.command thread.fixed out thread.mine))
 
   -- and who asks has said so
-  heard_there : AllKnown → AllOutside → (t refs nums : ℕ) → t < c.mutators → asking t ≡ asks refs nums → bit_at (view c words Ask) 1 ≡ 1
-  heard_there known outside t refs nums below is =
-      let there = mutator_there c words before past machines seats known t below in
+  heard_there : AllKnown → AllOutside → (mutator refs nums : ℕ) → mutator < config.mutators → asking mutator ≡ asks refs nums → bit_at (view config words Ask) 1 ≡ 1
+  heard_there known outside mutator refs nums below is =
+      let there = mutator_there config words before past machines seats known mutator below in
       let m = there.1 in
       let thread = there.4 in
-      let out = mutator_out outside t there.0 m below there.2 there.3 in
-      let asks_so : asking_at m.spot (view c words (Answer m.seat)) m.kept.command ≡ asks refs nums =
-      ap (λ j. asking_at m.spot (view c words (Answer j)) m.kept.command) thread.number_is ∙ sym (mutator_asks t there.0 m there.2 there.3) ∙ is in
-      heard_outside c before m.seat m.made refs nums m.kept m.spot there.0.command thread.fixed out thread.mine asks_so
+      let out = mutator_out outside mutator there.0 m below there.2 there.3 in
+      let asks_so : asking_at m.spot (view config words (Answer m.seat)) m.kept.command ≡ asks refs nums =
+      ap (λ j. asking_at m.spot (view config words (Answer j)) m.kept.command) thread.number_is ∙ sym (mutator_asks mutator there.0 m there.2 there.3) ∙ is in
+      heard_outside config before m.seat m.made refs nums m.kept m.spot there.0.command thread.fixed out thread.mine asks_so
 
-  nobody_marks : AllKnown → AllOutside → NobodyMarks c ghost
+  nobody_marks : AllKnown → AllOutside → NobodyMarks config ghost
   nobody_marks known outside = record {
     records_none = λ seat below. (all_rest known outside seat below).records_none;
     scans_none = λ seat below. (all_rest known outside seat below).scans_none;
   }
 
-  nobody_copies : AllKnown → AllOutside → NobodyCopies c ghost
+  nobody_copies : AllKnown → AllOutside → NobodyCopies config ghost
   nobody_copies known outside = record {
     copies_none = λ seat below. (all_rest known outside seat below).copies_none;
     works_none = λ seat below. (all_rest known outside seat below).works_none;
   }
 
   -- The words of the table stand for the graph.
-  pub words_stand : Shared c before → PromisedToMutators c block → HasNoMore c.mutators g → HasNoMorePins c.mutators g → AllKnown → AllOutside → Represents c (view c words) g asking
+  pub words_stand : Shared config before → PromisedToMutators config block → HasNoMore config.mutators graph → HasNoMorePins config.mutators graph → AllKnown → AllOutside → Represents config (view config words) graph asking
   words_stand shared promised_to no_more no_more_pins known outside = record {
     block = block;
     ghost = ghost;
     shared = shared;
     roots = λ t i below small.
-        let there = mutator_there c words before past machines seats known t below in
+        let there = mutator_there config words before past machines seats known t below in
         let m = there.1 in
         let thread = there.4 in
         let out = mutator_out outside t there.0 m below there.2 there.3 in
-        subst (λ j. Points block (view c words (Root j i)) (g.root (j + 1) i)) thread.number_is
-        (subst (λ word. Points block word (g.root (m.seat + 1) i)) (root_outside before m.seat m.kept m.spot i out) (thread.mine.roots i small));
+        subst (λ j. Points block (view config words (Root j i)) (graph.root (j + 1) i)) thread.number_is
+        (subst (λ word. Points block word (graph.root (m.seat + 1) i)) (root_outside before m.seat m.kept m.spot i out) (thread.mine.roots i small));
     usable = λ t i below small.
-        let there = mutator_there c words before past machines seats known t below in
+        let there = mutator_there config words before past machines seats known t below in
         let thread = there.4 in
-        subst (λ j. IsUsable c (view c words Cset) (view c words Evac) block (view c words (Root j i))) thread.number_is (thread.mine.seated.usable i small);
+        subst (λ j. IsUsable config (view config words Cset) (view config words Evac) block (view config words (Root j i))) thread.number_is (thread.mine.seated.usable i small);
     none = λ a seat words is. let other = (spares_there shared known outside a seat (hand seat words) is refl).1 in cc;
     uncarved = λ a seat words is. let other = (spares_there shared known outside a seat (carved seat words) is refl).1 in cc;
     asked = asked_there known outside;
@@ -379,23 +379,23 @@ module _ (c : Config) (words : List ℕ) (block : Plot) (ghost : Ghost) (g : Gra
 
   -- All of the image stands for the graph.
   abbrev pub whole : List ℕ
-  whole = image_in c words
+  whole = image_in config words
 
-  all_read : view c words ≡ mixed c words (all_of whole)
-  all_read = sym (mixed_whole c words (all_of whole) (λ i below counted. image_in_reads c words i))
+  all_read : view config words ≡ mixed config words (all_of whole)
+  all_read = sym (mixed_whole config words (all_of whole) (λ i below counted. image_in_reads config words i))
 
-  pub image_stands : Shared c before → PromisedToMutators c block → HasNoMore c.mutators g → HasNoMorePins c.mutators g → AllKnown → AllOutside → Represents c (image_view c whole) g asking
+  pub image_stands : Shared config before → PromisedToMutators config block → HasNoMore config.mutators graph → HasNoMorePins config.mutators graph → AllKnown → AllOutside → Represents config (image_view config whole) graph asking
   image_stands shared promised_to no_more no_more_pins known outside =
       let stands = words_stand shared promised_to no_more no_more_pins known outside in
       record {
         block = stands.block;
         ghost = stands.ghost;
-        shared = subst (λ memory. Shared c (record { memory = memory; block = stands.block; ghost = stands.ghost; graph = g })) all_read stands.shared;
-        roots = λ t i below small. subst (λ memory. Points stands.block (memory (Root t i)) (g.root (t + 1) i)) all_read (stands.roots t i below small);
-        usable = λ t i below small. subst (λ memory. IsUsable c (memory Cset) (memory Evac) stands.block (memory (Root t i))) all_read (stands.usable t i below small);
+        shared = subst (λ memory. Shared config (record { memory = memory; block = stands.block; ghost = stands.ghost; graph = graph })) all_read stands.shared;
+        roots = λ t i below small. subst (λ memory. Points stands.block (memory (Root t i)) (graph.root (t + 1) i)) all_read (stands.roots t i below small);
+        usable = λ t i below small. subst (λ memory. IsUsable config (memory Cset) (memory Evac) stands.block (memory (Root t i))) all_read (stands.usable t i below small);
         none = stands.none;
         uncarved = stands.uncarved;
-        asked = λ t below. asked_same (mixed c words (all_of whole)) (image_view c whole) stands.block g.count t (asking t) refl refl (λ a. refl) (subst (λ memory. IsAsked memory stands.block g.count t (asking t)) all_read (stands.asked t below));
+        asked = λ t below. asked_same (mixed config words (all_of whole)) (image_view config whole) stands.block graph.count t (asking t) refl refl (λ a. refl) (subst (λ memory. IsAsked memory stands.block graph.count t (asking t)) all_read (stands.asked t below));
         heard = λ t refs nums below is. subst (λ memory. bit_at (memory Ask) 1 ≡ 1) all_read (stands.heard t refs nums below is);
         promised_to = stands.promised_to;
         unmarking = stands.unmarking;
@@ -405,54 +405,54 @@ module _ (c : Config) (words : List ℕ) (block : Plot) (ghost : Ghost) (g : Gra
       }
 
   -- A part of it was read.
-  module _ (extent : Extent) (part : List ℕ) (part_of : IsImagePart c extent whole part) (extent_is : extent ≡ extent_by c (slice_index part 0) part) (whole_long : length whole ≡ image_words c) (part_long : length part ≡ image_words c) where
+  module _ (extent : Extent) (part : List ℕ) (part_of : IsImagePart config extent whole part) (extent_is : extent ≡ extent_by config (slice_index part 0) part) (whole_long : length whole ≡ image_words config) (part_long : length part ≡ image_words config) where
     -- The new image counts: what the step owes.
-    module _ (change : Change) (law : PausesByParts change) (due : IsDue c (view c words)) (shared : Shared c before) (promised_to : PromisedToMutators c block) (no_more : HasNoMore c.mutators g) (no_more_pins : HasNoMorePins c.mutators g)
+    module _ (change : Change) (law : PausesByParts change) (due : IsDue config (view config words)) (shared : Shared config before) (promised_to : PromisedToMutators config block) (no_more : HasNoMore config.mutators graph) (no_more_pins : HasNoMorePins config.mutators graph)
         (known : AllKnown) (outside : AllOutside) where
       -- the pause is due by the image
-      image_due : IsDue c (image_view c whole)
-      image_due = subst (λ memory. IsDue c memory) all_read due
+      image_due : IsDue config (image_view config whole)
+      image_due = subst (λ memory. IsDue config memory) all_read due
 
-      paused : IsPaused c (image_view c whole) (image_view c (change c whole)) g asking
-      paused = law.whole.pauses c whole g asking whole_long (image_stands shared promised_to no_more no_more_pins known outside) image_due
+      paused : IsPaused config (image_view config whole) (image_view config (change config whole)) graph asking
+      paused = law.whole.pauses config whole graph asking whole_long (image_stands shared promised_to no_more no_more_pins known outside) image_due
 
       -- what counts then is what the pause makes of all of the image
       abbrev counting : Counting
-      counting = record { extent = extent; image = change c part }
+      counting = record { extent = extent; image = change config part }
 
-      counts_all : mixed c words counting ≡ mixed c words (all_of (change c whole))
-      counts_all = parts_same c words extent (change c whole) (change c part)
-          (subst (λ e. IsMadeOf c e whole (change c whole) (change c part)) (sym extent_is)
-          (law.parts.made c whole part whole_long part_long (subst (λ e. IsImagePart c e whole part) extent_is part_of)))
+      counts_all : mixed config words counting ≡ mixed config words (all_of (change config whole))
+      counts_all = parts_same config words extent (change config whole) (change config part)
+          (subst (λ e. IsMadeOf config e whole (change config whole) (change config part)) (sym extent_is)
+          (law.parts.made config whole part whole_long part_long (subst (λ e. IsImagePart config e whole part) extent_is part_of)))
 
       -- the first words count
-      early_counts : (k : ℕ) → k < 7 → counts c extent (change c part) k ≡ true
-      early_counts k few = ap (λ b. b || not (slice_index (change c part) k == 0)) (early c extent k few)
+      early_counts : (index : ℕ) → index < 7 → counts config extent (change config part) index ≡ true
+      early_counts index few = ap (λ b. b || not (slice_index (change config part) index == 0)) (early config extent index few)
 
-      phase_counts : image_view c (change c part) Phase ≡ image_view c (change c whole) Phase
-      phase_counts = sym (cond-true (is_counting c counting Phase) _ _ (early_counts (image_start c - image_start c) (omega arith))) ∙ ap (λ (m : Word → ℕ). m Phase) counts_all
+      phase_counts : image_view config (change config part) Phase ≡ image_view config (change config whole) Phase
+      phase_counts = sym (cond-true (is_counting config counting Phase) _ _ (early_counts (image_start config - image_start config) (omega arith))) ∙ ap (λ (memory : Word → ℕ). memory Phase) counts_all
 
-      set_counts : image_view c (change c part) Cset ≡ image_view c (change c whole) Cset
-      set_counts = sym (cond-true (is_counting c counting Cset) _ _ (early_counts (image_start c + 1 - image_start c) (omega arith))) ∙ ap (λ (m : Word → ℕ). m Cset) counts_all
+      set_counts : image_view config (change config part) Cset ≡ image_view config (change config whole) Cset
+      set_counts = sym (cond-true (is_counting config counting Cset) _ _ (early_counts (image_start config + 1 - image_start config) (omega arith))) ∙ ap (λ (memory : Word → ℕ). memory Cset) counts_all
 
       -- the world then
       abbrev then_world : World
-      then_world = record { memory = mixed c words (all_of (change c whole)); block = paused.stands.block; ghost = paused.stands.ghost; graph = g }
+      then_world = record { memory = mixed config words (all_of (change config whole)); block = paused.stands.block; ghost = paused.stands.ghost; graph = graph }
 
       -- what each mutator has asked for stands in its words
-      asked_in_it : (t : ℕ) → t < c.mutators → IsAsked then_world.memory paused.stands.block g.count t (paused.asked_then t)
-      asked_in_it t below =
-          asked_same (image_view c (change c whole)) then_world.memory paused.stands.block g.count t (paused.asked_then t) refl refl (λ a. refl) (paused.stands.asked t below)
+      asked_in_it : (mutator : ℕ) → mutator < config.mutators → IsAsked then_world.memory paused.stands.block graph.count mutator (paused.asked_then mutator)
+      asked_in_it mutator below =
+          asked_same (image_view config (change config whole)) then_world.memory paused.stands.block graph.count mutator (paused.asked_then mutator) refl refl (λ a. refl) (paused.stands.asked mutator below)
 
       -- the words that are promised then
-      promised_sum : (t : ℕ) → sum_below (λ v. if v == t then 0 else words_given (paused.asked_then v)) c.mutators ≡ sum_below (λ v. if v == t then 0 else words_promised then_world.memory v) c.mutators
-      promised_sum t = sum_same _ _ c.mutators (λ v below.
-          ap (λ n. if v == t then 0 else n) (sym (promised_given then_world.memory paused.stands.block g.count v (paused.asked_then v) (asked_in_it v below))))
+      promised_sum : (t : ℕ) → sum_below (λ v. if v == t then 0 else words_given (paused.asked_then v)) config.mutators ≡ sum_below (λ v. if v == t then 0 else words_promised then_world.memory v) config.mutators
+      promised_sum t = sum_same _ _ config.mutators (λ v below.
+          ap (λ n. if v == t then 0 else n) (sym (promised_given then_world.memory paused.stands.block graph.count v (paused.asked_then v) (asked_in_it v below))))
 
       -- who is refused is crowded out
-      crowded_then : (t : ℕ) → t < c.mutators → (refs nums : ℕ) → asking t ≡ asks refs nums → paused.asked_then t ≡ refused → IsShort c then_world.memory g t (3 + refs + nums)
-      crowded_then t below refs nums asks_so is =
-          let crowd = paused.crowded t refs nums below asks_so is in
+      crowded_then : (mutator : ℕ) → mutator < config.mutators → (refs nums : ℕ) → asking mutator ≡ asks refs nums → paused.asked_then mutator ≡ refused → IsShort config then_world.memory graph mutator (3 + refs + nums)
+      crowded_then mutator below refs nums asks_so is =
+          let crowd = paused.crowded mutator refs nums below asks_so is in
           record {
             names = crowd.0;
             held = crowd.1;
@@ -460,50 +460,50 @@ module _ (c : Config) (words : List ℕ) (block : Plot) (ghost : Ghost) (g : Gra
             reach = crowd.3;
             held_is = crowd.4;
             pinned_is = crowd.5;
-            crowd = subst (λ n. (c.regions - crowd.2) * (c.region_words - (3 + refs + nums) + 1) ≤ sum_by (λ n. size (named g (Some n))) crowd.0 - crowd.1 + n) (promised_sum t) crowd.6;
+            crowd = subst (λ n. (config.regions - crowd.2) * (config.region_words - (3 + refs + nums) + 1) ≤ sum_by (λ n. size (named graph (Some n))) crowd.0 - crowd.1 + n) (promised_sum mutator) crowd.6;
           }
 
       -- a mutator
-      mutator_then : (k : ℕ) (b : Actor) (m : Mutating) → slice_get machines k ≡ Some b → b.machine ≡ mutating m → is_within (standing_at m.spot) ≡ false
-          → IsThread c words before (of_thread past (k + 1)) k b m → IsThread c words then_world (of_thread past (k + 1)) k b m
-      mutator_then k b m there is out thread =
-          let below : k < c.mutators = subst (λ j. j < c.mutators) thread.number_is thread.mine.seated.below in
-          let asks_so = mutator_asks k b m there is in
-          subst (λ j. IsThread c words then_world (of_thread past (k + 1)) k b (mutator_at j m.made m.kept m.spot)) (sym thread.number_is)
-          (thread_then c words before then_world k m.made m.kept b (paused.asked_then k) (asked_in_it k below) refl (λ i small. paused.stands.roots k i below small) (λ a. only_spares paused.stands.block paused.stands.none paused.stands.uncarved a k) paused.stands.unmarking
-          paused.stands.uncopying (λ i small. paused.stands.usable k i below small) (of_thread past (k + 1)) refl m.spot out (λ refs nums asks_by. crowded_then k below refs nums (asks_so ∙ asks_by))
-          (subst (λ y. Answers y (paused.asked_then k)) asks_so (paused.answers k below))
-          (subst (λ j. IsThread c words before (of_thread past (k + 1)) k b (mutator_at j m.made m.kept m.spot)) thread.number_is thread))
+      mutator_then : (other_mutator : ℕ) (actor : Actor) (mutator : Mutating) → slice_get machines other_mutator ≡ Some actor → actor.machine ≡ mutating mutator → is_within (standing_at mutator.spot) ≡ false
+          → IsThread config words before (of_thread past (other_mutator + 1)) other_mutator actor mutator → IsThread config words then_world (of_thread past (other_mutator + 1)) other_mutator actor mutator
+      mutator_then other_mutator actor mutator there is out thread =
+          let below : other_mutator < config.mutators = subst (λ j. j < config.mutators) thread.number_is thread.mine.seated.below in
+          let asks_so = mutator_asks other_mutator actor mutator there is in
+          subst (λ j. IsThread config words then_world (of_thread past (other_mutator + 1)) other_mutator actor (mutator_at j mutator.made mutator.kept mutator.spot)) (sym thread.number_is)
+          (thread_then config words before then_world other_mutator mutator.made mutator.kept actor (paused.asked_then other_mutator) (asked_in_it other_mutator below) refl (λ i small. paused.stands.roots other_mutator i below small) (λ a. only_spares paused.stands.block paused.stands.none paused.stands.uncarved a other_mutator) paused.stands.unmarking
+          paused.stands.uncopying (λ i small. paused.stands.usable other_mutator i below small) (of_thread past (other_mutator + 1)) refl mutator.spot out (λ refs nums asks_by. crowded_then other_mutator below refs nums (asks_so ∙ asks_by))
+          (subst (λ y. Answers y (paused.asked_then other_mutator)) asks_so (paused.answers other_mutator below))
+          (subst (λ j. IsThread config words before (of_thread past (other_mutator + 1)) other_mutator actor (mutator_at j mutator.made mutator.kept mutator.spot)) thread.number_is thread))
 
       -- any machine but the control
-      machine_then : (k : ℕ) (b : Actor) (machine : Machine) → slice_get machines k ≡ Some b → b.machine ≡ machine → k ≢ control_number c → is_within (standing_of machine) ≡ false
-          → IsMachine c words before (of_thread past (k + 1)) k b machine → IsMachine c words then_world (of_thread past (k + 1)) k b machine
-      machine_then k b machine there is other out facts =
-          outside_goes_on c words before then_world (of_thread past (k + 1)) k b machine other out
-          (λ seated. rests_by c then_world k paused.stands.unmarking paused.stands.uncopying (λ a. only_spares paused.stands.block paused.stands.none paused.stands.uncarved a k) seated)
-          (λ m role. mutator_then k b m there (is ∙ role) (ap (λ x. is_within (standing_of x)) (sym role) ∙ out)) facts
+      machine_then : (index : ℕ) (actor : Actor) (machine : Machine) → slice_get machines index ≡ Some actor → actor.machine ≡ machine → index ≢ control_number config → is_within (standing_of machine) ≡ false
+          → IsMachine config words before (of_thread past (index + 1)) index actor machine → IsMachine config words then_world (of_thread past (index + 1)) index actor machine
+      machine_then index actor machine there is other out facts =
+          outside_goes_on config words before then_world (of_thread past (index + 1)) index actor machine other out
+          (λ seated. rests_by config then_world index paused.stands.unmarking paused.stands.uncopying (λ a. only_spares paused.stands.block paused.stands.none paused.stands.uncarved a index) seated)
+          (λ m role. mutator_then index actor m there (is ∙ role) (ap (λ x. is_within (standing_of x)) (sym role) ∙ out)) facts
 
       -- what the control owes
-      pub paused_owes : (seen hints : ℕ) (command : Command) (calls : List Entry) → Owes c words words before past (control_number c) machines (settled_by c words (Some counting)) []
-          (record { machine = controlling (record { spot = StoreWord 0 extent; seen = seen; phase = image_view c (change c part) Phase; cset = image_view c (change c part) Cset; hints = hints; image = change c part }); command = command; calls = calls ++ [] })
+      pub paused_owes : (seen hints : ℕ) (command : Command) (calls : List Entry) → Owes config words words before past (control_number config) machines (settled_by config words (Some counting)) []
+          (record { machine = controlling (record { spot = StoreWord 0 extent; seen = seen; phase = image_view config (change config part) Phase; cset = image_view config (change config part) Cset; hints = hints; image = change config part }); command = command; calls = calls ++ [] })
       paused_owes seen hints command calls = record {
         world = then_world;
         memory_is = sym counts_all;
         graph_is = refl;
         legal = tt;
-        entries = All-nil (IsSettled c.mutators);
+        entries = All-nil (IsSettled config.mutators);
         shared = paused.stands.shared;
         promised_to = paused.stands.promised_to;
         own = record {
           number_is = refl;
-          ready = lt-ltb _ _ (some_words c);
+          ready = lt-ltb _ _ (some_words config);
           phase_is = phase_counts;
           set_is = set_counts;
-          facts = rests_by c then_world (control_number c) paused.stands.unmarking paused.stands.uncopying (λ a. only_spares paused.stands.block paused.stands.none paused.stands.uncarved a (control_number c)) (omega arith);
-          aims = (law.whole.long c part part_long, λ i below. absurd (omega (arith, below)), early_counts 0 (omega arith));
+          facts = rests_by config then_world (control_number config) paused.stands.unmarking paused.stands.uncopying (λ a. only_spares paused.stands.block paused.stands.none paused.stands.uncarved a (control_number config)) (omega arith);
+          aims = (law.whole.long config part part_long, λ i below. absurd (omega (arith, below)), early_counts 0 (omega arith));
           extent_is = tt;
         };
         others = λ k b other there is.
-            subst (λ es. IsMachine c words then_world es k b b.machine) (ap (λ es. of_thread es (k + 1)) (sym (append-nil past)))
+            subst (λ es. IsMachine config words then_world es k b b.machine) (ap (λ es. of_thread es (k + 1)) (sym (append-nil past)))
             (machine_then k b b.machine there refl other (outside k b there other) is);
       }

@@ -40,18 +40,18 @@ use Rattle.step_core.proofs.Helpers.Units.{step_with, work_begins, work_fits, wo
 use Rattle.step_core.proofs.Helpers.Quiet.{quiet_owes}
 
 -- another machine is no control
-pub no_other_control : (c : Config) (words : List ℕ) (u : World) (entries : List Entry) (k : ℕ) (b : Actor) (machine : Machine) → k ≢ control_number c → IsMachine c words u entries k b machine
+pub no_other_control : (config : Config) (words : List ℕ) (world : World) (entries : List Entry) (k : ℕ) (actor : Actor) (machine : Machine) → k ≢ control_number config → IsMachine config words world entries k actor machine
     → (control : Controlling) → machine ≡ controlling control → ⊥
-no_other_control c words u entries k b (controlling h) other is control same = other is.number_is
-no_other_control c words u entries k b _ other is control same = cc
+no_other_control config words world entries k actor (controlling h) other is control same = other is.number_is
+no_other_control config words world entries k actor _ other is control same = cc
 
 -- the world of a stage in which the table counts
 abbrev pub open_world : Config → List ℕ → Plot → Ghost → Graph → World
-open_world c words block ghost g = record { memory = view c words; block = block; ghost = ghost; graph = g }
+open_world config words block ghost graph = record { memory = view config words; block = block; ghost = ghost; graph = graph }
 
-module _ (c : Config) (words : List ℕ) (block : Plot) (ghost : Ghost) (g : Graph) (past : List Entry) (machines : List Actor) (command : Command) (calls : List Entry) where
+module _ (config : Config) (words : List ℕ) (block : Plot) (ghost : Ghost) (graph : Graph) (past : List Entry) (machines : List Actor) (command : Command) (calls : List Entry) where
   abbrev u : World
-  u = open_world c words block ghost g
+  u = open_world config words block ghost graph
 
   -- the control after its step
   abbrev actor_at : Controlling → Actor
@@ -59,50 +59,50 @@ module _ (c : Config) (words : List ℕ) (block : Plot) (ghost : Ghost) (g : Gra
 
   -- where it should be after an access
   abbrev IsControlAfter : Touch → Controlling → World → Type 0
-  IsControlAfter t next w = IsControl c (words_after c words t) w (control_number c) next
+  IsControlAfter t next world = IsControl config (words_after config words t) world (control_number config) next
 
   -- what its step owes after an access, where no image counts then
   abbrev OwesAt : Touch → Controlling → Type 0
-  OwesAt t next = Owes c words (words_after c words t) u past (control_number c) machines (settled_by c (words_after c words t) (stored_image next.spot next.image)) [] (actor_at next)
+  OwesAt t next = Owes config words (words_after config words t) u past (control_number config) machines (settled_by config (words_after config words t) (stored_image next.spot next.image)) [] (actor_at next)
 
   -- one of two spots at which no image counts, and of which nothing is to be known
-  plain_spot : (b : Bool) (x y : ControlSpot) (image : List ℕ) → stored_image x image ≡ None → stored_image y image ≡ None → stored_image (if b then x else y) image ≡ None
-  plain_spot true x y image one other = one
-  plain_spot false x y image one other = other
+  plain_spot : (holds : Bool) (spot other_spot : ControlSpot) (image : List ℕ) → stored_image spot image ≡ None → stored_image other_spot image ≡ None → stored_image (if holds then spot else other_spot) image ≡ None
+  plain_spot true spot other_spot image one other = one
+  plain_spot false spot other_spot image one other = other
 
-  plain_aim : (b : Bool) (x y : ControlSpot) (ws image : List ℕ) → IsAim c ws x image → IsAim c ws y image → IsAim c ws (if b then x else y) image
-  plain_aim true x y ws image one other = one
-  plain_aim false x y ws image one other = other
+  plain_aim : (holds : Bool) (spot other_spot : ControlSpot) (ws image : List ℕ) → IsAim config ws spot image → IsAim config ws other_spot image → IsAim config ws (if holds then spot else other_spot) image
+  plain_aim true spot other_spot ws image one other = one
+  plain_aim false spot other_spot ws image one other = other
 
   -- what it counts on at one of two spots
-  plain_facts : (w : World) (b : Bool) (x y : ControlSpot) → (b ≡ true → ControlFacts c w (control_number c) x) → (b ≡ false → ControlFacts c w (control_number c) y) → ControlFacts c w (control_number c) (if b then x else y)
-  plain_facts w true x y one other = one refl
-  plain_facts w false x y one other = other refl
+  plain_facts : (world : World) (holds : Bool) (spot other_spot : ControlSpot) → (holds ≡ true → ControlFacts config world (control_number config) spot) → (holds ≡ false → ControlFacts config world (control_number config) other_spot) → ControlFacts config world (control_number config) (if holds then spot else other_spot)
+  plain_facts world true spot other_spot one other = one refl
+  plain_facts world false spot other_spot one other = other refl
 
-  plain_extent : (b : Bool) (x y : ControlSpot) (phase : ℕ) (image : List ℕ) → IsOfExtent c phase x image → IsOfExtent c phase y image → IsOfExtent c phase (if b then x else y) image
-  plain_extent true x y phase image one other = one
-  plain_extent false x y phase image one other = other
+  plain_extent : (holds : Bool) (spot other_spot : ControlSpot) (phase : ℕ) (image : List ℕ) → IsOfExtent config phase spot image → IsOfExtent config phase other_spot image → IsOfExtent config phase (if holds then spot else other_spot) image
+  plain_extent true spot other_spot phase image one other = one
+  plain_extent false spot other_spot phase image one other = other
 
   -- once all others are stopped it loads the first word
-  stopping_spot : (phase : ℕ) (at : StopSpot) → stored_image (stopping c phase at) [] ≡ None
+  stopping_spot : (phase : ℕ) (at : StopSpot) → stored_image (stopping config phase at) [] ≡ None
   stopping_spot phase stop.Raise = refl
   stopping_spot phase (stop.Check seat) = refl
   stopping_spot phase stop.Stopped = refl
 
-  stopping_aim : (phase : ℕ) (at : StopSpot) (ws : List ℕ) → IsAim c ws (stopping c phase at) []
+  stopping_aim : (phase : ℕ) (at : StopSpot) (ws : List ℕ) → IsAim config ws (stopping config phase at) []
   stopping_aim phase stop.Raise ws = tt
   stopping_aim phase (stop.Check seat) ws = tt
-  stopping_aim phase stop.Stopped ws = (refl, λ i below. absurd (omega (arith, below)), early c (first_extent c phase) 0 (omega arith))
+  stopping_aim phase stop.Stopped ws = (refl, λ i below. absurd (omega (arith, below)), early config (first_extent config phase) 0 (omega arith))
 
-  stopping_extent : (phase : ℕ) (at : StopSpot) → IsOfExtent c phase (stopping c phase at) []
+  stopping_extent : (phase : ℕ) (at : StopSpot) → IsOfExtent config phase (stopping config phase at) []
   stopping_extent phase stop.Raise = tt
   stopping_extent phase (stop.Check seat) = tt
-  stopping_extent phase stop.Stopped = sym (extent_none c phase)
+  stopping_extent phase stop.Stopped = sym (extent_none config phase)
 
-  stopping_facts : (w : World) (phase : ℕ) (at : StopSpot) → IsResting w (control_number c) × IsDue c w.memory → ControlFacts c w (control_number c) (stopping c phase at)
-  stopping_facts w phase stop.Raise facts = facts
-  stopping_facts w phase (stop.Check seat) facts = facts
-  stopping_facts w phase stop.Stopped facts = facts
+  stopping_facts : (world : World) (phase : ℕ) (at : StopSpot) → IsResting world (control_number config) × IsDue config world.memory → ControlFacts config world (control_number config) (stopping config phase at)
+  stopping_facts world phase stop.Raise facts = facts
+  stopping_facts world phase (stop.Check seat) facts = facts
+  stopping_facts world phase stop.Stopped facts = facts
 
   -- where it works on a unit, or has done so
   unit_spot : (at : UnitSpot) → stored_image (after_unit at) [] ≡ None
@@ -110,49 +110,49 @@ module _ (c : Config) (words : List ℕ) (block : Plot) (ghost : Ghost) (g : Gra
   unit_spot (Ended NoneLeft) = refl
   unit_spot _ = refl
 
-  unit_aim : (at : UnitSpot) (ws : List ℕ) → IsAim c ws (after_unit at) []
+  unit_aim : (at : UnitSpot) (ws : List ℕ) → IsAim config ws (after_unit at) []
   unit_aim (Ended Worked) ws = tt
   unit_aim (Ended NoneLeft) ws = tt
   unit_aim _ ws = tt
 
-  unit_extent : (phase : ℕ) (at : UnitSpot) → IsOfExtent c phase (after_unit at) []
+  unit_extent : (phase : ℕ) (at : UnitSpot) → IsOfExtent config phase (after_unit at) []
   unit_extent phase (Ended Worked) = tt
   unit_extent phase (Ended NoneLeft) = tt
   unit_extent phase _ = tt
 
-  unit_facts : (w : World) (at : UnitSpot) → CanWork c w (control_number c) at → ControlFacts c w (control_number c) (after_unit at)
-  unit_facts w (Ended Worked) can = can
-  unit_facts w (Ended NoneLeft) can = can
-  unit_facts w _ can = can
+  unit_facts : (world : World) (at : UnitSpot) → CanWork config world (control_number config) at → ControlFacts config world (control_number config) (after_unit at)
+  unit_facts world (Ended Worked) can = can
+  unit_facts world (Ended NoneLeft) can = can
+  unit_facts world _ can = can
 
   -- What it owes that stands at a spot outside the image, and finds a word.
-  module _ (change : Change) (seen phase cset hints : ℕ) (image : List ℕ) (long : length words ≡ table_words c) (shared : Shared c u) (promised_to : PromisedToMutators c block) where
+  module _ (change : Change) (seen phase cset hints : ℕ) (image : List ℕ) (long : length words ≡ table_words config) (shared : Shared config u) (promised_to : PromisedToMutators config block) where
     abbrev at_spot : ControlSpot → Controlling
     at_spot spot = record { spot = spot; seen = seen; phase = phase; cset = cset; hints = hints; image = image }
 
     abbrev then_at : ControlSpot → ℕ → Controlling
-    then_at spot got = control_next change c (at_spot spot) got
+    then_at spot got = control_next change config (at_spot spot) got
 
     abbrev pub Quiet : ControlSpot → ℕ → Type 0
-    Quiet spot got = IsControl c words u (control_number c) (at_spot spot) → OwesAt (control_touch c spot) (then_at spot got)
+    Quiet spot got = IsControl config words u (control_number config) (at_spot spot) → OwesAt (control_touch config spot) (then_at spot got)
 
     -- a step after which the table still counts
-    step_owes : (t : Touch) (next : Controlling) → is_word c t.word ≡ true → PartStep c u (control_number c) t (IsControlAfter t next) → stored_image next.spot next.image ≡ None → OwesAt t next
+    step_owes : (t : Touch) (next : Controlling) → is_word config t.word ≡ true → PartStep config u (control_number config) t (IsControlAfter t next) → stored_image next.spot next.image ≡ None → OwesAt t next
     step_owes t next is step none =
-        subst (λ memory. Owes c words (words_after c words t) u past (control_number c) machines memory [] (actor_at next)) (sym (ap (settled_by c (words_after c words t)) none ∙ view-placed c words t is long))
-        (quiet_owes c words None block ghost g past (control_number c) machines t long is (λ other held. absurd (cc (held))) (actor_at next) shared promised_to step
-        (λ k b differs there known control same. absurd (no_other_control c words u (of_thread past (k + 1)) k b b.machine differs known control same)))
+        subst (λ memory. Owes config words (words_after config words t) u past (control_number config) machines memory [] (actor_at next)) (sym (ap (settled_by config (words_after config words t)) none ∙ view-placed config words t is long))
+        (quiet_owes config words None block ghost graph past (control_number config) machines t long is (λ other held. absurd (cc (held))) (actor_at next) shared promised_to step
+        (λ k b differs there known control same. absurd (no_other_control config words u (of_thread past (k + 1)) k b b.machine differs known control same)))
 
     -- it loads a word
-    loads_word : (word : Word) (next : Controlling) → is_word c word ≡ true → IsControlAfter (touch word loads) next u → stored_image next.spot next.image ≡ None → OwesAt (touch word loads) next
-    loads_word word next is stands none = step_owes (touch word loads) next is (load_step c u (control_number c) word (IsControlAfter (touch word loads) next) shared stands) none
+    loads_word : (word : Word) (next : Controlling) → is_word config word ≡ true → IsControlAfter (touch word loads) next u → stored_image next.spot next.image ≡ None → OwesAt (touch word loads) next
+    loads_word word next is stands none = step_owes (touch word loads) next is (load_step config u (control_number config) word (IsControlAfter (touch word loads) next) shared stands) none
 
     -- it stores into one of the handshake
-    stores_word : (word : Word) (value : ℕ) (next : Controlling) → is_word c word ≡ true → is_of_handshake word ≡ true → ((k : ℕ) → k ≢ control_number c → write u.memory word value (State k) ≡ u.memory (State k))
-        → Shared c (world_with u (write u.memory word value) u.graph) → IsControlAfter (touch word (stores value)) next (world_with u (write u.memory word value) u.graph) → stored_image next.spot next.image ≡ None
+    stores_word : (word : Word) (value : ℕ) (next : Controlling) → is_word config word ≡ true → is_of_handshake word ≡ true → ((seat : ℕ) → seat ≢ control_number config → write u.memory word value (State seat) ≡ u.memory (State seat))
+        → Shared config (world_with u (write u.memory word value) u.graph) → IsControlAfter (touch word (stores value)) next (world_with u (write u.memory word value) u.graph) → stored_image next.spot next.image ≡ None
         → OwesAt (touch word (stores value)) next
     stores_word word value next is other states after stands none =
-        step_owes (touch word (stores value)) next is (store_step c u (control_number c) word value (IsControlAfter (touch word (stores value)) next) other states after stands) none
+        step_owes (touch word (stores value)) next is (store_step config u (control_number config) word value (IsControlAfter (touch word (stores value)) next) other states after stands) none
 
     -- it looks how many mutators have not ended
     pub look_left : (got : ℕ) → Quiet LookLeft got
@@ -160,7 +160,7 @@ module _ (c : Config) (words : List ℕ) (block : Plot) (ghost : Ghost) (g : Gra
         loads_word Left (then_at LookLeft got) refl
         (record {
           number_is = refl;
-          ready = stays_ready c phase cset seen 0 LookLeft got known.ready tt;
+          ready = stays_ready config phase cset seen 0 LookLeft got known.ready tt;
           phase_is = known.phase_is;
           set_is = known.set_is;
           facts = plain_facts u (got == 0) StoreEnd LookAsked (λ yes. known.facts) (λ no. known.facts);
@@ -173,19 +173,19 @@ module _ (c : Config) (words : List ℕ) (block : Plot) (ghost : Ghost) (g : Gra
     pub store_end : (got : ℕ) → Quiet StoreEnd got
     store_end got known =
         stores_word End 1 (then_at StoreEnd got) refl refl (λ k differs. refl) shared
-        (record { number_is = refl; ready = stays_ready c phase cset seen 0 StoreEnd got known.ready tt; phase_is = known.phase_is; set_is = known.set_is; facts = known.facts; aims = tt; extent_is = tt }) refl
+        (record { number_is = refl; ready = stays_ready config phase cset seen 0 StoreEnd got known.ready tt; phase_is = known.phase_is; set_is = known.set_is; facts = known.facts; aims = tt; extent_is = tt }) refl
 
     -- while objects are marked or evacuated, or references updated, it claims a unit
-    begins_facts : IsControl c words u (control_number c) (at_spot LookAsked) → (phase == 0) ≡ false → CanWork c u (control_number c) (units.begins phase cset)
-    begins_facts known some = subst (λ set. CanWork c u (control_number c) (units.begins phase set)) (sym known.set_is)
-        (work_begins c u (control_number c) shared phase (omega arith) (eqb-false _ _ some) known.phase_is known.facts)
+    begins_facts : IsControl config words u (control_number config) (at_spot LookAsked) → (phase == 0) ≡ false → CanWork config u (control_number config) (units.begins phase cset)
+    begins_facts known some = subst (λ set. CanWork config u (control_number config) (units.begins phase set)) (sym known.set_is)
+        (work_begins config u (control_number config) shared phase (omega arith) (eqb-false _ _ some) known.phase_is known.facts)
 
     -- in phases 2 and 3 a pause is asked for by bit 1 alone
     asked_late : (got : ℕ) → begins_pause phase got ≡ true → 2 ≤ phase → bit_at got 1 ≡ 1
     asked_late got on late = grind (arith, nat_tests)
 
     -- so it is due
-    asks_due : (got : ℕ) → got ≡ u.memory Ask → phase ≡ u.memory Phase → begins_pause phase got ≡ true → IsDue c u.memory
+    asks_due : (got : ℕ) → got ≡ u.memory Ask → phase ≡ u.memory Phase → begins_pause phase got ≡ true → IsDue config u.memory
     asks_due got found same on late quiet =
         absurd (let asks = subst (λ n. bit_at n 1 ≡ 1) found (asked_late got on (omega (arith, late, same))) in omega (arith, asks, quiet))
 
@@ -195,7 +195,7 @@ module _ (c : Config) (words : List ℕ) (block : Plot) (ghost : Ghost) (g : Gra
         loads_word Ask (then_at LookAsked got) refl
         (record {
           number_is = refl;
-          ready = stays_ready c phase cset seen 0 LookAsked got known.ready tt;
+          ready = stays_ready config phase cset seen 0 LookAsked got known.ready tt;
           phase_is = known.phase_is;
           set_is = known.set_is;
           facts = plain_facts u (begins_pause phase got) (Stopping stop.Raise) (unasked phase cset) (λ yes. (known.facts, asks_due got found known.phase_is yes))
@@ -211,39 +211,39 @@ module _ (c : Config) (words : List ℕ) (block : Plot) (ghost : Ghost) (g : Gra
         loads_word Free (then_at LookFree got) refl
         (record {
           number_is = refl;
-          ready = stays_ready c phase cset seen 0 LookFree got known.ready tt;
+          ready = stays_ready config phase cset seen 0 LookFree got known.ready tt;
           phase_is = known.phase_is;
           set_is = known.set_is;
-          facts = plain_facts u (wants_pause c seen got) (Stopping stop.Raise) LookLeft (λ yes. (known.facts.0, early_due c u.memory (let none = known.facts.1 in omega (arith, none)))) (λ no. known.facts.0);
-          aims = plain_aim (wants_pause c seen got) (Stopping stop.Raise) LookLeft _ [] tt tt;
-          extent_is = plain_extent (wants_pause c seen got) (Stopping stop.Raise) LookLeft phase [] tt tt;
+          facts = plain_facts u (wants_pause config seen got) (Stopping stop.Raise) LookLeft (λ yes. (known.facts.0, early_due config u.memory (let none = known.facts.1 in omega (arith, none)))) (λ no. known.facts.0);
+          aims = plain_aim (wants_pause config seen got) (Stopping stop.Raise) LookLeft _ [] tt tt;
+          extent_is = plain_extent (wants_pause config seen got) (Stopping stop.Raise) LookLeft phase [] tt tt;
         })
-        (plain_spot (wants_pause c seen got) (Stopping stop.Raise) LookLeft [] refl refl)
+        (plain_spot (wants_pause config seen got) (Stopping stop.Raise) LookLeft [] refl refl)
 
     -- it works on a unit
-    pub work_unit : (at : UnitSpot) → Quiet (Working at) (view c words (units.touch_at c (control_number c) at).word)
+    pub work_unit : (at : UnitSpot) → Quiet (Working at) (view config words (units.touch_at config (control_number config) at).word)
     work_unit at known =
-        let got : ℕ = view c words (units.touch_at c (control_number c) at).word in
+        let got : ℕ = view config words (units.touch_at config (control_number config) at).word in
         let ready = and_parts _ _ known.ready in
-        let step = work_step c u (control_number c) shared at ready.0 (is_off (units.is_ended at) ready.1) known.facts in
-        step_owes (units.touch_at c (control_number c) at) (then_at (Working at) got) (is_word_from c _ (unit_inside c (control_number c) at (omega arith) ready.0))
-        (step_with c u (control_number c) (units.touch_at c (control_number c) at) _ _ step
+        let step = work_step config u (control_number config) shared at ready.0 (is_off (units.is_ended at) ready.1) known.facts in
+        step_owes (units.touch_at config (control_number config) at) (then_at (Working at) got) (is_word_from config _ (unit_inside config (control_number config) at (omega arith) ready.0))
+        (step_with config u (control_number config) (units.touch_at config (control_number config) at) _ _ step
         (record {
           number_is = refl;
-          ready = stays_ready c phase cset seen 0 (Working at) got known.ready (work_fits c u (control_number c) shared at ready.0 known.facts);
+          ready = stays_ready config phase cset seen 0 (Working at) got known.ready (work_fits config u (control_number config) shared at ready.0 known.facts);
           phase_is = known.phase_is ∙ sym step.keeps.marks.phase;
           set_is = known.set_is ∙ sym step.keeps.copies.cset;
-          facts = unit_facts step.world (units.next_at c at got) step.own;
-          aims = unit_aim (units.next_at c at got) _;
-          extent_is = unit_extent phase (units.next_at c at got);
+          facts = unit_facts step.world (units.next_at config at got) step.own;
+          aims = unit_aim (units.next_at config at got) _;
+          extent_is = unit_extent phase (units.next_at config at got);
         }))
-        (unit_spot (units.next_at c at got))
+        (unit_spot (units.next_at config at got))
 
     -- it wants a pause
     pub raise_pause : (got : ℕ) → Quiet (Stopping stop.Raise) got
     raise_pause got known =
         stores_word Pause 1 (then_at (Stopping stop.Raise) got) refl refl (λ k differs. refl) shared
-        (record { number_is = refl; ready = stays_ready c phase cset seen 0 (Stopping stop.Raise) got known.ready tt; phase_is = known.phase_is; set_is = known.set_is; facts = known.facts; aims = tt; extent_is = tt }) refl
+        (record { number_is = refl; ready = stays_ready config phase cset seen 0 (Stopping stop.Raise) got known.ready tt; phase_is = known.phase_is; set_is = known.set_is; facts = known.facts; aims = tt; extent_is = tt }) refl
 
     -- it looks whether a seat is out
     pub check_seat : (seat got : ℕ) → Quiet (Stopping (stop.Check seat)) got
@@ -251,17 +251,17 @@ module _ (c : Config) (words : List ℕ) (block : Plot) (ghost : Ghost) (g : Gra
         loads_word (State seat) (then_at (Stopping (stop.Check seat)) got) (and_parts _ _ (and_parts _ _ known.ready).0).0
         (record {
           number_is = refl;
-          ready = stays_ready c phase cset seen 0 (Stopping (stop.Check seat)) got known.ready tt;
+          ready = stays_ready config phase cset seen 0 (Stopping (stop.Check seat)) got known.ready tt;
           phase_is = known.phase_is;
           set_is = known.set_is;
-          facts = stopping_facts u phase (stop_next c (stop.Check seat) got) known.facts;
-          aims = stopping_aim phase (stop_next c (stop.Check seat) got) _;
-          extent_is = stopping_extent phase (stop_next c (stop.Check seat) got);
+          facts = stopping_facts u phase (stop_next config (stop.Check seat) got) known.facts;
+          aims = stopping_aim phase (stop_next config (stop.Check seat) got) _;
+          extent_is = stopping_extent phase (stop_next config (stop.Check seat) got);
         })
-        (stopping_spot phase (stop_next c (stop.Check seat) got))
+        (stopping_spot phase (stop_next config (stop.Check seat) got))
 
     -- it lets the others go
     pub let_go : (got : ℕ) → Quiet Go got
     let_go got known =
         stores_word Pause 0 (then_at Go got) refl refl (λ k differs. refl) shared
-        (record { number_is = refl; ready = stays_ready c phase cset seen 0 Go got known.ready tt; phase_is = known.phase_is; set_is = known.set_is; facts = known.facts; aims = tt; extent_is = tt }) refl
+        (record { number_is = refl; ready = stays_ready config phase cset seen 0 Go got known.ready tt; phase_is = known.phase_is; set_is = known.set_is; facts = known.facts; aims = tt; extent_is = tt }) refl

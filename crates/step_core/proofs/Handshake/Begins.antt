@@ -26,32 +26,32 @@ rests_left (Ended reply) takes = refl
 rests_left _ takes = absurd (cc (takes))
 
 -- the idle control is idle in the handshake
-control_idle : (c : Config) (phase cset : ℕ) (g : Graph) (number : ℕ) (machine : Machine) → HasNumber c number machine → IsIdle phase cset g number machine → number ≡ control_seat c → standing_of machine ≡ idle
-control_idle c phase cset g number machine has is e =
-    let role = control_of c number machine has e in
-    subst (λ x. IsIdle phase cset g number x → standing_of x ≡ idle) (sym role.1) (λ calm. ap control_standing calm.0) is
+control_idle : (config : Config) (phase cset : ℕ) (graph : Graph) (number : ℕ) (machine : Machine) → HasNumber config number machine → IsIdle phase cset graph number machine → number ≡ control_seat config → standing_of machine ≡ idle
+control_idle config phase cset graph number machine has is e =
+    let role = control_of config number machine has e in
+    subst (λ x. IsIdle phase cset graph number x → standing_of x ≡ idle) (sym role.1) (λ calm. ap control_standing calm.0) is
 
 -- the mutators have not ended, and no other machine is counted
-mutator_left : (c : Config) (phase cset : ℕ) (g : Graph) (number : ℕ) (machine : Machine) → HasNumber c number machine → IsIdle phase cset g number machine → number < c.mutators → is_left_of machine ≡ true
-mutator_left c phase cset g number machine has is below =
-    let role = mutator_of c number machine has below in
-    subst (λ x. IsIdle phase cset g number x → is_left_of x ≡ true) (sym role.1) (λ calm. rests_left role.0.spot calm.1) is
+mutator_left : (config : Config) (phase cset : ℕ) (graph : Graph) (number : ℕ) (machine : Machine) → HasNumber config number machine → IsIdle phase cset graph number machine → number < config.mutators → is_left_of machine ≡ true
+mutator_left config phase cset graph number machine has is below =
+    let role = mutator_of config number machine has below in
+    subst (λ x. IsIdle phase cset graph number x → is_left_of x ≡ true) (sym role.1) (λ calm. rests_left role.0.spot calm.1) is
 
-other_left : (c : Config) (number : ℕ) (machine : Machine) → HasNumber c number machine → c.mutators ≤ number → is_left_of machine ≡ false
-other_left c number (mutating m) has above = absurd (omega (arith, has.1, above))
-other_left c number _ has above = refl
+other_left : (config : Config) (number : ℕ) (machine : Machine) → HasNumber config number machine → config.mutators ≤ number → is_left_of machine ≡ false
+other_left config number (mutating m) has above = absurd (omega (arith, has.1, above))
+other_left config number _ has above = refl
 
-module _ (c : Config) (s : Stage Actor) (g : Graph) (begins : Begins c s g) where
-  pub begins_shaken : IsShaken c standing s
+module _ (config : Config) (stage : Stage Actor) (graph : Graph) (begins : Begins config stage graph) where
+  pub begins_shaken : IsShaken config standing stage
   begins_shaken =
-      let control = there_is s.machines (control_seat c) (omega (arith, begins.seats)) in
-      shaken_begins c standing s control.0 begins.words begins.seats control.1
-      (let new = begins.machines (control_seat c) control.0 control.1 in control_idle c (view c s.words Phase) (view c s.words Cset) g (control_seat c) (control.0).machine new.number_is new.idle refl)
-      (λ seat a below here. let new = begins.machines seat a here in idle_outside c (view c s.words Phase) (view c s.words Cset) g seat a.machine new.number_is new.idle below)
+      let control = there_is stage.machines (control_seat config) (omega (arith, begins.seats)) in
+      shaken_begins config standing stage control.0 begins.words begins.seats control.1
+      (let new = begins.machines (control_seat config) control.0 control.1 in control_idle config (view config stage.words Phase) (view config stage.words Cset) graph (control_seat config) (control.0).machine new.number_is new.idle refl)
+      (λ seat a below here. let new = begins.machines seat a here in idle_outside config (view config stage.words Phase) (view config stage.words Cset) graph seat a.machine new.number_is new.idle below)
       begins.outside.pause begins.outside.states
 
-  pub begins_counted : AreLeftCounted c is_left s
-  begins_counted = counted_begins c is_left s begins.words begins.seats
-      (λ number a below here. let new = begins.machines number a here in mutator_left c (view c s.words Phase) (view c s.words Cset) g number a.machine new.number_is new.idle below)
-      (λ number a above here. let new = begins.machines number a here in other_left c number a.machine new.number_is above)
+  pub begins_counted : AreLeftCounted config is_left stage
+  begins_counted = counted_begins config is_left stage begins.words begins.seats
+      (λ number a below here. let new = begins.machines number a here in mutator_left config (view config stage.words Phase) (view config stage.words Cset) graph number a.machine new.number_is new.idle below)
+      (λ number a above here. let new = begins.machines number a here in other_left config number a.machine new.number_is above)
       begins.outside.left

@@ -39,18 +39,18 @@ use Rattle.collector_rows.specs.ControlReady.{is_ready}
 use Rattle.step_core.proofs.Handshake.Mutator.{StaysIn, stays_in, waits_in, IsGiven, given_order, given_ended}
 use Rattle.step_core.proofs.Handshake.Control.{unit_above}
 
-module _ (c : Config) (m : Mutating) (given : Order) where
+module _ (config : Config) (mutator : Mutating) (given : Order) where
   abbrev access_at : Spot → Access
-  access_at spot = placed c (touch_at c m.seat m.made m.kept given spot)
+  access_at spot = placed config (touch_at config mutator.seat mutator.made mutator.kept given spot)
 
   -- the access from a spot only reads, or is of another word
   abbrev NotEnd : Spot → Type 0
-  NotEnd spot = (is_load (access_at spot) ≡ true) ⊎ (table_index (access_at spot) ≢ word_at c End)
+  NotEnd spot = (is_load (access_at spot) ≡ true) ⊎ (table_index (access_at spot) ≢ word_at config End)
 
-  of_image : (spot : Spot) → StaysIn c m given spot → IsWord c (touch_at c m.seat m.made m.kept given spot).word → NotEnd spot
-  of_image spot stays word = inr (λ e. (let above = placed_above c (touch_at c m.seat m.made m.kept given spot) word stays.image in omega (arith, e, above)))
+  of_image : (spot : Spot) → StaysIn config mutator given spot → IsWord config (touch_at config mutator.seat mutator.made mutator.kept given spot).word → NotEnd spot
+  of_image spot stays word = inr (λ e. (let above = placed_above config (touch_at config mutator.seat mutator.made mutator.kept given spot) word stays.image in omega (arith, e, above)))
 
-  first_not : (o : Order) → IsGiven o → (is_load (placed c (first_touch m.seat o)) ≡ true) ⊎ (table_index (placed c (first_touch m.seat o)) ≢ word_at c End)
+  first_not : (o : Order) → IsGiven o → (is_load (placed config (first_touch mutator.seat o)) ≡ true) ⊎ (table_index (placed config (first_touch mutator.seat o)) ≢ word_at config End)
   first_not order.Nothing given = absurd given
   first_not (order.Begin command) given = inr (λ e. omega (arith, e))
   first_not order.End given = inr (λ e. omega (arith, e))
@@ -61,73 +61,73 @@ module _ (c : Config) (m : Mutating) (given : Order) where
   enter_not enter.Lower next = inr (λ e. omega (arith, e))
   enter_not _ next = inl refl
 
-  wait_not : (at : WaitSpot) → IsWord c (touch_at c m.seat m.made m.kept given (Waiting at)).word → NotEnd (Waiting at)
+  wait_not : (at : WaitSpot) → IsWord config (touch_at config mutator.seat mutator.made mutator.kept given (Waiting at)).word → NotEnd (Waiting at)
   wait_not wait.StepOut word = inr (λ e. omega (arith, e))
   wait_not wait.Poll word = inl refl
-  wait_not wait.StoreRequest word = of_image (Waiting wait.StoreRequest) (waits_in c m given wait.StoreRequest refl) word
-  wait_not wait.AskRoom word = of_image (Waiting wait.AskRoom) (waits_in c m given wait.AskRoom refl) word
-  wait_not wait.LoadAnswer word = of_image (Waiting wait.LoadAnswer) (waits_in c m given wait.LoadAnswer refl) word
-  wait_not (wait.StoreRoot address) word = of_image (Waiting (wait.StoreRoot address)) (waits_in c m given (wait.StoreRoot address) refl) word
-  wait_not (wait.ClearAnswer reply) word = of_image (Waiting (wait.ClearAnswer reply)) (waits_in c m given (wait.ClearAnswer reply) refl) word
+  wait_not wait.StoreRequest word = of_image (Waiting wait.StoreRequest) (waits_in config mutator given wait.StoreRequest refl) word
+  wait_not wait.AskRoom word = of_image (Waiting wait.AskRoom) (waits_in config mutator given wait.AskRoom refl) word
+  wait_not wait.LoadAnswer word = of_image (Waiting wait.LoadAnswer) (waits_in config mutator given wait.LoadAnswer refl) word
+  wait_not (wait.StoreRoot address) word = of_image (Waiting (wait.StoreRoot address)) (waits_in config mutator given (wait.StoreRoot address) refl) word
+  wait_not (wait.ClearAnswer reply) word = of_image (Waiting (wait.ClearAnswer reply)) (waits_in config mutator given (wait.ClearAnswer reply) refl) word
 
-  pub not_end : (spot : Spot) → takes_at spot m.made given ≡ true → numbers_fit c m.seat m.made m.kept spot ≡ true → IsWord c (touch_at c m.seat m.made m.kept order.Nothing spot).word → NotEnd spot
-  not_end Rest takes going word = first_not given (given_order c m given given takes)
-  not_end (Ended reply) takes going word = first_not given (given_ended c m given reply given takes)
+  pub not_end : (spot : Spot) → takes_at spot mutator.made given ≡ true → numbers_fit config mutator.seat mutator.made mutator.kept spot ≡ true → IsWord config (touch_at config mutator.seat mutator.made mutator.kept order.Nothing spot).word → NotEnd spot
+  not_end Rest takes going word = first_not given (given_order config mutator given given takes)
+  not_end (Ended reply) takes going word = first_not given (given_ended config mutator given reply given takes)
   not_end Gone takes going word = absurd (cc (takes))
   not_end (Entering at next) takes going word = enter_not at next
   not_end (Waiting at) takes going word = wait_not at word
   not_end (Leave reply) takes going word = inr (λ e. omega (arith, e))
-  not_end LoadPhase takes going word = of_image LoadPhase (stays_in c m given LoadPhase going refl) word
-  not_end LoadSet takes going word = of_image LoadSet (stays_in c m given LoadSet going refl) word
-  not_end (Loading at) takes going word = of_image (Loading at) (stays_in c m given (Loading at) going refl) word
-  not_end (OnField object at) takes going word = of_image (OnField object at) (stays_in c m given (OnField object at) going refl) word
-  not_end (Resolving address at next) takes going word = of_image (Resolving address at next) (stays_in c m given (Resolving address at next) going refl) word
-  not_end (Recording at address next) takes going word = of_image (Recording at address next) (stays_in c m given (Recording at address next) going refl) word
-  not_end (OnNumber object refs at) takes going word = of_image (OnNumber object refs at) (stays_in c m given (OnNumber object refs at) going refl) word
-  not_end (Showing value at) takes going word = of_image (Showing value at) (stays_in c m given (Showing value at) going refl) word
-  not_end (StoreRoot value) takes going word = of_image (StoreRoot value) (stays_in c m given (StoreRoot value) going refl) word
-  not_end (Making at) takes going word = of_image (Making at) (stays_in c m given (Making at) going refl) word
-  not_end (Pinning value at) takes going word = of_image (Pinning value at) (stays_in c m given (Pinning value at) going refl) word
-  not_end AskCycle takes going word = of_image AskCycle (stays_in c m given AskCycle going refl) word
+  not_end LoadPhase takes going word = of_image LoadPhase (stays_in config mutator given LoadPhase going refl) word
+  not_end LoadSet takes going word = of_image LoadSet (stays_in config mutator given LoadSet going refl) word
+  not_end (Loading at) takes going word = of_image (Loading at) (stays_in config mutator given (Loading at) going refl) word
+  not_end (OnField object at) takes going word = of_image (OnField object at) (stays_in config mutator given (OnField object at) going refl) word
+  not_end (Resolving address at next) takes going word = of_image (Resolving address at next) (stays_in config mutator given (Resolving address at next) going refl) word
+  not_end (Recording at address next) takes going word = of_image (Recording at address next) (stays_in config mutator given (Recording at address next) going refl) word
+  not_end (OnNumber object refs at) takes going word = of_image (OnNumber object refs at) (stays_in config mutator given (OnNumber object refs at) going refl) word
+  not_end (Showing value at) takes going word = of_image (Showing value at) (stays_in config mutator given (Showing value at) going refl) word
+  not_end (StoreRoot value) takes going word = of_image (StoreRoot value) (stays_in config mutator given (StoreRoot value) going refl) word
+  not_end (Making at) takes going word = of_image (Making at) (stays_in config mutator given (Making at) going refl) word
+  not_end (Pinning value at) takes going word = of_image (Pinning value at) (stays_in config mutator given (Pinning value at) going refl) word
+  not_end AskCycle takes going word = of_image AskCycle (stays_in config mutator given AskCycle going refl) word
 
 -- a choice of two spots at neither of which the control has ended
-neither : (b : Bool) (x y : ControlSpot) → is_gone x ≡ false → is_gone y ≡ false → is_gone (if b then x else y) ≡ false
-neither true x y is_x is_y = is_x
-neither false x y is_x is_y = is_y
+neither : (holds : Bool) (spot other_spot : ControlSpot) → is_gone spot ≡ false → is_gone other_spot ≡ false → is_gone (if holds then spot else other_spot) ≡ false
+neither true spot other_spot is_x is_y = is_x
+neither false spot other_spot is_x is_y = is_y
 
-stopping_goes : (c : Config) (phase : ℕ) (at : StopSpot) → is_gone (stopping c phase at) ≡ false
-stopping_goes c phase stop.Raise = refl
-stopping_goes c phase (stop.Check seat) = refl
-stopping_goes c phase stop.Stopped = refl
+stopping_goes : (config : Config) (phase : ℕ) (at : StopSpot) → is_gone (stopping config phase at) ≡ false
+stopping_goes config phase stop.Raise = refl
+stopping_goes config phase (stop.Check seat) = refl
+stopping_goes config phase stop.Stopped = refl
 
-loads_go : (c : Config) (extent : Extent) (index : ℕ) → is_gone (after_load c extent index) ≡ false
-loads_go c extent index = neither (nat_lt (next_loaded c extent index) (image_words c)) (control.LoadWord (next_loaded c extent index) extent) (control.StoreWord 0 extent) refl refl
+loads_go : (config : Config) (extent : Extent) (index : ℕ) → is_gone (after_load config extent index) ≡ false
+loads_go config extent index = neither (nat_lt (next_loaded config extent index) (image_words config)) (control.LoadWord (next_loaded config extent index) extent) (control.StoreWord 0 extent) refl refl
 
 unit_goes : (at : UnitSpot) → is_gone (after_unit at) ≡ false
 unit_goes (unit.Ended Worked) = refl
 unit_goes (unit.Ended NoneLeft) = refl
 unit_goes _ = refl
 
-module _ (c : Config) (phase cset seen next value : ℕ) where
-  stop_not : (at : StopSpot) → (is_load (access_with c (control.Stopping at) value) ≡ true) ⊎ (table_index (access_with c (control.Stopping at) value) ≢ word_at c End)
+module _ (config : Config) (phase cset seen next value : ℕ) where
+  stop_not : (at : StopSpot) → (is_load (access_with config (control.Stopping at) value) ≡ true) ⊎ (table_index (access_with config (control.Stopping at) value) ≢ word_at config End)
   stop_not stop.Raise = inr (λ e. omega (arith, e))
   stop_not _ = inl refl
 
   -- a step of the control writes the word where it ends, and only there
-  pub control_keeps_end : (spot : ControlSpot) → is_ready c spot ≡ true → KeepsEnd c (is_gone spot) (access_with c spot value) (λ got. is_gone (next_spot c phase cset seen next spot got))
+  pub control_keeps_end : (spot : ControlSpot) → is_ready config spot ≡ true → KeepsEnd config (is_gone spot) (access_with config spot value) (λ got. is_gone (next_spot config phase cset seen next spot got))
   control_keeps_end control.LookLeft ready = inr (record { not_written = inl refl; same = λ got. neither (got == 0) control.StoreEnd control.LookAsked refl refl })
   control_keeps_end control.StoreEnd ready = inl (record { access_is = refl; has_ended = λ got. refl })
   control_keeps_end control.LookAsked ready = inr (record {
     not_written = inl refl;
     same = λ got. neither (begins_pause phase got) (control.Stopping stop.Raise) (unasked phase cset) refl (neither (phase == 0) control.LookFree (control.Working (units.begins phase cset)) refl refl);
   })
-  control_keeps_end control.LookFree ready = inr (record { not_written = inl refl; same = λ got. neither (wants_pause c seen got) (control.Stopping stop.Raise) control.LookLeft refl refl })
+  control_keeps_end control.LookFree ready = inr (record { not_written = inl refl; same = λ got. neither (wants_pause config seen got) (control.Stopping stop.Raise) control.LookLeft refl refl })
   control_keeps_end (control.Working at) ready =
-      let above = unit_above c (control_seat c) at (omega arith) (and_parts _ _ ready).0 in
-      inr (record { not_written = inr (λ e. omega (arith, e, above)); same = λ got. unit_goes (units.next_at c at got) })
-  control_keeps_end (control.Stopping at) ready = inr (record { not_written = stop_not at; same = λ got. stopping_goes c phase (stop_next c at got) })
-  control_keeps_end (control.LoadWord index extent) ready = inr (record { not_written = inl refl; same = λ got. loads_go c (extent_after phase index extent got) index })
+      let above = unit_above config (control_seat config) at (omega arith) (and_parts _ _ ready).0 in
+      inr (record { not_written = inr (λ e. omega (arith, e, above)); same = λ got. unit_goes (units.next_at config at got) })
+  control_keeps_end (control.Stopping at) ready = inr (record { not_written = stop_not at; same = λ got. stopping_goes config phase (stop_next config at got) })
+  control_keeps_end (control.LoadWord index extent) ready = inr (record { not_written = inl refl; same = λ got. loads_go config (extent_after phase index extent got) index })
   control_keeps_end (control.StoreWord index extent) ready =
-      inr (record { not_written = inr (λ e. omega (arith, e)); same = λ got. neither (nat_lt next (image_words c)) (control.StoreWord next extent) control.Go refl refl })
+      inr (record { not_written = inr (λ e. omega (arith, e)); same = λ got. neither (nat_lt next (image_words config)) (control.StoreWord next extent) control.Go refl refl })
   control_keeps_end control.Go ready = inr (record { not_written = inr (λ e. omega (arith, e)); same = λ got. refl })
   control_keeps_end control.Gone ready = inr (record { not_written = inl refl; same = λ got. refl })

@@ -22,33 +22,33 @@ use Rattle.step_core.proofs.Machines.Roles.{CanGo, can_go, machine_keeps_end}
 use Rattle.step_core.proofs.Theorem.Induction.{Goes, goes_event}
 use Rattle.step_core.proofs.Theorem.Beginning.{goes_begins}
 
-event_keeps_end : (change : Change) (c : Config) (s : Stage Actor) (e : Event Order) → ((a : Actor) → slice_get s.machines e.number ≡ Some a → CanGo c a.machine)
-    → EventKeepsEnd c (kind change c) has_ended s e
+event_keeps_end : (change : Change) (config : Config) (stage : Stage Actor) (event : Event Order) → ((actor : Actor) → slice_get stage.machines event.number ≡ Some actor → CanGo config actor.machine)
+    → EventKeepsEnd config (kind change config) has_ended stage event
 unfolding kind
-event_keeps_end change c s e can a is = machine_keeps_end change c e.order a.machine is.takes (can a is.here)
+event_keeps_end change config stage event can actor is = machine_keeps_end change config event.order actor.machine is.takes (can actor is.here)
 
 -- and each event of a run
-each_keeps_end : (change : Change) → PausesByParts change → (c : Config) (g : Graph) (s : Stage Actor) (past : List Entry) (es : List (Event Order)) → Goes c g s past
-    → EachKeepsEnd c (kind change c) has_ended s es
-each_keeps_end change law c g s past [] goes = tt
-each_keeps_end change law c g s past (e ∷ es) goes = (
-  event_keeps_end change c s e (λ a is. can_go c s.words _ _ e.number a a.machine (goes.follows.machines e.number a is)),
-  each_keeps_end change law c g (act (kind change c) s e) (past ++ told c s e) es (goes_event change law c g s past e goes),
+each_keeps_end : (change : Change) → PausesByParts change → (config : Config) (graph : Graph) (stage : Stage Actor) (past : List Entry) (es : List (Event Order)) → Goes config graph stage past
+    → EachKeepsEnd config (kind change config) has_ended stage es
+each_keeps_end change law config graph stage past [] goes = tt
+each_keeps_end change law config graph stage past (e ∷ es) goes = (
+  event_keeps_end change config stage e (λ a is. can_go config stage.words _ _ e.number a a.machine (goes.follows.machines e.number a is)),
+  each_keeps_end change law config graph (act (kind change config) stage e) (past ++ told config stage e) es (goes_event change law config graph stage past e goes),
 )
 
 -- who is idle has not ended
-idle_goes : (phase cset : ℕ) (g : Graph) (number : ℕ) (machine : Machine) → IsIdle phase cset g number machine → has_ended_of machine ≡ false
-idle_goes phase cset g number (controlling k) idle = ap is_gone idle.0
-idle_goes phase cset g number _ idle = refl
+idle_goes : (phase cset : ℕ) (graph : Graph) (number : ℕ) (machine : Machine) → IsIdle phase cset graph number machine → has_ended_of machine ≡ false
+idle_goes phase cset graph number (controlling k) idle = ap is_gone idle.0
+idle_goes phase cset graph number _ idle = refl
 
 -- The word of the end is 1 where the control has ended and 0 where it has not, in each stage that events lead to from one in which it is 0.
-pub run_ends : (change : Change) → PausesByParts change → (c : Config) (s : Stage Actor) (g : Graph) → Begins c s g → view c s.words End ≡ 0 → (events : List (Event Order))
-    → IsEndWord c has_ended (go (kind change c) s events)
-run_ends change law c s g begins zero events =
-    known_run c (kind change c) has_ended s events
+pub run_ends : (change : Change) → PausesByParts change → (config : Config) (stage : Stage Actor) (graph : Graph) → Begins config stage graph → view config stage.words End ≡ 0 → (events : List (Event Order))
+    → IsEndWord config has_ended (go (kind change config) stage events)
+run_ends change law config stage graph begins zero events =
+    known_run config (kind change config) has_ended stage events
     (record {
       words = begins.words;
-      one = λ k a there has. absurd (true≢false (sym has ∙ idle_goes (view c s.words Phase) (view c s.words Cset) g k a.machine (begins.machines k a there).idle));
+      one = λ k a there has. absurd (true≢false (sym has ∙ idle_goes (view config stage.words Phase) (view config stage.words Cset) graph k a.machine (begins.machines k a there).idle));
       none = λ no. zero;
     })
-    (each_keeps_end change law c g s [] events (goes_begins c s g begins))
+    (each_keeps_end change law config graph stage [] events (goes_begins config stage graph begins))

@@ -13,19 +13,19 @@ use Rattle.step_core.proofs.Machines.Alike.{load_step, store_step}
 use Rattle.step_core.proofs.Mutators.WhileMarking.{world_with}
 
 -- a store into the state word of a seat leaves those of the others
-pub states_stay : (u : World) (seat value k : ℕ) → k ≢ seat → write u.memory (State seat) value (State k) ≡ u.memory (State k)
-states_stay u seat value k differs = cond-false (seat == k) _ _ (ne_eqb seat k (λ e. differs (sym e)))
+pub states_stay : (world : World) (seat value other_seat : ℕ) → other_seat ≢ seat → write world.memory (State seat) value (State other_seat) ≡ world.memory (State other_seat)
+states_stay world seat value other_seat differs = cond-false (seat == other_seat) _ _ (ne_eqb seat other_seat (λ e. differs (sym e)))
 
 -- the world after the access
 abbrev pub entered_world : World → ℕ → EnterSpot → World
-entered_world u seat Raise = world_with u (write u.memory (State seat) 1) u.graph
-entered_world u seat Lower = world_with u (write u.memory (State seat) 0) u.graph
-entered_world u seat _ = u
+entered_world world seat Raise = world_with world (write world.memory (State seat) 1) world.graph
+entered_world world seat Lower = world_with world (write world.memory (State seat) 0) world.graph
+entered_world world seat _ = world
 
 -- what each of these steps owes, whatever its machine counts on
-pub enters : (c : Config) (u : World) (seat : ℕ) (at : EnterSpot) (facts : World → Type 0) → Shared c u → facts (entered_world u seat at) → PartStep c u seat (enter_touch seat at) facts
-enters c u seat Raise facts shared own = store_step c u seat (State seat) 1 facts refl (states_stay u seat 1) shared own
-enters c u seat Look facts shared own = load_step c u seat Pause facts shared own
-enters c u seat Lower facts shared own = store_step c u seat (State seat) 0 facts refl (states_stay u seat 0) shared own
-enters c u seat Await facts shared own = load_step c u seat Pause facts shared own
-enters c u seat Inside facts shared own = load_step c u seat Pause facts shared own
+pub enters : (config : Config) (world : World) (seat : ℕ) (at : EnterSpot) (facts : World → Type 0) → Shared config world → facts (entered_world world seat at) → PartStep config world seat (enter_touch seat at) facts
+enters config world seat Raise facts shared own = store_step config world seat (State seat) 1 facts refl (states_stay world seat 1) shared own
+enters config world seat Look facts shared own = load_step config world seat Pause facts shared own
+enters config world seat Lower facts shared own = store_step config world seat (State seat) 0 facts refl (states_stay world seat 0) shared own
+enters config world seat Await facts shared own = load_step config world seat Pause facts shared own
+enters config world seat Inside facts shared own = load_step config world seat Pause facts shared own

@@ -34,41 +34,41 @@ unit_within : (at : UnitSpot) → is_within (help_standing (after_unit at)) ≡ 
 unit_within (Ended unit) = refl
 unit_within _ = refl
 
-module _ (c : Config) (seat : ℕ) (seated : seat < c.mutators + c.helpers) where
-  outside_both : (b : Bool) → help_standing (if b then Gone else Entering enter.Raise) ≡ outside
+module _ (config : Config) (seat : ℕ) (seated : seat < config.mutators + config.helpers) where
+  outside_both : (holds : Bool) → help_standing (if holds then Gone else Entering enter.Raise) ≡ outside
   outside_both true = refl
   outside_both false = refl
 
-  within_both : (b : Bool) (phase : ℕ) → is_within (help_standing (if b then Leave else LoadSet phase)) ≡ true
+  within_both : (holds : Bool) (phase : ℕ) → is_within (help_standing (if holds then Leave else LoadSet phase)) ≡ true
   within_both true phase = refl
   within_both false phase = refl
 
   -- the access of a unit is of a word of the image
-  above : (at : UnitSpot) → spot_fits c seat (Working at) ≡ true → image_start c ≤ table_index (placed c (units.touch_at c seat at))
-  above at fits = unit_above c seat at (omega (arith, seated)) (and_parts _ _ fits).0
+  above : (at : UnitSpot) → spot_fits config seat (Working at) ≡ true → image_start config ≤ table_index (placed config (units.touch_at config seat at))
+  above at fits = unit_above config seat at (omega (arith, seated)) (and_parts _ _ fits).0
 
   -- a helper that has not ended obeys
-  pub help_obeys : (spot : HelpSpot) → spot_fits c seat spot ≡ true → is_gone spot ≡ false → Obeys c seat (help_standing spot) (placed c (touch_at c seat spot)) (λ got. help_standing (next_spot c spot got))
+  pub help_obeys : (spot : HelpSpot) → spot_fits config seat spot ≡ true → is_gone spot ≡ false → Obeys config seat (help_standing spot) (placed config (touch_at config seat spot)) (λ got. help_standing (next_spot config spot got))
   help_obeys LoadEnd fits going = inr (record { harmless = inl refl; next_is = λ got. outside_both (nat_eq got 1) })
   help_obeys (Entering at) fits going =
-      obeys_same c seat (enter_standing at) _ (λ got. enter_standing (enter_next at got)) _ (λ got. enter_same (enter_next at got)) (enter_obeys c seat at (is_off (is_entered at) fits))
-  help_obeys LoadPhase fits going = record { elsewhere = placed_elsewhere c (touch Phase loads) tt refl; goes_on = λ got. within_both (nat_eq got 0) got }
-  help_obeys (LoadSet phase) fits going = record { elsewhere = placed_elsewhere c (touch Cset loads) tt refl; goes_on = λ got. refl }
-  help_obeys (Working at) fits going = record { elsewhere = image_elsewhere c (placed c (units.touch_at c seat at)) (above at fits); goes_on = λ got. unit_within (units.next_at c at got) }
-  help_obeys Leave fits going = leave_obeys c seat
+      obeys_same config seat (enter_standing at) _ (λ got. enter_standing (enter_next at got)) _ (λ got. enter_same (enter_next at got)) (enter_obeys config seat at (is_off (is_entered at) fits))
+  help_obeys LoadPhase fits going = record { elsewhere = placed_elsewhere config (touch Phase loads) tt refl; goes_on = λ got. within_both (nat_eq got 0) got }
+  help_obeys (LoadSet phase) fits going = record { elsewhere = placed_elsewhere config (touch Cset loads) tt refl; goes_on = λ got. refl }
+  help_obeys (Working at) fits going = record { elsewhere = image_elsewhere config (placed config (units.touch_at config seat at)) (above at fits); goes_on = λ got. unit_within (units.next_at config at got) }
+  help_obeys Leave fits going = leave_obeys config seat
   help_obeys Gone fits going = absurd (cc (going))
 
   -- its steps leave the count of the mutators as it is
-  pub help_counts : (spot : HelpSpot) → spot_fits c seat spot ≡ true → Counts c false (placed c (touch_at c seat spot)) (λ got. false)
+  pub help_counts : (spot : HelpSpot) → spot_fits config seat spot ≡ true → Counts config false (placed config (touch_at config seat spot)) (λ got. false)
   help_counts (Entering enter.Raise) fits = inr (record { not_written = inr (λ e. omega (arith, e)); same = λ got. refl })
   help_counts (Entering enter.Lower) fits = inr (record { not_written = inr (λ e. omega (arith, e)); same = λ got. refl })
   help_counts (Entering _) fits = inr (record { not_written = inl refl; same = λ got. refl })
-  help_counts (Working at) fits = inr (record { not_written = inr (image_not_left c (placed c (units.touch_at c seat at)) (above at fits)); same = λ got. refl })
+  help_counts (Working at) fits = inr (record { not_written = inr (image_not_left config (placed config (units.touch_at config seat at)) (above at fits)); same = λ got. refl })
   help_counts Leave fits = inr (record { not_written = inr (λ e. omega (arith, e)); same = λ got. refl })
   help_counts _ fits = inr (record { not_written = inl refl; same = λ got. refl })
 
   -- and the word of the end
-  pub help_not_end : (spot : HelpSpot) → spot_fits c seat spot ≡ true → (is_load (placed c (touch_at c seat spot)) ≡ true) ⊎ (table_index (placed c (touch_at c seat spot)) ≢ word_at c End)
+  pub help_not_end : (spot : HelpSpot) → spot_fits config seat spot ≡ true → (is_load (placed config (touch_at config seat spot)) ≡ true) ⊎ (table_index (placed config (touch_at config seat spot)) ≢ word_at config End)
   help_not_end (Entering enter.Raise) fits = inr (λ e. omega (arith, e))
   help_not_end (Entering enter.Lower) fits = inr (λ e. omega (arith, e))
   help_not_end (Entering _) fits = inl refl

@@ -14,19 +14,19 @@ use Rattle.step_core.proofs.Machines.Roles.{CanGo, is_left_of, machine_obeys, ma
 
 -- where an actor stands
 abbrev pub standing : Actor → Standing
-standing a = standing_of a.machine
+standing actor = standing_of actor.machine
 
 -- whether it is a mutator that has not ended
 abbrev pub is_left : Actor → Bool
-is_left a = is_left_of a.machine
+is_left actor = is_left_of actor.machine
 
 -- an event obeys, and counts, where each machine has its number and can make its access
-module _ (change : Change) (c : Config) (s : Stage Actor) (e : Event Order) where
-  pub event_obeys : ((a : Actor) → slice_get s.machines e.number ≡ Some a → HasNumber c e.number a.machine) → ((a : Actor) → slice_get s.machines e.number ≡ Some a → CanGo c a.machine)
-      → EventObeys c (kind change c) standing s e
+module _ (change : Change) (config : Config) (stage : Stage Actor) (event : Event Order) where
+  pub event_obeys : ((actor : Actor) → slice_get stage.machines event.number ≡ Some actor → HasNumber config event.number actor.machine) → ((actor : Actor) → slice_get stage.machines event.number ≡ Some actor → CanGo config actor.machine)
+      → EventObeys config (kind change config) standing stage event
   unfolding kind
-  event_obeys has can a is = machine_obeys change c e.number e.order a.machine (has a is.here) is.takes (can a is.here)
+  event_obeys has can actor is = machine_obeys change config event.number event.order actor.machine (has actor is.here) is.takes (can actor is.here)
 
-  pub event_counts : ((a : Actor) → slice_get s.machines e.number ≡ Some a → CanGo c a.machine) → EventCounts c (kind change c) is_left s e
+  pub event_counts : ((actor : Actor) → slice_get stage.machines event.number ≡ Some actor → CanGo config actor.machine) → EventCounts config (kind change config) is_left stage event
   unfolding kind
-  event_counts can a is = machine_counts change c e.number e.order a.machine is.takes (can a is.here)
+  event_counts can actor is = machine_counts change config event.number event.order actor.machine is.takes (can actor is.here)

@@ -74,45 +74,45 @@ enter_same Waited Inside = refl
 enter_same next _ = refl
 
 -- the words that parts access are of the image
-load_image : (c : Config) (seat made : ℕ) (kept : Kept) (order : Order) (at : LoadSpot) → is_image (touch_at c seat made kept order (Loading at)).word ≡ true
-load_image c seat made kept order load.First = refl
-load_image c seat made kept order (load.Second first) = refl
-load_image c seat made kept order (load.Third first second) = refl
-load_image c seat made kept order (load.Shape object second third) = refl
+load_image : (config : Config) (seat made : ℕ) (kept : Kept) (order : Order) (at : LoadSpot) → is_image (touch_at config seat made kept order (Loading at)).word ≡ true
+load_image config seat made kept order load.First = refl
+load_image config seat made kept order (load.Second first) = refl
+load_image config seat made kept order (load.Third first second) = refl
+load_image config seat made kept order (load.Shape object second third) = refl
 
-field_image : (c : Config) (seat made object : ℕ) (kept : Kept) (order : Order) (at : FieldSpot) → is_image (touch_at c seat made kept order (OnField object at)).word ≡ true
-field_image c seat made object kept order fields.Load = refl
-field_image c seat made object kept order (fields.LoadExpected expect value) = refl
-field_image c seat made object kept order (fields.LoadOld value) = refl
-field_image c seat made object kept order (fields.Store value) = refl
-field_image c seat made object kept order (fields.Swap value) = refl
-field_image c seat made object kept order (fields.Exchange found expect value) = refl
+field_image : (config : Config) (seat made object : ℕ) (kept : Kept) (order : Order) (at : FieldSpot) → is_image (touch_at config seat made kept order (OnField object at)).word ≡ true
+field_image config seat made object kept order fields.Load = refl
+field_image config seat made object kept order (fields.LoadExpected expect value) = refl
+field_image config seat made object kept order (fields.LoadOld value) = refl
+field_image config seat made object kept order (fields.Store value) = refl
+field_image config seat made object kept order (fields.Swap value) = refl
+field_image config seat made object kept order (fields.Exchange found expect value) = refl
 
-record_image : (c : Config) (seat made address : ℕ) (kept : Kept) (order : Order) (at : RememberSpot) (next : Overwritten) → is_image (touch_at c seat made kept order (Recording at address next)).word ≡ true
-record_image c seat made address kept order LoadCount next = refl
-record_image c seat made address kept order (LoadEntry entry) next = refl
-record_image c seat made address kept order (MarkEntry entry found) next = refl
-record_image c seat made address kept order ClearCount next = refl
-record_image c seat made address kept order (StoreEntry entry) next = refl
-record_image c seat made address kept order (StoreCount entry) next = refl
-record_image c seat made address kept order Recorded next = refl
+record_image : (config : Config) (seat made address : ℕ) (kept : Kept) (order : Order) (at : RememberSpot) (next : Overwritten) → is_image (touch_at config seat made kept order (Recording at address next)).word ≡ true
+record_image config seat made address kept order LoadCount next = refl
+record_image config seat made address kept order (LoadEntry entry) next = refl
+record_image config seat made address kept order (MarkEntry entry found) next = refl
+record_image config seat made address kept order ClearCount next = refl
+record_image config seat made address kept order (StoreEntry entry) next = refl
+record_image config seat made address kept order (StoreCount entry) next = refl
+record_image config seat made address kept order Recorded next = refl
 
-number_image : (c : Config) (seat made object refs : ℕ) (kept : Kept) (order : Order) (at : NumberSpot) → is_image (touch_at c seat made kept order (OnNumber object refs at)).word ≡ true
-number_image c seat made object refs kept order number.Load = refl
-number_image c seat made object refs kept order number.Store = refl
+number_image : (config : Config) (seat made object refs : ℕ) (kept : Kept) (order : Order) (at : NumberSpot) → is_image (touch_at config seat made kept order (OnNumber object refs at)).word ≡ true
+number_image config seat made object refs kept order number.Load = refl
+number_image config seat made object refs kept order number.Store = refl
 
-show_image : (c : Config) (seat made value : ℕ) (kept : Kept) (order : Order) (at : ShowSpot) → is_image (touch_at c seat made kept order (Showing value at)).word ≡ true
-show_image c seat made value kept order show.LoadName = refl
-show_image c seat made value kept order (show.StoreRoot reply) = refl
+show_image : (config : Config) (seat made value : ℕ) (kept : Kept) (order : Order) (at : ShowSpot) → is_image (touch_at config seat made kept order (Showing value at)).word ≡ true
+show_image config seat made value kept order show.LoadName = refl
+show_image config seat made value kept order (show.StoreRoot reply) = refl
 
-pin_image : (c : Config) (seat made value : ℕ) (kept : Kept) (order : Order) (at : PinSpot) → is_image (touch_at c seat made kept order (Pinning value at)).word ≡ true
-pin_image c seat made value kept order pins.Look = refl
-pin_image c seat made value kept order pins.Store = refl
+pin_image : (config : Config) (seat made value : ℕ) (kept : Kept) (order : Order) (at : PinSpot) → is_image (touch_at config seat made kept order (Pinning value at)).word ≡ true
+pin_image config seat made value kept order pins.Look = refl
+pin_image config seat made value kept order pins.Store = refl
 
-make_image : (c : Config) (seat made : ℕ) (kept : Kept) (order : Order) (at : MakeSpot) → is_image (touch_at c seat made kept order (Making at)).word ≡ true
-make_image c seat made kept order (make.Taking take) = in_image seat (words_made kept.command) take
-make_image c seat made kept order (make.StoreWord address done) = refl
-make_image c seat made kept order (make.StoreRoot address) = refl
+make_image : (config : Config) (seat made : ℕ) (kept : Kept) (order : Order) (at : MakeSpot) → is_image (touch_at config seat made kept order (Making at)).word ≡ true
+make_image config seat made kept order (make.Taking take) = in_image seat (words_made kept.command) take
+make_image config seat made kept order (make.StoreWord address done) = refl
+make_image config seat made kept order (make.StoreRoot address) = refl
 
 -- a mutator that enters is not inside yet
 not_entered : (at : EnterSpot) → is_still_outside at ≡ true → is_entered at ≡ false
@@ -127,33 +127,33 @@ IsGiven End = Unit {0}
 IsGiven (Hint address) = ⊥
 
 -- a mutator between two calls: it enters, or ends
-begins : (c : Config) (m : Mutating) (order : Order) → IsGiven order
-    → Obeys c m.seat outside (placed c (first_touch m.seat order)) (λ got. standing_at (call_begun order m).spot)
-begins c m Nothing given = absurd given
-begins c m (Hint address) given = absurd given
-begins c m (Begin command) given = inl (record { access_is = refl; next_is = λ got. refl })
-begins c m End given = inr (record { harmless = inr (placed_elsewhere c (touch Left (subtracts 1)) tt refl, omega arith); next_is = λ got. refl })
+begins : (config : Config) (mutator : Mutating) (order : Order) → IsGiven order
+    → Obeys config mutator.seat outside (placed config (first_touch mutator.seat order)) (λ got. standing_at (call_begun order mutator).spot)
+begins config mutator Nothing given = absurd given
+begins config mutator (Hint address) given = absurd given
+begins config mutator (Begin command) given = inl (record { access_is = refl; next_is = λ got. refl })
+begins config mutator End given = inr (record { harmless = inr (placed_elsewhere config (touch Left (subtracts 1)) tt refl, omega arith); next_is = λ got. refl })
 
-begins_count : (c : Config) (m : Mutating) (order : Order) → IsGiven order → Counts c true (placed c (first_touch m.seat order)) (λ got. has_not_ended (call_begun order m).spot)
-begins_count c m Nothing given = absurd given
-begins_count c m (Hint address) given = absurd given
-begins_count c m (Begin command) given = inr (record { not_written = inr (λ e. omega (arith, e)); same = λ got. refl })
-begins_count c m End given = inl (record { access_is = refl; was_left = refl; has_ended = λ got. refl })
+begins_count : (config : Config) (mutator : Mutating) (order : Order) → IsGiven order → Counts config true (placed config (first_touch mutator.seat order)) (λ got. has_not_ended (call_begun order mutator).spot)
+begins_count config mutator Nothing given = absurd given
+begins_count config mutator (Hint address) given = absurd given
+begins_count config mutator (Begin command) given = inr (record { not_written = inr (λ e. omega (arith, e)); same = λ got. refl })
+begins_count config mutator End given = inl (record { access_is = refl; was_left = refl; has_ended = λ got. refl })
 
-module _ (c : Config) (m : Mutating) (order : Order) where
+module _ (config : Config) (mutator : Mutating) (order : Order) where
   -- what a mutator that stands at a spot obeys
   abbrev pub ObeysAt : Spot → Type 0
-  ObeysAt spot = Obeys c m.seat (standing_at spot) (placed c (touch_at c m.seat m.made m.kept order spot)) (λ got. standing_at (next_of c (record m { spot = spot }) order got).spot)
+  ObeysAt spot = Obeys config mutator.seat (standing_at spot) (placed config (touch_at config mutator.seat mutator.made mutator.kept order spot)) (λ got. standing_at (next_of config (record mutator { spot = spot }) order got).spot)
 
   -- the step stays in the heap: it is of a word of the image, and its next spot is in the heap
   pub record StaysIn (spot : Spot) : Type 0 where
-    pub image : is_image (touch_at c m.seat m.made m.kept order spot).word ≡ true
-    pub next : (got : ℕ) → in_heap (next_of c (record m { spot = spot }) order got).spot ≡ true
+    pub image : is_image (touch_at config mutator.seat mutator.made mutator.kept order spot).word ≡ true
+    pub next : (got : ℕ) → in_heap (next_of config (record mutator { spot = spot }) order got).spot ≡ true
 
   pub waits_in : (at : WaitSpot) → wait_standing at ≡ inside → StaysIn (Waiting at)
   waits_in wait.StepOut is = absurd (cc (is))
   waits_in wait.Poll is = absurd (cc (is))
-  waits_in wait.LoadAnswer is = record { image = refl; next = λ got. goes_on_in c m order got (Waiting wait.LoadAnswer) is }
+  waits_in wait.LoadAnswer is = record { image = refl; next = λ got. goes_on_in config mutator order got (Waiting wait.LoadAnswer) is }
   waits_in wait.StoreRequest is = record { image = refl; next = λ got. refl }
   waits_in wait.AskRoom is = record { image = refl; next = λ got. refl }
   waits_in (wait.StoreRoot address) is = record { image = refl; next = λ got. refl }
@@ -166,19 +166,19 @@ module _ (c : Config) (m : Mutating) (order : Order) where
   not_inside Lower on is = cc
   not_inside Await on is = cc
 
-  pub stays_in : (spot : Spot) → numbers_fit c m.seat m.made m.kept spot ≡ true → standing_at spot ≡ inside → StaysIn spot
-  stays_in LoadPhase on is = record { image = refl; next = λ got. goes_on_in c m order got LoadPhase is }
-  stays_in LoadSet on is = record { image = refl; next = λ got. goes_on_in c m order got LoadSet is }
-  stays_in (Loading at) on is = record { image = load_image c m.seat m.made m.kept order at; next = λ got. goes_on_in c m order got (Loading at) is }
-  stays_in (OnField object at) on is = record { image = field_image c m.seat m.made object m.kept order at; next = λ got. goes_on_in c m order got (OnField object at) is }
-  stays_in (Resolving address at next) on is = record { image = resolve_image c m.seat address at; next = λ got. goes_on_in c m order got (Resolving address at next) is }
-  stays_in (Recording at address next) on is = record { image = record_image c m.seat m.made address m.kept order at next; next = λ got. goes_on_in c m order got (Recording at address next) is }
-  stays_in (OnNumber object refs at) on is = record { image = number_image c m.seat m.made object refs m.kept order at; next = λ got. goes_on_in c m order got (OnNumber object refs at) is }
-  stays_in (Showing value at) on is = record { image = show_image c m.seat m.made value m.kept order at; next = λ got. goes_on_in c m order got (Showing value at) is }
-  stays_in (StoreRoot value) on is = record { image = refl; next = λ got. goes_on_in c m order got (StoreRoot value) is }
-  stays_in (Making at) on is = record { image = make_image c m.seat m.made m.kept order at; next = λ got. goes_on_in c m order got (Making at) is }
-  stays_in (Pinning value at) on is = record { image = pin_image c m.seat m.made value m.kept order at; next = λ got. goes_on_in c m order got (Pinning value at) is }
-  stays_in AskCycle on is = record { image = refl; next = λ got. goes_on_in c m order got AskCycle is }
+  pub stays_in : (spot : Spot) → numbers_fit config mutator.seat mutator.made mutator.kept spot ≡ true → standing_at spot ≡ inside → StaysIn spot
+  stays_in LoadPhase on is = record { image = refl; next = λ got. goes_on_in config mutator order got LoadPhase is }
+  stays_in LoadSet on is = record { image = refl; next = λ got. goes_on_in config mutator order got LoadSet is }
+  stays_in (Loading at) on is = record { image = load_image config mutator.seat mutator.made mutator.kept order at; next = λ got. goes_on_in config mutator order got (Loading at) is }
+  stays_in (OnField object at) on is = record { image = field_image config mutator.seat mutator.made object mutator.kept order at; next = λ got. goes_on_in config mutator order got (OnField object at) is }
+  stays_in (Resolving address at next) on is = record { image = resolve_image config mutator.seat address at; next = λ got. goes_on_in config mutator order got (Resolving address at next) is }
+  stays_in (Recording at address next) on is = record { image = record_image config mutator.seat mutator.made address mutator.kept order at next; next = λ got. goes_on_in config mutator order got (Recording at address next) is }
+  stays_in (OnNumber object refs at) on is = record { image = number_image config mutator.seat mutator.made object refs mutator.kept order at; next = λ got. goes_on_in config mutator order got (OnNumber object refs at) is }
+  stays_in (Showing value at) on is = record { image = show_image config mutator.seat mutator.made value mutator.kept order at; next = λ got. goes_on_in config mutator order got (Showing value at) is }
+  stays_in (StoreRoot value) on is = record { image = refl; next = λ got. goes_on_in config mutator order got (StoreRoot value) is }
+  stays_in (Making at) on is = record { image = make_image config mutator.seat mutator.made mutator.kept order at; next = λ got. goes_on_in config mutator order got (Making at) is }
+  stays_in (Pinning value at) on is = record { image = pin_image config mutator.seat mutator.made value mutator.kept order at; next = λ got. goes_on_in config mutator order got (Pinning value at) is }
+  stays_in AskCycle on is = record { image = refl; next = λ got. goes_on_in config mutator order got AskCycle is }
   stays_in (Waiting at) on is = waits_in at is
   stays_in (Entering at next) on is = absurd (not_inside at on is)
   stays_in Rest on is = absurd (cc (is))
@@ -187,15 +187,15 @@ module _ (c : Config) (m : Mutating) (order : Order) where
   stays_in (Leave reply) on is = absurd (cc (is))
 
   -- where it is in the heap, so it obeys
-  on : (spot : Spot) → StaysIn spot → IsWord c (touch_at c m.seat m.made m.kept order spot).word
-      → Obeys c m.seat inside (placed c (touch_at c m.seat m.made m.kept order spot)) (λ got. standing_at (next_of c (record m { spot = spot }) order got).spot)
-  on spot stays word = record { elsewhere = image_elsewhere c (placed c (touch_at c m.seat m.made m.kept order spot)) (placed_above c (touch_at c m.seat m.made m.kept order spot) word stays.image); goes_on = stays.next }
+  on : (spot : Spot) → StaysIn spot → IsWord config (touch_at config mutator.seat mutator.made mutator.kept order spot).word
+      → Obeys config mutator.seat inside (placed config (touch_at config mutator.seat mutator.made mutator.kept order spot)) (λ got. standing_at (next_of config (record mutator { spot = spot }) order got).spot)
+  on spot stays word = record { elsewhere = image_elsewhere config (placed config (touch_at config mutator.seat mutator.made mutator.kept order spot)) (placed_above config (touch_at config mutator.seat mutator.made mutator.kept order spot) word stays.image); goes_on = stays.next }
 
-  polls : (b : Bool) → standing_at (if b then Waiting wait.Poll else Entering Raise Waited) ≡ outside
+  polls : (holds : Bool) → standing_at (if holds then Waiting wait.Poll else Entering Raise Waited) ≡ outside
   polls true = refl
   polls false = refl
 
-  waits_obey : (at : WaitSpot) → IsWord c (touch_at c m.seat m.made m.kept order (Waiting at)).word → ObeysAt (Waiting at)
+  waits_obey : (at : WaitSpot) → IsWord config (touch_at config mutator.seat mutator.made mutator.kept order (Waiting at)).word → ObeysAt (Waiting at)
   waits_obey wait.StepOut word = record { access_is = refl; next_is = λ got. refl }
   waits_obey wait.Poll word = inr (record { harmless = inl refl; next_is = λ got. polls (nat_eq got 0) })
   waits_obey wait.StoreRequest word = on (Waiting wait.StoreRequest) (waits_in wait.StoreRequest refl) word
@@ -204,25 +204,25 @@ module _ (c : Config) (m : Mutating) (order : Order) where
   waits_obey (wait.StoreRoot address) word = on (Waiting (wait.StoreRoot address)) (waits_in (wait.StoreRoot address) refl) word
   waits_obey (wait.ClearAnswer reply) word = on (Waiting (wait.ClearAnswer reply)) (waits_in (wait.ClearAnswer reply) refl) word
 
-  pub given_order : (o : Order) → takes_at Rest m.made o ≡ true → IsGiven o
+  pub given_order : (order : Order) → takes_at Rest mutator.made order ≡ true → IsGiven order
   given_order Nothing takes = absurd (cc (takes))
   given_order (Begin command) takes = tt
   given_order End takes = tt
   given_order (Hint address) takes = absurd (cc (takes))
 
-  pub given_ended : (reply : Reply) (o : Order) → takes_at (Ended reply) m.made o ≡ true → IsGiven o
+  pub given_ended : (reply : Reply) (order : Order) → takes_at (Ended reply) mutator.made order ≡ true → IsGiven order
   given_ended reply Nothing takes = absurd (cc (takes))
   given_ended reply (Begin command) takes = tt
   given_ended reply End takes = tt
   given_ended reply (Hint address) takes = absurd (cc (takes))
 
-  spot_obeys : (spot : Spot) → takes_at spot m.made order ≡ true → numbers_fit c m.seat m.made m.kept spot ≡ true → IsWord c (touch_at c m.seat m.made m.kept Nothing spot).word → ObeysAt spot
-  spot_obeys Rest takes going word = begins c (record m { spot = Rest }) order (given_order order takes)
-  spot_obeys (Ended reply) takes going word = begins c (record m { spot = Ended reply }) order (given_ended reply order takes)
+  spot_obeys : (spot : Spot) → takes_at spot mutator.made order ≡ true → numbers_fit config mutator.seat mutator.made mutator.kept spot ≡ true → IsWord config (touch_at config mutator.seat mutator.made mutator.kept Nothing spot).word → ObeysAt spot
+  spot_obeys Rest takes going word = begins config (record mutator { spot = Rest }) order (given_order order takes)
+  spot_obeys (Ended reply) takes going word = begins config (record mutator { spot = Ended reply }) order (given_ended reply order takes)
   spot_obeys Gone takes going word = absurd (cc (takes))
   spot_obeys (Entering at next) takes going word =
-      obeys_same c m.seat (enter_standing at) _ (λ got. enter_standing (enter_next at got)) _ (λ got. enter_same next (enter_next at got))
-      (enter_obeys c m.seat at (not_entered at going))
+      obeys_same config mutator.seat (enter_standing at) _ (λ got. enter_standing (enter_next at got)) _ (λ got. enter_same next (enter_next at got))
+      (enter_obeys config mutator.seat at (not_entered at going))
   spot_obeys (Waiting at) takes going word = waits_obey at word
   spot_obeys (Leave reply) takes going word = record { access_is = refl; next_is = λ got. refl }
   spot_obeys LoadPhase takes going word = on LoadPhase (stays_in LoadPhase going refl) word
@@ -240,11 +240,11 @@ module _ (c : Config) (m : Mutating) (order : Order) where
 
   -- what it does to the count of the mutators that have not ended
   abbrev pub CountsAt : Spot → Type 0
-  CountsAt spot = Counts c (has_not_ended spot) (placed c (touch_at c m.seat m.made m.kept order spot)) (λ got. has_not_ended (next_of c (record m { spot = spot }) order got).spot)
+  CountsAt spot = Counts config (has_not_ended spot) (placed config (touch_at config mutator.seat mutator.made mutator.kept order spot)) (λ got. has_not_ended (next_of config (record mutator { spot = spot }) order got).spot)
 
-  counts_in : (spot : Spot) → StaysIn spot → has_not_ended spot ≡ true → IsWord c (touch_at c m.seat m.made m.kept order spot).word → CountsAt spot
+  counts_in : (spot : Spot) → StaysIn spot → has_not_ended spot ≡ true → IsWord config (touch_at config mutator.seat mutator.made mutator.kept order spot).word → CountsAt spot
   counts_in spot stays now word = inr (record {
-    not_written = inr (image_not_left c (placed c (touch_at c m.seat m.made m.kept order spot)) (placed_above c (touch_at c m.seat m.made m.kept order spot) word stays.image));
+    not_written = inr (image_not_left config (placed config (touch_at config mutator.seat mutator.made mutator.kept order spot)) (placed_above config (touch_at config mutator.seat mutator.made mutator.kept order spot) word stays.image));
     same = λ got. in_heap_left _ (stays.next got) ∙ sym now;
   })
 
@@ -256,11 +256,11 @@ module _ (c : Config) (m : Mutating) (order : Order) where
   enter_counts next Await = inr (record { not_written = inl refl; same = λ got. entering_left next (enter_next Await got) })
   enter_counts next Inside = inr (record { not_written = inl refl; same = λ got. entering_left next Inside })
 
-  polls_left : (b : Bool) → has_not_ended (if b then Waiting wait.Poll else Entering Raise Waited) ≡ true
+  polls_left : (holds : Bool) → has_not_ended (if holds then Waiting wait.Poll else Entering Raise Waited) ≡ true
   polls_left true = refl
   polls_left false = refl
 
-  waits_count : (at : WaitSpot) → IsWord c (touch_at c m.seat m.made m.kept order (Waiting at)).word → CountsAt (Waiting at)
+  waits_count : (at : WaitSpot) → IsWord config (touch_at config mutator.seat mutator.made mutator.kept order (Waiting at)).word → CountsAt (Waiting at)
   waits_count wait.StepOut word = inr (record { not_written = inr (λ e. omega (arith, e)); same = λ got. refl })
   waits_count wait.Poll word = inr (record { not_written = inl refl; same = λ got. polls_left (nat_eq got 0) })
   waits_count wait.StoreRequest word = counts_in (Waiting wait.StoreRequest) (waits_in wait.StoreRequest refl) refl word
@@ -269,9 +269,9 @@ module _ (c : Config) (m : Mutating) (order : Order) where
   waits_count (wait.StoreRoot address) word = counts_in (Waiting (wait.StoreRoot address)) (waits_in (wait.StoreRoot address) refl) refl word
   waits_count (wait.ClearAnswer reply) word = counts_in (Waiting (wait.ClearAnswer reply)) (waits_in (wait.ClearAnswer reply) refl) refl word
 
-  spot_counts : (spot : Spot) → takes_at spot m.made order ≡ true → numbers_fit c m.seat m.made m.kept spot ≡ true → IsWord c (touch_at c m.seat m.made m.kept Nothing spot).word → CountsAt spot
-  spot_counts Rest takes going word = begins_count c (record m { spot = Rest }) order (given_order order takes)
-  spot_counts (Ended reply) takes going word = begins_count c (record m { spot = Ended reply }) order (given_ended reply order takes)
+  spot_counts : (spot : Spot) → takes_at spot mutator.made order ≡ true → numbers_fit config mutator.seat mutator.made mutator.kept spot ≡ true → IsWord config (touch_at config mutator.seat mutator.made mutator.kept Nothing spot).word → CountsAt spot
+  spot_counts Rest takes going word = begins_count config (record mutator { spot = Rest }) order (given_order order takes)
+  spot_counts (Ended reply) takes going word = begins_count config (record mutator { spot = Ended reply }) order (given_ended reply order takes)
   spot_counts Gone takes going word = absurd (cc (takes))
   spot_counts (Entering at next) takes going word = enter_counts next at
   spot_counts (Waiting at) takes going word = waits_count at word
@@ -290,21 +290,21 @@ module _ (c : Config) (m : Mutating) (order : Order) where
   spot_counts AskCycle takes going word = counts_in AskCycle (stays_in AskCycle going refl) refl word
 
 -- a mutator that is ready has its numbers in range, and makes an access of a word of the table
-pub ready_fits : (c : Config) (m : Mutating) → IsReady c m → numbers_fit c m.seat m.made m.kept m.spot ≡ true
-ready_fits c m ready = (and_parts (is_word c (touch_of c m Nothing).word && stores_fit c m.seat m.made m.kept m.spot) (numbers_fit c m.seat m.made m.kept m.spot) ready).1
+pub ready_fits : (config : Config) (mutator : Mutating) → IsReady config mutator → numbers_fit config mutator.seat mutator.made mutator.kept mutator.spot ≡ true
+ready_fits config mutator ready = (and_parts (is_word config (touch_of config mutator Nothing).word && stores_fit config mutator.seat mutator.made mutator.kept mutator.spot) (numbers_fit config mutator.seat mutator.made mutator.kept mutator.spot) ready).1
 
-pub ready_word : (c : Config) (m : Mutating) → IsReady c m → IsWord c (touch_of c m Nothing).word
-ready_word c m ready =
-    is_word_true c (touch_of c m Nothing).word
-    (and_parts (is_word c (touch_of c m Nothing).word) (stores_fit c m.seat m.made m.kept m.spot)
-    (and_parts (is_word c (touch_of c m Nothing).word && stores_fit c m.seat m.made m.kept m.spot) (numbers_fit c m.seat m.made m.kept m.spot) ready).0).0
+pub ready_word : (config : Config) (mutator : Mutating) → IsReady config mutator → IsWord config (touch_of config mutator Nothing).word
+ready_word config mutator ready =
+    is_word_true config (touch_of config mutator Nothing).word
+    (and_parts (is_word config (touch_of config mutator Nothing).word) (stores_fit config mutator.seat mutator.made mutator.kept mutator.spot)
+    (and_parts (is_word config (touch_of config mutator Nothing).word && stores_fit config mutator.seat mutator.made mutator.kept mutator.spot) (numbers_fit config mutator.seat mutator.made mutator.kept mutator.spot) ready).0).0
 
 -- the step of a mutator obeys the handshake
-pub mutator_obeys : (c : Config) (m : Mutating) (order : Order) → takes_at m.spot m.made order ≡ true → IsReady c m
-    → Obeys c m.seat (standing_at m.spot) (placed c (touch_of c m order)) (λ got. standing_at (next_of c m order got).spot)
-mutator_obeys c m order takes ready = spot_obeys c m order m.spot takes (ready_fits c m ready) (ready_word c m ready)
+pub mutator_obeys : (config : Config) (mutator : Mutating) (order : Order) → takes_at mutator.spot mutator.made order ≡ true → IsReady config mutator
+    → Obeys config mutator.seat (standing_at mutator.spot) (placed config (touch_of config mutator order)) (λ got. standing_at (next_of config mutator order got).spot)
+mutator_obeys config mutator order takes ready = spot_obeys config mutator order mutator.spot takes (ready_fits config mutator ready) (ready_word config mutator ready)
 
 -- and counts
-pub mutator_counts : (c : Config) (m : Mutating) (order : Order) → takes_at m.spot m.made order ≡ true → IsReady c m
-    → Counts c (has_not_ended m.spot) (placed c (touch_of c m order)) (λ got. has_not_ended (next_of c m order got).spot)
-mutator_counts c m order takes ready = spot_counts c m order m.spot takes (ready_fits c m ready) (ready_word c m ready)
+pub mutator_counts : (config : Config) (mutator : Mutating) (order : Order) → takes_at mutator.spot mutator.made order ≡ true → IsReady config mutator
+    → Counts config (has_not_ended mutator.spot) (placed config (touch_of config mutator order)) (λ got. has_not_ended (next_of config mutator order got).spot)
+mutator_counts config mutator order takes ready = spot_counts config mutator order mutator.spot takes (ready_fits config mutator ready) (ready_word config mutator ready)

@@ -31,53 +31,53 @@ use Rattle.step_core.proofs.Control.Images.{words_after, settled_touched, settle
 use Rattle.step_core.proofs.History.Owing.{follows_owes}
 use Rattle.step_core.proofs.Helpers.Quiet.{quiet_owes}
 
-module _ (change : Change) (c : Config) (g : Graph) (s : Stage Actor) (past : List Entry) (number : ℕ) (h : Helping) (command : Command) (calls : List Entry)
-    (follows : Follows c g s past) (shaken : IsKept c s) (here : slice_get s.machines number ≡ Some (record { machine = helping h; command = command; calls = calls })) (going : is_gone h.spot ≡ false) where
+module _ (change : Change) (config : Config) (graph : Graph) (stage : Stage Actor) (past : List Entry) (number : ℕ) (h : Helping) (command : Command) (calls : List Entry)
+    (follows : Follows config graph stage past) (shaken : IsKept config stage) (here : slice_get stage.machines number ≡ Some (record { machine = helping h; command = command; calls = calls })) (going : is_gone h.spot ≡ false) where
   abbrev before : Actor
   before = record { machine = helping h; command = command; calls = calls }
 
   abbrev u : World
-  u = world_of c s follows.block follows.ghost (after g past)
+  u = world_of config stage follows.block follows.ghost (after graph past)
 
   abbrev t : Touch
-  t = help_touch c h
+  t = help_touch config h
 
-  helper : IsHelper c u number h
+  helper : IsHelper config u number h
   helper = follows.machines number before here
 
-  below : number < control_number c
+  below : number < control_number config
   below = helper.below
 
-  not_control : number ≢ control_number c
+  not_control : number ≢ control_number config
   not_control = λ e. (let less = below in omega (arith, less, e))
 
-  word : is_word c t.word ≡ true
-  word = is_word_from c t.word (help_word c u number h follows.shared helper)
+  word : is_word config t.word ≡ true
+  word = is_word_from config t.word (help_word config u number h follows.shared helper)
 
   -- while an image counts it is outside, and its access is of no word of the image
-  left_image : (image : Counting) → held_image c s ≡ Some image → is_image t.word ≡ false
-  left_image image held = help_leaves_image c h.seat h.spot (outside_held c s shaken image held number before below here)
+  left_image : (image : Counting) → held_image config stage ≡ Some image → is_image t.word ≡ false
+  left_image image held = help_leaves_image config h.seat h.spot (outside_held config stage shaken image held number before below here)
 
   abbrev words_then : List ℕ
-  words_then = words_after c s.words t
+  words_then = words_after config stage.words t
 
-  image_words_stay : is_within (help_standing h.spot) ≡ false → (i : ℕ) → slice_index words_then (image_start c + i) ≡ slice_index s.words (image_start c + i)
-  image_words_stay out i = image_kept c s.words t i word (help_leaves_image c h.seat h.spot out)
+  image_words_stay : is_within (help_standing h.spot) ≡ false → (i : ℕ) → slice_index words_then (image_start config + i) ≡ slice_index stage.words (image_start config + i)
+  image_words_stay out i = image_kept config stage.words t i word (help_leaves_image config h.seat h.spot out)
 
   abbrev new_then : ℕ → Actor
-  new_then got = took_of change c before Nothing got (helping h)
+  new_then got = took_of change config before Nothing got (helping h)
 
-  pub follows_helper : Follows c g (moved (kind change c) s number before Nothing) (past ++ [])
+  pub follows_helper : Follows config graph (moved (kind change config) stage number before Nothing) (past ++ [])
   unfolding kind
   follows_helper =
-      let at : ℕ = table_index (placed c t) in
-      let owes : Owes c s.words words_then u past number s.machines (touched u.memory t) [] (new_then (u.memory t.word)) =
-      quiet_owes c s.words (held_image c s) follows.block follows.ghost (after g past) past number s.machines t follows.words word left_image (new_then (u.memory t.word)) follows.shared follows.promised_to
-      (help_step c u number h follows.shared helper going) (λ k b differs there known. aims_stay c g s past follows shaken number before here below words_then image_words_stay k b there) in
-      let found : slice_index s.words at ≡ u.memory t.word = settled_found c s.words t (held_image c s) word left_image in
-      let memory_then : settled c (record { words = words_then; machines = slice_set s.machines number (new_then (slice_index s.words at)) }) ≡ touched u.memory t =
-      ap (settled_by c words_then) (other_holds c s number (new_then (slice_index s.words at)) not_control) ∙ settled_touched c s.words t (held_image c s) word follows.words left_image in
-      follows_owes c g s past number before (new_then (slice_index s.words at)) words_then [] follows
-      (subst (λ memory. Owes c s.words words_then u past number s.machines memory [] (new_then (slice_index s.words at))) (sym memory_then)
-      (subst (λ got. Owes c s.words words_then u past number s.machines (touched u.memory t) [] (new_then got)) (sym found) owes))
-      here (length-set s.words _ _ ∙ follows.words)
+      let at : ℕ = table_index (placed config t) in
+      let owes : Owes config stage.words words_then u past number stage.machines (touched u.memory t) [] (new_then (u.memory t.word)) =
+      quiet_owes config stage.words (held_image config stage) follows.block follows.ghost (after graph past) past number stage.machines t follows.words word left_image (new_then (u.memory t.word)) follows.shared follows.promised_to
+      (help_step config u number h follows.shared helper going) (λ k b differs there known. aims_stay config graph stage past follows shaken number before here below words_then image_words_stay k b there) in
+      let found : slice_index stage.words at ≡ u.memory t.word = settled_found config stage.words t (held_image config stage) word left_image in
+      let memory_then : settled config (record { words = words_then; machines = slice_set stage.machines number (new_then (slice_index stage.words at)) }) ≡ touched u.memory t =
+      ap (settled_by config words_then) (other_holds config stage number (new_then (slice_index stage.words at)) not_control) ∙ settled_touched config stage.words t (held_image config stage) word follows.words left_image in
+      follows_owes config graph stage past number before (new_then (slice_index stage.words at)) words_then [] follows
+      (subst (λ memory. Owes config stage.words words_then u past number stage.machines memory [] (new_then (slice_index stage.words at))) (sym memory_then)
+      (subst (λ got. Owes config stage.words words_then u past number stage.machines (touched u.memory t) [] (new_then got)) (sym found) owes))
+      here (length-set stage.words _ _ ∙ follows.words)

@@ -18,7 +18,7 @@ use Rattle.collector_rows.specs.declared.control_spot.ControlSpot.TheVariants.{L
 use Rattle.collector_rows.specs.ControlRows.{says_at, wants_pause, working_says}
 
 -- a step that says one of two things, of which neither is Done, is not done
-not_done : (b : Bool) (one other : Took) → (one ≡ Done → ⊥) → (other ≡ Done → ⊥) → (if b then one else other) ≡ Done → ⊥
+not_done : (holds : Bool) (one other : Took) → (one ≡ Done → ⊥) → (other ≡ Done → ⊥) → (if holds then one else other) ≡ Done → ⊥
 not_done true one other first second is = first is
 not_done false one other first second is = second is
 
@@ -33,12 +33,12 @@ helper_works_on _ More is = cc
 helper_works_on _ Again is = cc
 
 -- a helper ends no call
-pub helps_on : (c : Config) (spot : HelpSpot) (got : ℕ) → helpers.says_at c spot got ≡ Done → ⊥
-helps_on c (help.Entering Await) got is = not_done (got == 0) More Again (λ e. cc) (λ e. cc) is
-helps_on c (help.Entering at) got is = cc
-helps_on c help.LoadPhase got is = not_done (got == 0) Again More (λ e. cc) (λ e. cc) is
-helps_on c (help.Working at) got is = helper_works_on (units.next_at c at got) (units.says_at c at got) is
-helps_on c _ got is = cc
+pub helps_on : (config : Config) (spot : HelpSpot) (got : ℕ) → helpers.says_at config spot got ≡ Done → ⊥
+helps_on config (help.Entering Await) got is = not_done (got == 0) More Again (λ e. cc) (λ e. cc) is
+helps_on config (help.Entering at) got is = cc
+helps_on config help.LoadPhase got is = not_done (got == 0) Again More (λ e. cc) (λ e. cc) is
+helps_on config (help.Working at) got is = helper_works_on (units.next_at config at got) (units.says_at config at got) is
+helps_on config _ got is = cc
 
 -- nor does the control
 works_on : (said : Took) → working_says said ≡ Done → ⊥
@@ -46,9 +46,9 @@ works_on Done is = cc
 works_on More is = cc
 works_on Again is = cc
 
-pub goes_on : (c : Config) (seen : ℕ) (spot : ControlSpot) (got : ℕ) → says_at c seen spot got ≡ Done → ⊥
-goes_on c seen LookFree got is = not_done (wants_pause c seen got) More Again (λ e. cc) (λ e. cc) is
-goes_on c seen (Working at) got is = works_on (units.says_at c at got) is
-goes_on c seen (Stopping (stop.Check seat)) got is = not_done (got == 0) More Again (λ e. cc) (λ e. cc) is
-goes_on c seen (Stopping at) got is = cc
-goes_on c seen _ got is = cc
+pub goes_on : (config : Config) (seen : ℕ) (spot : ControlSpot) (got : ℕ) → says_at config seen spot got ≡ Done → ⊥
+goes_on config seen LookFree got is = not_done (wants_pause config seen got) More Again (λ e. cc) (λ e. cc) is
+goes_on config seen (Working at) got is = works_on (units.says_at config at got) is
+goes_on config seen (Stopping (stop.Check seat)) got is = not_done (got == 0) More Again (λ e. cc) (λ e. cc) is
+goes_on config seen (Stopping at) got is = cc
+goes_on config seen _ got is = cc

@@ -42,8 +42,8 @@ phase_three : (phase : ℕ) → phase ≤ 3 → phase ≢ 0 → phase ≢ 1 → 
 phase_three phase small some other last = grind (arith, small, some, other, last)
 
 -- a step from which more follows for who has the part inside
-pub step_with : (c : Config) (u : World) (seat : ℕ) (t : Touch) (some more : World → Type 0) (step : PartStep c u seat t some) → more step.world → PartStep c u seat t more
-step_with c u seat t some more step own = record {
+pub step_with : (config : Config) (world : World) (seat : ℕ) (touch : Touch) (some more : World → Type 0) (step : PartStep config world seat touch some) → more step.world → PartStep config world seat touch more
+step_with config world seat touch some more step own = record {
   world = step.world;
   memory = step.memory;
   graph = step.graph;
@@ -54,73 +54,73 @@ step_with c u seat t some more step own = record {
 }
 
 -- room that is free words of a buffer stays so
-spares_on : (c : Config) (u w : World) (seat : ℕ) → Rely c seat u w → OnlySpares u seat → OnlySpares w seat
-spares_on c u w seat rely spares a x is room = spares a x (rely.no_rooms a x is room) room
+spares_on : (config : Config) (world other_world : World) (seat : ℕ) → Rely config seat world other_world → OnlySpares world seat → OnlySpares other_world seat
+spares_on config world other_world seat rely spares a x is room = spares a x (rely.no_rooms a x is room) room
 
 -- who rests goes on to rest
-pub rests_on : (c : Config) (u w : World) (seat : ℕ) → Rely c seat u w → IsResting u seat → IsResting w seat
-rests_on c u w seat rely rests = record {
+pub rests_on : (config : Config) (world other_world : World) (seat : ℕ) → Rely config seat world other_world → IsResting world seat → IsResting other_world seat
+rests_on config world other_world seat rely rests = record {
   records_none = rely.marks.recording ∙ rests.records_none;
   scans_none = rely.marks.scanning ∙ rests.scans_none;
   copies_none = rely.copies.copying ∙ rests.copies_none;
   works_none = rely.copies.working ∙ rests.works_none;
-  rooms = spares_on c u w seat rely rests.rooms;
+  rooms = spares_on config world other_world seat rely rests.rooms;
 }
 
 -- what a machine counts on in its unit stays while others step
-pub work_stays : (c : Config) (u w : World) (seat : ℕ) (at : UnitSpot) → Shared c u → Rely c seat u w → CanWork c u seat at → CanWork c w seat at
-work_stays c u w seat (Scanning at) shared rely can =
-    (((scanning_steps.steps c seat).stands u at tt can.0).stays w rely, rely.copies.copying ∙ can.1, rely.copies.working ∙ can.2, spares_on c u w seat rely can.3)
-work_stays c u w seat (Evacuating cset at) shared rely can = ((evacuating_steps.steps c seat cset).stands u at shared can).stays w rely
-work_stays c u w seat (Updating cset at) shared rely can = ((updating_steps.steps c seat cset).stands u at shared can).stays w rely
-work_stays c u w seat (Ended Worked) shared rely can = rests_on c u w seat rely can
-work_stays c u w seat (Ended NoneLeft) shared rely can = (rests_on c u w seat rely can.0, due_stays c u w seat rely can.1)
+pub work_stays : (config : Config) (world other_world : World) (seat : ℕ) (at : UnitSpot) → Shared config world → Rely config seat world other_world → CanWork config world seat at → CanWork config other_world seat at
+work_stays config world other_world seat (Scanning at) shared rely can =
+    (((scanning_steps.steps config seat).stands world at tt can.0).stays other_world rely, rely.copies.copying ∙ can.1, rely.copies.working ∙ can.2, spares_on config world other_world seat rely can.3)
+work_stays config world other_world seat (Evacuating cset at) shared rely can = ((evacuating_steps.steps config seat cset).stands world at shared can).stays other_world rely
+work_stays config world other_world seat (Updating cset at) shared rely can = ((updating_steps.steps config seat cset).stands world at shared can).stays other_world rely
+work_stays config world other_world seat (Ended Worked) shared rely can = rests_on config world other_world seat rely can
+work_stays config world other_world seat (Ended NoneLeft) shared rely can = (rests_on config world other_world seat rely can.0, due_stays config world other_world seat rely can.1)
 
-module _ (c : Config) (u : World) (seat : ℕ) (shared : Shared c u) where
+module _ (config : Config) (world : World) (seat : ℕ) (shared : Shared config world) where
   -- who rests has nothing
-  has_nothing : IsResting u seat → HasNothing u seat
+  has_nothing : IsResting world seat → HasNothing world seat
   has_nothing rests = record { copying = rests.copies_none; records_none = rests.records_none; scans_none = rests.scans_none; rooms = rests.rooms }
 
   -- who rests may begin a unit of the phase, which is not 0
-  pub work_begins : (phase : ℕ) → seat < seat_count c.mutators c.helpers → phase ≢ 0 → phase ≡ u.memory Phase → IsResting u seat → CanWork c u seat (begins phase (u.memory Cset))
-  work_begins phase seated some same rests = by_phase (CanWork c u seat) phase (u.memory Cset)
-      (λ one. (scanning_steps.begins c u seat seated (sym same ∙ eqb-true _ _ one) rests.records_none rests.scans_none (no_hand u seat rests.rooms), rests.copies_none, rests.works_none, rests.rooms))
-      (λ other two. evacuating_steps.begins c u seat seated (sym same ∙ eqb-true _ _ two) rests.works_none (has_nothing rests))
-      (λ other last. updating_steps.begins c u seat seated
+  pub work_begins : (phase : ℕ) → seat < seat_count config.mutators config.helpers → phase ≢ 0 → phase ≡ world.memory Phase → IsResting world seat → CanWork config world seat (begins phase (world.memory Cset))
+  work_begins phase seated some same rests = by_phase (CanWork config world seat) phase (world.memory Cset)
+      (λ one. (scanning_steps.begins config world seat seated (sym same ∙ eqb-true _ _ one) rests.records_none rests.scans_none (no_hand world seat rests.rooms), rests.copies_none, rests.works_none, rests.rooms))
+      (λ other two. evacuating_steps.begins config world seat seated (sym same ∙ eqb-true _ _ two) rests.works_none (has_nothing rests))
+      (λ other last. updating_steps.begins config world seat seated
       (phase_three _ shared.phased.phase_is (λ none. some (same ∙ none)) (λ one. eqb-false _ _ other (same ∙ one)) (λ two. eqb-false _ _ last (same ∙ two))) rests.works_none (has_nothing rests))
 
   -- a word that it finds is fit
-  pub work_fits : (at : UnitSpot) → is_ready c seat at ≡ true → CanWork c u seat at → IsFit c seat at (u.memory (touch_at c seat at).word)
-  work_fits (Scanning at) ready can = ((scanning_steps.steps c seat).goes u at (not_ended (scans.is_ended at) (and_parts _ _ ready).1) shared can.0).fits
-  work_fits (Evacuating cset at) ready can = ((evacuating_steps.steps c seat cset).goes u at (not_ended (evacs.is_ended at) (and_parts _ _ ready).1) shared can).fits
-  work_fits (Updating cset at) ready can = ((updating_steps.steps c seat cset).goes u at (not_ended (updates.is_ended at) (and_parts _ _ ready).1) shared can).fits
+  pub work_fits : (at : UnitSpot) → is_ready config seat at ≡ true → CanWork config world seat at → IsFit config seat at (world.memory (touch_at config seat at).word)
+  work_fits (Scanning at) ready can = ((scanning_steps.steps config seat).goes world at (not_ended (scans.is_ended at) (and_parts _ _ ready).1) shared can.0).fits
+  work_fits (Evacuating cset at) ready can = ((evacuating_steps.steps config seat cset).goes world at (not_ended (evacs.is_ended at) (and_parts _ _ ready).1) shared can).fits
+  work_fits (Updating cset at) ready can = ((updating_steps.steps config seat cset).goes world at (not_ended (updates.is_ended at) (and_parts _ _ ready).1) shared can).fits
   work_fits (Ended unit) ready can = tt
 
   -- once all regions are claimed, they are after a step
-  claims_then : (t : Touch) (stands : World → Type 0) (step : PartStep c u seat t stands) → c.regions ≤ u.memory Claim → c.regions ≤ step.world.memory Claim
-  claims_then t stands step claimed = (step.others (seat + 1) (λ e. omega (arith, e))).fields.claims claimed
+  claims_then : (touch : Touch) (stands : World → Type 0) (step : PartStep config world seat touch stands) → config.regions ≤ world.memory Claim → config.regions ≤ step.world.memory Claim
+  claims_then touch stands step claimed = (step.others (seat + 1) (λ e. omega (arith, e))).fields.claims claimed
 
   -- where no unit was left, all regions are claimed
-  evac_claimed : (at : EvacSpot) → evac_ends.HasNoneLeft c at (u.memory (evacs.touch_at c seat at).word) → c.regions ≤ u.memory Claim
+  evac_claimed : (at : EvacSpot) → evac_ends.HasNoneLeft config at (world.memory (evacs.touch_at config seat at).word) → config.regions ≤ world.memory Claim
   evac_claimed evac.LoadClaim none = none
   evac_claimed _ none = absurd none
 
-  update_claimed : (at : UpdateSpot) → update_ends.HasNoneLeft c at (u.memory (updates.touch_at c at).word) → c.regions ≤ u.memory Claim
+  update_claimed : (at : UpdateSpot) → update_ends.HasNoneLeft config at (world.memory (updates.touch_at config at).word) → config.regions ≤ world.memory Claim
   update_claimed update.LoadClaim none = none
   update_claimed _ none = absurd none
 
   -- where a scan goes on, or has ended
-  scans_then : (w : World) (at : ScanSpot) → Scans c w seat at → CanWork c w seat (scanned at)
-  scans_then w (scan.Ended Worked) can = record { records_none = can.0.records_none; scans_none = can.0.scanning; copies_none = can.1; works_none = can.2; rooms = can.3 }
-  scans_then w (scan.Ended NoneLeft) can = (
+  scans_then : (world : World) (at : ScanSpot) → Scans config world seat at → CanWork config world seat (scanned at)
+  scans_then world (scan.Ended Worked) can = record { records_none = can.0.records_none; scans_none = can.0.scanning; copies_none = can.1; works_none = can.2; rooms = can.3 }
+  scans_then world (scan.Ended NoneLeft) can = (
     record { records_none = can.0.records_none; scans_none = can.0.scanning; copies_none = can.1; works_none = can.2; rooms = can.3 },
-    early_due c w.memory (let on = can.0.phase in omega (arith, on)),
+    early_due config world.memory (let on = can.0.phase in omega (arith, on)),
   )
-  scans_then w _ can = can
+  scans_then world _ can = can
 
   -- and an evacuation
-  evacuated_rests : (w : World) (cset : ℕ) (unit : Unit) → CanEvacuate c w seat cset (evac.Ended unit) → IsResting w seat
-  evacuated_rests w cset unit can = record {
+  evacuated_rests : (world : World) (cset : ℕ) (unit : Unit) → CanEvacuate config world seat cset (evac.Ended unit) → IsResting world seat
+  evacuated_rests world cset unit can = record {
     records_none = can.facts.records_none;
     scans_none = can.facts.scans_none;
     copies_none = can.facts.copying;
@@ -128,36 +128,36 @@ module _ (c : Config) (u : World) (seat : ℕ) (shared : Shared c u) where
     rooms = can.facts.rooms;
   }
 
-  evacuates_then : (w : World) (cset : ℕ) (at : EvacSpot) → (at ≡ evac.Ended NoneLeft → c.regions ≤ w.memory Claim) → CanEvacuate c w seat cset at → CanWork c w seat (evacuated cset at)
-  evacuates_then w cset (evac.Ended Worked) left can = evacuated_rests w cset Worked can
-  evacuates_then w cset (evac.Ended NoneLeft) left can = (evacuated_rests w cset NoneLeft can, claimed_due c w.memory (left refl))
-  evacuates_then w cset _ left can = can
+  evacuates_then : (world : World) (cset : ℕ) (at : EvacSpot) → (at ≡ evac.Ended NoneLeft → config.regions ≤ world.memory Claim) → CanEvacuate config world seat cset at → CanWork config world seat (evacuated cset at)
+  evacuates_then world cset (evac.Ended Worked) left can = evacuated_rests world cset Worked can
+  evacuates_then world cset (evac.Ended NoneLeft) left can = (evacuated_rests world cset NoneLeft can, claimed_due config world.memory (left refl))
+  evacuates_then world cset _ left can = can
 
   -- and an updating
-  updated_rests : (w : World) (cset : ℕ) (unit : Unit) → CanUpdate c w seat cset (update.Ended unit) → IsResting w seat
-  updated_rests w cset unit can = record { records_none = can.records_none; scans_none = can.scanning; copies_none = can.copying; works_none = can.working; rooms = can.rooms }
+  updated_rests : (world : World) (cset : ℕ) (unit : Unit) → CanUpdate config world seat cset (update.Ended unit) → IsResting world seat
+  updated_rests world cset unit can = record { records_none = can.records_none; scans_none = can.scanning; copies_none = can.copying; works_none = can.working; rooms = can.rooms }
 
-  updates_then : (w : World) (cset : ℕ) (at : UpdateSpot) → (at ≡ update.Ended NoneLeft → c.regions ≤ w.memory Claim) → CanUpdate c w seat cset at → CanWork c w seat (updated cset at)
-  updates_then w cset (update.Ended Worked) left can = updated_rests w cset Worked can
-  updates_then w cset (update.Ended NoneLeft) left can = (updated_rests w cset NoneLeft can, claimed_due c w.memory (left refl))
-  updates_then w cset _ left can = can
+  updates_then : (world : World) (cset : ℕ) (at : UpdateSpot) → (at ≡ update.Ended NoneLeft → config.regions ≤ world.memory Claim) → CanUpdate config world seat cset at → CanWork config world seat (updated cset at)
+  updates_then world cset (update.Ended Worked) left can = updated_rests world cset Worked can
+  updates_then world cset (update.Ended NoneLeft) left can = (updated_rests world cset NoneLeft can, claimed_due config world.memory (left refl))
+  updates_then world cset _ left can = can
 
   -- What a step of a unit owes.
   abbrev pub WorkStep : UnitSpot → Type 0
-  WorkStep at = PartStep c u seat (touch_at c seat at) (λ w. CanWork c w seat (next_at c at (u.memory (touch_at c seat at).word)))
+  WorkStep at = PartStep config world seat (touch_at config seat at) (λ w. CanWork config w seat (next_at config at (world.memory (touch_at config seat at).word)))
 
-  pub work_step : (at : UnitSpot) → is_ready c seat at ≡ true → is_ended at ≡ false → CanWork c u seat at → WorkStep at
+  pub work_step : (at : UnitSpot) → is_ready config seat at ≡ true → is_ended at ≡ false → CanWork config world seat at → WorkStep at
   work_step (Scanning at) ready going can =
-      let step = ((scanning_steps.steps c seat).goes u at (not_ended (scans.is_ended at) (and_parts _ _ ready).1) shared can.0).step in
-      step_with c u seat (scans.touch_at c at) _ _ step (scans_then step.world _ (step.own.0, step.own.1.copying ∙ can.1, step.own.1.working ∙ can.2, λ a x is. can.3 a x (ap (λ plot. plot a) (sym step.own.2) ∙ is)))
+      let step = ((scanning_steps.steps config seat).goes world at (not_ended (scans.is_ended at) (and_parts _ _ ready).1) shared can.0).step in
+      step_with config world seat (scans.touch_at config at) _ _ step (scans_then step.world _ (step.own.0, step.own.1.copying ∙ can.1, step.own.1.working ∙ can.2, λ a x is. can.3 a x (ap (λ plot. plot a) (sym step.own.2) ∙ is)))
   work_step (Evacuating cset at) ready going can =
       let on = not_ended (evacs.is_ended at) (and_parts _ _ ready).1 in
-      let step = ((evacuating_steps.steps c seat cset).goes u at on shared can).step in
-      step_with c u seat (evacs.touch_at c seat at) _ _ step
-      (evacuates_then step.world cset _ (λ none. claims_then (evacs.touch_at c seat at) _ step (evac_claimed at ((evac_left c cset at _ on).0 none))) step.own)
+      let step = ((evacuating_steps.steps config seat cset).goes world at on shared can).step in
+      step_with config world seat (evacs.touch_at config seat at) _ _ step
+      (evacuates_then step.world cset _ (λ none. claims_then (evacs.touch_at config seat at) _ step (evac_claimed at ((evac_left config cset at _ on).0 none))) step.own)
   work_step (Updating cset at) ready going can =
       let on = not_ended (updates.is_ended at) (and_parts _ _ ready).1 in
-      let step = ((updating_steps.steps c seat cset).goes u at on shared can).step in
-      step_with c u seat (updates.touch_at c at) _ _ step
-      (updates_then step.world cset _ (λ none. claims_then (updates.touch_at c at) _ step (update_claimed at ((update_left c cset at _ on).0 none))) step.own)
+      let step = ((updating_steps.steps config seat cset).goes world at on shared can).step in
+      step_with config world seat (updates.touch_at config at) _ _ step
+      (updates_then step.world cset _ (λ none. claims_then (updates.touch_at config at) _ step (update_claimed at ((update_left config cset at _ on).0 none))) step.own)
   work_step (Ended unit) ready going can = absurd (cc (going))

@@ -62,35 +62,35 @@ pub record IsForCall (words : ℕ) (command : Command) (fixed : Option Reply) (s
   pub in_call : is_between_calls spot ≡ false
 
 -- what was made for it is what its command asks for
-given_asked : (w : World) (seat made : ℕ) (k command : Command) (fixed : Option Reply) (spot : Spot) → is_between_calls spot ≡ false → IsAsking w seat made k command fixed (given (refs_of k) (nums_of k))
-    → IsForCall (words_promised w.memory seat) command fixed spot
-given_asked w seat made k command fixed spot busy has = record {
+given_asked : (world : World) (seat made : ℕ) (other_command command : Command) (fixed : Option Reply) (spot : Spot) → is_between_calls spot ≡ false → IsAsking world seat made other_command command fixed (given (refs_of other_command) (nums_of other_command))
+    → IsForCall (words_promised world.memory seat) command fixed spot
+given_asked world seat made other_command command fixed spot busy has = record {
   unsettled = has.0.unsettled;
-  words_are = promised_given w.memory w.block w.graph.count seat (given (refs_of k) (nums_of k)) has.1 ∙ ap (λ x. words_asked (Some x)) (sym has.0.is);
+  words_are = promised_given world.memory world.block world.graph.count seat (given (refs_of other_command) (nums_of other_command)) has.1 ∙ ap (λ x. words_asked (Some x)) (sym has.0.is);
   in_call = busy;
 }
 
-module _ (c : Config) (w : World) (seat made : ℕ) (kept : Kept) (command : Command) (fixed : Option Reply) where
+module _ (config : Config) (world : World) (seat made : ℕ) (kept : Kept) (command : Command) (fixed : Option Reply) where
   abbrev Promised : Spot → Type 0
-  Promised spot = (words_promised w.memory seat ≡ 0) ⊎ IsForCall (words_promised w.memory seat) command fixed spot
+  Promised spot = (words_promised world.memory seat ≡ 0) ⊎ IsForCall (words_promised world.memory seat) command fixed spot
 
   -- where its answer is none
-  no_answer : (spot : Spot) → IsAsked w.memory w.block w.graph.count seat nothing → Promised spot
-  no_answer spot asked = inl (promised_given w.memory w.block w.graph.count seat nothing asked)
+  no_answer : (spot : Spot) → IsAsked world.memory world.block world.graph.count seat nothing → Promised spot
+  no_answer spot asked = inl (promised_given world.memory world.block world.graph.count seat nothing asked)
 
   -- where it polls
-  polls_promised : (spot : Spot) → is_between_calls spot ≡ false → IsPolling w seat made kept.command command fixed → Promised spot
-  polls_promised spot busy (inl waits) = inl (promised_given w.memory w.block w.graph.count seat (asks (refs_of kept.command) (nums_of kept.command)) waits.0.1)
-  polls_promised spot busy (inr (inl has)) = inr (given_asked w seat made kept.command command fixed spot busy has)
-  polls_promised spot busy (inr (inr is)) = inl (promised_given w.memory w.block w.graph.count seat refused is.1)
+  polls_promised : (spot : Spot) → is_between_calls spot ≡ false → IsPolling world seat made kept.command command fixed → Promised spot
+  polls_promised spot busy (inl waits) = inl (promised_given world.memory world.block world.graph.count seat (asks (refs_of kept.command) (nums_of kept.command)) waits.0.1)
+  polls_promised spot busy (inr (inl has)) = inr (given_asked world seat made kept.command command fixed spot busy has)
+  polls_promised spot busy (inr (inr is)) = inl (promised_given world.memory world.block world.graph.count seat refused is.1)
 
   -- where it has its answer
-  answered_promised : (spot : Spot) → is_between_calls spot ≡ false → IsAnswered w seat made kept.command command fixed → Promised spot
-  answered_promised spot busy (inl has) = inr (given_asked w seat made kept.command command fixed spot busy has)
-  answered_promised spot busy (inr is) = inl (promised_given w.memory w.block w.graph.count seat refused is.1)
+  answered_promised : (spot : Spot) → is_between_calls spot ≡ false → IsAnswered world seat made kept.command command fixed → Promised spot
+  answered_promised spot busy (inl has) = inr (given_asked world seat made kept.command command fixed spot busy has)
+  answered_promised spot busy (inr is) = inl (promised_given world.memory world.block world.graph.count seat refused is.1)
 
   -- outside the heap
-  outside_promised : (spot : Spot) → is_within (standing_at spot) ≡ false → Mine c w (mutator_at seat made kept spot) command fixed → Promised spot
+  outside_promised : (spot : Spot) → is_within (standing_at spot) ≡ false → Mine config world (mutator_at seat made kept spot) command fixed → Promised spot
   outside_promised Rest out mine = no_answer Rest (mine.seated.unasked refl)
   outside_promised (Ended reply) out mine = no_answer (Ended reply) (mine.seated.unasked refl)
   outside_promised Gone out mine = no_answer Gone (mine.seated.unasked refl)
@@ -110,37 +110,37 @@ next_of_calls : (calls : List Entry) (command : Command) → slice_get (commands
 next_of_calls calls command = get_right (commands_of calls) (command ∷ []) (length calls) 0 (let same = length-map calls (λ x. x.command) in omega (arith, same))
 
 -- A stage in which an image counts, and all but the control are outside.
-module _ (c : Config) (g : Graph) (s : Stage Actor) (past : List Entry) (follows : Follows c g s past)
-    (outside : (k : ℕ) (b : Actor) → k < control_number c → slice_get s.machines k ≡ Some b → is_within (standing_of b.machine) ≡ false) where
+module _ (config : Config) (graph : Graph) (stage : Stage Actor) (past : List Entry) (follows : Follows config graph stage past)
+    (outside : (k : ℕ) (b : Actor) → k < control_number config → slice_get stage.machines k ≡ Some b → is_within (standing_of b.machine) ≡ false) where
   abbrev u : World
-  u = world_of c s follows.block follows.ghost (after g past)
+  u = world_of config stage follows.block follows.ghost (after graph past)
 
   -- what a thread asks for, in a call of which nothing is settled
-  promised_open : (t : ℕ) → t < c.mutators → words_promised u.memory t ≤ words_asked (next_command (scripts_begun c s) past (t + 1))
-  promised_open t below =
-      let there = mutator_there c s.words u past s.machines follows.seats follows.machines t below in
+  promised_open : (mutator : ℕ) → mutator < config.mutators → words_promised u.memory mutator ≤ words_asked (next_command (scripts_begun config stage) past (mutator + 1))
+  promised_open mutator below =
+      let there = mutator_there config stage.words u past stage.machines follows.seats follows.machines mutator below in
       let a = there.0 in
       let m = there.1 in
       let thread = there.4 in
-      let out : is_within (standing_at m.spot) ≡ false = ap (λ machine. is_within (standing_of machine)) (sym there.3) ∙ outside t a (omega (arith, below)) there.2 in
+      let out : is_within (standing_at m.spot) ≡ false = ap (λ machine. is_within (standing_of machine)) (sym there.3) ∙ outside mutator a (omega (arith, below)) there.2 in
       let promised = subst (λ j. (words_promised u.memory j ≡ 0) ⊎ IsForCall (words_promised u.memory j) a.command thread.fixed m.spot) thread.number_is
-      (outside_promised c u m.seat m.made m.kept a.command thread.fixed m.spot out thread.mine) in
+      (outside_promised config u m.seat m.made m.kept a.command thread.fixed m.spot out thread.mine) in
       ⊎_elim
-      (λ (none : words_promised u.memory t ≡ 0). omega (arith, none))
-      (λ (has : IsForCall (words_promised u.memory t) a.command thread.fixed m.spot).
-      let entries : of_thread past (t + 1) ≡ a.calls = thread.entries_are ∙ ap (λ f. a.calls ++ entries_of t a.command f) has.unsettled ∙ append-nil a.calls in
+      (λ (none : words_promised u.memory mutator ≡ 0). omega (arith, none))
+      (λ (has : IsForCall (words_promised u.memory mutator) a.command thread.fixed m.spot).
+      let entries : of_thread past (mutator + 1) ≡ a.calls = thread.entries_are ∙ ap (λ f. a.calls ++ entries_of mutator a.command f) has.unsettled ∙ append-nil a.calls in
       let begun_then : begun_by a ≡ commands_of a.calls ++ a.command ∷ [] =
       ap (λ machine. commands_of a.calls ++ (if is_resting machine then [] else a.command ∷ [])) there.3 ∙ ap (λ b. commands_of a.calls ++ (if b then [] else a.command ∷ [])) has.in_call in
-      let next : next_command (scripts_begun c s) past (t + 1) ≡ Some a.command =
-      next_is (scripts_begun c s) past t
-      ∙ ap (λ xs. slice_get xs (length (of_thread past (t + 1)))) (begun_is c s follows.seats t a below there.2 ∙ begun_then)
+      let next : next_command (scripts_begun config stage) past (mutator + 1) ≡ Some a.command =
+      next_is (scripts_begun config stage) past mutator
+      ∙ ap (λ xs. slice_get xs (length (of_thread past (mutator + 1)))) (begun_is config stage follows.seats mutator a below there.2 ∙ begun_then)
       ∙ ap (λ es. slice_get (commands_of a.calls ++ a.command ∷ []) (length es)) entries
       ∙ next_of_calls a.calls a.command in
-      let same : words_promised u.memory t ≡ words_asked (next_command (scripts_begun c s) past (t + 1)) = has.words_are ∙ ap words_asked (sym next) in
+      let same : words_promised u.memory mutator ≡ words_asked (next_command (scripts_begun config stage) past (mutator + 1)) = has.words_are ∙ ap words_asked (sym next) in
       omega (arith, same))
       promised
 
-  either_less : (b d : Bool) (x y : ℕ) → b ≡ d → x ≤ y → (if b then 0 else x) ≤ (if d then 0 else y)
+  either_less : (holds other_holds : Bool) (x y : ℕ) → holds ≡ other_holds → x ≤ y → (if holds then 0 else x) ≤ (if other_holds then 0 else y)
   either_less true true x y same less = omega arith
   either_less false false x y same less = less
   either_less true false x y same less = absurd (cc (same))
@@ -153,114 +153,114 @@ module _ (c : Config) (g : Graph) (s : Stage Actor) (past : List Entry) (follows
       (cases_eq k t)
 
   -- who is refused then is crowded out
-  refused_crowded : (t : ℕ) (a : Actor) (m : Mutating) → IsThread c s.words u (of_thread past (t + 1)) t a m → u.memory (Answer t) ≡ 1 → view c s.words (Answer t) ≡ 0
-      → IsCrowded c.regions c.region_words g (scripts_begun c s) past (entry_of t a.command Full)
-  refused_crowded t a m thread full none =
+  refused_crowded : (other_mutator : ℕ) (actor : Actor) (mutator : Mutating) → IsThread config stage.words u (of_thread past (other_mutator + 1)) other_mutator actor mutator → u.memory (Answer other_mutator) ≡ 1 → view config stage.words (Answer other_mutator) ≡ 0
+      → IsCrowded config.regions config.region_words graph (scripts_begun config stage) past (entry_of other_mutator actor.command Full)
+  refused_crowded other_mutator actor mutator thread full none =
       let unsettled : thread.fixed ≡ None = ⊎_elim
-      (λ (both : (view c s.words (Answer t) ≡ 1) × (thread.fixed ≡ Some Full)). absurd (let one = both.0 in omega (arith, one, none)))
-      (λ (not_yet : (view c s.words (Answer t) ≡ 0) × (thread.fixed ≡ None)). not_yet.1)
+      (λ (both : (view config stage.words (Answer other_mutator) ≡ 1) × (thread.fixed ≡ Some Full)). absurd (let one = both.0 in omega (arith, one, none)))
+      (λ (not_yet : (view config stage.words (Answer other_mutator) ≡ 0) × (thread.fixed ≡ None)). not_yet.1)
       (thread.seen.full full) in
       let short = thread.short full unsettled in
-      let live : ℕ = sum_by (λ n. size (named (after g past) (Some n))) short.names in
-      let sums : sum_below (λ k. if k == t then 0 else words_promised u.memory k) c.mutators ≤ sum_below (λ k. open_of (scripts_begun c s) past (t + 1) (k + 1)) c.mutators =
-      sum_below_le _ _ c.mutators (λ k below. either_less (k == t) ((k + 1) == (t + 1)) _ _ (same_test t k) (promised_open k below)) in
-      let many : sum_below (λ k. open_of (scripts_begun c s) past (t + 1) (k + 1)) (length (scripts_begun c s)) ≡ sum_below (λ k. open_of (scripts_begun c s) past (t + 1) (k + 1)) c.mutators =
-      ap (sum_below (λ k. open_of (scripts_begun c s) past (t + 1) (k + 1))) (begun_many c s follows.seats) in
-      let open_is = open_below (scripts_begun c s) past (t + 1) in
+      let live : ℕ = sum_by (λ n. size (named (after graph past) (Some n))) short.names in
+      let sums : sum_below (λ k. if k == other_mutator then 0 else words_promised u.memory k) config.mutators ≤ sum_below (λ k. open_of (scripts_begun config stage) past (other_mutator + 1) (k + 1)) config.mutators =
+      sum_below_le _ _ config.mutators (λ k below. either_less (k == other_mutator) ((k + 1) == (other_mutator + 1)) _ _ (same_test other_mutator k) (promised_open k below)) in
+      let many : sum_below (λ k. open_of (scripts_begun config stage) past (other_mutator + 1) (k + 1)) (length (scripts_begun config stage)) ≡ sum_below (λ k. open_of (scripts_begun config stage) past (other_mutator + 1) (k + 1)) config.mutators =
+      ap (sum_below (λ k. open_of (scripts_begun config stage) past (other_mutator + 1) (k + 1))) (begun_many config stage follows.seats) in
+      let open_is = open_below (scripts_begun config stage) past (other_mutator + 1) in
       let crowd = short.crowd in
       (live, short.held, short.pinned, (short.names, short.reach, refl), short.held_is, short.pinned_is, omega (arith, crowd, sums, many, open_is))
 
 -- What an event settles leaves a history of which each refused entry was crowded out.
-module _ (change : Change) (c : Config) (g : Graph) (s : Stage Actor) (past : List Entry) (goes : Goes c g s past) (crowded : AreCrowded c.regions c.region_words g (scripts_begun c s) past) where
+module _ (change : Change) (config : Config) (graph : Graph) (stage : Stage Actor) (past : List Entry) (goes : Goes config graph stage past) (crowded : AreCrowded config.regions config.region_words graph (scripts_begun config stage) past) where
   abbrev Crowded : List Entry → Type 0
-  Crowded settles = AreCrowded c.regions c.region_words g (scripts_begun c s) (past ++ settles)
+  Crowded settles = AreCrowded config.regions config.region_words graph (scripts_begun config stage) (past ++ settles)
 
   abbrev now : World
-  now = world_of c s goes.follows.block goes.follows.ghost (after g past)
+  now = world_of config stage goes.follows.block goes.follows.ghost (after graph past)
 
   -- entries without Full
   quiet : (settles : List Entry) → IsWithoutFull settles → Crowded settles
-  quiet settles without = crowded_none c.regions c.region_words g (scripts_begun c s) past crowded settles without
+  quiet settles without = crowded_none config.regions config.region_words graph (scripts_begun config stage) past crowded settles without
 
   none : Crowded []
   none = quiet [] (All-nil (λ e. e.reply ≢ Full))
 
   -- a word of the new image that the control stores
   module _ (number index seen phase cset hints : ℕ) (extent : Extent) (image : List ℕ) (command : Command) (calls : List Entry)
-      (here : slice_get s.machines number ≡ Some (record { machine = controlling (record { spot = StoreWord index extent; seen = seen; phase = phase; cset = cset; hints = hints; image = image }); command = command; calls = calls })) where
-    control_facts : IsControl c s.words now number (record { spot = StoreWord index extent; seen = seen; phase = phase; cset = cset; hints = hints; image = image })
+      (here : slice_get stage.machines number ≡ Some (record { machine = controlling (record { spot = StoreWord index extent; seen = seen; phase = phase; cset = cset; hints = hints; image = image }); command = command; calls = calls })) where
+    control_facts : IsControl config stage.words now number (record { spot = StoreWord index extent; seen = seen; phase = phase; cset = cset; hints = hints; image = image })
     control_facts = goes.follows.machines number (record { machine = controlling (record { spot = StoreWord index extent; seen = seen; phase = phase; cset = cset; hints = hints; image = image }); command = command; calls = calls }) here
 
-    held : held_image c s ≡ Some (record { extent = extent; image = image })
-    held = ap (λ n. image_of (slice_get s.machines n)) (sym control_facts.number_is) ∙ ap image_of here
+    held : held_image config stage ≡ Some (record { extent = extent; image = image })
+    held = ap (λ n. image_of (slice_get stage.machines n)) (sym control_facts.number_is) ∙ ap image_of here
 
     abbrev at : ℕ
-    at = image_start c + index
+    at = image_start config + index
 
     -- into an answer
-    at_answer : (t : ℕ) → name_of c at ≡ Answer t → Crowded (told_word s.machines (Answer t) (slice_index s.words at) (slice_index image index))
-    at_answer t is =
+    at_answer : (other_mutator : ℕ) → name_of config at ≡ Answer other_mutator → Crowded (told_word stage.machines (Answer other_mutator) (slice_index stage.words at) (slice_index image index))
+    at_answer other_mutator is =
         let block = goes.follows.block in
         let ghost = goes.follows.ghost in
-        let within : t < c.mutators = subst (λ w. IsWord c w) is
-        (storing.name_is_word change c s.words block ghost (after g past) past s.machines extent image index seen phase cset hints command calls control_facts.ready goes.follows.words control_facts.aims.0 control_facts.aims.1 control_facts.aims.2 goes.follows.seats) in
-        let raw : view c s.words (Answer t) ≡ slice_index s.words at = ap (view c s.words) (sym is)
-        ∙ storing.view_raw change c s.words block ghost (after g past) past s.machines extent image index seen phase cset hints command calls control_facts.ready goes.follows.words control_facts.aims.0 control_facts.aims.1 control_facts.aims.2 goes.follows.seats in
-        let value : settled c s (Answer t) ≡ slice_index image index = ap (λ o. settled_by c s.words o (Answer t)) held ∙ ap (mixed c s.words (record { extent = extent; image = image })) (sym is)
-        ∙ storing.now_is change c s.words block ghost (after g past) past s.machines extent image index seen phase cset hints command calls control_facts.ready goes.follows.words control_facts.aims.0 control_facts.aims.1 control_facts.aims.2 goes.follows.seats in
-        let there = mutator_there c s.words now past s.machines goes.follows.seats goes.follows.machines t within in
-        subst (λ k. Crowded (entries_of t k (if (slice_index s.words at == 0) && (slice_index image index == 1) then Some Full else None))) (ap command_at (sym there.2))
-        (by_test there.0 there.1 t there.4 raw value ((slice_index s.words at == 0) && (slice_index image index == 1)) refl)
+        let within : other_mutator < config.mutators = subst (λ w. IsWord config w) is
+        (storing.name_is_word change config stage.words block ghost (after graph past) past stage.machines extent image index seen phase cset hints command calls control_facts.ready goes.follows.words control_facts.aims.0 control_facts.aims.1 control_facts.aims.2 goes.follows.seats) in
+        let raw : view config stage.words (Answer other_mutator) ≡ slice_index stage.words at = ap (view config stage.words) (sym is)
+        ∙ storing.view_raw change config stage.words block ghost (after graph past) past stage.machines extent image index seen phase cset hints command calls control_facts.ready goes.follows.words control_facts.aims.0 control_facts.aims.1 control_facts.aims.2 goes.follows.seats in
+        let value : settled config stage (Answer other_mutator) ≡ slice_index image index = ap (λ o. settled_by config stage.words o (Answer other_mutator)) held ∙ ap (mixed config stage.words (record { extent = extent; image = image })) (sym is)
+        ∙ storing.now_is change config stage.words block ghost (after graph past) past stage.machines extent image index seen phase cset hints command calls control_facts.ready goes.follows.words control_facts.aims.0 control_facts.aims.1 control_facts.aims.2 goes.follows.seats in
+        let there = mutator_there config stage.words now past stage.machines goes.follows.seats goes.follows.machines other_mutator within in
+        subst (λ k. Crowded (entries_of other_mutator k (if (slice_index stage.words at == 0) && (slice_index image index == 1) then Some Full else None))) (ap command_at (sym there.2))
+        (by_test there.0 there.1 other_mutator there.4 raw value ((slice_index stage.words at == 0) && (slice_index image index == 1)) refl)
       where
-        by_test : (a : Actor) (m : Mutating) (t : ℕ) → IsThread c s.words now (of_thread past (t + 1)) t a m → view c s.words (Answer t) ≡ slice_index s.words at → settled c s (Answer t) ≡ slice_index image index
-            → (q : Bool) → ((slice_index s.words at == 0) && (slice_index image index == 1)) ≡ q → Crowded (entries_of t a.command (if q then Some Full else None))
-        by_test a m t thread raw value false test = none
-        by_test a m t thread raw value true test =
-            let both = and_parts (slice_index s.words at == 0) (slice_index image index == 1) test in
-            crowded_one c.regions c.region_words g (scripts_begun c s) past crowded (entry_of t a.command Full)
-            (refused_crowded c g s past goes.follows (outside_held c s goes.shaken (record { extent = extent; image = image }) held) t a m thread (value ∙ eqb-true _ _ both.1) (raw ∙ eqb-true _ _ both.0))
+        by_test : (actor : Actor) (mutator : Mutating) (other_mutator : ℕ) → IsThread config stage.words now (of_thread past (other_mutator + 1)) other_mutator actor mutator → view config stage.words (Answer other_mutator) ≡ slice_index stage.words at → settled config stage (Answer other_mutator) ≡ slice_index image index
+            → (holds : Bool) → ((slice_index stage.words at == 0) && (slice_index image index == 1)) ≡ holds → Crowded (entries_of other_mutator actor.command (if holds then Some Full else None))
+        by_test actor mutator other_mutator thread raw value false test = none
+        by_test actor mutator other_mutator thread raw value true test =
+            let both = and_parts (slice_index stage.words at == 0) (slice_index image index == 1) test in
+            crowded_one config.regions config.region_words graph (scripts_begun config stage) past crowded (entry_of other_mutator actor.command Full)
+            (refused_crowded config graph stage past goes.follows (outside_held config stage goes.shaken (record { extent = extent; image = image }) held) other_mutator actor mutator thread (value ∙ eqb-true _ _ both.1) (raw ∙ eqb-true _ _ both.0))
 
     -- into any word
-    by_word : (w : Word) → name_of c at ≡ w → Crowded (told_word s.machines w (slice_index s.words at) (slice_index image index))
+    by_word : (word : Word) → name_of config at ≡ word → Crowded (told_word stage.machines word (slice_index stage.words at) (slice_index image index))
     by_word (Answer t) is = at_answer t is
     by_word _ is = none
 
   -- a step of the control
   by_spot : (number seen phase cset hints : ℕ) (image : List ℕ) (command : Command) (calls : List Entry) (spot : ControlSpot)
-      → slice_get s.machines number ≡ Some (record { machine = controlling (record { spot = spot; seen = seen; phase = phase; cset = cset; hints = hints; image = image }); command = command; calls = calls }) → Crowded (told_storing c s spot image)
-  by_spot number seen phase cset hints image command calls (StoreWord index extent) here = by_word number index seen phase cset hints extent image command calls here (name_of c (image_start c + index)) refl
+      → slice_get stage.machines number ≡ Some (record { machine = controlling (record { spot = spot; seen = seen; phase = phase; cset = cset; hints = hints; image = image }); command = command; calls = calls }) → Crowded (told_storing config stage spot image)
+  by_spot number seen phase cset hints image command calls (StoreWord index extent) here = by_word number index seen phase cset hints extent image command calls here (name_of config (image_start config + index)) refl
   by_spot number seen phase cset hints image command calls _ here = none
 
   -- a step of any machine
-  by_role : (number : ℕ) (order : Order) (command : Command) (calls : List Entry) (machine : Machine) → slice_get s.machines number ≡ Some (record { machine = machine; command = command; calls = calls })
-      → Crowded (told_by c s (record { machine = machine; command = command; calls = calls }) order machine)
-  by_role number order command calls (mutating m) here = quiet _ (mutator_not_full (settled c s) m (command_by order command))
+  by_role : (number : ℕ) (order : Order) (command : Command) (calls : List Entry) (machine : Machine) → slice_get stage.machines number ≡ Some (record { machine = machine; command = command; calls = calls })
+      → Crowded (told_by config stage (record { machine = machine; command = command; calls = calls }) order machine)
+  by_role number order command calls (mutating m) here = quiet _ (mutator_not_full (settled config stage) m (command_by order command))
   by_role number order command calls (controlling k) here = by_spot number k.seen k.phase k.cset k.hints k.image command calls k.spot here
   by_role number order command calls _ here = none
 
-  told_crowded : (e : Event Order) → Crowded (told c s e)
+  told_crowded : (event : Event Order) → Crowded (told config stage event)
   unfolding told
-  told_crowded e = by_machine (slice_get s.machines e.number) refl
+  told_crowded event = by_machine (slice_get stage.machines event.number) refl
     where
-      by_order : (a : Actor) (b : Bool) → slice_get s.machines e.number ≡ Some a → Crowded (if b then told_by c s a e.order a.machine else [])
-      by_order a true here = by_role e.number e.order a.command a.calls a.machine here
-      by_order a false here = none
+      by_order : (actor : Actor) (holds : Bool) → slice_get stage.machines event.number ≡ Some actor → Crowded (if holds then told_by config stage actor event.order actor.machine else [])
+      by_order actor true here = by_role event.number event.order actor.command actor.calls actor.machine here
+      by_order actor false here = none
 
-      by_machine : (o : Option Actor) → slice_get s.machines e.number ≡ o → Crowded (told_of_machine c s e o)
+      by_machine : (found : Option Actor) → slice_get stage.machines event.number ≡ found → Crowded (told_of_machine config stage event found)
       by_machine None here = none
-      by_machine (Some a) here = by_order a (takes_of a.machine e.order) here
+      by_machine (Some actor) here = by_order actor (takes_of actor.machine event.order) here
 
 -- a run from a stage that follows a history of such entries
-goes_crowded : (change : Change) → PausesByParts change → (c : Config) (g : Graph) (s : Stage Actor) (past : List Entry) (es : List (Event Order)) → Goes c g s past → AreCrowded c.regions c.region_words g (scripts_begun c s) past
-    → AreCrowded c.regions c.region_words g (scripts_begun c (go (kind change c) s es)) (past ++ history change c s es)
+goes_crowded : (change : Change) → PausesByParts change → (config : Config) (graph : Graph) (stage : Stage Actor) (past : List Entry) (es : List (Event Order)) → Goes config graph stage past → AreCrowded config.regions config.region_words graph (scripts_begun config stage) past
+    → AreCrowded config.regions config.region_words graph (scripts_begun config (go (kind change config) stage es)) (past ++ history change config stage es)
 unfolding go history
-goes_crowded change law c g s past [] goes crowded = subst (λ h. AreCrowded c.regions c.region_words g (scripts_begun c s) h) (sym (append-nil past)) crowded
-goes_crowded change law c g s past (e ∷ es) goes crowded =
-    subst (λ h. AreCrowded c.regions c.region_words g (scripts_begun c (go (kind change c) (act (kind change c) s e) es)) h) (append_assoc past (told c s e) (history change c (act (kind change c) s e) es))
-    (goes_crowded change law c g (act (kind change c) s e) (past ++ told c s e) es (goes_event change law c g s past e goes)
-    (crowded_longer c.regions c.region_words g (scripts_begun c s) (scripts_begun c (act (kind change c) s e)) (past ++ told c s e) (begun_grows change c s e goes.follows.seats) (told_crowded change c g s past goes crowded e)))
+goes_crowded change law config graph stage past [] goes crowded = subst (λ h. AreCrowded config.regions config.region_words graph (scripts_begun config stage) h) (sym (append-nil past)) crowded
+goes_crowded change law config graph stage past (e ∷ es) goes crowded =
+    subst (λ h. AreCrowded config.regions config.region_words graph (scripts_begun config (go (kind change config) (act (kind change config) stage e) es)) h) (append_assoc past (told config stage e) (history change config (act (kind change config) stage e) es))
+    (goes_crowded change law config graph (act (kind change config) stage e) (past ++ told config stage e) es (goes_event change law config graph stage past e goes)
+    (crowded_longer config.regions config.region_words graph (scripts_begun config stage) (scripts_begun config (act (kind change config) stage e)) (past ++ told config stage e) (begun_grows change config stage e goes.follows.seats) (told_crowded change config graph stage past goes crowded e)))
 
 -- Who is refused in a run from a stage that begins a graph was crowded out.
-pub run_crowded : (change : Change) → PausesByParts change → (c : Config) (s : Stage Actor) (g : Graph) → Begins c s g → (events : List (Event Order))
-    → AreCrowded c.regions c.region_words g (scripts_begun c (go (kind change c) s events)) (history change c s events)
-run_crowded change law c s g begins events = goes_crowded change law c g s [] events (goes_begins c s g begins) (λ k e there full. absurd (cc (there)))
+pub run_crowded : (change : Change) → PausesByParts change → (config : Config) (stage : Stage Actor) (graph : Graph) → Begins config stage graph → (events : List (Event Order))
+    → AreCrowded config.regions config.region_words graph (scripts_begun config (go (kind change config) stage events)) (history change config stage events)
+run_crowded change law config stage graph begins events = goes_crowded change law config graph stage [] events (goes_begins config stage graph begins) (λ k e there full. absurd (cc (there)))

@@ -32,29 +32,29 @@ sum_by_range f from (suc n) =
     omega (arith, next, first, cons, rest, front)
 
 -- a place in two lists one behind the other
-pub get_left : {A : Type 0} (xs ys : List A) (k : ℕ) → k < length xs → slice_get (xs ++ ys) k ≡ slice_get xs k
-get_left [] ys k below = absurd (omega (arith, below))
+pub get_left : {A : Type 0} (xs ys : List A) (index : ℕ) → index < length xs → slice_get (xs ++ ys) index ≡ slice_get xs index
+get_left [] ys index below = absurd (omega (arith, below))
 get_left (x ∷ xs) ys zero below = refl
-get_left (x ∷ xs) ys (suc k) below = get_left xs ys k (omega (arith, below))
+get_left (x ∷ xs) ys (suc index) below = get_left xs ys index (omega (arith, below))
 
-pub get_right : {A : Type 0} (xs ys : List A) (n k : ℕ) → n ≡ length xs + k → slice_get (xs ++ ys) n ≡ slice_get ys k
-get_right [] ys n k is = ap (slice_get ys) (omega (arith, is))
-get_right (x ∷ xs) ys zero k is = absurd (omega (arith, is))
-get_right (x ∷ xs) ys (suc n) k is = get_right xs ys n k (omega (arith, is))
+pub get_right : {A : Type 0} (xs ys : List A) (other_index index : ℕ) → other_index ≡ length xs + index → slice_get (xs ++ ys) other_index ≡ slice_get ys index
+get_right [] ys other_index index is = ap (slice_get ys) (omega (arith, is))
+get_right (x ∷ xs) ys zero index is = absurd (omega (arith, is))
+get_right (x ∷ xs) ys (suc other_index) index is = get_right xs ys other_index index (omega (arith, is))
 
 -- one list has what the other has
 abbrev pub Extends : List Command → List Command → Type 0
-Extends xs ys = (i : ℕ) (k : Command) → slice_get xs i ≡ Some k → slice_get ys i ≡ Some k
+Extends xs ys = (index : ℕ) (command : Command) → slice_get xs index ≡ Some command → slice_get ys index ≡ Some command
 
 -- as many scripts, each with no less than before
 pub record AreLonger (old new : List (List Command)) : Type 0 where
   pub same : length new ≡ length old
-  pub longer : (t : ℕ) → t < length old → Extends (slice_index_or old t []) (slice_index_or new t [])
+  pub longer : (index : ℕ) → index < length old → Extends (slice_index_or old index []) (slice_index_or new index [])
 
 -- what is asked for stays
-asked_more : (before then_on : Option Command) → ((k : Command) → before ≡ Some k → then_on ≡ Some k) → words_asked before ≤ words_asked then_on
+asked_more : (before then_on : Option Command) → ((command : Command) → before ≡ Some command → then_on ≡ Some command) → words_asked before ≤ words_asked then_on
 asked_more None then_on stays = omega arith
-asked_more (Some k) then_on stays = subst (λ o. words_asked (Some k) ≤ words_asked o) (sym (stays k refl)) (omega arith)
+asked_more (Some command) then_on stays = subst (λ o. words_asked (Some command) ≤ words_asked o) (sym (stays command refl)) (omega arith)
 
 -- what a thread's next command asks for, where it is not this thread
 abbrev pub open_of : List (List Command) → List Entry → ℕ → ℕ → ℕ
@@ -68,7 +68,7 @@ open_below scripts history thread = sum_by_range (open_of scripts history thread
 pub next_is : (scripts : List (List Command)) (history : List Entry) (t : ℕ) → next_command scripts history (t + 1) ≡ slice_get (slice_index_or scripts t []) (length (of_thread history (t + 1)))
 next_is scripts history t = ap (λ n. slice_get (slice_index_or scripts n []) (length (of_thread history (t + 1)))) (omega arith)
 
-either_less : (b : Bool) (x y : ℕ) → x ≤ y → (if b then 0 else x) ≤ (if b then 0 else y)
+either_less : (holds : Bool) (x y : ℕ) → x ≤ y → (if holds then 0 else x) ≤ (if holds then 0 else y)
 either_less true x y less = omega arith
 either_less false x y less = less
 
@@ -81,40 +81,40 @@ open_grows old new history thread grows =
     omega (arith, less, many, open_below old history thread, open_below new history thread)
 
 -- who was crowded out still was
-pub crowded_longer : (regions region_words : ℕ) (g : Graph) (old new : List (List Command)) (history : List Entry) → AreLonger old new → AreCrowded regions region_words g old history → AreCrowded regions region_words g new history
-crowded_longer regions region_words g old new history grows crowded k e there full =
+pub crowded_longer : (regions region_words : ℕ) (graph : Graph) (old new : List (List Command)) (history : List Entry) → AreLonger old new → AreCrowded regions region_words graph old history → AreCrowded regions region_words graph new history
+crowded_longer regions region_words graph old new history grows crowded k e there full =
     let crowd = crowded k e there full in
     (crowd.0, crowd.1, crowd.2, crowd.3, crowd.4, crowd.5, (let less = open_grows old new (take k history) e.thread grows in let before = crowd.6 in omega (arith, less, before)))
 
 -- an entry of a history without Full
-not_full_at : (es : List Entry) (k : ℕ) (e : Entry) → IsWithoutFull es → slice_get es k ≡ Some e → e.reply ≢ Full
-not_full_at [] k e without there = absurd (cc (there))
-not_full_at (x ∷ es) zero e without there = λ full. All-head (λ y. y.reply ≢ Full) x es without (ap (λ y. y.reply) (same_Some x e there) ∙ full)
-not_full_at (x ∷ es) (suc k) e without there = not_full_at es k e (All-tail (λ y. y.reply ≢ Full) x es without) there
+not_full_at : (es : List Entry) (index : ℕ) (entry : Entry) → IsWithoutFull es → slice_get es index ≡ Some entry → entry.reply ≢ Full
+not_full_at [] index entry without there = absurd (cc (there))
+not_full_at (x ∷ es) zero entry without there = λ full. All-head (λ y. y.reply ≢ Full) x es without (ap (λ y. y.reply) (same_Some x entry there) ∙ full)
+not_full_at (x ∷ es) (suc index) entry without there = not_full_at es index entry (All-tail (λ y. y.reply ≢ Full) x es without) there
 
 -- a history of crowded ones, and one more list of such
-module _ (regions region_words : ℕ) (g : Graph) (scripts : List (List Command)) (history : List Entry) (crowded : AreCrowded regions region_words g scripts history) where
+module _ (regions region_words : ℕ) (graph : Graph) (scripts : List (List Command)) (history : List Entry) (crowded : AreCrowded regions region_words graph scripts history) where
   crowded_append : (more : List Entry)
-      → ((k j : ℕ) (e : Entry) → k ≡ length history + j → slice_get more j ≡ Some e → e.reply ≡ Full → IsCrowded regions region_words g scripts (take k (history ++ more)) e)
-      → AreCrowded regions region_words g scripts (history ++ more)
-  crowded_append more later k e there full = ⊎_elim
-      (λ (inside : (x : Entry) × (k < length history) × (slice_get history k ≡ Some x) × (get_or history k x ≡ x)).
-      subst (λ h. IsCrowded regions region_words g scripts h e) (sym (take-append-le k history more (let below = inside.1 in omega (arith, below))))
-      (crowded k e (sym (get_left history more k inside.1) ∙ there) full))
-      (λ (past : (length history ≤ k) × (slice_get history k ≡ None)).
-      let is : k ≡ length history + (k - length history) = (let above = past.0 in omega (arith, above)) in
-      later k (k - length history) e is (sym (get_right history more k (k - length history) is) ∙ there) full)
-      (slice_get_cases history k).1
+      → ((other_index index : ℕ) (entry : Entry) → other_index ≡ length history + index → slice_get more index ≡ Some entry → entry.reply ≡ Full → IsCrowded regions region_words graph scripts (take other_index (history ++ more)) entry)
+      → AreCrowded regions region_words graph scripts (history ++ more)
+  crowded_append more later other_index entry there full = ⊎_elim
+      (λ (inside : (x : Entry) × (other_index < length history) × (slice_get history other_index ≡ Some x) × (get_or history other_index x ≡ x)).
+      subst (λ h. IsCrowded regions region_words graph scripts h entry) (sym (take-append-le other_index history more (let below = inside.1 in omega (arith, below))))
+      (crowded other_index entry (sym (get_left history more other_index inside.1) ∙ there) full))
+      (λ (past : (length history ≤ other_index) × (slice_get history other_index ≡ None)).
+      let is : other_index ≡ length history + (other_index - length history) = (let above = past.0 in omega (arith, above)) in
+      later other_index (other_index - length history) entry is (sym (get_right history more other_index (other_index - length history) is) ∙ there) full)
+      (slice_get_cases history other_index).1
 
   -- entries without Full
-  pub crowded_none : (more : List Entry) → IsWithoutFull more → AreCrowded regions region_words g scripts (history ++ more)
+  pub crowded_none : (more : List Entry) → IsWithoutFull more → AreCrowded regions region_words graph scripts (history ++ more)
   crowded_none more without = crowded_append more (λ k j e is there full. absurd (not_full_at more j e without there full))
 
   -- one that was crowded out
-  pub crowded_one : (e : Entry) → IsCrowded regions region_words g scripts history e → AreCrowded regions region_words g scripts (history ++ e ∷ [])
-  crowded_one e crowd = crowded_append (e ∷ []) (λ k j x is there full. by_place k j x is there)
+  pub crowded_one : (entry : Entry) → IsCrowded regions region_words graph scripts history entry → AreCrowded regions region_words graph scripts (history ++ entry ∷ [])
+  crowded_one entry crowd = crowded_append (entry ∷ []) (λ k index other_entry is there full. by_place k index other_entry is there)
     where
-      by_place : (k j : ℕ) (x : Entry) → k ≡ length history + j → slice_get (e ∷ []) j ≡ Some x → IsCrowded regions region_words g scripts (take k (history ++ e ∷ [])) x
-      by_place k zero x is there =
-          subst (λ h. IsCrowded regions region_words g scripts h x) (sym (take_at history (e ∷ []) k (omega (arith, is)))) (subst (λ y. IsCrowded regions region_words g scripts history y) (same_Some e x there) crowd)
-      by_place k (suc j) x is there = absurd (cc (there))
+      by_place : (k index : ℕ) (other_entry : Entry) → k ≡ length history + index → slice_get (entry ∷ []) index ≡ Some other_entry → IsCrowded regions region_words graph scripts (take k (history ++ entry ∷ [])) other_entry
+      by_place k zero other_entry is there =
+          subst (λ h. IsCrowded regions region_words graph scripts h other_entry) (sym (take_at history (entry ∷ []) k (omega (arith, is)))) (subst (λ y. IsCrowded regions region_words graph scripts history y) (same_Some entry other_entry there) crowd)
+      by_place k (suc index) other_entry is there = absurd (cc (there))

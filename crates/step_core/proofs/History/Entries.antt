@@ -20,47 +20,47 @@ use Rattle.step_core.specs.Actor.{entry_of, entries_of, command_by}
 use Rattle.step_core.proofs.Machines.Stepped.{graph_by, LegalBy}
 
 -- the graph after two histories
-pub after-append : (g : Graph) (past more : List Entry) → after g (past ++ more) ≡ after (after g past) more
-after-append g [] more = refl
-after-append g (e ∷ past) more = after-append (after_entry g e) past more
+pub after-append : (graph : Graph) (past more : List Entry) → after graph (past ++ more) ≡ after (after graph past) more
+after-append graph [] more = refl
+after-append graph (e ∷ past) more = after-append (after_entry graph e) past more
 
 -- two legal histories are one
-pub legal-append : (regions region_words : ℕ) (g : Graph) (past more : List Entry)
-    → EachIsLegal regions region_words g past → EachIsLegal regions region_words (after g past) more → EachIsLegal regions region_words g (past ++ more)
-legal-append regions region_words g [] more legal rest = rest
-legal-append regions region_words g (e ∷ past) more legal rest = (legal.0, legal-append regions region_words (after_entry g e) past more legal.1 rest)
+pub legal-append : (regions region_words : ℕ) (graph : Graph) (past more : List Entry)
+    → EachIsLegal regions region_words graph past → EachIsLegal regions region_words (after graph past) more → EachIsLegal regions region_words graph (past ++ more)
+legal-append regions region_words graph [] more legal rest = rest
+legal-append regions region_words graph (e ∷ past) more legal rest = (legal.0, legal-append regions region_words (after_entry graph e) past more legal.1 rest)
 
 -- the entry that a step of a mutator settles leads to the graph that it says
-pub graph_settled : (g : Graph) (seat : ℕ) (k : Command) (r : Option Reply) → graph_by g seat k r ≡ after g (entries_of seat k r)
-graph_settled g seat k None = refl
-graph_settled g seat k (Some r) = refl
+pub graph_settled : (graph : Graph) (seat : ℕ) (command : Command) (found : Option Reply) → graph_by graph seat command found ≡ after graph (entries_of seat command found)
+graph_settled graph seat command None = refl
+graph_settled graph seat command (Some found) = refl
 
 -- and is legal where it says so
-pub legal_settled : (c : Config) (g : Graph) (seat : ℕ) (k : Command) (r : Option Reply) → LegalBy c g seat k r → EachIsLegal c.regions c.region_words g (entries_of seat k r)
-legal_settled c g seat k None legal = tt
-legal_settled c g seat k (Some r) legal = (legal, tt)
+pub legal_settled : (config : Config) (graph : Graph) (seat : ℕ) (command : Command) (found : Option Reply) → LegalBy config graph seat command found → EachIsLegal config.regions config.region_words graph (entries_of seat command found)
+legal_settled config graph seat command None legal = tt
+legal_settled config graph seat command (Some found) legal = (legal, tt)
 
 -- the mutator's own entries grow by the entry
-pub own_more : (past : List Entry) (seat : ℕ) (k : Command) (r : Option Reply) → of_thread (past ++ entries_of seat k r) (seat + 1) ≡ of_thread past (seat + 1) ++ entries_of seat k r
-own_more past seat k None = filter-append _ past []
-own_more past seat k (Some r) = filter-append _ past _ ∙ ap (λ b. of_thread past (seat + 1) ++ (if b then entry_of seat k r ∷ [] else [])) same
+pub own_more : (past : List Entry) (seat : ℕ) (command : Command) (found : Option Reply) → of_thread (past ++ entries_of seat command found) (seat + 1) ≡ of_thread past (seat + 1) ++ entries_of seat command found
+own_more past seat command None = filter-append _ past []
+own_more past seat command (Some found) = filter-append _ past _ ∙ ap (λ b. of_thread past (seat + 1) ++ (if b then entry_of seat command found ∷ [] else [])) same
   where
     same : ((seat + 1) == (seat + 1)) ≡ true
     same = grind (arith, nat_tests)
 
 -- those of another do not
-pub other_more : (past : List Entry) (seat : ℕ) (k : Command) (r : Option Reply) (number : ℕ) → number ≢ seat → of_thread (past ++ entries_of seat k r) (number + 1) ≡ of_thread past (number + 1)
-other_more past seat k None number other = ap (λ es. of_thread es (number + 1)) (append-nil past)
-other_more past seat k (Some r) number other = filter-append _ past _ ∙ ap (λ b. of_thread past (number + 1) ++ (if b then entry_of seat k r ∷ [] else [])) differs ∙ append-nil _
+pub other_more : (past : List Entry) (seat : ℕ) (command : Command) (found : Option Reply) (number : ℕ) → number ≢ seat → of_thread (past ++ entries_of seat command found) (number + 1) ≡ of_thread past (number + 1)
+other_more past seat command None number other = ap (λ es. of_thread es (number + 1)) (append-nil past)
+other_more past seat command (Some found) number other = filter-append _ past _ ∙ ap (λ b. of_thread past (number + 1) ++ (if b then entry_of seat command found ∷ [] else [])) differs ∙ append-nil _
   where
     differs : ((seat + 1) == (number + 1)) ≡ false
     differs = grind (arith, nat_tests)
 
 -- a command that is begun is in range
-begun_valid : (spot : Spot) (made : ℕ) (k : Command) → takes_at spot made (Begin k) ≡ true → is_valid k ≡ true
-begun_valid Rest made k takes = (and_parts _ _ takes).0
-begun_valid (Ended reply) made k takes = (and_parts _ _ takes).0
-begun_valid _ made k takes = cc
+begun_valid : (spot : Spot) (made : ℕ) (command : Command) → takes_at spot made (Begin command) ≡ true → is_valid command ≡ true
+begun_valid Rest made command takes = (and_parts _ _ takes).0
+begun_valid (Ended reply) made command takes = (and_parts _ _ takes).0
+begun_valid _ made command takes = cc
 
 -- so is that of a call after any order that is taken
 pub command_valid : (spot : Spot) (made : ℕ) (order : Order) (command : Command) → takes_at spot made order ≡ true → is_valid command ≡ true → is_valid (command_by order command) ≡ true
@@ -70,7 +70,7 @@ command_valid spot made End command takes valid = valid
 command_valid spot made (Hint address) command takes valid = valid
 
 -- the entry of a mutator
-pub entries_settled : (threads seat : ℕ) (k : Command) (r : Option Reply) → seat < threads → is_valid k ≡ true → All (IsSettled threads) (entries_of seat k r)
-entries_settled threads seat k None below valid = All-nil (IsSettled threads)
-entries_settled threads seat k (Some reply) below valid =
+pub entries_settled : (threads seat : ℕ) (command : Command) (found : Option Reply) → seat < threads → is_valid command ≡ true → All (IsSettled threads) (entries_of seat command found)
+entries_settled threads seat command None below valid = All-nil (IsSettled threads)
+entries_settled threads seat command (Some reply) below valid =
     All-cons (IsSettled threads) _ [] (record { least = omega arith; most = omega (arith, below); valid = valid }) (All-nil (IsSettled threads))

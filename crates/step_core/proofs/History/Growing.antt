@@ -56,36 +56,36 @@ enter_not_between Waited Inside = refl
 enter_not_between Call _ = refl
 enter_not_between Waited _ = refl
 
-either_not_between : (b : Bool) (x y : Spot) → is_between_calls x ≡ false → is_between_calls y ≡ false → is_between_calls (if b then x else y) ≡ false
-either_not_between true x y one other = one
-either_not_between false x y one other = other
+either_not_between : (holds : Bool) (spot other_spot : Spot) → is_between_calls spot ≡ false → is_between_calls other_spot ≡ false → is_between_calls (if holds then spot else other_spot) ≡ false
+either_not_between true spot other_spot one other = one
+either_not_between false spot other_spot one other = other
 
 wait_not_between : (seat made : ℕ) (at : WaitSpot) (got : ℕ) → is_between_calls (wait_next seat made at got) ≡ false
 wait_not_between seat made wait.Poll got = either_not_between (got == 0) _ _ refl refl
 wait_not_between seat made _ got = refl
 
 -- A step of a mutator: its commands are those that it has begun before, or these and one more.
-module _ (c : Config) (m : Mutating) (order : Order) (got : ℕ) (command : Command) (calls : List Entry) where
+module _ (config : Config) (mutator : Mutating) (order : Order) (got : ℕ) (command : Command) (calls : List Entry) where
   abbrev before : Spot → List Command
   before spot = commands_of calls ++ (if is_between_calls spot then [] else command ∷ [])
 
   abbrev then_on : Spot → List Command
-  then_on spot = commands_of (calls ++ entries_of m.seat command (given_at spot)) ++ (if is_between_calls (next_at c m order got spot).spot then [] else command_by order command ∷ [])
+  then_on spot = commands_of (calls ++ entries_of mutator.seat command (given_at spot)) ++ (if is_between_calls (next_at config mutator order got spot).spot then [] else command_by order command ∷ [])
 
   -- in a call
-  in_progress : (o : Order) → o ≡ Nothing → (b : Bool) → b ≡ false → Extends (commands_of calls ++ command ∷ []) (commands_of (calls ++ []) ++ (if b then [] else command_by o command ∷ []))
+  in_progress : (order : Order) → order ≡ Nothing → (holds : Bool) → holds ≡ false → Extends (commands_of calls ++ command ∷ []) (commands_of (calls ++ []) ++ (if holds then [] else command_by order command ∷ []))
   in_progress Nothing is true no_call = absurd (cc (no_call))
   in_progress Nothing is false no_call = extends_same _ _ (ap (λ es. commands_of es ++ command ∷ []) (sym (append-nil calls)))
-  in_progress (Begin k) is b no_call = absurd (cc (is))
-  in_progress End is b no_call = absurd (cc (is))
-  in_progress (Hint address) is b no_call = absurd (cc (is))
+  in_progress (Begin k) is holds no_call = absurd (cc (is))
+  in_progress End is holds no_call = absurd (cc (is))
+  in_progress (Hint address) is holds no_call = absurd (cc (is))
 
-  call_grows : (spot : Spot) → is_between_calls spot ≡ false → takes_at spot m.made order ≡ true → is_between_calls (next_at c m order got spot).spot ≡ false
-      → Extends (commands_of calls ++ command ∷ []) (commands_of (calls ++ []) ++ (if is_between_calls (next_at c m order got spot).spot then [] else command_by order command ∷ []))
-  call_grows spot in_it takes next = in_progress order (in_call spot m.made order in_it takes) (is_between_calls (next_at c m order got spot).spot) next
+  call_grows : (spot : Spot) → is_between_calls spot ≡ false → takes_at spot mutator.made order ≡ true → is_between_calls (next_at config mutator order got spot).spot ≡ false
+      → Extends (commands_of calls ++ command ∷ []) (commands_of (calls ++ []) ++ (if is_between_calls (next_at config mutator order got spot).spot then [] else command_by order command ∷ []))
+  call_grows spot in_it takes next = in_progress order (in_call spot mutator.made order in_it takes) (is_between_calls (next_at config mutator order got spot).spot) next
 
   -- between two calls
-  rest_grows : (o : Order) → takes_at Rest m.made o ≡ true → Extends (commands_of calls ++ []) (commands_of (calls ++ []) ++ (if is_between_calls (next_at c m o got Rest).spot then [] else command_by o command ∷ []))
+  rest_grows : (order : Order) → takes_at Rest mutator.made order ≡ true → Extends (commands_of calls ++ []) (commands_of (calls ++ []) ++ (if is_between_calls (next_at config mutator order got Rest).spot then [] else command_by order command ∷ []))
   rest_grows Nothing takes = absurd (cc (takes))
   rest_grows (Begin k) takes =
       subst (λ xs. Extends xs (commands_of (calls ++ []) ++ k ∷ [])) (ap commands_of (append-nil calls) ∙ sym (append-nil (commands_of calls))) (extends_more (commands_of (calls ++ [])) (k ∷ []))
@@ -93,21 +93,21 @@ module _ (c : Config) (m : Mutating) (order : Order) (got : ℕ) (command : Comm
   rest_grows (Hint address) takes = absurd (cc (takes))
 
   -- where a call ends
-  leave_grows : (e : Entry) → e.command ≡ command → Extends (commands_of calls ++ command ∷ []) (commands_of (calls ++ e ∷ []) ++ [])
-  leave_grows e is = extends_same _ _ (ap (λ k. commands_of calls ++ k ∷ []) (sym is) ∙ sym (map-append (λ x. x.command) calls (e ∷ [])) ∙ sym (append-nil (commands_of (calls ++ e ∷ []))))
+  leave_grows : (entry : Entry) → entry.command ≡ command → Extends (commands_of calls ++ command ∷ []) (commands_of (calls ++ entry ∷ []) ++ [])
+  leave_grows entry is = extends_same _ _ (ap (λ k. commands_of calls ++ k ∷ []) (sym is) ∙ sym (map-append (λ x. x.command) calls (entry ∷ [])) ∙ sym (append-nil (commands_of (calls ++ entry ∷ []))))
 
   -- where it stays in the heap
-  stays_in_call : (spot : Spot) → standing_at spot ≡ inside → is_between_calls (next_at c m order got spot).spot ≡ false
-  stays_in_call spot is = in_not_between (next_at c m order got spot).spot (goes_on_in c m order got spot is)
+  stays_in_call : (spot : Spot) → standing_at spot ≡ inside → is_between_calls (next_at config mutator order got spot).spot ≡ false
+  stays_in_call spot is = in_not_between (next_at config mutator order got spot).spot (goes_on_in config mutator order got spot is)
 
   -- at each spot
-  grows_at : (spot : Spot) → takes_at spot m.made order ≡ true → Extends (before spot) (then_on spot)
+  grows_at : (spot : Spot) → takes_at spot mutator.made order ≡ true → Extends (before spot) (then_on spot)
   grows_at Rest takes = rest_grows order takes
   grows_at (Ended reply) takes = rest_grows order takes
   grows_at Gone takes = absurd (cc (takes))
-  grows_at (Leave reply) takes = leave_grows (entry_of m.seat command reply) refl
+  grows_at (Leave reply) takes = leave_grows (entry_of mutator.seat command reply) refl
   grows_at (Entering at next) takes = call_grows (Entering at next) refl takes (enter_not_between next (enter_next at got))
-  grows_at (Waiting at) takes = call_grows (Waiting at) refl takes (wait_not_between m.seat m.made at got)
+  grows_at (Waiting at) takes = call_grows (Waiting at) refl takes (wait_not_between mutator.seat mutator.made at got)
   grows_at LoadPhase takes = call_grows LoadPhase refl takes (stays_in_call LoadPhase refl)
   grows_at LoadSet takes = call_grows LoadSet refl takes (stays_in_call LoadSet refl)
   grows_at (Loading at) takes = call_grows (Loading at) refl takes (stays_in_call (Loading at) refl)
@@ -127,46 +127,46 @@ others_grow order command calls same =
     extends_same _ _ (ap (λ es. commands_of es ++ command ∷ []) (sym (append-nil calls)) ∙ ap (λ k. commands_of (calls ++ []) ++ k ∷ []) (sym same))
 
 -- the commands of a machine
-machine_grows : (change : Change) (c : Config) (order : Order) (got : ℕ) (command : Command) (calls : List Entry) (machine : Machine) → takes_of machine order ≡ true
-    → Extends (begun_by (record { machine = machine; command = command; calls = calls })) (begun_by (took_of change c (record { machine = machine; command = command; calls = calls }) order got machine))
-machine_grows change c order got command calls (mutating m) takes = grows_at c m order got command calls m.spot takes
-machine_grows change c order got command calls other takes = others_grow order command calls (takes_no_command other order command refl takes)
+machine_grows : (change : Change) (config : Config) (order : Order) (got : ℕ) (command : Command) (calls : List Entry) (machine : Machine) → takes_of machine order ≡ true
+    → Extends (begun_by (record { machine = machine; command = command; calls = calls })) (begun_by (took_of change config (record { machine = machine; command = command; calls = calls }) order got machine))
+machine_grows change config order got command calls (mutating m) takes = grows_at config m order got command calls m.spot takes
+machine_grows change config order got command calls other takes = others_grow order command calls (takes_no_command other order command refl takes)
 
 -- The scripts of a stage, by the numbers of its mutators.
-module _ (c : Config) (s : Stage Actor) (seats : length s.machines ≡ seat_count c.mutators c.helpers) where
-  few : c.mutators ≤ length s.machines
+module _ (config : Config) (stage : Stage Actor) (seats : length stage.machines ≡ seat_count config.mutators config.helpers) where
+  few : config.mutators ≤ length stage.machines
   few = omega (arith, seats)
 
-  pub begun_many : length (scripts_begun c s) ≡ c.mutators
-  begun_many = length-map (take c.mutators s.machines) begun_by ∙ length-take-le c.mutators s.machines few
+  pub begun_many : length (scripts_begun config stage) ≡ config.mutators
+  begun_many = length-map (take config.mutators stage.machines) begun_by ∙ length-take-le config.mutators stage.machines few
 
-  pub begun_is : (t : ℕ) (a : Actor) → t < c.mutators → slice_get s.machines t ≡ Some a → slice_index_or (scripts_begun c s) t [] ≡ begun_by a
-  begun_is t a below there =
-      let first : get_or (take c.mutators s.machines) t a ≡ a = get_or-take c.mutators s.machines t a below ∙ get_or_from_slice_get s.machines t a a there in
-      let taken : slice_get (take c.mutators s.machines) t ≡ Some a =
-      slice_get-get_or (take c.mutators s.machines) t a (let long = length-take-le c.mutators s.machines few in omega (arith, long, below)) ∙ ap (λ b. Some b) first in
-      get_or_from_slice_get (scripts_begun c s) t (begun_by a) [] (slice_get-map begun_by (take c.mutators s.machines) t ∙ ap (option_map begun_by) taken)
+  pub begun_is : (mutator : ℕ) (actor : Actor) → mutator < config.mutators → slice_get stage.machines mutator ≡ Some actor → slice_index_or (scripts_begun config stage) mutator [] ≡ begun_by actor
+  begun_is mutator actor below there =
+      let first : get_or (take config.mutators stage.machines) mutator actor ≡ actor = get_or-take config.mutators stage.machines mutator actor below ∙ get_or_from_slice_get stage.machines mutator actor actor there in
+      let taken : slice_get (take config.mutators stage.machines) mutator ≡ Some actor =
+      slice_get-get_or (take config.mutators stage.machines) mutator actor (let long = length-take-le config.mutators stage.machines few in omega (arith, long, below)) ∙ ap (λ b. Some b) first in
+      get_or_from_slice_get (scripts_begun config stage) mutator (begun_by actor) [] (slice_get-map begun_by (take config.mutators stage.machines) mutator ∙ ap (option_map begun_by) taken)
 
 -- a stage in which one machine is another, which has begun no less
-grows_one : (c : Config) (s : Stage Actor) (number : ℕ) (old new : Actor) (words : List ℕ) → length s.machines ≡ seat_count c.mutators c.helpers → slice_get s.machines number ≡ Some old → Extends (begun_by old) (begun_by new)
-    → AreLonger (scripts_begun c s) (scripts_begun c (record { words = words; machines = slice_set s.machines number new }))
-grows_one c s number old new words seats here grows =
-    let seats_then : length (slice_set s.machines number new) ≡ seat_count c.mutators c.helpers = length-set s.machines number new ∙ seats in
-    let stage_then : Stage Actor = record { words = words; machines = slice_set s.machines number new } in
+grows_one : (config : Config) (stage : Stage Actor) (number : ℕ) (old new : Actor) (words : List ℕ) → length stage.machines ≡ seat_count config.mutators config.helpers → slice_get stage.machines number ≡ Some old → Extends (begun_by old) (begun_by new)
+    → AreLonger (scripts_begun config stage) (scripts_begun config (record { words = words; machines = slice_set stage.machines number new }))
+grows_one config stage number old new words seats here grows =
+    let seats_then : length (slice_set stage.machines number new) ≡ seat_count config.mutators config.helpers = length-set stage.machines number new ∙ seats in
+    let stage_then : Stage Actor = record { words = words; machines = slice_set stage.machines number new } in
     record {
-      same = begun_many c stage_then seats_then ∙ sym (begun_many c s seats);
+      same = begun_many config stage_then seats_then ∙ sym (begun_many config stage seats);
       longer = λ t less.
-          let below : t < c.mutators = (let many = begun_many c s seats in omega (arith, less, many)) in
+          let below : t < config.mutators = (let many = begun_many config stage seats in omega (arith, less, many)) in
           ⊎_elim
           (λ (same : t ≡ number).
-          let then_is : slice_index_or (scripts_begun c stage_then) t [] ≡ begun_by new = begun_is c stage_then seats_then t new below (ap (slice_get stage_then.machines) same ∙ slice_get-set_same s.machines number old new here) in
-          let is : slice_index_or (scripts_begun c s) t [] ≡ begun_by old = begun_is c s seats t old below (ap (slice_get s.machines) same ∙ here) in
-          subst (λ xs. Extends xs (slice_index_or (scripts_begun c stage_then) t [])) (sym is) (subst (λ ys. Extends (begun_by old) ys) (sym then_is) grows))
+          let then_is : slice_index_or (scripts_begun config stage_then) t [] ≡ begun_by new = begun_is config stage_then seats_then t new below (ap (slice_get stage_then.machines) same ∙ slice_get-set_same stage.machines number old new here) in
+          let is : slice_index_or (scripts_begun config stage) t [] ≡ begun_by old = begun_is config stage seats t old below (ap (slice_get stage.machines) same ∙ here) in
+          subst (λ xs. Extends xs (slice_index_or (scripts_begun config stage_then) t [])) (sym is) (subst (λ ys. Extends (begun_by old) ys) (sym then_is) grows))
           (λ (differs : t ≡ number → ⊥).
-          let a : Actor = get_or s.machines t old in
-          let there : slice_get s.machines t ≡ Some a = slice_get-get_or s.machines t old (let enough = few c s seats in omega (arith, below, enough)) in
-          let then_is : slice_index_or (scripts_begun c stage_then) t [] ≡ begun_by a = begun_is c stage_then seats_then t a below (slice_get-set_other s.machines number t new differs ∙ there) in
-          extends_same _ _ (begun_is c s seats t a below there ∙ sym then_is))
+          let a : Actor = get_or stage.machines t old in
+          let there : slice_get stage.machines t ≡ Some a = slice_get-get_or stage.machines t old (let enough = few config stage seats in omega (arith, below, enough)) in
+          let then_is : slice_index_or (scripts_begun config stage_then) t [] ≡ begun_by a = begun_is config stage_then seats_then t a below (slice_get-set_other stage.machines number t new differs ∙ there) in
+          extends_same _ _ (begun_is config stage seats t a below there ∙ sym then_is))
           (cases_eq t number);
     }
 
@@ -174,20 +174,20 @@ stays_same : (scripts : List (List Command)) → AreLonger scripts scripts
 stays_same scripts = record { same = refl; longer = λ t below i k there. there }
 
 -- a machine that makes its access
-moved_grows : (change : Change) (c : Config) (s : Stage Actor) (number : ℕ) (a : Actor) (order : Order) → length s.machines ≡ seat_count c.mutators c.helpers → slice_get s.machines number ≡ Some a → takes_of a.machine order ≡ true
-    → AreLonger (scripts_begun c s) (scripts_begun c (moved (kind change c) s number a order))
+moved_grows : (change : Change) (config : Config) (stage : Stage Actor) (number : ℕ) (actor : Actor) (order : Order) → length stage.machines ≡ seat_count config.mutators config.helpers → slice_get stage.machines number ≡ Some actor → takes_of actor.machine order ≡ true
+    → AreLonger (scripts_begun config stage) (scripts_begun config (moved (kind change config) stage number actor order))
 unfolding kind
-moved_grows change c s number a order seats here takes = grows_one c s number a _ (accessed (plan_of c order a.machine) s.words) seats here (machine_grows change c order _ a.command a.calls a.machine takes)
+moved_grows change config stage number actor order seats here takes = grows_one config stage number actor _ (accessed (plan_of config order actor.machine) stage.words) seats here (machine_grows change config order _ actor.command actor.calls actor.machine takes)
 
 -- an event takes no command away
-pub begun_grows : (change : Change) (c : Config) (s : Stage Actor) (e : Event Order) → length s.machines ≡ seat_count c.mutators c.helpers → AreLonger (scripts_begun c s) (scripts_begun c (act (kind change c) s e))
+pub begun_grows : (change : Change) (config : Config) (stage : Stage Actor) (event : Event Order) → length stage.machines ≡ seat_count config.mutators config.helpers → AreLonger (scripts_begun config stage) (scripts_begun config (act (kind change config) stage event))
 unfolding act kind
-begun_grows change c s e seats = by_machine (slice_get s.machines e.number) refl
+begun_grows change config stage event seats = by_machine (slice_get stage.machines event.number) refl
   where
-    by_order : (a : Actor) (b : Bool) → slice_get s.machines e.number ≡ Some a → takes_of a.machine e.order ≡ b → AreLonger (scripts_begun c s) (scripts_begun c (if b then moved (kind change c) s e.number a e.order else s))
-    by_order a true here takes = moved_grows change c s e.number a e.order seats here takes
-    by_order a false here takes = stays_same (scripts_begun c s)
+    by_order : (actor : Actor) (holds : Bool) → slice_get stage.machines event.number ≡ Some actor → takes_of actor.machine event.order ≡ holds → AreLonger (scripts_begun config stage) (scripts_begun config (if holds then moved (kind change config) stage event.number actor event.order else stage))
+    by_order actor true here takes = moved_grows change config stage event.number actor event.order seats here takes
+    by_order actor false here takes = stays_same (scripts_begun config stage)
 
-    by_machine : (o : Option Actor) → slice_get s.machines e.number ≡ o → AreLonger (scripts_begun c s) (scripts_begun c (act_of (kind change c) s e o))
-    by_machine None here = stays_same (scripts_begun c s)
-    by_machine (Some a) here = by_order a (takes_of a.machine e.order) here refl
+    by_machine : (found : Option Actor) → slice_get stage.machines event.number ≡ found → AreLonger (scripts_begun config stage) (scripts_begun config (act_of (kind change config) stage event found))
+    by_machine None here = stays_same (scripts_begun config stage)
+    by_machine (Some actor) here = by_order actor (takes_of actor.machine event.order) here refl

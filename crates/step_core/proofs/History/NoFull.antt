@@ -28,31 +28,31 @@ use Rattle.mutator.specs.Rows.{Mutating, name_in}
 use Rattle.mutator.specs.Told.{name_of_object, name_the_same, shown_word, told_second, load_told, field_told, pin_told, told_at, told_of}
 use Rattle.step_core.specs.Actor.{entries_of}
 
-some_same : (a b : Reply) → ◌≡◌ {A = Option Reply} (Some a) (Some b) → a ≡ b
-some_same a b e = same_Some a b e
+some_same : (reply other_reply : Reply) → ◌≡◌ {A = Option Reply} (Some reply) (Some other_reply) → reply ≡ other_reply
+some_same reply other_reply e = same_Some reply other_reply e
 
 shown_not_full : (memory : Word → ℕ) (value : ℕ) → shown_word memory value ≢ Full
 shown_not_full memory value = by_null (value == 0)
   where
-    by_null : (b : Bool) → (if b then Null else Ref (name_in (name_of_object memory value))) ≢ Full
+    by_null : (holds : Bool) → (if holds then Null else Ref (name_in (name_of_object memory value))) ≢ Full
     by_null true e = absurd cc
     by_null false e = absurd cc
 
 second_not_full : (memory : Word → ℕ) (command : Command) (first second : ℕ) → told_second memory command first second ≢ Some Full
-second_not_full memory (Same a b) first second = by_same (name_the_same memory first second)
+second_not_full memory (Same a holds) first second = by_same (name_the_same memory first second)
   where
-    by_same : (b : Bool) → Some (yes_or_no b) ≢ Some Full
+    by_same : (holds : Bool) → Some (yes_or_no holds) ≢ Some Full
     by_same true e = absurd cc
     by_same false e = absurd cc
 second_not_full memory _ first second = λ e. absurd cc
 
-if_then : (b : Bool) (r : Reply) → r ≢ Full → (if b then Some r else None) ≢ Some Full
-if_then true r not e = not (some_same r Full e)
-if_then false r not e = absurd cc
+if_then : (holds : Bool) (reply : Reply) → reply ≢ Full → (if holds then Some reply else None) ≢ Some Full
+if_then true reply not e = not (some_same reply Full e)
+if_then false reply not e = absurd cc
 
-if_else : (b : Bool) (r : Reply) → r ≢ Full → (if b then None else Some r) ≢ Some Full
-if_else true r not e = absurd cc
-if_else false r not e = not (some_same r Full e)
+if_else : (holds : Bool) (reply : Reply) → reply ≢ Full → (if holds then None else Some reply) ≢ Some Full
+if_else true reply not e = absurd cc
+if_else false reply not e = not (some_same reply Full e)
 
 -- what an access settles is no Full
 load_not_full : (memory : Word → ℕ) (seat : ℕ) (command : Command) (at : LoadSpot) → load_told memory seat command at ≢ Some Full
@@ -91,10 +91,10 @@ told_not_full memory seat made kept (Pinning value at) = pin_not_full memory sea
 told_not_full memory seat made kept AskCycle = λ e. absurd cc
 told_not_full memory seat made kept _ = λ e. absurd cc
 
-entries_not_full : (seat : ℕ) (command : Command) (o : Option Reply) → o ≢ Some Full → IsWithoutFull (entries_of seat command o)
+entries_not_full : (seat : ℕ) (command : Command) (found : Option Reply) → found ≢ Some Full → IsWithoutFull (entries_of seat command found)
 entries_not_full seat command None not = All-nil (λ e. e.reply ≢ Full)
-entries_not_full seat command (Some r) not = All-cons (λ e. e.reply ≢ Full) _ [] (λ e. not (ap (λ (x : Reply). Some x) e)) (All-nil (λ e. e.reply ≢ Full))
+entries_not_full seat command (Some r) not = All-cons (λ e. e.reply ≢ Full) _ [] (λ e. not (ap (λ (reply : Reply). Some reply) e)) (All-nil (λ e. e.reply ≢ Full))
 
 -- so the entries that the step of a mutator settles have no Full
-pub mutator_not_full : (memory : Word → ℕ) (m : Mutating) (command : Command) → IsWithoutFull (entries_of m.seat command (told_of memory m))
-mutator_not_full memory m command = entries_not_full m.seat command _ (told_not_full memory m.seat m.made m.kept m.spot)
+pub mutator_not_full : (memory : Word → ℕ) (mutator : Mutating) (command : Command) → IsWithoutFull (entries_of mutator.seat command (told_of memory mutator))
+mutator_not_full memory mutator command = entries_not_full mutator.seat command _ (told_not_full memory mutator.seat mutator.made mutator.kept mutator.spot)

@@ -30,27 +30,27 @@ use Rattle.step_core.proofs.Machines.Stepped.{IsCas, NameTheSame, NameOthers, Is
 use Rattle.step_core.proofs.Machines.Owed.{IsSeen}
 
 -- between two calls no reply is settled that is not given
-pub unsettled_at_rest : (c : Config) (w : World) (seat made : ℕ) (kept : Kept) (command : Command) (fixed : Option Reply) (spot : Spot) → is_between_calls spot ≡ true → SpotFacts c w seat made kept command fixed spot → fixed ≡ None
-unsettled_at_rest c w seat made kept command fixed Rest rest facts = facts
-unsettled_at_rest c w seat made kept command fixed (Ended reply) rest facts = facts
-unsettled_at_rest c w seat made kept command fixed Gone rest facts = facts
-unsettled_at_rest c w seat made kept command fixed _ rest facts = absurd (cc (rest))
+pub unsettled_at_rest : (config : Config) (world : World) (seat made : ℕ) (kept : Kept) (command : Command) (fixed : Option Reply) (spot : Spot) → is_between_calls spot ≡ true → SpotFacts config world seat made kept command fixed spot → fixed ≡ None
+unsettled_at_rest config world seat made kept command fixed Rest rest facts = facts
+unsettled_at_rest config world seat made kept command fixed (Ended reply) rest facts = facts
+unsettled_at_rest config world seat made kept command fixed Gone rest facts = facts
+unsettled_at_rest config world seat made kept command fixed _ rest facts = absurd (cc (rest))
 
 -- the reply with which it clears its answer is settled
-pub took_settled : (c : Config) (w : World) (seat made : ℕ) (kept : Kept) (command : Command) (fixed : Option Reply) (spot : Spot) (reply : Reply) → spot ≡ Waiting (wait.ClearAnswer reply)
-    → SpotFacts c w seat made kept command fixed spot → fixed ≡ Some reply
-took_settled c w seat made kept command fixed spot reply is facts =
-    let here : SpotFacts c w seat made kept command fixed (Waiting (wait.ClearAnswer reply)) = subst (λ s. SpotFacts c w seat made kept command fixed s) is facts in here.0
+pub took_settled : (config : Config) (world : World) (seat made : ℕ) (kept : Kept) (command : Command) (fixed : Option Reply) (spot : Spot) (reply : Reply) → spot ≡ Waiting (wait.ClearAnswer reply)
+    → SpotFacts config world seat made kept command fixed spot → fixed ≡ Some reply
+took_settled config world seat made kept command fixed spot reply is facts =
+    let here : SpotFacts config world seat made kept command fixed (Waiting (wait.ClearAnswer reply)) = subst (λ s. SpotFacts config world seat made kept command fixed s) is facts in here.0
 
 -- where one waits that is answered
-pub answered_polls : (w : World) (seat made : ℕ) (k command : Command) (fixed : Option Reply) → IsAnswered w seat made k command fixed → IsPolling w seat made k command fixed
-answered_polls w seat made k command fixed (inl given) = inr (inl given)
-answered_polls w seat made k command fixed (inr full) =
+pub answered_polls : (world : World) (seat made : ℕ) (other_command command : Command) (fixed : Option Reply) → IsAnswered world seat made other_command command fixed → IsPolling world seat made other_command command fixed
+answered_polls world seat made other_command command fixed (inl given) = inr (inl given)
+answered_polls world seat made other_command command fixed (inr full) =
     inr (inr (record { dst = full.0.dst; refs = full.0.refs; nums = full.0.nums; is = full.0.is; settled = inr full.0.settled }, full.1))
 
 -- Of who waits for an answer: the reply is settled where the table says that the heap is full.
-module _ (w : World) (seat made : ℕ) (k command : Command) (fixed : Option Reply) (raw : ℕ) (seen : IsSeen raw (w.memory (Answer seat)) fixed) where
-  full_or_none : IsPolling w seat made k command fixed → ((raw ≡ 1) × (fixed ≡ Some Full)) ⊎ ((raw ≢ 1) × (fixed ≡ None))
+module _ (world : World) (seat made : ℕ) (other_command command : Command) (fixed : Option Reply) (raw : ℕ) (seen : IsSeen raw (world.memory (Answer seat)) fixed) where
+  full_or_none : IsPolling world seat made other_command command fixed → ((raw ≡ 1) × (fixed ≡ Some Full)) ⊎ ((raw ≢ 1) × (fixed ≡ None))
   full_or_none (inl asks) = inr (λ one. (let null = seen.null asks.0.1.1 in omega (arith, null, one)), asks.0.0.unsettled)
   full_or_none (inr (inl has)) = inr (seen.given has.1.1, has.0.unsettled)
   full_or_none (inr (inr is)) = ⊎_elim
@@ -58,38 +58,38 @@ module _ (w : World) (seat made : ℕ) (k command : Command) (fixed : Option Rep
       (λ (none_yet : (raw ≡ 0) × (fixed ≡ None)). inr (λ one. (let null = none_yet.0 in omega (arith, null, one)), none_yet.1))
       (seen.full is.1.1)
 
-  pub waits_unsettled : (raw == 1) ≡ false → IsPolling w seat made k command fixed → fixed ≡ None
+  pub waits_unsettled : (raw == 1) ≡ false → IsPolling world seat made other_command command fixed → fixed ≡ None
   waits_unsettled before polls = ⊎_elim
       (λ (both : (raw ≡ 1) × (fixed ≡ Some Full)). absurd (eqb-false _ _ before both.0))
       (λ (neither : (raw ≢ 1) × (fixed ≡ None)). neither.1)
       (full_or_none polls)
 
-  pub waits_settled : (raw == 1) ≡ true → IsPolling w seat made k command fixed → fixed ≢ None
+  pub waits_settled : (raw == 1) ≡ true → IsPolling world seat made other_command command fixed → fixed ≢ None
   waits_settled behind polls none = ⊎_elim
       (λ (both : (raw ≡ 1) × (fixed ≡ Some Full)). let clash = sym none ∙ both.1 in cc)
       (λ (neither : (raw ≢ 1) × (fixed ≡ None)). neither.0 (eqb-true _ _ behind))
       (full_or_none polls)
 
-module _ (c : Config) (w : World) (seat made : ℕ) (kept : Kept) (command : Command) (fixed : Option Reply) (raw : ℕ) (seen : IsSeen raw (w.memory (Answer seat)) fixed) (shared : Shared c w) where
+module _ (config : Config) (world : World) (seat made : ℕ) (kept : Kept) (command : Command) (fixed : Option Reply) (raw : ℕ) (seen : IsSeen raw (world.memory (Answer seat)) fixed) (shared : Shared config world) where
   -- by their name words two words name the same, or do not
-  others_apart : (found object expect value : ℕ) → IsCas c w seat command object (index_of kept.command) expect value → NameOthers w.block found expect → name_the_same w.memory found expect ≡ false
+  others_apart : (found object expect value : ℕ) → IsCas config world seat command object (index_of kept.command) expect value → NameOthers world.block found expect → name_the_same world.memory found expect ≡ false
   others_apart found object expect value cas others =
-      names_agree c w shared found expect (Some others.name) (w.graph.root (seat + 1) cas.expected) others.is cas.expect_is.stands
-      ∙ not_one c w shared found expect (Some others.name) (w.graph.root (seat + 1) cas.expected) others.is cas.expect_is.stands others
+      names_agree config world shared found expect (Some others.name) (world.graph.root (seat + 1) cas.expected) others.is cas.expect_is.stands
+      ∙ not_one config world shared found expect (Some others.name) (world.graph.root (seat + 1) cas.expected) others.is cas.expect_is.stands others
 
-  same_name_words : (found object expect value : ℕ) → IsCas c w seat command object (index_of kept.command) expect value → found ≢ 0 → NameTheSame w.block found expect → name_the_same w.memory found expect ≡ true
+  same_name_words : (found object expect value : ℕ) → IsCas config world seat command object (index_of kept.command) expect value → found ≢ 0 → NameTheSame world.block found expect → name_the_same world.memory found expect ≡ true
   same_name_words found object expect value cas some (inl null) = absurd (some null.0)
   same_name_words found object expect value cas some (inr both) =
-      names_agree c w shared found expect (Some both.0) (w.graph.root (seat + 1) cas.expected) both.1 cas.expect_is.stands
-      ∙ one_reference c w shared found expect (Some both.0) (w.graph.root (seat + 1) cas.expected) both.1 cas.expect_is.stands (inr both)
+      names_agree config world shared found expect (Some both.0) (world.graph.root (seat + 1) cas.expected) both.1 cas.expect_is.stands
+      ∙ one_reference config world shared found expect (Some both.0) (world.graph.root (seat + 1) cas.expected) both.1 cas.expect_is.stands (inr both)
 
   -- before the access that settles the reply there is none
-  pub unsettled_before : (spot : Spot) → has_settled w.memory raw spot ≡ false → SpotFacts c w seat made kept command fixed spot → fixed ≡ None
+  pub unsettled_before : (spot : Spot) → has_settled world.memory raw spot ≡ false → SpotFacts config world seat made kept command fixed spot → fixed ≡ None
   unsettled_before Rest before facts = facts
   unsettled_before (Ended reply) before facts = facts
   unsettled_before Gone before facts = facts
   unsettled_before (Entering at Call) before facts = facts.unsettled
-  unsettled_before (Entering at Waited) before facts = waits_unsettled w seat made kept.command command fixed raw seen before (answered_polls w seat made kept.command command fixed facts)
+  unsettled_before (Entering at Waited) before facts = waits_unsettled world seat made kept.command command fixed raw seen before (answered_polls world seat made kept.command command fixed facts)
   unsettled_before LoadPhase before facts = facts.unsettled
   unsettled_before LoadSet before facts = facts.unsettled
   unsettled_before (Loading load.First) before facts = facts.0.unsettled
@@ -122,15 +122,15 @@ module _ (c : Config) (w : World) (seat made : ℕ) (kept : Kept) (command : Com
   unsettled_before (Waiting wait.StoreRequest) before facts = facts.0.unsettled
   unsettled_before (Waiting wait.AskRoom) before facts = facts.0.unsettled
   unsettled_before (Waiting wait.StepOut) before facts = facts.0.0.unsettled
-  unsettled_before (Waiting wait.Poll) before facts = waits_unsettled w seat made kept.command command fixed raw seen before facts
-  unsettled_before (Waiting wait.LoadAnswer) before facts = waits_unsettled w seat made kept.command command fixed raw seen before (answered_polls w seat made kept.command command fixed facts)
+  unsettled_before (Waiting wait.Poll) before facts = waits_unsettled world seat made kept.command command fixed raw seen before facts
+  unsettled_before (Waiting wait.LoadAnswer) before facts = waits_unsettled world seat made kept.command command fixed raw seen before (answered_polls world seat made kept.command command fixed facts)
   unsettled_before (Waiting (wait.StoreRoot address)) before facts = facts.0.0.unsettled
   unsettled_before (Waiting (wait.ClearAnswer reply)) before facts = absurd (cc (before))
   unsettled_before (Showing value at) before facts = absurd (cc (before))
   unsettled_before (Leave reply) before facts = absurd (cc (before))
 
   -- and behind it there is one
-  pub settled_after : (spot : Spot) → has_settled w.memory raw spot ≡ true → SpotFacts c w seat made kept command fixed spot → fixed ≢ None
+  pub settled_after : (spot : Spot) → has_settled world.memory raw spot ≡ true → SpotFacts config world seat made kept command fixed spot → fixed ≢ None
   settled_after (Resolving address at ForRoot) behind facts = λ none. absurd (let it = facts.1.settled in cc)
   settled_after (Resolving address at (ToCompare object expect value)) behind facts = λ none. ⊎_elim
       (λ no. absurd (let it = no.0 in cc (it, none)))
@@ -142,10 +142,10 @@ module _ (c : Config) (w : World) (seat made : ℕ) (kept : Kept) (command : Com
   settled_after (Recording at address overwrites.Xchg) behind facts = λ none. absurd (let it = facts.1.settled in cc)
   settled_after (Recording at address overwrites.Cas) behind facts = λ none. absurd (let it = facts.1 in cc)
   settled_after (Leave reply) behind facts = λ none. absurd cc
-  settled_after (Entering at Waited) behind facts = waits_settled w seat made kept.command command fixed raw seen behind (answered_polls w seat made kept.command command fixed facts)
+  settled_after (Entering at Waited) behind facts = waits_settled world seat made kept.command command fixed raw seen behind (answered_polls world seat made kept.command command fixed facts)
   settled_after (Entering at Call) behind facts = absurd (cc (behind))
-  settled_after (Waiting wait.Poll) behind facts = waits_settled w seat made kept.command command fixed raw seen behind facts
-  settled_after (Waiting wait.LoadAnswer) behind facts = waits_settled w seat made kept.command command fixed raw seen behind (answered_polls w seat made kept.command command fixed facts)
+  settled_after (Waiting wait.Poll) behind facts = waits_settled world seat made kept.command command fixed raw seen behind facts
+  settled_after (Waiting wait.LoadAnswer) behind facts = waits_settled world seat made kept.command command fixed raw seen behind (answered_polls world seat made kept.command command fixed facts)
   settled_after (Waiting (wait.ClearAnswer reply)) behind facts = λ none. absurd (let it = facts.0 in cc)
   settled_after (Waiting _) behind facts = absurd (cc (behind))
   settled_after _ behind facts = absurd (cc (behind))

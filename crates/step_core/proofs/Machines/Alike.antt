@@ -14,25 +14,25 @@ use Rattle.heap_world.proofs.Keeping.{load_keeps, rely_same, keeps_of}
 use Rattle.step_core.proofs.Mutators.WhileMarking.{world_with, marks_in, copies_in, fields_in}
 
 -- two memories are alike in the words that facts of all machines speak of
-pub record AreAlike (u w : Word → ℕ) : Type 0 where
-  pub phase : w Phase ≡ u Phase
-  pub cset : w Cset ≡ u Cset
-  pub evac : w Evac ≡ u Evac
-  pub claim : w Claim ≡ u Claim
-  pub ask : w Ask ≡ u Ask
-  pub free : w Free ≡ u Free
-  pub tops : (r : ℕ) → w (Top r) ≡ u (Top r)
-  pub tams : (r : ℕ) → w (Tams r) ≡ u (Tams r)
-  pub limits : (r : ℕ) → w (Limit r) ≡ u (Limit r)
-  pub currents : (seat : ℕ) → w (Current seat) ≡ u (Current seat)
-  pub roots : (t i : ℕ) → w (Root t i) ≡ u (Root t i)
-  pub pins : (t i : ℕ) → w (Pin t i) ≡ u (Pin t i)
-  pub waits : (t : ℕ) → w (Wait t) ≡ u (Wait t)
-  pub answers : (t : ℕ) → w (Answer t) ≡ u (Answer t)
-  pub counts : (t : ℕ) → w (Count t) ≡ u (Count t)
-  pub buffers : (t k : ℕ) → w (Buffer t k) ≡ u (Buffer t k)
-  pub greys : (n : ℕ) → w (Grey n) ≡ u (Grey n)
-  pub heap : (a : ℕ) → w (Heap a) ≡ u (Heap a)
+pub record AreAlike (memory other_memory : Word → ℕ) : Type 0 where
+  pub phase : other_memory Phase ≡ memory Phase
+  pub cset : other_memory Cset ≡ memory Cset
+  pub evac : other_memory Evac ≡ memory Evac
+  pub claim : other_memory Claim ≡ memory Claim
+  pub ask : other_memory Ask ≡ memory Ask
+  pub free : other_memory Free ≡ memory Free
+  pub tops : (region : ℕ) → other_memory (Top region) ≡ memory (Top region)
+  pub tams : (region : ℕ) → other_memory (Tams region) ≡ memory (Tams region)
+  pub limits : (region : ℕ) → other_memory (Limit region) ≡ memory (Limit region)
+  pub currents : (seat : ℕ) → other_memory (Current seat) ≡ memory (Current seat)
+  pub roots : (mutator index : ℕ) → other_memory (Root mutator index) ≡ memory (Root mutator index)
+  pub pins : (mutator index : ℕ) → other_memory (Pin mutator index) ≡ memory (Pin mutator index)
+  pub waits : (mutator : ℕ) → other_memory (Wait mutator) ≡ memory (Wait mutator)
+  pub answers : (mutator : ℕ) → other_memory (Answer mutator) ≡ memory (Answer mutator)
+  pub counts : (mutator : ℕ) → other_memory (Count mutator) ≡ memory (Count mutator)
+  pub buffers : (mutator other_index : ℕ) → other_memory (Buffer mutator other_index) ≡ memory (Buffer mutator other_index)
+  pub greys : (n : ℕ) → other_memory (Grey n) ≡ memory (Grey n)
+  pub heap : (address : ℕ) → other_memory (Heap address) ≡ memory (Heap address)
 
 -- whether a word is one of the handshake
 abbrev pub is_of_handshake : Word → Bool
@@ -126,16 +126,16 @@ alike_written memory (State other) value is = record {
 }
 alike_written memory _ value is = absurd (cc (is))
 
-module _ (c : Config) (u : World) (memory : Word → ℕ) (seat : ℕ) (alike : AreAlike u.memory memory) where
+module _ (config : Config) (world : World) (memory : Word → ℕ) (seat : ℕ) (alike : AreAlike world.memory memory) where
   -- so current copies stay
-  targets_alike : (a refs nums : ℕ) (name : Name) → TargetIn c u a refs nums name → TargetIn c (world_with u memory u.graph) a refs nums name
-  targets_alike a refs nums name is = record {
+  targets_alike : (address refs nums : ℕ) (name : Name) → TargetIn config world address refs nums name → TargetIn config (world_with world memory world.graph) address refs nums name
+  targets_alike address refs nums name is = record {
     piece = is.piece;
-    safe = λ inside. subst IsQuiet (sym alike.evac) (is.safe (subst (λ set. IsCollected c set a) alike.cset inside));
+    safe = λ inside. subst IsQuiet (sym alike.evac) (is.safe (subst (λ set. IsCollected config set address) alike.cset inside));
   }
 
   -- and what the facts of a seat stand on
-  keeps_alike : Keeps c seat u (world_with u memory u.graph)
+  keeps_alike : Keeps config seat world (world_with world memory world.graph)
   keeps_alike = record {
     names = λ a name is. is;
     targets = λ a refs nums name is. targets_alike a refs nums name is;
@@ -149,12 +149,12 @@ module _ (c : Config) (u : World) (memory : Word → ℕ) (seat : ℕ) (alike : 
     count = refl;
     wait = alike.waits seat;
     answer = alike.answers seat;
-    marks = (marks_in c u memory u.graph seat alike.phase alike.greys alike.counts alike.buffers alike.heap).keeps;
-    copies = (copies_in c u memory u.graph seat alike.cset alike.evac alike.tops alike.heap).keeps;
+    marks = (marks_in config world memory world.graph seat alike.phase alike.greys alike.counts alike.buffers alike.heap).keeps;
+    copies = (copies_in config world memory world.graph seat alike.cset alike.evac alike.tops alike.heap).keeps;
   }
 
   -- and all that it relies on, where its state word does
-  rely_alike : memory (State seat) ≡ u.memory (State seat) → Rely c seat u (world_with u memory u.graph)
+  rely_alike : memory (State seat) ≡ world.memory (State seat) → Rely config seat world (world_with world memory world.graph)
   rely_alike state = record {
     names = λ a name is. is;
     targets = λ a refs nums name is. targets_alike a refs nums name is;
@@ -182,32 +182,32 @@ module _ (c : Config) (u : World) (memory : Word → ℕ) (seat : ℕ) (alike : 
     answer = alike.answers seat;
     state = state;
     asked = λ is. subst (λ n. bit_at n 1 ≡ 1) (sym alike.ask) is;
-    marks = marks_in c u memory u.graph seat alike.phase alike.greys alike.counts alike.buffers alike.heap;
-    copies = copies_in c u memory u.graph seat alike.cset alike.evac alike.tops alike.heap;
-    fields = fields_in c u memory u.graph alike.tams alike.limits alike.claim alike.heap;
+    marks = marks_in config world memory world.graph seat alike.phase alike.greys alike.counts alike.buffers alike.heap;
+    copies = copies_in config world memory world.graph seat alike.cset alike.evac alike.tops alike.heap;
+    fields = fields_in config world memory world.graph alike.tams alike.limits alike.claim alike.heap;
   }
 
 -- the step of a load
-pub load_step : (c : Config) (u : World) (seat : ℕ) (word : Word) (facts : World → Type 0) → Shared c u → facts u → PartStep c u seat (touch word loads) facts
-load_step c u seat word facts shared own = record {
-  world = u;
-  memory = load_keeps u.memory word;
+pub load_step : (config : Config) (world : World) (seat : ℕ) (word : Word) (facts : World → Type 0) → Shared config world → facts world → PartStep config world seat (touch word loads) facts
+load_step config world seat word facts shared own = record {
+  world = world;
+  memory = load_keeps world.memory word;
   graph = refl;
   shared = shared;
   own = own;
-  keeps = keeps_of c seat u u (rely_same c seat u);
-  others = λ k differs. rely_same c k u;
+  keeps = keeps_of config seat world world (rely_same config seat world);
+  others = λ k differs. rely_same config k world;
 }
 
 -- and of a store into a word of the handshake, which is no state word of another machine
-pub store_step : (c : Config) (u : World) (seat : ℕ) (word : Word) (value : ℕ) (facts : World → Type 0) → is_of_handshake word ≡ true → ((k : ℕ) → k ≢ seat → write u.memory word value (State k) ≡ u.memory (State k))
-    → Shared c (world_with u (write u.memory word value) u.graph) → facts (world_with u (write u.memory word value) u.graph) → PartStep c u seat (touch word (stores value)) facts
-store_step c u seat word value facts is states shared own = record {
-  world = world_with u (write u.memory word value) u.graph;
+pub store_step : (config : Config) (world : World) (seat : ℕ) (word : Word) (value : ℕ) (facts : World → Type 0) → is_of_handshake word ≡ true → ((other_seat : ℕ) → other_seat ≢ seat → write world.memory word value (State other_seat) ≡ world.memory (State other_seat))
+    → Shared config (world_with world (write world.memory word value) world.graph) → facts (world_with world (write world.memory word value) world.graph) → PartStep config world seat (touch word (stores value)) facts
+store_step config world seat word value facts is states shared own = record {
+  world = world_with world (write world.memory word value) world.graph;
   memory = refl;
   graph = refl;
   shared = shared;
   own = own;
-  keeps = keeps_alike c u (write u.memory word value) seat (alike_written u.memory word value is);
-  others = λ k differs. rely_alike c u (write u.memory word value) k (alike_written u.memory word value is) (states k differs);
+  keeps = keeps_alike config world (write world.memory word value) seat (alike_written world.memory word value is);
+  others = λ other_seat differs. rely_alike config world (write world.memory word value) other_seat (alike_written world.memory word value is) (states other_seat differs);
 }

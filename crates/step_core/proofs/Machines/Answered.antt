@@ -16,52 +16,52 @@ use Rattle.step_core.proofs.Control.Images.{words_after, view-placed}
 use Rattle.step_core.proofs.Machines.Roles.{CountsTheSame}
 
 -- an access of a word outside the image leaves the words of the image
-pub touched_image : (memory : Word → ℕ) (t : Touch) (v : Word) → is_image t.word ≡ false → is_image v ≡ true → touched memory t v ≡ memory v
-touched_image memory t v outside in_image = cond-false (same_word t.word v) _ _ (⊎_elim
-    (λ (same : same_word t.word v ≡ true). absurd (false≢true (sym outside ∙ ap is_image (same_word_true t.word v same) ∙ in_image)))
-    (λ (no : same_word t.word v ≡ false). no)
-    (cases_Bool (same_word t.word v)))
+pub touched_image : (memory : Word → ℕ) (touch : Touch) (word : Word) → is_image touch.word ≡ false → is_image word ≡ true → touched memory touch word ≡ memory word
+touched_image memory touch word outside in_image = cond-false (same_word touch.word word) _ _ (⊎_elim
+    (λ (same : same_word touch.word word ≡ true). absurd (false≢true (sym outside ∙ ap is_image (same_word_true touch.word word same) ∙ in_image)))
+    (λ (no : same_word touch.word word ≡ false). no)
+    (cases_Bool (same_word touch.word word)))
 
 -- and so what is promised
-touched_promises : (memory : Word → ℕ) (t : Touch) (v : ℕ) → is_image t.word ≡ false → words_promised (touched memory t) v ≡ words_promised memory v
-touched_promises memory t v outside =
-    ap (λ n. if nat_le n 1 then 0 else object_words (touched memory t (Heap (n + 1)))) (touched_image memory t (Answer v) outside refl)
-    ∙ ap (λ n. if nat_le (memory (Answer v)) 1 then 0 else object_words n) (touched_image memory t (Heap (memory (Answer v) + 1)) outside refl)
+touched_promises : (memory : Word → ℕ) (touch : Touch) (mutator : ℕ) → is_image touch.word ≡ false → words_promised (touched memory touch) mutator ≡ words_promised memory mutator
+touched_promises memory touch mutator outside =
+    ap (λ n. if nat_le n 1 then 0 else object_words (touched memory touch (Heap (n + 1)))) (touched_image memory touch (Answer mutator) outside refl)
+    ∙ ap (λ n. if nat_le (memory (Answer mutator)) 1 then 0 else object_words n) (touched_image memory touch (Heap (memory (Answer mutator) + 1)) outside refl)
 
-module _ (c : Config) (words : List ℕ) (o : Option Counting) (t : Touch) (u w : World) (before : u.memory ≡ settled_by c words o) (after : w.memory ≡ touched u.memory t) (long : length words ≡ table_words c)
-    (is : is_word c t.word ≡ true) where
+module _ (config : Config) (words : List ℕ) (found : Option Counting) (touch : Touch) (world other_world : World) (before : world.memory ≡ settled_by config words found) (after : other_world.memory ≡ touched world.memory touch) (long : length words ≡ table_words config)
+    (is : is_word config touch.word ≡ true) where
   abbrev words_then : List ℕ
-  words_then = words_after c words t
+  words_then = words_after config words touch
 
   -- where no image counts, the table does
-  pub whole_before : o ≡ None → (k : ℕ) → view c words (Answer k) ≡ u.memory (Answer k)
-  whole_before none k = ap (λ x. settled_by c words x (Answer k)) (sym none) ∙ ap (λ memory. memory (Answer k)) (sym before)
+  pub whole_before : found ≡ None → (mutator : ℕ) → view config words (Answer mutator) ≡ world.memory (Answer mutator)
+  whole_before none mutator = ap (λ x. settled_by config words x (Answer mutator)) (sym none) ∙ ap (λ memory. memory (Answer mutator)) (sym before)
 
   -- and it does then
-  pub whole_then : o ≡ None → (k : ℕ) → view c words_then (Answer k) ≡ w.memory (Answer k)
-  whole_then none k =
-      ap (λ memory. memory (Answer k))
-      (view-placed c words t is long ∙ ap (λ x. touched (settled_by c words x) t) (sym none) ∙ ap (λ memory. touched memory t) (sym before) ∙ sym after)
+  pub whole_then : found ≡ None → (mutator : ℕ) → view config words_then (Answer mutator) ≡ other_world.memory (Answer mutator)
+  whole_then none mutator =
+      ap (λ memory. memory (Answer mutator))
+      (view-placed config words touch is long ∙ ap (λ x. touched (settled_by config words x) touch) (sym none) ∙ ap (λ memory. touched memory touch) (sym before) ∙ sym after)
 
   -- while one counts, the table's answers stay
-  pub raw_stays : is_image t.word ≡ false → (k : ℕ) → view c words_then (Answer k) ≡ view c words (Answer k)
-  raw_stays outside k = ap (λ memory. memory (Answer k)) (view-placed c words t is long) ∙ touched_image (view c words) t (Answer k) outside refl
+  pub raw_stays : is_image touch.word ≡ false → (mutator : ℕ) → view config words_then (Answer mutator) ≡ view config words (Answer mutator)
+  raw_stays outside mutator = ap (λ memory. memory (Answer mutator)) (view-placed config words touch is long) ∙ touched_image (view config words) touch (Answer mutator) outside refl
 
   -- so do those that count
-  pub now_stays : is_image t.word ≡ false → (k : ℕ) → w.memory (Answer k) ≡ u.memory (Answer k)
-  now_stays outside k = ap (λ memory. memory (Answer k)) after ∙ touched_image u.memory t (Answer k) outside refl
+  pub now_stays : is_image touch.word ≡ false → (mutator : ℕ) → other_world.memory (Answer mutator) ≡ world.memory (Answer mutator)
+  now_stays outside mutator = ap (λ memory. memory (Answer mutator)) after ∙ touched_image world.memory touch (Answer mutator) outside refl
 
   -- and nothing changes by which crowding is measured
-  pub counts_same : w.graph ≡ u.graph → is_image t.word ≡ false → CountsTheSame u w
-  counts_same graph outside = record { graph = graph; promised = λ v. ap (λ memory. words_promised memory v) after ∙ touched_promises u.memory t v outside }
+  pub counts_same : other_world.graph ≡ world.graph → is_image touch.word ≡ false → CountsTheSame world other_world
+  counts_same graph outside = record { graph = graph; promised = λ v. ap (λ memory. words_promised memory v) after ∙ touched_promises world.memory touch v outside }
 
-  module _ (held : (image : Counting) → o ≡ Some image → is_image t.word ≡ false) where
+  module _ (held : (image : Counting) → found ≡ Some image → is_image touch.word ≡ false) where
     -- the answer in the table of a machine that can rely on the step
-    pub other_raw : (x : Option Counting) → o ≡ x → (k : ℕ) → Rely c k u w → view c words_then (Answer k) ≡ view c words (Answer k)
-    other_raw None none k rely = whole_then none k ∙ rely.answer ∙ sym (whole_before none k)
-    other_raw (Some image) is_held k rely = raw_stays (held image is_held) k
+    pub other_raw : (x : Option Counting) → found ≡ x → (mutator : ℕ) → Rely config mutator world other_world → view config words_then (Answer mutator) ≡ view config words (Answer mutator)
+    other_raw None none mutator rely = whole_then none mutator ∙ rely.answer ∙ sym (whole_before none mutator)
+    other_raw (Some image) is_held mutator rely = raw_stays (held image is_held) mutator
 
     -- that is the answer that counts, or nothing changes by which crowding is measured
-    pub other_counts : ((image : Counting) → o ≡ Some image → w.graph ≡ u.graph) → (x : Option Counting) → o ≡ x → (k : ℕ) → (view c words (Answer k) ≡ u.memory (Answer k)) ⊎ CountsTheSame u w
-    other_counts graph None none k = inl (whole_before none k)
-    other_counts graph (Some image) is_held k = inr (counts_same (graph image is_held) (held image is_held))
+    pub other_counts : ((image : Counting) → found ≡ Some image → other_world.graph ≡ world.graph) → (x : Option Counting) → found ≡ x → (mutator : ℕ) → (view config words (Answer mutator) ≡ world.memory (Answer mutator)) ⊎ CountsTheSame world other_world
+    other_counts graph None none mutator = inl (whole_before none mutator)
+    other_counts graph (Some image) is_held mutator = inr (counts_same (graph image is_held) (held image is_held))

@@ -20,7 +20,7 @@ use Rattle.step_core.specs.Hints.{takes_as_hint, hint_taken, hints_taken, HintsA
 
 -- one where a test holds
 abbrev weight : Bool → ℕ
-weight b = if b then 1 else 0
+weight holds = if holds then 1 else 0
 
 -- a mutator takes no hint
 mutator_takes : (spot : Spot) (made address : ℕ) → takes_at spot made (Hint address) ≡ false
@@ -30,77 +30,77 @@ mutator_takes Gone made address = refl
 mutator_takes _ made address = refl
 
 -- what a machine keeps after a step under an order that it takes
-counts_step : (change : Change) (c : Config) (order : Order) (got : ℕ) (machine : Machine) → takes_of machine order ≡ true → hints_of machine < 2 ^ 64
-    → hints_of (machine_after change c order got machine) ≡ min (hints_of machine + weight (is_some (hint_in order))) (2 ^ 64 - 1)
-counts_step change c (Hint address) got (mutating m) takes few = absurd (let no = mutator_takes m.spot m.made address in cc (takes, no))
-counts_step change c Nothing got (mutating m) takes few = refl
-counts_step change c (Begin command) got (mutating m) takes few = refl
-counts_step change c End got (mutating m) takes few = refl
-counts_step change c (Hint address) got (helping h) takes few = refl
-counts_step change c Nothing got (helping h) takes few = omega (arith, few)
-counts_step change c (Begin command) got (helping h) takes few = absurd (cc (takes))
-counts_step change c End got (helping h) takes few = absurd (cc (takes))
-counts_step change c (Hint address) got (controlling k) takes few = refl
-counts_step change c Nothing got (controlling k) takes few = omega (arith, few)
-counts_step change c (Begin command) got (controlling k) takes few = absurd (cc (takes))
-counts_step change c End got (controlling k) takes few = absurd (cc (takes))
+counts_step : (change : Change) (config : Config) (order : Order) (got : ℕ) (machine : Machine) → takes_of machine order ≡ true → hints_of machine < 2 ^ 64
+    → hints_of (machine_after change config order got machine) ≡ min (hints_of machine + weight (is_some (hint_in order))) (2 ^ 64 - 1)
+counts_step change config (Hint address) got (mutating m) takes few = absurd (let no = mutator_takes m.spot m.made address in cc (takes, no))
+counts_step change config Nothing got (mutating m) takes few = refl
+counts_step change config (Begin command) got (mutating m) takes few = refl
+counts_step change config End got (mutating m) takes few = refl
+counts_step change config (Hint address) got (helping h) takes few = refl
+counts_step change config Nothing got (helping h) takes few = omega (arith, few)
+counts_step change config (Begin command) got (helping h) takes few = absurd (cc (takes))
+counts_step change config End got (helping h) takes few = absurd (cc (takes))
+counts_step change config (Hint address) got (controlling k) takes few = refl
+counts_step change config Nothing got (controlling k) takes few = omega (arith, few)
+counts_step change config (Begin command) got (controlling k) takes few = absurd (cc (takes))
+counts_step change config End got (controlling k) takes few = absurd (cc (takes))
 
-module _ (change : Change) (c : Config) (s : Stage Actor) (number : ℕ) (e : Event Order) (before : Actor) (here : slice_get s.machines number ≡ Some before) (few : hints_of before.machine < 2 ^ 64) where
+module _ (change : Change) (config : Config) (stage : Stage Actor) (number : ℕ) (event : Event Order) (before : Actor) (here : slice_get stage.machines number ≡ Some before) (few : hints_of before.machine < 2 ^ 64) where
   -- an event of another machine
-  not_its : e.number ≢ number → hint_taken s number e ≡ 0
-  not_its other = ap (λ b. weight (b && takes_as_hint e.order (slice_get s.machines number))) (ne_eqb e.number number other)
+  not_its : event.number ≢ number → hint_taken stage number event ≡ 0
+  not_its other = ap (λ b. weight (b && takes_as_hint event.order (slice_get stage.machines number))) (ne_eqb event.number number other)
 
   -- an event of its own
-  its : e.number ≡ number → hint_taken s number e ≡ weight (takes_of before.machine e.order && is_some (hint_in e.order))
-  its same = ap (λ b. weight (b && takes_as_hint e.order (slice_get s.machines number))) (eq-eqb e.number number same) ∙ ap (λ o. weight (takes_as_hint e.order o)) here
+  its : event.number ≡ number → hint_taken stage number event ≡ weight (takes_of before.machine event.order && is_some (hint_in event.order))
+  its same = ap (λ b. weight (b && takes_as_hint event.order (slice_get stage.machines number))) (eq-eqb event.number number same) ∙ ap (λ o. weight (takes_as_hint event.order o)) here
 
-  unchanged : (machines : List Actor) → slice_get machines number ≡ Some before → hint_taken s number e ≡ 0
-      → (a : Actor) × (slice_get machines number ≡ Some a) × (hints_of a.machine ≡ min (hints_of before.machine + hint_taken s number e) (2 ^ 64 - 1))
+  unchanged : (machines : List Actor) → slice_get machines number ≡ Some before → hint_taken stage number event ≡ 0
+      → (actor : Actor) × (slice_get machines number ≡ Some actor) × (hints_of actor.machine ≡ min (hints_of before.machine + hint_taken stage number event) (2 ^ 64 - 1))
   unchanged machines there none = (before, there, omega (arith, few, none))
 
   -- what a machine is after it
   abbrev then_of : Actor → Actor
-  then_of r = took_of change c r e.order (got_of (plan_of c e.order r.machine) (slice_index s.words (table_index (plan_of c e.order r.machine)))) r.machine
+  then_of actor = took_of change config actor event.order (got_of (plan_of config event.order actor.machine) (slice_index stage.words (table_index (plan_of config event.order actor.machine)))) actor.machine
 
-  after_event : (a : Actor) × (slice_get (act (kind change c) s e).machines number ≡ Some a) × (hints_of a.machine ≡ min (hints_of before.machine + hint_taken s number e) (2 ^ 64 - 1))
+  after_event : (actor : Actor) × (slice_get (act (kind change config) stage event).machines number ≡ Some actor) × (hints_of actor.machine ≡ min (hints_of before.machine + hint_taken stage number event) (2 ^ 64 - 1))
   unfolding act kind
-  after_event = by_machine (slice_get s.machines e.number) refl
+  after_event = by_machine (slice_get stage.machines event.number) refl
     where
       After : Stage Actor → Type 0
-      After t = (a : Actor) × (slice_get t.machines number ≡ Some a) × (hints_of a.machine ≡ min (hints_of before.machine + hint_taken s number e) (2 ^ 64 - 1))
+      After t = (actor : Actor) × (slice_get t.machines number ≡ Some actor) × (hints_of actor.machine ≡ min (hints_of before.machine + hint_taken stage number event) (2 ^ 64 - 1))
 
-      by_order : (r : Actor) (b : Bool) → slice_get s.machines e.number ≡ Some r → takes_of r.machine e.order ≡ b → After (if b then moved (kind change c) s e.number r e.order else s)
-      by_order r true there takes = ⊎_elim
-          (λ (same : e.number ≡ number).
-          let is : r ≡ before = same_Some r before (sym there ∙ ap (slice_get s.machines) same ∙ here) in
-          let taken : takes_of before.machine e.order ≡ true = ap (λ a. takes_of a.machine e.order) (sym is) ∙ takes in (
-            then_of r,
-            ap (slice_get (slice_set s.machines e.number (then_of r))) (sym same) ∙ slice_get-set_same s.machines e.number r (then_of r) there,
-            ap (λ (a : Actor). hints_of (then_of a).machine) is ∙ counts_step change c e.order (got_of (plan_of c e.order before.machine) (slice_index s.words (table_index (plan_of c e.order before.machine)))) before.machine taken few
-                ∙ ap (λ n. min (hints_of before.machine + n) (2 ^ 64 - 1)) (sym (its same ∙ ap (λ b. weight (b && is_some (hint_in e.order))) taken)),
+      by_order : (other_actor : Actor) (holds : Bool) → slice_get stage.machines event.number ≡ Some other_actor → takes_of other_actor.machine event.order ≡ holds → After (if holds then moved (kind change config) stage event.number other_actor event.order else stage)
+      by_order other_actor true there takes = ⊎_elim
+          (λ (same : event.number ≡ number).
+          let is : other_actor ≡ before = same_Some other_actor before (sym there ∙ ap (slice_get stage.machines) same ∙ here) in
+          let taken : takes_of before.machine event.order ≡ true = ap (λ actor. takes_of actor.machine event.order) (sym is) ∙ takes in (
+            then_of other_actor,
+            ap (slice_get (slice_set stage.machines event.number (then_of other_actor))) (sym same) ∙ slice_get-set_same stage.machines event.number other_actor (then_of other_actor) there,
+            ap (λ (actor : Actor). hints_of (then_of actor).machine) is ∙ counts_step change config event.order (got_of (plan_of config event.order before.machine) (slice_index stage.words (table_index (plan_of config event.order before.machine)))) before.machine taken few
+                ∙ ap (λ n. min (hints_of before.machine + n) (2 ^ 64 - 1)) (sym (its same ∙ ap (λ holds. weight (holds && is_some (hint_in event.order))) taken)),
           ))
-          (λ (other : e.number ≢ number). unchanged (slice_set s.machines e.number (then_of r)) (slice_get-set_other s.machines e.number number (then_of r) (λ same. other (sym same)) ∙ here) (not_its other))
-          (cases_eq e.number number)
-      by_order r false there takes = unchanged s.machines here (⊎_elim
-          (λ (same : e.number ≡ number).
-          let is : r ≡ before = same_Some r before (sym there ∙ ap (slice_get s.machines) same ∙ here) in
-          its same ∙ ap (λ b. weight (b && is_some (hint_in e.order))) (ap (λ a. takes_of a.machine e.order) (sym is) ∙ takes))
-          (λ (other : e.number ≢ number). not_its other)
-          (cases_eq e.number number))
+          (λ (other : event.number ≢ number). unchanged (slice_set stage.machines event.number (then_of other_actor)) (slice_get-set_other stage.machines event.number number (then_of other_actor) (λ same. other (sym same)) ∙ here) (not_its other))
+          (cases_eq event.number number)
+      by_order other_actor false there takes = unchanged stage.machines here (⊎_elim
+          (λ (same : event.number ≡ number).
+          let is : other_actor ≡ before = same_Some other_actor before (sym there ∙ ap (slice_get stage.machines) same ∙ here) in
+          its same ∙ ap (λ holds. weight (holds && is_some (hint_in event.order))) (ap (λ actor. takes_of actor.machine event.order) (sym is) ∙ takes))
+          (λ (other : event.number ≢ number). not_its other)
+          (cases_eq event.number number))
 
-      by_machine : (o : Option Actor) → slice_get s.machines e.number ≡ o → After (act_of (kind change c) s e o)
-      by_machine None there = unchanged s.machines here (⊎_elim
-          (λ (same : e.number ≡ number). absurd (let is : None ≡ Some before = sym there ∙ ap (slice_get s.machines) same ∙ here in cc (is)))
-          (λ (other : e.number ≢ number). not_its other)
-          (cases_eq e.number number))
-      by_machine (Some r) there = by_order r (takes_of r.machine e.order) there refl
+      by_machine : (found : Option Actor) → slice_get stage.machines event.number ≡ found → After (act_of (kind change config) stage event found)
+      by_machine None there = unchanged stage.machines here (⊎_elim
+          (λ (same : event.number ≡ number). absurd (let is : None ≡ Some before = sym there ∙ ap (slice_get stage.machines) same ∙ here in cc (is)))
+          (λ (other : event.number ≢ number). not_its other)
+          (cases_eq event.number number))
+      by_machine (Some other_actor) there = by_order other_actor (takes_of other_actor.machine event.order) there refl
 
 -- over a list of events
 pub counted : HintsAreCounted
 unfolding go hints_taken
 counted change c s [] number before after here there few =
     let is : before ≡ after = same_Some before after (sym here ∙ there) in
-    ap (λ (a : Actor). hints_of a.machine) (sym is) ∙ omega (arith, few)
+    ap (λ (actor : Actor). hints_of actor.machine) (sym is) ∙ omega (arith, few)
 counted change c s (e ∷ es) number before after here there few =
     let mid = after_event change c s number e before here few in
     let rest = counted change c (act (kind change c) s e) es number mid.0 after mid.1 there (let is = mid.2 in omega (arith, is)) in

@@ -27,9 +27,9 @@ use Rattle.collector_rows.specs.ControlRows.{control_seat}
 use Rattle.step_core.specs.Fit.{IsWholeImage}
 
 -- of an image
-pub whole_is_prop : (c : Config) (phase : ℕ) (spot : ControlSpot) (image : List ℕ) (got : ℕ) → IsProp (IsWholeImage c phase spot image got)
-whole_is_prop c phase (control.LoadWord index extent) image got = hlevel
-whole_is_prop c phase _ image got = hlevel
+pub whole_is_prop : (config : Config) (phase : ℕ) (spot : ControlSpot) (image : List ℕ) (got : ℕ) → IsProp (IsWholeImage config phase spot image got)
+whole_is_prop config phase (control.LoadWord index extent) image got = hlevel
+whole_is_prop config phase _ image got = hlevel
 
 -- of a resolving
 leaves_is_prop : (at : ResolveSpot) (got : ℕ) → IsProp (LeavesFit at got)
@@ -37,31 +37,31 @@ leaves_is_prop (Leaving answer) got = hlevel
 leaves_is_prop _ got = hlevel
 
 -- of a unit of evacuation
-evacuation_is_prop : (c : Config) (seat : ℕ) (spot : EvacSpot) (got : ℕ) → IsProp (units.PartFit c seat spot got)
-evacuation_is_prop c seat (evac.LoadTop region) got = hlevel Bool-set
-evacuation_is_prop c seat (evac.Resolving address end next at) got = hlevel (Bool-set, leaves_is_prop at got)
-evacuation_is_prop c seat _ got = hlevel
+evacuation_is_prop : (config : Config) (seat : ℕ) (spot : EvacSpot) (got : ℕ) → IsProp (units.PartFit config seat spot got)
+evacuation_is_prop config seat (evac.LoadTop region) got = hlevel Bool-set
+evacuation_is_prop config seat (evac.Resolving address end next at) got = hlevel (Bool-set, leaves_is_prop at got)
+evacuation_is_prop config seat _ got = hlevel
 
 -- of a unit, of the control and of a helper
-work_is_prop : (c : Config) (seat : ℕ) (at : UnitSpot) (got : ℕ) → IsProp (unit.IsFit c seat at got)
-work_is_prop c seat (Scanning at) got = hlevel Bool-set
-work_is_prop c seat (Evacuating cset at) got = hlevel (Bool-set, evacuation_is_prop c seat at got)
-work_is_prop c seat (Updating cset at) got = hlevel Bool-set
-work_is_prop c seat (Ended ended) got = hlevel
+work_is_prop : (config : Config) (seat : ℕ) (at : UnitSpot) (got : ℕ) → IsProp (unit.IsFit config seat at got)
+work_is_prop config seat (Scanning at) got = hlevel Bool-set
+work_is_prop config seat (Evacuating cset at) got = hlevel (Bool-set, evacuation_is_prop config seat at got)
+work_is_prop config seat (Updating cset at) got = hlevel Bool-set
+work_is_prop config seat (Ended ended) got = hlevel
 
-pub unit_is_prop : (c : Config) (spot : ControlSpot) (got : ℕ) → IsProp (UnitGoesOn c spot got)
-unit_is_prop c (control.Working at) got = work_is_prop c (control_seat c) at got
-unit_is_prop c _ got = hlevel
+pub unit_is_prop : (config : Config) (spot : ControlSpot) (got : ℕ) → IsProp (UnitGoesOn config spot got)
+unit_is_prop config (control.Working at) got = work_is_prop config (control_seat config) at got
+unit_is_prop config _ got = hlevel
 
-pub helpers_is_prop : (c : Config) (seat : ℕ) (spot : HelpSpot) (got : ℕ) → IsProp (helpers.UnitGoesOn c seat spot got)
-helpers_is_prop c seat (help.Working at) got = work_is_prop c seat at got
-helpers_is_prop c seat _ got = hlevel
+pub helpers_is_prop : (config : Config) (seat : ℕ) (spot : HelpSpot) (got : ℕ) → IsProp (helpers.UnitGoesOn config seat spot got)
+helpers_is_prop config seat (help.Working at) got = work_is_prop config seat at got
+helpers_is_prop config seat _ got = hlevel
 
 -- of a part of a call
-pub part_is_prop : (c : Config) (seat : ℕ) (kept : Kept) (spot : Spot) (got : ℕ) → IsProp (PartFit c seat kept spot got)
-part_is_prop c seat kept (OnField object at) got = hlevel Bool-set
-part_is_prop c seat kept (Resolving address at next) got = hlevel (Bool-set, leaves_is_prop at got)
-part_is_prop c seat kept _ got = hlevel
+pub part_is_prop : (config : Config) (seat : ℕ) (kept : Kept) (spot : Spot) (got : ℕ) → IsProp (PartFit config seat kept spot got)
+part_is_prop config seat kept (OnField object at) got = hlevel Bool-set
+part_is_prop config seat kept (Resolving address at next) got = hlevel (Bool-set, leaves_is_prop at got)
+part_is_prop config seat kept _ got = hlevel
 
 pub ends_is_prop : (order : Order) (got : ℕ) → IsProp (EndsFit order got)
 ends_is_prop Nothing got = hlevel

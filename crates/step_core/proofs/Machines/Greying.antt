@@ -72,11 +72,11 @@ kind MC = 1
 kind GO = 2
 kind _ = 0
 
-kind_claims : (p : Place) → kind p ≡ 1 → p ≡ MC
+kind_claims : (place : Place) → kind place ≡ 1 → place ≡ MC
 kind_claims MC is = refl
 kind_claims _ is = absurd (cc (is))
 
-kind_greys : (p : Place) → kind p ≡ 2 → p ≡ GO
+kind_greys : (place : Place) → kind place ≡ 2 → place ≡ GO
 kind_greys GO is = refl
 kind_greys _ is = absurd (cc (is))
 
@@ -199,7 +199,7 @@ machine_kind (mutating m) goes = spot_kind m.spot
 machine_kind (helping h) goes = help_kind h.spot goes
 machine_kind (controlling k) goes = control_kind k.spot goes
 
-claims_by : (b : Bool) (greyed : Option ℕ) → by_work b greyed ≡ 1 → b ≡ true
+claims_by : (holds : Bool) (greyed : Option ℕ) → by_work holds greyed ≡ 1 → holds ≡ true
 claims_by true greyed is = refl
 claims_by false None is = absurd (cc (is))
 claims_by false (Some address) is = absurd (cc (is))

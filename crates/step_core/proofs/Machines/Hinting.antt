@@ -22,10 +22,10 @@ use Rattle.step_core.specs.Pausing.{IsAim, IsOfExtent}
 use Rattle.step_core.specs.Standing.{help_standing, control_standing}
 use Rattle.step_core.proofs.Machines.Owed.{CanWork, HelpFacts, ControlFacts, IsHelper, IsControl}
 
-module _ (c : Config) (w : World) (seat : ℕ) where
+module _ (config : Config) (world : World) (seat : ℕ) where
   -- in a unit
-  scan_hinted : (address : ℕ) (at : ScanSpot) → CanWork c w seat (Scanning at) → CanWork c w seat (units.hinted_by c (Some address) (Scanning at))
-  scan_hinted address scan.LoadClaim can = (scanning_steps.hinted c w seat address can.0, can.1, can.2, can.3)
+  scan_hinted : (address : ℕ) (at : ScanSpot) → CanWork config world seat (Scanning at) → CanWork config world seat (units.hinted_by config (Some address) (Scanning at))
+  scan_hinted address scan.LoadClaim can = (scanning_steps.hinted config world seat address can.0, can.1, can.2, can.3)
   scan_hinted address (scan.ClaimUnit k) can = can
   scan_hinted address (scan.LoadGrey word) can = can
   scan_hinted address (scan.LoadBlack word grey) can = can
@@ -35,7 +35,7 @@ module _ (c : Config) (w : World) (seat : ℕ) where
   scan_hinted address (scan.SetGrey a field refs found) can = can
   scan_hinted address (scan.Ended which) can = can
 
-  pub work_hinted : (hint : Option ℕ) (at : UnitSpot) → CanWork c w seat at → CanWork c w seat (units.hinted_by c hint at)
+  pub work_hinted : (hint : Option ℕ) (at : UnitSpot) → CanWork config world seat at → CanWork config world seat (units.hinted_by config hint at)
   work_hinted None at can = can
   work_hinted (Some address) (Scanning at) can = scan_hinted address at can
   work_hinted (Some address) (Evacuating cset at) can = can
@@ -43,7 +43,7 @@ module _ (c : Config) (w : World) (seat : ℕ) where
   work_hinted (Some address) (Ended which) can = can
 
   -- wherever a helper stands
-  help_facts : (hint : Option ℕ) (spot : HelpSpot) → HelpFacts c w seat spot → HelpFacts c w seat (helpers.hinted_by c hint spot)
+  help_facts : (hint : Option ℕ) (spot : HelpSpot) → HelpFacts config world seat spot → HelpFacts config world seat (helpers.hinted_by config hint spot)
   help_facts hint (help.Working at) facts = work_hinted hint at facts
   help_facts hint help.LoadEnd facts = facts
   help_facts hint (help.Entering at) facts = facts
@@ -52,32 +52,32 @@ module _ (c : Config) (w : World) (seat : ℕ) where
   help_facts hint help.Leave facts = facts
   help_facts hint help.Gone facts = facts
 
-  pub help_hinted_is : (hint : Option ℕ) (h : Helping) → IsHelper c w seat h → IsHelper c w seat (help_hinted c hint h)
-  help_hinted_is None h is = is
-  help_hinted_is (Some address) h is = record {
+  pub help_hinted_is : (hint : Option ℕ) (helper : Helping) → IsHelper config world seat helper → IsHelper config world seat (help_hinted config hint helper)
+  help_hinted_is None helper is = is
+  help_hinted_is (Some address) helper is = record {
     number_is = is.number_is;
-    ready = helped.help_hinted_ready c (Some address) h is.ready;
-    facts = help_facts (Some address) h.spot is.facts;
+    ready = helped.help_hinted_ready config (Some address) helper is.ready;
+    facts = help_facts (Some address) helper.spot is.facts;
     least = is.least;
     below = is.below;
   }
 
   -- and wherever the control does
-  pub control_hinted_is : (words : List ℕ) (hint : Option ℕ) (k : Controlling) → IsControl c words w seat k → IsControl c words w seat (control_hinted c hint k)
-  control_hinted_is words None k is = is
-  control_hinted_is words (Some address) k is = record {
+  pub control_hinted_is : (words : List ℕ) (hint : Option ℕ) (control : Controlling) → IsControl config words world seat control → IsControl config words world seat (control_hinted config hint control)
+  control_hinted_is words None control is = is
+  control_hinted_is words (Some address) control is = record {
     number_is = is.number_is;
-    ready = controlled.hinted_ready c (Some address) k.spot is.ready;
+    ready = controlled.hinted_ready config (Some address) control.spot is.ready;
     phase_is = is.phase_is;
     set_is = is.set_is;
-    facts = controlled.by_unit c (λ spot next. ControlFacts c w seat spot → ControlFacts c w seat next) (Some address) (λ spot facts. facts) (λ at facts. work_hinted (Some address) at facts) k.spot is.facts;
-    aims = controlled.by_unit c (λ spot next. IsAim c words spot k.image → IsAim c words next k.image) (Some address) (λ spot aims. aims) (λ at aims. tt) k.spot is.aims;
-    extent_is = controlled.by_unit c (λ spot next. IsOfExtent c k.phase spot k.image → IsOfExtent c k.phase next k.image) (Some address) (λ spot extent. extent) (λ at extent. tt) k.spot is.extent_is;
+    facts = controlled.by_unit config (λ spot next. ControlFacts config world seat spot → ControlFacts config world seat next) (Some address) (λ spot facts. facts) (λ at facts. work_hinted (Some address) at facts) control.spot is.facts;
+    aims = controlled.by_unit config (λ spot next. IsAim config words spot control.image → IsAim config words next control.image) (Some address) (λ spot aims. aims) (λ at aims. tt) control.spot is.aims;
+    extent_is = controlled.by_unit config (λ spot next. IsOfExtent config control.phase spot control.image → IsOfExtent config control.phase next control.image) (Some address) (λ spot extent. extent) (λ at extent. tt) control.spot is.extent_is;
   }
 
-module _ (c : Config) where
+module _ (config : Config) where
   -- where they stand is the same
-  help_stands : (hint : Option ℕ) (spot : HelpSpot) → help_standing (helpers.hinted_by c hint spot) ≡ help_standing spot
+  help_stands : (hint : Option ℕ) (spot : HelpSpot) → help_standing (helpers.hinted_by config hint spot) ≡ help_standing spot
   help_stands hint (help.Working at) = refl
   help_stands hint help.LoadEnd = refl
   help_stands hint (help.Entering at) = refl
@@ -86,27 +86,27 @@ module _ (c : Config) where
   help_stands hint help.Leave = refl
   help_stands hint help.Gone = refl
 
-  pub help_hinted_stands : (hint : Option ℕ) (h : Helping) → help_standing (help_hinted c hint h).spot ≡ help_standing h.spot
-  help_hinted_stands None h = refl
-  help_hinted_stands (Some address) h = help_stands (Some address) h.spot
+  pub help_hinted_stands : (hint : Option ℕ) (helper : Helping) → help_standing (help_hinted config hint helper).spot ≡ help_standing helper.spot
+  help_hinted_stands None helper = refl
+  help_hinted_stands (Some address) helper = help_stands (Some address) helper.spot
 
-  pub help_hinted_seat : (hint : Option ℕ) (h : Helping) → (help_hinted c hint h).seat ≡ h.seat
-  help_hinted_seat None h = refl
-  help_hinted_seat (Some address) h = refl
+  pub help_hinted_seat : (hint : Option ℕ) (helper : Helping) → (help_hinted config hint helper).seat ≡ helper.seat
+  help_hinted_seat None helper = refl
+  help_hinted_seat (Some address) helper = refl
 
-  pub help_hinted_gone : (hint : Option ℕ) (h : Helping) → helpers.is_gone (help_hinted c hint h).spot ≡ helpers.is_gone h.spot
-  help_hinted_gone None h = refl
-  help_hinted_gone (Some address) h = helped.hinted_gone c (Some address) h.spot
+  pub help_hinted_gone : (hint : Option ℕ) (helper : Helping) → helpers.is_gone (help_hinted config hint helper).spot ≡ helpers.is_gone helper.spot
+  help_hinted_gone None helper = refl
+  help_hinted_gone (Some address) helper = helped.hinted_gone config (Some address) helper.spot
 
-  pub control_hinted_stands : (hint : Option ℕ) (k : Controlling) → control_standing (control_hinted c hint k).spot ≡ control_standing k.spot
-  control_hinted_stands None k = refl
-  control_hinted_stands (Some address) k = controlled.by_unit c (λ spot next. control_standing next ≡ control_standing spot) (Some address) (λ spot. refl) (λ at. refl) k.spot
+  pub control_hinted_stands : (hint : Option ℕ) (control : Controlling) → control_standing (control_hinted config hint control).spot ≡ control_standing control.spot
+  control_hinted_stands None control = refl
+  control_hinted_stands (Some address) control = controlled.by_unit config (λ spot next. control_standing next ≡ control_standing spot) (Some address) (λ spot. refl) (λ at. refl) control.spot
 
-  pub control_hinted_gone : (hint : Option ℕ) (k : Controlling) → controls.is_gone (control_hinted c hint k).spot ≡ controls.is_gone k.spot
-  control_hinted_gone None k = refl
-  control_hinted_gone (Some address) k = controlled.hinted_gone c (Some address) k.spot
+  pub control_hinted_gone : (hint : Option ℕ) (control : Controlling) → controls.is_gone (control_hinted config hint control).spot ≡ controls.is_gone control.spot
+  control_hinted_gone None control = refl
+  control_hinted_gone (Some address) control = controlled.hinted_gone config (Some address) control.spot
 
   -- and so is the image that counts
-  pub control_hinted_image : (hint : Option ℕ) (k : Controlling) → stored_image (control_hinted c hint k).spot (control_hinted c hint k).image ≡ stored_image k.spot k.image
-  control_hinted_image None k = refl
-  control_hinted_image (Some address) k = controlled.by_unit c (λ spot next. stored_image next k.image ≡ stored_image spot k.image) (Some address) (λ spot. refl) (λ at. refl) k.spot
+  pub control_hinted_image : (hint : Option ℕ) (control : Controlling) → stored_image (control_hinted config hint control).spot (control_hinted config hint control).image ≡ stored_image control.spot control.image
+  control_hinted_image None control = refl
+  control_hinted_image (Some address) control = controlled.by_unit config (λ spot next. stored_image next control.image ≡ stored_image spot control.image) (Some address) (λ spot. refl) (λ at. refl) control.spot

@@ -22,17 +22,17 @@ use Rattle.step_core.proofs.Machines.Stepped.{HasObject, NameTheSame, NameOthers
 use Rattle.heap_world.proofs.Pointing.{named_body, copy_cases, piece_word, null_if_0}
 
 -- name words are equal exactly where their names are
-same_codes : (m n : Name) → m.count < 2 ^ 32 → n.count < 2 ^ 32 → (name_code m.thread m.count == name_code n.thread n.count) ≡ same_name m n
-same_codes m n small_m small_n = ⊎_elim
-    (λ (same : m.thread ≡ n.thread). let codes : (name_code m.thread m.count == name_code n.thread n.count) ≡ (m.count == n.count) = rw same (grind (arith, nat_tests)) in rw (eq-eqb m.thread n.thread same) codes)
-    (λ (differs : m.thread ≢ n.thread). rw (ne_eqb m.thread n.thread differs) (ne_eqb _ _ (λ e. differs (omega (arith, e, small_m, small_n)))))
-    (cases_eq m.thread n.thread)
+same_codes : (name other_name : Name) → name.count < 2 ^ 32 → other_name.count < 2 ^ 32 → (name_code name.thread name.count == name_code other_name.thread other_name.count) ≡ same_name name other_name
+same_codes name other_name small_m small_n = ⊎_elim
+    (λ (same : name.thread ≡ other_name.thread). let codes : (name_code name.thread name.count == name_code other_name.thread other_name.count) ≡ (name.count == other_name.count) = rw same (grind (arith, nat_tests)) in rw (eq-eqb name.thread other_name.thread same) codes)
+    (λ (differs : name.thread ≢ other_name.thread). rw (ne_eqb name.thread other_name.thread differs) (ne_eqb _ _ (λ e. differs (omega (arith, e, small_m, small_n)))))
+    (cases_eq name.thread other_name.thread)
 
 -- a name word reads as its name
-pub name_read : (n : Name) → n.count < 2 ^ 32 → name_in (name_code n.thread n.count) ≡ n
-name_read n small =
-    let read = name_in (name_code n.thread n.count) in
-    same_name-true read n (and_from _ _ (eq-eqb read.thread n.thread (omega arith)) (eq-eqb read.count n.count (omega arith)))
+pub name_read : (name : Name) → name.count < 2 ^ 32 → name_in (name_code name.thread name.count) ≡ name
+name_read name small =
+    let read = name_in (name_code name.thread name.count) in
+    same_name-true read name (and_from _ _ (eq-eqb read.thread name.thread (omega arith)) (eq-eqb read.count name.count (omega arith)))
 
 -- a shape word reads as its sizes
 refs_read : (refs nums : ℕ) → refs ≤ 16 → nums ≤ 16 → refs_in (shape_word refs nums) ≡ refs
@@ -43,186 +43,186 @@ nums_read : (refs nums : ℕ) → refs ≤ 16 → nums ≤ 16 → nums_in (shape
 nums_read refs nums few_refs few_nums = omega arith
 
 -- the object that a root names, in a graph
-named_object : (g : Graph) (t root : ℕ) (n : Name) (o : Object) → g.root t root ≡ Some n → g.object n ≡ Some o → named g (g.root t root) ≡ o
-named_object g t root n o is there = rw (is, there) refl
+named_object : (graph : Graph) (thread root : ℕ) (name : Name) (object : Object) → graph.root thread root ≡ Some name → graph.object name ≡ Some object → named graph (graph.root thread root) ≡ object
+named_object graph thread root name object is there = rw (is, there) refl
 
 -- a command pins no object where its root is null
-none_either : (b : Bool) (r : Reference) → r ≡ None → (if b then None else r) ≡ None
-none_either true r is = refl
-none_either false r is = is
+none_either : (holds : Bool) (reference : Reference) → reference ≡ None → (if holds then None else reference) ≡ None
+none_either true reference is = refl
+none_either false reference is = is
 
-pub pinned_on_null : (g : Graph) (t : ℕ) (k : Command) → g.root t (command_root k 0) ≡ None → pinned_by g t k ≡ None
-pinned_on_null g t (Pin slot obj) is = none_either (is_some (g.pin t slot)) (g.root t obj) is
-pinned_on_null g t _ is = refl
+pub pinned_on_null : (graph : Graph) (thread : ℕ) (command : Command) → graph.root thread (command_root command 0) ≡ None → pinned_by graph thread command ≡ None
+pinned_on_null graph thread (Pin slot obj) is = none_either (is_some (graph.pin thread slot)) (graph.root thread obj) is
+pinned_on_null graph thread _ is = refl
 
 -- A command on an object is answered Bad where its root is null.
-pub bad_on_null : (g : Graph) (t : ℕ) (k : Command) → is_on_object k ≡ true → g.root t (command_root k 0) ≡ None → outcome g t k ≡ answers reply.Bad g
-bad_on_null g t (Get dst src field) on is = rw is refl
-bad_on_null g t (Set obj field val) on is = rw is refl
-bad_on_null g t (Cas obj field expect val) on is = rw is refl
-bad_on_null g t (Xchg dst obj field val) on is = rw is refl
-bad_on_null g t (Rd obj index) on is = rw is refl
-bad_on_null g t (Wr obj index value) on is = rw is refl
-bad_on_null g t (Pin slot obj) on is = refl
-bad_on_null g t _ on is = cc
+pub bad_on_null : (graph : Graph) (thread : ℕ) (command : Command) → is_on_object command ≡ true → graph.root thread (command_root command 0) ≡ None → outcome graph thread command ≡ answers reply.Bad graph
+bad_on_null graph thread (Get dst src field) on is = rw is refl
+bad_on_null graph thread (Set obj field val) on is = rw is refl
+bad_on_null graph thread (Cas obj field expect val) on is = rw is refl
+bad_on_null graph thread (Xchg dst obj field val) on is = rw is refl
+bad_on_null graph thread (Rd obj index) on is = rw is refl
+bad_on_null graph thread (Wr obj index value) on is = rw is refl
+bad_on_null graph thread (Pin slot obj) on is = refl
+bad_on_null graph thread _ on is = cc
 
-module _ (c : Config) (u : World) (shared : Shared c u) where
+module _ (config : Config) (world : World) (shared : Shared config world) where
   -- the name word of a copy of an object, current or old, whose count is small
-  pub name_there : (a : ℕ) (n : Name) → name_at (u.block a) ≡ Some n → (u.memory (Heap (a + 2)) ≡ name_code n.thread n.count) × (n.count < 2 ^ 32)
-  name_there a n is =
-      let body = named_body (u.block a) n is in
+  pub name_there : (address : ℕ) (name : Name) → name_at (world.block address) ≡ Some name → (world.memory (Heap (address + 2)) ≡ name_code name.thread name.count) × (name.count < 2 ^ 32)
+  name_there address name is =
+      let body = named_body (world.block address) name is in
       ⊎_elim
-      (λ now. let object = shared.contents.objects.each a body.0 body.1 n now in (object.2.name_word, (shared.contents.given n object.0 object.1).small))
+      (λ now. let object = shared.contents.objects.each address body.0 body.1 name now in (object.2.name_word, (shared.contents.given name object.0 object.1).small))
       (λ was.
-      let old = shared.evacuated.moved.moveds a body.0 body.1 was.0 n was.1 in
-      let object = shared.contents.objects.each was.0 body.0 body.1 n old.copy in
-      (old.name_word, (shared.contents.given n object.0 object.1).small))
-      (copy_cases (u.block a) (body_of n body.0 body.1) body.2)
+      let old = shared.evacuated.moved.moveds address body.0 body.1 was.0 name was.1 in
+      let object = shared.contents.objects.each was.0 body.0 body.1 name old.copy in
+      (old.name_word, (shared.contents.given name object.0 object.1).small))
+      (copy_cases (world.block address) (body_of name body.0 body.1) body.2)
 
   -- two current copies are at one address exactly where they are of one name
-  same_targets : (a b : ℕ) (m n : Name) → UsableIn c u a → UsableIn c u b → name_at (u.block a) ≡ Some m → name_at (u.block b) ≡ Some n → m ≡ n → a ≡ b
-  same_targets a b m n usable_a usable_b is_a is_b same = ⊎_elim
-      (λ (null : a ≡ 0). absurd (none-some m (sym (null_if_0 c _ u.block shared.parsable.plotted a (Some m) is_a null))))
+  same_targets : (address other_address : ℕ) (name other_name : Name) → UsableIn config world address → UsableIn config world other_address → name_at (world.block address) ≡ Some name → name_at (world.block other_address) ≡ Some other_name → name ≡ other_name → address ≡ other_address
+  same_targets address other_address name other_name usable_a usable_b is_a is_b same = ⊎_elim
+      (λ (null : address ≡ 0). absurd (none-some name (sym (null_if_0 config _ world.block shared.parsable.plotted address (Some name) is_a null))))
       (λ at_a. ⊎_elim
-      (λ (null : b ≡ 0). absurd (none-some n (sym (null_if_0 c _ u.block shared.parsable.plotted b (Some n) is_b null))))
+      (λ (null : other_address ≡ 0). absurd (none-some other_name (sym (null_if_0 config _ world.block shared.parsable.plotted other_address (Some other_name) is_b null))))
       (λ at_b.
-      let first : at_a.0 ≡ m = same_Some at_a.0 m (sym (ap name_at at_a.3.piece) ∙ is_a) in
-      let second : at_b.0 ≡ m = same_Some at_b.0 n (sym (ap name_at at_b.3.piece) ∙ is_b) ∙ sym same in
-      shared.contents.objects.once a b at_a.1 at_a.2 at_b.1 at_b.2 m
+      let first : at_a.0 ≡ name = same_Some at_a.0 name (sym (ap name_at at_a.3.piece) ∙ is_a) in
+      let second : at_b.0 ≡ name = same_Some at_b.0 other_name (sym (ap name_at at_b.3.piece) ∙ is_b) ∙ sym same in
+      shared.contents.objects.once address other_address at_a.1 at_a.2 at_b.1 at_b.2 name
       (at_a.3.piece ∙ ap (λ x. Some (thing x at_a.1 at_a.2)) first) (at_b.3.piece ∙ ap (λ x. Some (thing x at_b.1 at_b.2)) second))
       usable_b)
       usable_a
 
   -- words that may be used are equal exactly where they stand for equal references
-  pub same_words : (a b : ℕ) (r s : Reference) → UsableIn c u a → UsableIn c u b → Points u.block a r → Points u.block b s → (a == b) ≡ same_reference r s
-  same_words a b None None usable_a usable_b is_a is_b = eq-eqb a b (is_a ∙ sym is_b)
-  same_words a b None (Some n) usable_a usable_b is_a is_b = ne_eqb a b (λ e. none-some n (sym (null_if_0 c _ u.block shared.parsable.plotted b (Some n) is_b (sym e ∙ is_a))))
-  same_words a b (Some m) None usable_a usable_b is_a is_b = ne_eqb a b (λ e. none-some m (sym (null_if_0 c _ u.block shared.parsable.plotted a (Some m) is_a (e ∙ is_b))))
-  same_words a b (Some m) (Some n) usable_a usable_b is_a is_b = ⊎_elim
-      (λ (same : same_name m n ≡ true). eq-eqb a b (same_targets a b m n usable_a usable_b is_a is_b (same_name-true m n same)) ∙ sym same)
+  pub same_words : (address other_address : ℕ) (reference other_reference : Reference) → UsableIn config world address → UsableIn config world other_address → Points world.block address reference → Points world.block other_address other_reference → (address == other_address) ≡ same_reference reference other_reference
+  same_words address other_address None None usable_a usable_b is_a is_b = eq-eqb address other_address (is_a ∙ sym is_b)
+  same_words address other_address None (Some n) usable_a usable_b is_a is_b = ne_eqb address other_address (λ e. none-some n (sym (null_if_0 config _ world.block shared.parsable.plotted other_address (Some n) is_b (sym e ∙ is_a))))
+  same_words address other_address (Some m) None usable_a usable_b is_a is_b = ne_eqb address other_address (λ e. none-some m (sym (null_if_0 config _ world.block shared.parsable.plotted address (Some m) is_a (e ∙ is_b))))
+  same_words address other_address (Some m) (Some n) usable_a usable_b is_a is_b = ⊎_elim
+      (λ (same : same_name m n ≡ true). eq-eqb address other_address (same_targets address other_address m n usable_a usable_b is_a is_b (same_name-true m n same)) ∙ sym same)
       (λ (differs : same_name m n ≡ false).
-      ne_eqb a b (λ e.
-      let is : m ≡ n = same_Some m n (sym is_a ∙ ap (λ x. name_at (u.block x)) e ∙ is_b) in
+      ne_eqb address other_address (λ e.
+      let is : m ≡ n = same_Some m n (sym is_a ∙ ap (λ x. name_at (world.block x)) e ∙ is_b) in
       let same : same_name m n ≡ true = ap (λ x. same_name x n) is ∙ same_name-itself n in
       absurd (cc))
       ∙ sym differs)
       (cases_Bool (same_name m n))
 
   -- two words name the same where they stand for one reference
-  pub named_as_one : (a b : ℕ) (r s : Reference) → Points u.block a r → Points u.block b s → same_reference r s ≡ true → NameTheSame u.block a b
-  named_as_one a b None None is_a is_b same = inl (is_a, is_b)
-  named_as_one a b None (Some n) is_a is_b same = absurd (cc (same))
-  named_as_one a b (Some m) None is_a is_b same = absurd (cc (same))
-  named_as_one a b (Some m) (Some n) is_a is_b same = inr (m, is_a, is_b ∙ ap (λ x. Some x) (sym (same_name-true m n same)))
+  pub named_as_one : (address other_address : ℕ) (reference other_reference : Reference) → Points world.block address reference → Points world.block other_address other_reference → same_reference reference other_reference ≡ true → NameTheSame world.block address other_address
+  named_as_one address other_address None None is_a is_b same = inl (is_a, is_b)
+  named_as_one address other_address None (Some n) is_a is_b same = absurd (cc (same))
+  named_as_one address other_address (Some m) None is_a is_b same = absurd (cc (same))
+  named_as_one address other_address (Some m) (Some n) is_a is_b same = inr (m, is_a, is_b ∙ ap (λ x. Some x) (sym (same_name-true m n same)))
 
   -- and the other way round
-  pub one_reference : (a b : ℕ) (r s : Reference) → Points u.block a r → Points u.block b s → NameTheSame u.block a b → same_reference r s ≡ true
-  one_reference a b r s is_a is_b (inl null) =
-      rw (null_if_0 c _ u.block shared.parsable.plotted a r is_a null.0, null_if_0 c _ u.block shared.parsable.plotted b s is_b null.1) refl
-  one_reference a b None s is_a is_b (inr both) = absurd (none-some both.0 (sym (null_if_0 c _ u.block shared.parsable.plotted a (Some both.0) both.1 is_a)))
-  one_reference a b (Some m) None is_a is_b (inr both) = absurd (none-some both.0 (sym (null_if_0 c _ u.block shared.parsable.plotted b (Some both.0) both.2 is_b)))
-  one_reference a b (Some m) (Some n) is_a is_b (inr both) =
+  pub one_reference : (address other_address : ℕ) (reference other_reference : Reference) → Points world.block address reference → Points world.block other_address other_reference → NameTheSame world.block address other_address → same_reference reference other_reference ≡ true
+  one_reference address other_address reference other_reference is_a is_b (inl null) =
+      rw (null_if_0 config _ world.block shared.parsable.plotted address reference is_a null.0, null_if_0 config _ world.block shared.parsable.plotted other_address other_reference is_b null.1) refl
+  one_reference address other_address None other_reference is_a is_b (inr both) = absurd (none-some both.0 (sym (null_if_0 config _ world.block shared.parsable.plotted address (Some both.0) both.1 is_a)))
+  one_reference address other_address (Some m) None is_a is_b (inr both) = absurd (none-some both.0 (sym (null_if_0 config _ world.block shared.parsable.plotted other_address (Some both.0) both.2 is_b)))
+  one_reference address other_address (Some m) (Some n) is_a is_b (inr both) =
       let is : m ≡ n = same_Some m both.0 (sym is_a ∙ both.1) ∙ sym (same_Some n both.0 (sym is_b ∙ both.2)) in
       ap (λ x. same_name x n) is ∙ same_name-itself n
 
   -- a word that is not null, and does not stand for the reference of another one, names an object that the other one does not
-  pub named_otherwise : (a b : ℕ) (r s : Reference) → a ≢ 0 → Points u.block a r → Points u.block b s → same_reference r s ≡ false → NameOthers u.block a b
-  named_otherwise a b None s some is_a is_b differs = absurd (some is_a)
-  named_otherwise a b (Some m) None some is_a is_b differs = record { name = m; is = is_a; other = inl is_b }
-  named_otherwise a b (Some m) (Some n) some is_a is_b differs = record {
+  pub named_otherwise : (address other_address : ℕ) (reference other_reference : Reference) → address ≢ 0 → Points world.block address reference → Points world.block other_address other_reference → same_reference reference other_reference ≡ false → NameOthers world.block address other_address
+  named_otherwise address other_address None other_reference some is_a is_b differs = absurd (some is_a)
+  named_otherwise address other_address (Some m) None some is_a is_b differs = record { name = m; is = is_a; other = inl is_b }
+  named_otherwise address other_address (Some m) (Some n) some is_a is_b differs = record {
     name = m;
     is = is_a;
     other = inr (n, is_b, λ same. (let itself : same_name m n ≡ true = ap (λ x. same_name x n) same ∙ same_name-itself n in absurd (cc)));
   }
 
   -- the reply that shows a word shows the reference that it stands for
-  pub shown_is : (value : ℕ) (r : Reference) → Points u.block value r → shown_word u.memory value ≡ shown r
+  pub shown_is : (value : ℕ) (reference : Reference) → Points world.block value reference → shown_word world.memory value ≡ shown reference
   shown_is value None is = cond-true (value == 0) _ _ (eq-eqb value 0 is)
   shown_is value (Some n) is =
-      let other : (value == 0) ≡ false = ne_eqb value 0 (λ e. none-some n (sym (null_if_0 c _ u.block shared.parsable.plotted value (Some n) is e))) in
+      let other : (value == 0) ≡ false = ne_eqb value 0 (λ e. none-some n (sym (null_if_0 config _ world.block shared.parsable.plotted value (Some n) is e))) in
       let word = name_there value n is in
       cond-false (value == 0) _ _ other ∙ ap (λ w. reply.Ref (name_in w)) word.0 ∙ ap (λ m. reply.Ref m) (name_read n word.1)
 
   -- and otherwise they do not stand for one
-  pub not_one : (a b : ℕ) (r s : Reference) → Points u.block a r → Points u.block b s → NameOthers u.block a b → same_reference r s ≡ false
-  not_one a b None s is_a is_b others = absurd (none-some others.name (sym (null_if_0 c _ u.block shared.parsable.plotted a (Some others.name) others.is is_a)))
-  not_one a b (Some m) None is_a is_b others = refl
-  not_one a b (Some m) (Some n) is_a is_b others = ⊎_elim
+  pub not_one : (address other_address : ℕ) (reference other_reference : Reference) → Points world.block address reference → Points world.block other_address other_reference → NameOthers world.block address other_address → same_reference reference other_reference ≡ false
+  not_one address other_address None other_reference is_a is_b others = absurd (none-some others.name (sym (null_if_0 config _ world.block shared.parsable.plotted address (Some others.name) others.is is_a)))
+  not_one address other_address (Some m) None is_a is_b others = refl
+  not_one address other_address (Some m) (Some n) is_a is_b others = ⊎_elim
       (λ (same : same_name m n ≡ true).
       let is : others.name ≡ n = same_Some others.name m (sym others.is ∙ is_a) ∙ same_name-true m n same in
       absurd (⊎_elim
-      (λ (null : b ≡ 0). none-some n (sym (null_if_0 c _ u.block shared.parsable.plotted b (Some n) is_b null)))
+      (λ (null : other_address ≡ 0). none-some n (sym (null_if_0 config _ world.block shared.parsable.plotted other_address (Some n) is_b null)))
       (λ more. more.2 (is ∙ sym (same_Some more.0 n (sym more.1 ∙ is_b))))
       others.other))
       (λ (differs : same_name m n ≡ false). differs)
       (cases_Bool (same_name m n))
 
   -- a copy of an object stands for what another copy of it stands for
-  pub copied : (a b : ℕ) (n : Name) (r : Reference) → name_at (u.block a) ≡ Some n → name_at (u.block b) ≡ Some n → Points u.block a r → Points u.block b r
-  copied a b n None is_a is_b is = absurd (none-some n (sym (null_if_0 c _ u.block shared.parsable.plotted a (Some n) is_a is)))
-  copied a b n (Some m) is_a is_b is = is_b ∙ sym is_a ∙ is
+  pub copied : (address other_address : ℕ) (name : Name) (reference : Reference) → name_at (world.block address) ≡ Some name → name_at (world.block other_address) ≡ Some name → Points world.block address reference → Points world.block other_address reference
+  copied address other_address name None is_a is_b is = absurd (none-some name (sym (null_if_0 config _ world.block shared.parsable.plotted address (Some name) is_a is)))
+  copied address other_address name (Some m) is_a is_b is = is_b ∙ sym is_a ∙ is
 
   -- by their name words, words name the same exactly where they stand for one reference
-  pub names_agree : (a b : ℕ) (r s : Reference) → Points u.block a r → Points u.block b s → name_the_same u.memory a b ≡ same_reference r s
-  names_agree a b None None is_a is_b = cond-true ((a == 0) || (b == 0)) _ _ (rw (eq-eqb a 0 is_a) refl) ∙ eq-eqb a b (is_a ∙ sym is_b)
-  names_agree a b None (Some n) is_a is_b =
-      cond-true ((a == 0) || (b == 0)) _ _ (rw (eq-eqb a 0 is_a) refl) ∙ ne_eqb a b (λ e. none-some n (sym (null_if_0 c _ u.block shared.parsable.plotted b (Some n) is_b (sym e ∙ is_a))))
-  names_agree a b (Some m) None is_a is_b =
-      cond-true ((a == 0) || (b == 0)) _ _ (grind (arith, nat_tests)) ∙ ne_eqb a b (λ e. none-some m (sym (null_if_0 c _ u.block shared.parsable.plotted a (Some m) is_a (e ∙ is_b))))
-  names_agree a b (Some m) (Some n) is_a is_b =
-      let some_a : (a == 0) ≡ false = ne_eqb a 0 (λ e. none-some m (sym (null_if_0 c _ u.block shared.parsable.plotted a (Some m) is_a e))) in
-      let some_b : (b == 0) ≡ false = ne_eqb b 0 (λ e. none-some n (sym (null_if_0 c _ u.block shared.parsable.plotted b (Some n) is_b e))) in
-      let word_a = name_there a m is_a in
-      let word_b = name_there b n is_b in
-      cond-false ((a == 0) || (b == 0)) _ _ (rw (some_a, some_b) refl) ∙ rw (word_a.0, word_b.0) (same_codes m n word_a.1 word_b.1)
+  pub names_agree : (address other_address : ℕ) (reference other_reference : Reference) → Points world.block address reference → Points world.block other_address other_reference → name_the_same world.memory address other_address ≡ same_reference reference other_reference
+  names_agree address other_address None None is_a is_b = cond-true ((address == 0) || (other_address == 0)) _ _ (rw (eq-eqb address 0 is_a) refl) ∙ eq-eqb address other_address (is_a ∙ sym is_b)
+  names_agree address other_address None (Some n) is_a is_b =
+      cond-true ((address == 0) || (other_address == 0)) _ _ (rw (eq-eqb address 0 is_a) refl) ∙ ne_eqb address other_address (λ e. none-some n (sym (null_if_0 config _ world.block shared.parsable.plotted other_address (Some n) is_b (sym e ∙ is_a))))
+  names_agree address other_address (Some m) None is_a is_b =
+      cond-true ((address == 0) || (other_address == 0)) _ _ (grind (arith, nat_tests)) ∙ ne_eqb address other_address (λ e. none-some m (sym (null_if_0 config _ world.block shared.parsable.plotted address (Some m) is_a (e ∙ is_b))))
+  names_agree address other_address (Some m) (Some n) is_a is_b =
+      let some_a : (address == 0) ≡ false = ne_eqb address 0 (λ e. none-some m (sym (null_if_0 config _ world.block shared.parsable.plotted address (Some m) is_a e))) in
+      let some_b : (other_address == 0) ≡ false = ne_eqb other_address 0 (λ e. none-some n (sym (null_if_0 config _ world.block shared.parsable.plotted other_address (Some n) is_b e))) in
+      let word_a = name_there address m is_a in
+      let word_b = name_there other_address n is_b in
+      cond-false ((address == 0) || (other_address == 0)) _ _ (rw (some_a, some_b) refl) ∙ rw (word_a.0, word_b.0) (same_codes m n word_a.1 word_b.1)
 
   -- the graph's object of an object in hand
-  pub object_in : (seat root object : ℕ) (has : HasObject c u seat root object)
-      → (o : Object) × (u.graph.object has.name ≡ Some o) × IsThing (λ a. u.memory (Heap a)) u.block object has.refs has.nums has.name o
+  pub object_in : (seat root object : ℕ) (has : HasObject config world seat root object)
+      → (o : Object) × (world.graph.object has.name ≡ Some o) × IsThing (λ a. world.memory (Heap a)) world.block object has.refs has.nums has.name o
   object_in seat root object has = shared.contents.objects.each object has.refs has.nums has.name has.target.piece
 
   -- a reference field of an object in hand
-  pub field_in : (seat root object field : ℕ) (has : HasObject c u seat root object) → field < has.refs
-      → (v : Reference) × (field_at u.graph (seat + 1) root field ≡ Some v) × Points u.block (u.memory (Heap (object + 3 + field))) v
+  pub field_in : (seat root object field : ℕ) (has : HasObject config world seat root object) → field < has.refs
+      → (reference : Reference) × (field_at world.graph (seat + 1) root field ≡ Some reference) × Points world.block (world.memory (Heap (object + 3 + field))) reference
   field_in seat root object field has below =
       let o = object_in seat root object has in
       let there : slice_get o.0.refs field ≡ Some (get_or o.0.refs field None) = slice_get-get_or o.0.refs field None (let long = o.2.refs_are in omega arith) in
-      (get_or o.0.refs field None, ap (λ x. slice_get x.refs field) (named_object u.graph (seat + 1) root has.name o.0 has.root_is o.1) ∙ there, o.2.references field _ there)
+      (get_or o.0.refs field None, ap (λ x. slice_get x.refs field) (named_object world.graph (seat + 1) root has.name o.0 has.root_is o.1) ∙ there, o.2.references field _ there)
 
   -- a number of it
-  pub number_in : (seat root object index : ℕ) (has : HasObject c u seat root object) → index < has.nums
-      → number_at u.graph (seat + 1) root index ≡ Some (u.memory (Heap (object + 3 + has.refs + index)))
+  pub number_in : (seat root object index : ℕ) (has : HasObject config world seat root object) → index < has.nums
+      → number_at world.graph (seat + 1) root index ≡ Some (world.memory (Heap (object + 3 + has.refs + index)))
   number_in seat root object index has below =
       let o = object_in seat root object has in
       let there : slice_get o.0.nums index ≡ Some (get_or o.0.nums index 0) = slice_get-get_or o.0.nums index 0 (let long = o.2.nums_are in omega arith) in
-      ap (λ x. slice_get x.nums index) (named_object u.graph (seat + 1) root has.name o.0 has.root_is o.1) ∙ there ∙ ap (λ n. Some n) (sym (o.2.numbers index _ there))
+      ap (λ x. slice_get x.nums index) (named_object world.graph (seat + 1) root has.name o.0 has.root_is o.1) ∙ there ∙ ap (λ n. Some n) (sym (o.2.numbers index _ there))
 
   -- the words of an object in hand are words of the heap
-  pub word_in : (seat root object at k : ℕ) (has : HasObject c u seat root object) → k < 3 + has.refs + has.nums → at ≡ object + k → is_word c (Heap at) ≡ true
-  word_in seat root object at k has below is = ap (λ a. is_word c (Heap a)) is ∙ piece_word c _ u.block shared.parsable.plotted object k (thing has.name has.refs has.nums) has.target.piece below
+  pub word_in : (seat root object at k : ℕ) (has : HasObject config world seat root object) → k < 3 + has.refs + has.nums → at ≡ object + k → is_word config (Heap at) ≡ true
+  word_in seat root object at k has below is = ap (λ a. is_word config (Heap a)) is ∙ piece_word config _ world.block shared.parsable.plotted object k (thing has.name has.refs has.nums) has.target.piece below
 
   -- there is no field and no number past the last
-  no_field_in : (seat root object field : ℕ) (has : HasObject c u seat root object) → has.refs ≤ field → field_at u.graph (seat + 1) root field ≡ None
+  no_field_in : (seat root object field : ℕ) (has : HasObject config world seat root object) → has.refs ≤ field → field_at world.graph (seat + 1) root field ≡ None
   no_field_in seat root object field has past =
       let o = object_in seat root object has in
-      ap (λ x. slice_get x.refs field) (named_object u.graph (seat + 1) root has.name o.0 has.root_is o.1) ∙ slice_get_past o.0.refs field (let long = o.2.refs_are in omega arith)
+      ap (λ x. slice_get x.refs field) (named_object world.graph (seat + 1) root has.name o.0 has.root_is o.1) ∙ slice_get_past o.0.refs field (let long = o.2.refs_are in omega arith)
 
   -- there is no number past the last
-  no_number_in : (seat root object index : ℕ) (has : HasObject c u seat root object) → has.nums ≤ index → number_at u.graph (seat + 1) root index ≡ None
+  no_number_in : (seat root object index : ℕ) (has : HasObject config world seat root object) → has.nums ≤ index → number_at world.graph (seat + 1) root index ≡ None
   no_number_in seat root object index has past =
       let o = object_in seat root object has in
-      ap (λ x. slice_get x.nums index) (named_object u.graph (seat + 1) root has.name o.0 has.root_is o.1) ∙ slice_get_past o.0.nums index (let long = o.2.nums_are in omega arith)
+      ap (λ x. slice_get x.nums index) (named_object world.graph (seat + 1) root has.name o.0 has.root_is o.1) ∙ slice_get_past o.0.nums index (let long = o.2.nums_are in omega arith)
 
   -- the shape word of an object in hand reads as its sizes
-  pub shape_in : (seat root object : ℕ) (has : HasObject c u seat root object)
-      → (refs_in (u.memory (Heap (object + 1))) ≡ has.refs) × (nums_in (u.memory (Heap (object + 1))) ≡ has.nums)
+  pub shape_in : (seat root object : ℕ) (has : HasObject config world seat root object)
+      → (refs_in (world.memory (Heap (object + 1))) ≡ has.refs) × (nums_in (world.memory (Heap (object + 1))) ≡ has.nums)
   shape_in seat root object has =
       let o = object_in seat root object has in
       (ap refs_in o.2.shape ∙ refs_read has.refs has.nums o.2.few_refs o.2.few_nums, ap nums_in o.2.shape ∙ nums_read has.refs has.nums o.2.few_refs o.2.few_nums)
 
   -- A command on an object is answered Bad where the object has no such part.
-  pub bad_on_shape : (seat object : ℕ) (k : Command) → HasObject c u seat (command_root k 0) object → is_on_object k ≡ true → has_part k (u.memory (Heap (object + 1))) ≡ false
-      → outcome u.graph (seat + 1) k ≡ answers reply.Bad u.graph
+  pub bad_on_shape : (seat object : ℕ) (command : Command) → HasObject config world seat (command_root command 0) object → is_on_object command ≡ true → has_part command (world.memory (Heap (object + 1))) ≡ false
+      → outcome world.graph (seat + 1) command ≡ answers reply.Bad world.graph
   bad_on_shape seat object (Get dst src field) has on lacks =
       let past = ltb-false _ _ lacks in let shape = shape_in seat src object has in rw (no_field_in seat src object field has (omega (arith, past, shape.0))) refl
   bad_on_shape seat object (Set obj field val) has on lacks =

@@ -50,28 +50,28 @@ pub record IsSeen (raw now : ℕ) (fixed : Option Reply) : Type 0 where
 
 -- the words of the object that a thread is answered with
 abbrev pub words_promised : (Word → ℕ) → ℕ → ℕ
-words_promised memory t = if nat_le (memory (Answer t)) 1 then 0 else object_words (memory (Heap (memory (Answer t) + 1)))
+words_promised memory mutator = if nat_le (memory (Answer mutator)) 1 then 0 else object_words (memory (Heap (memory (Answer mutator) + 1)))
 
 -- live objects that are not pinned and objects made for other threads crowd the regions without a pinned object for so many words
-pub record IsShort (c : Config) (memory : Word → ℕ) (g : Graph) (thread words : ℕ) : Type 0 where
+pub record IsShort (config : Config) (memory : Word → ℕ) (graph : Graph) (thread words : ℕ) : Type 0 where
   pub names : List Name
   pub held : ℕ
   pub pinned : ℕ
-  pub reach : IsReach g names
-  pub held_is : Held g held
-  pub pinned_is : PinnedRegions c.region_words g pinned
-  pub crowd : (c.regions - pinned) * (c.region_words - words + 1) ≤ sum_by (λ n. size (named g (Some n))) names - held + sum_below (λ u. if u == thread then 0 else words_promised memory u) c.mutators
+  pub reach : IsReach graph names
+  pub held_is : Held graph held
+  pub pinned_is : PinnedRegions config.region_words graph pinned
+  pub crowd : (config.regions - pinned) * (config.region_words - words + 1) ≤ sum_by (λ n. size (named graph (Some n))) names - held + sum_below (λ u. if u == thread then 0 else words_promised memory u) config.mutators
 
 -- What holds of a mutator, for the entries of the history that are its own: they are its calls, or these and one more. Where the
 -- answer that counts says that the heap is full, and this is not settled yet, it is crowded.
-pub record IsThread (c : Config) (words : List ℕ) (w : World) (entries : List Entry) (number : ℕ) (a : Actor) (m : Mutating) : Type 0 where
+pub record IsThread (config : Config) (words : List ℕ) (world : World) (entries : List Entry) (number : ℕ) (actor : Actor) (mutator : Mutating) : Type 0 where
   pub fixed : Option Reply
-  pub number_is : m.seat ≡ number
-  pub valid : is_valid a.command ≡ true
-  pub mine : Mine c w m a.command fixed
-  pub seen : IsSeen (view c words (Answer number)) (w.memory (Answer number)) fixed
-  pub short : w.memory (Answer number) ≡ 1 → fixed ≡ None → IsShort c w.memory w.graph number (words_asked (Some a.command))
-  pub entries_are : entries ≡ a.calls ++ entries_of number a.command fixed
+  pub number_is : mutator.seat ≡ number
+  pub valid : is_valid actor.command ≡ true
+  pub mine : Mine config world mutator actor.command fixed
+  pub seen : IsSeen (view config words (Answer number)) (world.memory (Answer number)) fixed
+  pub short : world.memory (Answer number) ≡ 1 → fixed ≡ None → IsShort config world.memory world.graph number (words_asked (Some actor.command))
+  pub entries_are : entries ≡ actor.calls ++ entries_of number actor.command fixed
 
 -- the machine of a seat has no room but free words of its buffer, and neither marks nor copies, nor does it work on a unit
 pub record Rests (ghost : Ghost) (block : Plot) (seat : ℕ) : Type 0 where
@@ -79,92 +79,92 @@ pub record Rests (ghost : Ghost) (block : Plot) (seat : ℕ) : Type 0 where
   pub scans_none : ghost.scanning seat ≡ None
   pub copies_none : ghost.copying seat ≡ false
   pub works_none : ghost.working seat ≡ None
-  pub rooms : (a : ℕ) (x : Block) → block a ≡ Some x → room_of x ≡ Some seat → IsSpare seat x
+  pub rooms : (address : ℕ) (piece : Block) → block address ≡ Some piece → room_of piece ≡ Some seat → IsSpare seat piece
 
 abbrev pub IsResting : World → ℕ → Type 0
-IsResting w seat = Rests w.ghost w.block seat
+IsResting world seat = Rests world.ghost world.block seat
 
 -- it scans a unit of marking, neither copies nor works on a unit of evacuation, and has no room but free words of its buffer
 abbrev pub Scans : Config → World → ℕ → ScanSpot → Type 0
-Scans c w seat at = CanScan c w seat at × (w.ghost.copying seat ≡ false) × (w.ghost.working seat ≡ None) × OnlySpares w seat
+Scans config world seat at = CanScan config world seat at × (world.ghost.copying seat ≡ false) × (world.ghost.working seat ≡ None) × OnlySpares world seat
 
 -- What who works on a unit counts on by where the work stands: it can go on; or once the unit has ended it rests, and where none was left
 -- a pause is due.
 abbrev pub CanWork : Config → World → ℕ → UnitSpot → Type 0
-CanWork c w seat (Scanning at) = Scans c w seat at
-CanWork c w seat (Evacuating cset at) = CanEvacuate c w seat cset at
-CanWork c w seat (Updating cset at) = CanUpdate c w seat cset at
-CanWork c w seat (Ended Worked) = IsResting w seat
-CanWork c w seat (Ended NoneLeft) = IsResting w seat × IsDue c w.memory
+CanWork config world seat (Scanning at) = Scans config world seat at
+CanWork config world seat (Evacuating cset at) = CanEvacuate config world seat cset at
+CanWork config world seat (Updating cset at) = CanUpdate config world seat cset at
+CanWork config world seat (Ended Worked) = IsResting world seat
+CanWork config world seat (Ended NoneLeft) = IsResting world seat × IsDue config world.memory
 
 -- What a helper counts on by where it stands: between the two loads it knows the phase, which is not 0, and in a unit it can go on;
 -- elsewhere it rests.
 abbrev pub HelpFacts : Config → World → ℕ → HelpSpot → Type 0
-HelpFacts c w seat (help.Working at) = CanWork c w seat at
-HelpFacts c w seat (help.LoadSet phase) = IsResting w seat × (phase ≢ 0) × (phase ≡ w.memory Phase)
-HelpFacts c w seat _ = IsResting w seat
+HelpFacts config world seat (help.Working at) = CanWork config world seat at
+HelpFacts config world seat (help.LoadSet phase) = IsResting world seat × (phase ≢ 0) × (phase ≡ world.memory Phase)
+HelpFacts config world seat _ = IsResting world seat
 
 -- what holds of a helper: it has its number as its seat, and can make its next access
-pub record IsHelper (c : Config) (w : World) (number : ℕ) (h : Helping) : Type 0 where
-  pub number_is : h.seat ≡ number
-  pub ready : help_ready c h ≡ true
-  pub facts : HelpFacts c w number h.spot
-  pub least : c.mutators ≤ number
-  pub below : number < c.mutators + c.helpers
+pub record IsHelper (config : Config) (world : World) (number : ℕ) (helper : Helping) : Type 0 where
+  pub number_is : helper.seat ≡ number
+  pub ready : help_ready config helper ≡ true
+  pub facts : HelpFacts config world number helper.spot
+  pub least : config.mutators ≤ number
+  pub below : number < config.mutators + config.helpers
 
 -- What the control counts on by where it stands: in a unit it can go on, and elsewhere it rests. It looks at the free word in phase 0
 -- alone, and where it has begun a pause and until it has read the image, that pause is due.
 abbrev pub ControlFacts : Config → World → ℕ → ControlSpot → Type 0
-ControlFacts c w number (Working at) = CanWork c w number at
-ControlFacts c w number LookFree = IsResting w number × (w.memory Phase ≡ 0)
-ControlFacts c w number (Stopping at) = IsResting w number × IsDue c w.memory
-ControlFacts c w number (LoadWord index extent) = IsResting w number × IsDue c w.memory
-ControlFacts c w number _ = IsResting w number
+ControlFacts config world number (Working at) = CanWork config world number at
+ControlFacts config world number LookFree = IsResting world number × (world.memory Phase ≡ 0)
+ControlFacts config world number (Stopping at) = IsResting world number × IsDue config world.memory
+ControlFacts config world number (LoadWord index extent) = IsResting world number × IsDue config world.memory
+ControlFacts config world number _ = IsResting world number
 
 -- what holds of the control: it knows the phase and the collection set, and can make its next access
-pub record IsControl (c : Config) (words : List ℕ) (w : World) (number : ℕ) (k : Controlling) : Type 0 where
-  pub number_is : number ≡ c.mutators + c.helpers
-  pub ready : is_ready c k.spot ≡ true
-  pub phase_is : k.phase ≡ w.memory Phase
-  pub set_is : k.cset ≡ w.memory Cset
-  pub facts : ControlFacts c w number k.spot
-  pub aims : IsAim c words k.spot k.image
-  pub extent_is : IsOfExtent c k.phase k.spot k.image
+pub record IsControl (config : Config) (words : List ℕ) (world : World) (number : ℕ) (control : Controlling) : Type 0 where
+  pub number_is : number ≡ config.mutators + config.helpers
+  pub ready : is_ready config control.spot ≡ true
+  pub phase_is : control.phase ≡ world.memory Phase
+  pub set_is : control.cset ≡ world.memory Cset
+  pub facts : ControlFacts config world number control.spot
+  pub aims : IsAim config words control.spot control.image
+  pub extent_is : IsOfExtent config control.phase control.spot control.image
 
 -- what holds of a machine, by the words of the table and the world
 abbrev pub IsMachine : Config → List ℕ → World → List Entry → ℕ → Actor → Machine → Type 0
-IsMachine c words w entries number a (mutating m) = IsThread c words w entries number a m
-IsMachine c words w entries number a (helping h) = IsHelper c w number h
-IsMachine c words w entries number a (controlling k) = IsControl c words w number k
+IsMachine config words world entries number actor (mutating m) = IsThread config words world entries number actor m
+IsMachine config words world entries number actor (helping h) = IsHelper config world number h
+IsMachine config words world entries number actor (controlling k) = IsControl config words world number k
 
 -- The stage stands for the graph after the history of a run that began with a graph, the history is legal and of the heap's
 -- threads, and each machine is where it should be.
-pub record Follows (c : Config) (g : Graph) (s : Stage Actor) (past : List Entry) : Type 0 where
+pub record Follows (config : Config) (graph : Graph) (stage : Stage Actor) (past : List Entry) : Type 0 where
   pub block : Plot
   pub ghost : Ghost
-  pub words : length s.words ≡ table_words c
-  pub seats : length s.machines ≡ seat_count c.mutators c.helpers
-  pub legal : EachIsLegal c.regions c.region_words g past
-  pub entries : All (IsSettled c.mutators) past
-  pub no_more : HasNoMore c.mutators (after g past)
-  pub no_more_pins : HasNoMorePins c.mutators (after g past)
-  pub shared : Shared c (world_of c s block ghost (after g past))
-  pub promised_to : PromisedToMutators c block
-  pub machines : (number : ℕ) (a : Actor) → slice_get s.machines number ≡ Some a
-      → IsMachine c s.words (world_of c s block ghost (after g past)) (of_thread past (number + 1)) number a a.machine
+  pub words : length stage.words ≡ table_words config
+  pub seats : length stage.machines ≡ seat_count config.mutators config.helpers
+  pub legal : EachIsLegal config.regions config.region_words graph past
+  pub entries : All (IsSettled config.mutators) past
+  pub no_more : HasNoMore config.mutators (after graph past)
+  pub no_more_pins : HasNoMorePins config.mutators (after graph past)
+  pub shared : Shared config (world_of config stage block ghost (after graph past))
+  pub promised_to : PromisedToMutators config block
+  pub machines : (number : ℕ) (actor : Actor) → slice_get stage.machines number ≡ Some actor
+      → IsMachine config stage.words (world_of config stage block ghost (after graph past)) (of_thread past (number + 1)) number actor actor.machine
 
 -- What an event of a machine owes, whatever its role: the world after it, by the words that count then and by the graph after
 -- the entries that it settles, which may be of any threads; that the entries are legal and of the heap's threads; what all
 -- machines share; what holds of the machine itself, as it is then; and that what holds of each other machine stays.
 -- `words` is the table before it, `words_then` the table after it.
-pub record Owes (c : Config) (words words_then : List ℕ) (u : World) (past : List Entry) (number : ℕ) (machines : List Actor) (memory : Word → ℕ) (settles : List Entry) (new : Actor) : Type 0 where
+pub record Owes (config : Config) (words words_then : List ℕ) (u : World) (past : List Entry) (number : ℕ) (machines : List Actor) (memory : Word → ℕ) (settles : List Entry) (new : Actor) : Type 0 where
   pub world : World
   pub memory_is : world.memory ≡ memory
   pub graph_is : world.graph ≡ after u.graph settles
-  pub legal : EachIsLegal c.regions c.region_words u.graph settles
-  pub entries : All (IsSettled c.mutators) settles
-  pub shared : Shared c world
-  pub promised_to : PromisedToMutators c world.block
-  pub own : IsMachine c words_then world (of_thread (past ++ settles) (number + 1)) number new new.machine
-  pub others : (k : ℕ) (b : Actor) → k ≢ number → slice_get machines k ≡ Some b
-      → IsMachine c words u (of_thread past (k + 1)) k b b.machine → IsMachine c words_then world (of_thread (past ++ settles) (k + 1)) k b b.machine
+  pub legal : EachIsLegal config.regions config.region_words u.graph settles
+  pub entries : All (IsSettled config.mutators) settles
+  pub shared : Shared config world
+  pub promised_to : PromisedToMutators config world.block
+  pub own : IsMachine config words_then world (of_thread (past ++ settles) (number + 1)) number new new.machine
+  pub others : (index : ℕ) (actor : Actor) → index ≢ number → slice_get machines index ≡ Some actor
+      → IsMachine config words u (of_thread past (index + 1)) index actor actor.machine → IsMachine config words_then world (of_thread (past ++ settles) (index + 1)) index actor actor.machine

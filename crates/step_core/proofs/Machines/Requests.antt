@@ -19,9 +19,9 @@ use Rattle.step_core.specs.Seats.{is_clearing}
 use Rattle.step_core.proofs.Machines.Stepped.{IsMaking, IsAsking, IsPolling, IsAnswered, Mine}
 use Rattle.step_core.proofs.Mutators.Spots.{mutator_at}
 
-module _ (c : Config) (w : World) (seat made : ℕ) (kept : Kept) (command : Command) (fixed : Option Reply) where
+module _ (config : Config) (world : World) (seat made : ℕ) (kept : Kept) (command : Command) (fixed : Option Reply) where
   abbrev Asked : Spot → Type 0
-  Asked spot = HasAsked w command (mutator_at seat made kept spot)
+  Asked spot = HasAsked world command (mutator_at seat made kept spot)
 
   -- what the command asks for
   of_making : IsMaking made command fixed (dst_of kept.command) (refs_of kept.command) (nums_of kept.command)
@@ -29,12 +29,12 @@ module _ (c : Config) (w : World) (seat made : ℕ) (kept : Kept) (command : Com
   of_making making = (ap refs_of making.is, ap nums_of making.is)
 
   -- nothing is asked for
-  not_asked : (spot : Spot) → is_waiting spot ≡ false → FitsSpot spot nothing → Mine c w (mutator_at seat made kept spot) command fixed → Asked spot
+  not_asked : (spot : Spot) → is_waiting spot ≡ false → FitsSpot spot nothing → Mine config world (mutator_at seat made kept spot) command fixed → Asked spot
   not_asked spot quiet fits mine = record { asking = nothing; is = mine.seated.unasked quiet; of_command = tt; at_spot = fits; heard = λ asked later. cc }
 
   -- it asks, or has asked, for an object
-  asks_for : (spot : Spot) → FitsSpot spot (asks (refs_of kept.command) (nums_of kept.command)) → (spot ≢ Waiting wait.AskRoom → bit_at (w.memory Ask) 1 ≡ 1)
-      → IsAsking w seat made kept.command command fixed (asks (refs_of kept.command) (nums_of kept.command)) → Asked spot
+  asks_for : (spot : Spot) → FitsSpot spot (asks (refs_of kept.command) (nums_of kept.command)) → (spot ≢ Waiting wait.AskRoom → bit_at (world.memory Ask) 1 ≡ 1)
+      → IsAsking world seat made kept.command command fixed (asks (refs_of kept.command) (nums_of kept.command)) → Asked spot
   asks_for spot fits bit facts = record {
     asking = asks (refs_of kept.command) (nums_of kept.command);
     is = facts.1;
@@ -43,7 +43,7 @@ module _ (c : Config) (w : World) (seat made : ℕ) (kept : Kept) (command : Com
     heard = λ asked later. bit later;
   }
 
-  was_given : (spot : Spot) → FitsSpot spot (given (refs_of kept.command) (nums_of kept.command)) → IsAsking w seat made kept.command command fixed (given (refs_of kept.command) (nums_of kept.command)) → Asked spot
+  was_given : (spot : Spot) → FitsSpot spot (given (refs_of kept.command) (nums_of kept.command)) → IsAsking world seat made kept.command command fixed (given (refs_of kept.command) (nums_of kept.command)) → Asked spot
   was_given spot fits facts = record {
     asking = given (refs_of kept.command) (nums_of kept.command);
     is = facts.1;
@@ -52,16 +52,16 @@ module _ (c : Config) (w : World) (seat made : ℕ) (kept : Kept) (command : Com
     heard = λ asked later. cc;
   }
 
-  polls_for : IsPolling w seat made kept.command command fixed → Asked (Waiting wait.Poll)
+  polls_for : IsPolling world seat made kept.command command fixed → Asked (Waiting wait.Poll)
   polls_for (inl waits) = asks_for (Waiting wait.Poll) (λ none. cc) (λ later. waits.1) waits.0
   polls_for (inr (inl has)) = was_given (Waiting wait.Poll) (λ none. cc) has
   polls_for (inr (inr is)) = record { asking = refused; is = is.1; of_command = tt; at_spot = λ none. cc; heard = λ asked later. cc }
 
-  is_told : (spot : Spot) → FitsSpot spot (given (refs_of kept.command) (nums_of kept.command)) → FitsSpot spot refused → IsAnswered w seat made kept.command command fixed → Asked spot
+  is_told : (spot : Spot) → FitsSpot spot (given (refs_of kept.command) (nums_of kept.command)) → FitsSpot spot refused → IsAnswered world seat made kept.command command fixed → Asked spot
   is_told spot has none (inl answer) = was_given spot has answer
   is_told spot has none (inr full) = record { asking = refused; is = full.1; of_command = tt; at_spot = none; heard = λ asked later. cc }
 
-  pub has_asked : (spot : Spot) → is_clearing spot ≡ false → Mine c w (mutator_at seat made kept spot) command fixed → Asked spot
+  pub has_asked : (spot : Spot) → is_clearing spot ≡ false → Mine config world (mutator_at seat made kept spot) command fixed → Asked spot
   has_asked (Waiting wait.StoreRequest) going mine = record { asking = nothing; is = mine.facts.1; of_command = tt; at_spot = refl; heard = λ asked later. cc }
   has_asked (Waiting wait.AskRoom) going mine = asks_for (Waiting wait.AskRoom) refl (λ later. absurd (later refl)) mine.facts
   has_asked (Waiting wait.StepOut) going mine = asks_for (Waiting wait.StepOut) refl (λ later. mine.facts.1) mine.facts.0

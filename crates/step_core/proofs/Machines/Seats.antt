@@ -59,49 +59,49 @@ use Rattle.step_core.proofs.Machines.Owed.{IsResting, CanWork, HelpFacts, Contro
 use Rattle.step_core.proofs.Machines.Stepped.{HasObject, FieldFacts, NumberFacts, ShowFacts, RecordFacts, LoadedFacts, MakeFacts, IsResolving, IsMaking, IsPolling, IsAnswered, WaitFacts, SpotFacts, Mine, HasTaken, IsCas, IsCopy, IsDrop, IsOfSlot, PinFacts, LoadFacts}
 
 -- What the ghost state and the pieces have of a seat that works on a unit of evacuation.
-record OnUnit (c : Config) (w : World) (seat : ℕ) (at : EvacSpot) : Type 0 where
-  records : w.ghost.recording seat ≡ None
-  scans : w.ghost.scanning seat ≡ None
-  copies : w.ghost.copying seat ≡ copies_in at
-  rooms : (a : ℕ) (x : Block) → w.block a ≡ Some x → room_of x ≡ Some seat → IsRoomIn seat at a x
-  takes : (t : Taking) → evac_taking at ≡ Some t → TakeFacts c w seat t.words t.take
-  carries : (x : Carried) → evac_carries at ≡ Some x → StandsThere c w x
-  holds : (a : ℕ) → evac_hand at ≡ Some a → (words : ℕ) × (w.block a ≡ Some (hand seat words))
+record OnUnit (config : Config) (world : World) (seat : ℕ) (at : EvacSpot) : Type 0 where
+  records : world.ghost.recording seat ≡ None
+  scans : world.ghost.scanning seat ≡ None
+  copies : world.ghost.copying seat ≡ copies_in at
+  rooms : (address : ℕ) (x : Block) → world.block address ≡ Some x → room_of x ≡ Some seat → IsRoomIn seat at address x
+  takes : (t : Taking) → evac_taking at ≡ Some t → TakeFacts config world seat t.words t.take
+  carries : (x : Carried) → evac_carries at ≡ Some x → StandsThere config world x
+  holds : (address : ℕ) → evac_hand at ≡ Some address → (words : ℕ) × (world.block address ≡ Some (hand seat words))
 
 -- who copies has its room in hand
-copy_holds : (c : Config) (w : World) (seat a to end : ℕ) (b : Body) (at : CopySpot) → CopyFacts c w seat a to end b at → w.block to ≡ Some (hand seat (body_words b))
-copy_holds c w seat a to end b (copy.LoadWord words index) facts = facts.3.taken.here
-copy_holds c w seat a to end b (copy.StoreWord words index found) facts = facts.3.taken.here
-copy_holds c w seat a to end b copy.StoreHeader facts = facts.taken.here
-copy_holds c w seat a to end b copy.Publish facts = facts.0.taken.here
-copy_holds c w seat a to end b (copy.GiveBack answer) facts = facts.0.here
+copy_holds : (config : Config) (world : World) (seat a to end : ℕ) (body : Body) (at : CopySpot) → CopyFacts config world seat a to end body at → world.block to ≡ Some (hand seat (body_words body))
+copy_holds config world seat a to end body (copy.LoadWord words index) facts = facts.3.taken.here
+copy_holds config world seat a to end body (copy.StoreWord words index found) facts = facts.3.taken.here
+copy_holds config world seat a to end body copy.StoreHeader facts = facts.taken.here
+copy_holds config world seat a to end body copy.Publish facts = facts.0.taken.here
+copy_holds config world seat a to end body (copy.GiveBack answer) facts = facts.0.here
 
-resolve_holds : (c : Config) (w : World) (seat address : ℕ) (at : ResolveSpot) → ResolveFacts c w seat address at → (a : ℕ) → resolve_hand at ≡ Some a → (words : ℕ) × (w.block a ≡ Some (hand seat words))
-resolve_holds c w seat address (resolve.Copying to end at) facts a is =
-    (body_words facts.0, ap (λ x. w.block x) (sym (same_Some to a is)) ∙ copy_holds c w seat address to end facts.0 at facts.2)
-resolve_holds c w seat address _ facts a is = absurd cc
+resolve_holds : (config : Config) (world : World) (seat address : ℕ) (at : ResolveSpot) → ResolveFacts config world seat address at → (other_address : ℕ) → resolve_hand at ≡ Some other_address → (words : ℕ) × (world.block other_address ≡ Some (hand seat words))
+resolve_holds config world seat address (resolve.Copying to end at) facts other_address is =
+    (body_words facts.0, ap (λ x. world.block x) (sym (same_Some to other_address is)) ∙ copy_holds config world seat address to end facts.0 at facts.2)
+resolve_holds config world seat address _ facts other_address is = absurd cc
 
 -- who takes room has what its taking counts on, also where it resolves an address
-taking_facts : (c : Config) (w : World) (seat words : ℕ) (take : TakeSpot) (t : Taking) → Some (record { words = words; take = take }) ≡ Some t → TakeFacts c w seat words take → TakeFacts c w seat t.words t.take
-taking_facts c w seat words take t same facts = subst (λ (x : Taking). TakeFacts c w seat x.words x.take) (same_Some _ t same) facts
+taking_facts : (config : Config) (world : World) (seat words : ℕ) (take : TakeSpot) (t : Taking) → Some (record { words = words; take = take }) ≡ Some t → TakeFacts config world seat words take → TakeFacts config world seat t.words t.take
+taking_facts config world seat words take t same facts = subst (λ (x : Taking). TakeFacts config world seat x.words x.take) (same_Some _ t same) facts
 
-resolve_takes : (c : Config) (w : World) (seat a : ℕ) (at : ResolveSpot) (t : Taking) → resolve_taking at ≡ Some t → ResolveFacts c w seat a at → TakeFacts c w seat t.words t.take
-resolve_takes c w seat a (resolve.Taking words take) t takes facts = taking_facts c w seat words take t takes facts.2.1.facts
-resolve_takes c w seat a _ t takes facts = absurd cc
+resolve_takes : (config : Config) (world : World) (seat a : ℕ) (at : ResolveSpot) (t : Taking) → resolve_taking at ≡ Some t → ResolveFacts config world seat a at → TakeFacts config world seat t.words t.take
+resolve_takes config world seat a (resolve.Taking words take) t takes facts = taking_facts config world seat words take t takes facts.2.1.facts
+resolve_takes config world seat a _ t takes facts = absurd cc
 
 -- and who is about to look for a free region has a buffer with fewer free words than it wants, or none
-take_lacks : (c : Config) (w : World) (seat wanted words : ℕ) (take : TakeSpot) → take_looks words take ≡ Some wanted → TakeFacts c w seat words take → HasLess w.memory seat wanted
-take_lacks c w seat wanted words (LoadFree buffer shared) looks facts =
-    subst (HasLess w.memory seat) (same_Some words wanted looks) (subst (λ word. end_in word < next_in word + words) (sym facts.is) facts.less)
-take_lacks c w seat wanted words _ looks facts = absurd cc
+take_lacks : (config : Config) (world : World) (seat wanted words : ℕ) (take : TakeSpot) → take_looks words take ≡ Some wanted → TakeFacts config world seat words take → HasLess world.memory seat wanted
+take_lacks config world seat wanted words (LoadFree buffer shared) looks facts =
+    subst (HasLess world.memory seat) (same_Some words wanted looks) (subst (λ word. end_in word < next_in word + words) (sym facts.is) facts.less)
+take_lacks config world seat wanted words _ looks facts = absurd cc
 
 pub lacks : {c : Config} (w : World) (seat words : ℕ) (taking : Option Taking) → looks_in taking ≡ Some words → ((t : Taking) → taking ≡ Some t → TakeFacts c w seat t.words t.take) → HasLess w.memory seat words
 lacks {c} w seat words None looks takes = absurd (none-some words looks)
 lacks {c} w seat words (Some t) looks takes = take_lacks c w seat words t.words t.take looks (takes t refl)
 
 -- who is about to store a word into its copy has the object's word
-resolve_stands : (c : Config) (w : World) (seat a : ℕ) (at : ResolveSpot) (x : Carried) → resolve_carries a at ≡ Some x → CanResolve c w seat a at → StandsThere c w x
-resolve_stands c w seat a (resolve.Copying to end (copy.StoreWord words index found)) x carries can = subst (StandsThere c w) (same_Some _ x carries) (record {
+resolve_stands : (config : Config) (world : World) (seat a : ℕ) (at : ResolveSpot) (x : Carried) → resolve_carries a at ≡ Some x → CanResolve config world seat a at → StandsThere config world x
+resolve_stands config world seat a (resolve.Copying to end (copy.StoreWord words index found)) x carries can = subst (StandsThere config world) (same_Some _ x carries) (record {
   body = can.facts.0;
   there = can.facts.1;
   inside = can.inside;
@@ -109,54 +109,54 @@ resolve_stands c w seat a (resolve.Copying to end (copy.StoreWord words index fo
   within = subst (λ n. index < n) can.facts.2.0 can.facts.2.2;
   same = can.facts.2.4;
 })
-resolve_stands c w seat a (resolve.Copying to end _) x carries can = absurd cc
-resolve_stands c w seat a _ x carries can = absurd cc
+resolve_stands config world seat a (resolve.Copying to end _) x carries can = absurd cc
+resolve_stands config world seat a _ x carries can = absurd cc
 
 -- where it has nothing
-on_unit_nothing : (c : Config) (w : World) (seat : ℕ) (at : EvacSpot) → copies_in at ≡ false → evac_taking at ≡ None → evac_carries at ≡ None → evac_hand at ≡ None
-    → ((a : ℕ) (x : Block) → IsSpare seat x → IsRoomIn seat at a x) → HasNothing w seat → OnUnit c w seat at
-on_unit_nothing c w seat at copies taking carries in_hand rooms nothing = record {
+on_unit_nothing : (config : Config) (world : World) (seat : ℕ) (at : EvacSpot) → copies_in at ≡ false → evac_taking at ≡ None → evac_carries at ≡ None → evac_hand at ≡ None
+    → ((a : ℕ) (piece : Block) → IsSpare seat piece → IsRoomIn seat at a piece) → HasNothing world seat → OnUnit config world seat at
+on_unit_nothing config world seat at copies taking carries in_hand rooms nothing = record {
   records = nothing.records_none;
   scans = nothing.scans_none;
   copies = nothing.copying ∙ sym copies;
-  rooms = λ a x is room. rooms a x (nothing.rooms a x is room);
+  rooms = λ a piece is room. rooms a piece (nothing.rooms a piece is room);
   takes = λ t is. absurd (none-some t (sym taking ∙ is));
-  carries = λ x is. absurd (none-some x (sym carries ∙ is));
+  carries = λ piece is. absurd (none-some piece (sym carries ∙ is));
   holds = λ a is. absurd (none-some a (sym in_hand ∙ is));
 }
 
-on_unit : (c : Config) (w : World) (seat : ℕ) (at : EvacSpot) → WorkFacts c w seat at → OnUnit c w seat at
-on_unit c w seat evac.LoadClaim facts = on_unit_nothing c w seat evac.LoadClaim refl refl refl refl (λ a x is. is) facts
-on_unit c w seat (evac.ClaimUnit unit) facts = on_unit_nothing c w seat (evac.ClaimUnit unit) refl refl refl refl (λ a x is. is) facts.0
-on_unit c w seat (evac.LoadTop region) facts = on_unit_nothing c w seat (evac.LoadTop region) refl refl refl refl (λ a x is. is) facts.0
-on_unit c w seat (evac.LoadFirst address end) facts = on_unit_nothing c w seat (evac.LoadFirst address end) refl refl refl refl (λ a x is. is) facts.0
-on_unit c w seat (evac.LoadShape address end) facts = on_unit_nothing c w seat (evac.LoadShape address end) refl refl refl refl (λ a x is. is) facts.0
-on_unit c w seat (evac.LoadMark address end next) facts = on_unit_nothing c w seat (evac.LoadMark address end next) refl refl refl refl (λ a x is. is) facts.0
-on_unit c w seat (evac.Resolving address end next at) facts = record {
+on_unit : (config : Config) (world : World) (seat : ℕ) (at : EvacSpot) → WorkFacts config world seat at → OnUnit config world seat at
+on_unit config world seat evac.LoadClaim facts = on_unit_nothing config world seat evac.LoadClaim refl refl refl refl (λ a x is. is) facts
+on_unit config world seat (evac.ClaimUnit unit) facts = on_unit_nothing config world seat (evac.ClaimUnit unit) refl refl refl refl (λ a x is. is) facts.0
+on_unit config world seat (evac.LoadTop region) facts = on_unit_nothing config world seat (evac.LoadTop region) refl refl refl refl (λ a x is. is) facts.0
+on_unit config world seat (evac.LoadFirst address end) facts = on_unit_nothing config world seat (evac.LoadFirst address end) refl refl refl refl (λ a x is. is) facts.0
+on_unit config world seat (evac.LoadShape address end) facts = on_unit_nothing config world seat (evac.LoadShape address end) refl refl refl refl (λ a x is. is) facts.0
+on_unit config world seat (evac.LoadMark address end next) facts = on_unit_nothing config world seat (evac.LoadMark address end next) refl refl refl refl (λ a x is. is) facts.0
+on_unit config world seat (evac.Resolving address end next at) facts = record {
   records = facts.1.records_none;
   scans = facts.1.scans_none;
   copies = facts.1.copying;
   rooms = facts.1.rooms;
-  takes = λ t is. resolve_takes c w seat address at t is facts.1.facts;
-  carries = λ x is. resolve_stands c w seat address at x is facts.1;
-  holds = λ a is. resolve_holds c w seat address at facts.1.facts a is;
+  takes = λ t is. resolve_takes config world seat address at t is facts.1.facts;
+  carries = λ x is. resolve_stands config world seat address at x is facts.1;
+  holds = λ a is. resolve_holds config world seat address at facts.1.facts a is;
 }
-on_unit c w seat (evac.Ended unit) facts = on_unit_nothing c w seat (evac.Ended unit) refl refl refl refl (λ a x is. is) facts
+on_unit config world seat (evac.Ended unit) facts = on_unit_nothing config world seat (evac.Ended unit) refl refl refl refl (λ a x is. is) facts
 
 -- What the ghost state and the pieces have of a seat that works on a unit, or rests.
-record AtUnit (c : Config) (w : World) (seat : ℕ) (at : UnitSpot) : Type 0 where
-  records : w.ghost.recording seat ≡ None
-  scans : w.ghost.scanning seat ≡ unit_scan c at
-  copies : w.ghost.copying seat ≡ unit_copies at
-  works : w.ghost.working seat ≡ unit_region c at
-  goes_on : CanWorkOn c w seat at
-  rooms : (a : ℕ) (x : Block) → w.block a ≡ Some x → room_of x ≡ Some seat → UnitRoom seat at a x
-  takes : (t : Taking) → unit_taking at ≡ Some t → TakeFacts c w seat t.words t.take
-  carries : (x : Carried) → unit_carries at ≡ Some x → StandsThere c w x
-  holds : (a : ℕ) → unit_hand at ≡ Some a → (words : ℕ) × (w.block a ≡ Some (hand seat words))
+record AtUnit (config : Config) (world : World) (seat : ℕ) (at : UnitSpot) : Type 0 where
+  records : world.ghost.recording seat ≡ None
+  scans : world.ghost.scanning seat ≡ unit_scan config at
+  copies : world.ghost.copying seat ≡ unit_copies at
+  works : world.ghost.working seat ≡ unit_region config at
+  goes_on : CanWorkOn config world seat at
+  rooms : (address : ℕ) (x : Block) → world.block address ≡ Some x → room_of x ≡ Some seat → UnitRoom seat at address x
+  takes : (t : Taking) → unit_taking at ≡ Some t → TakeFacts config world seat t.words t.take
+  carries : (x : Carried) → unit_carries at ≡ Some x → StandsThere config world x
+  holds : (address : ℕ) → unit_hand at ≡ Some address → (words : ℕ) × (world.block address ≡ Some (hand seat words))
 
-module _ (c : Config) (w : World) (seat : ℕ) where
-  at_rest : (unit : Unit) → IsResting w seat → AtUnit c w seat (Ended unit)
+module _ (config : Config) (world : World) (seat : ℕ) where
+  at_rest : (unit : Unit) → IsResting world seat → AtUnit config world seat (Ended unit)
   at_rest unit rests = record {
     records = rests.records_none;
     scans = rests.scans_none;
@@ -169,7 +169,7 @@ module _ (c : Config) (w : World) (seat : ℕ) where
     holds = λ a is. absurd cc;
   }
 
-  at_unit : (at : UnitSpot) → CanWork c w seat at → AtUnit c w seat at
+  at_unit : (at : UnitSpot) → CanWork config world seat at → AtUnit config world seat at
   at_unit (Scanning at) facts = record {
     records = facts.0.records_none;
     scans = facts.0.scanning;
@@ -182,7 +182,7 @@ module _ (c : Config) (w : World) (seat : ℕ) where
     holds = λ a is. absurd cc;
   }
   at_unit (Evacuating cset at) facts =
-      let unit = on_unit c w seat at facts.facts in
+      let unit = on_unit config world seat at facts.facts in
       record { records = unit.records; scans = unit.scans; copies = unit.copies; works = facts.working; goes_on = facts; rooms = unit.rooms; takes = unit.takes; carries = unit.carries; holds = unit.holds }
   at_unit (Updating cset at) facts = record {
     records = facts.records_none;
@@ -199,7 +199,7 @@ module _ (c : Config) (w : World) (seat : ℕ) where
   at_unit (Ended NoneLeft) facts = at_rest NoneLeft facts.0
 
   -- a helper in its unit, and the control
-  help_at : (spot : HelpSpot) → HelpFacts c w seat spot → AtUnit c w seat (help_unit spot)
+  help_at : (spot : HelpSpot) → HelpFacts config world seat spot → AtUnit config world seat (help_unit spot)
   help_at (help.Working at) facts = at_unit at facts
   help_at (help.LoadSet phase) facts = at_rest Worked facts.0
   help_at help.LoadEnd facts = at_rest Worked facts
@@ -208,7 +208,7 @@ module _ (c : Config) (w : World) (seat : ℕ) where
   help_at help.Leave facts = at_rest Worked facts
   help_at help.Gone facts = at_rest Worked facts
 
-  control_at : (spot : ControlSpot) → ControlFacts c w seat spot → AtUnit c w seat (control_unit spot)
+  control_at : (spot : ControlSpot) → ControlFacts config world seat spot → AtUnit config world seat (control_unit spot)
   control_at (control.Working at) facts = at_unit at facts
   control_at control.LookFree facts = at_rest Worked facts.0
   control_at (control.Stopping at) facts = at_rest Worked facts.0
@@ -221,74 +221,74 @@ module _ (c : Config) (w : World) (seat : ℕ) where
   control_at control.Gone facts = at_rest Worked facts
 
 -- a mutator that takes room
-make_takes : (c : Config) (w : World) (seat made : ℕ) (k command : Command) (fixed : Option Reply) (at : MakeSpot) (t : Taking) → make_taking (words_made k) at ≡ Some t → MakeFacts c w seat made k command fixed at → TakeFacts c w seat t.words t.take
-make_takes c w seat made k command fixed (make.Taking take) t takes facts = taking_facts c w seat (words_made k) take t takes facts.1
-make_takes c w seat made k command fixed _ t takes facts = absurd cc
+make_takes : (config : Config) (world : World) (seat made : ℕ) (other_command command : Command) (fixed : Option Reply) (at : MakeSpot) (t : Taking) → make_taking (words_made other_command) at ≡ Some t → MakeFacts config world seat made other_command command fixed at → TakeFacts config world seat t.words t.take
+make_takes config world seat made other_command command fixed (make.Taking take) t takes facts = taking_facts config world seat (words_made other_command) take t takes facts.1
+make_takes config world seat made other_command command fixed _ t takes facts = absurd cc
 
-resolving_takes : (c : Config) (w : World) (seat address : ℕ) (at : ResolveSpot) (t : Taking) → resolve_taking at ≡ Some t → IsResolving c w seat address at → TakeFacts c w seat t.words t.take
-resolving_takes c w seat address at t takes (inl can) = resolve_takes c w seat address at t takes can.facts
-resolving_takes c w seat address (resolve.Taking words take) t takes (inr follows) = absurd (follows.facts)
-resolving_takes c w seat address _ t takes (inr follows) = absurd cc
+resolving_takes : (config : Config) (world : World) (seat address : ℕ) (at : ResolveSpot) (t : Taking) → resolve_taking at ≡ Some t → IsResolving config world seat address at → TakeFacts config world seat t.words t.take
+resolving_takes config world seat address at t takes (inl can) = resolve_takes config world seat address at t takes can.facts
+resolving_takes config world seat address (resolve.Taking words take) t takes (inr follows) = absurd (follows.facts)
+resolving_takes config world seat address _ t takes (inr follows) = absurd cc
 
-call_takes : (c : Config) (w : World) (seat made : ℕ) (kept : Kept) (command : Command) (fixed : Option Reply) (spot : Spot) (t : Taking) → call_taking kept spot ≡ Some t → SpotFacts c w seat made kept command fixed spot → TakeFacts c w seat t.words t.take
-call_takes c w seat made kept command fixed (Making at) t takes facts = make_takes c w seat made kept.command command fixed at t takes facts
-call_takes c w seat made kept command fixed (Resolving address at next) t takes facts = resolving_takes c w seat address at t takes facts.0
-call_takes c w seat made kept command fixed _ t takes facts = absurd cc
+call_takes : (config : Config) (world : World) (seat made : ℕ) (kept : Kept) (command : Command) (fixed : Option Reply) (spot : Spot) (t : Taking) → call_taking kept spot ≡ Some t → SpotFacts config world seat made kept command fixed spot → TakeFacts config world seat t.words t.take
+call_takes config world seat made kept command fixed (Making at) t takes facts = make_takes config world seat made kept.command command fixed at t takes facts
+call_takes config world seat made kept command fixed (Resolving address at next) t takes facts = resolving_takes config world seat address at t takes facts.0
+call_takes config world seat made kept command fixed _ t takes facts = absurd cc
 
-resolving_stands : (c : Config) (w : World) (seat address : ℕ) (at : ResolveSpot) (x : Carried) → resolve_carries address at ≡ Some x → IsResolving c w seat address at → StandsThere c w x
-resolving_stands c w seat address at x carries (inl can) = resolve_stands c w seat address at x carries can
-resolving_stands c w seat address (resolve.Copying to end at) x carries (inr follows) = absurd (follows.facts)
-resolving_stands c w seat address _ x carries (inr follows) = absurd cc
+resolving_stands : (config : Config) (world : World) (seat address : ℕ) (at : ResolveSpot) (x : Carried) → resolve_carries address at ≡ Some x → IsResolving config world seat address at → StandsThere config world x
+resolving_stands config world seat address at x carries (inl can) = resolve_stands config world seat address at x carries can
+resolving_stands config world seat address (resolve.Copying to end at) x carries (inr follows) = absurd (follows.facts)
+resolving_stands config world seat address _ x carries (inr follows) = absurd cc
 
-call_stands : (c : Config) (w : World) (seat made : ℕ) (kept : Kept) (command : Command) (fixed : Option Reply) (spot : Spot) (x : Carried) → call_carries spot ≡ Some x → SpotFacts c w seat made kept command fixed spot → StandsThere c w x
-call_stands c w seat made kept command fixed (Resolving address at next) x carries facts = resolving_stands c w seat address at x carries facts.0
-call_stands c w seat made kept command fixed _ x carries facts = absurd cc
+call_stands : (config : Config) (world : World) (seat made : ℕ) (kept : Kept) (command : Command) (fixed : Option Reply) (spot : Spot) (x : Carried) → call_carries spot ≡ Some x → SpotFacts config world seat made kept command fixed spot → StandsThere config world x
+call_stands config world seat made kept command fixed (Resolving address at next) x carries facts = resolving_stands config world seat address at x carries facts.0
+call_stands config world seat made kept command fixed _ x carries facts = absurd cc
 
 -- a mutator that makes an object, or copies one, has its room in hand
-make_holds : (c : Config) (w : World) (seat made : ℕ) (k command : Command) (fixed : Option Reply) (at : MakeSpot) → MakeFacts c w seat made k command fixed at → (a : ℕ) → make_hand at ≡ Some a
-    → (words : ℕ) × (w.block a ≡ Some (hand seat words))
-make_holds c w seat made k command fixed (make.Taking take) facts a is = absurd cc
-make_holds c w seat made k command fixed (make.StoreWord address done) facts a is = (words_made k, ap (λ x. w.block x) (sym (same_Some address a is)) ∙ facts.1.room)
-make_holds c w seat made k command fixed (make.StoreRoot address) facts a is = (words_made k, ap (λ x. w.block x) (sym (same_Some address a is)) ∙ facts.1.room)
+make_holds : (config : Config) (world : World) (seat made : ℕ) (other_command command : Command) (fixed : Option Reply) (at : MakeSpot) → MakeFacts config world seat made other_command command fixed at → (a : ℕ) → make_hand at ≡ Some a
+    → (words : ℕ) × (world.block a ≡ Some (hand seat words))
+make_holds config world seat made other_command command fixed (make.Taking take) facts a is = absurd cc
+make_holds config world seat made other_command command fixed (make.StoreWord address done) facts a is = (words_made other_command, ap (λ x. world.block x) (sym (same_Some address a is)) ∙ facts.1.room)
+make_holds config world seat made other_command command fixed (make.StoreRoot address) facts a is = (words_made other_command, ap (λ x. world.block x) (sym (same_Some address a is)) ∙ facts.1.room)
 
-resolving_holds : (c : Config) (w : World) (seat address : ℕ) (at : ResolveSpot) → IsResolving c w seat address at → (a : ℕ) → resolve_hand at ≡ Some a → (words : ℕ) × (w.block a ≡ Some (hand seat words))
-resolving_holds c w seat address at (inl can) a is = resolve_holds c w seat address at can.facts a is
-resolving_holds c w seat address (resolve.Copying to end at) (inr follows) a is = absurd (follows.facts)
-resolving_holds c w seat address _ (inr follows) a is = absurd cc
+resolving_holds : (config : Config) (world : World) (seat address : ℕ) (at : ResolveSpot) → IsResolving config world seat address at → (other_address : ℕ) → resolve_hand at ≡ Some other_address → (words : ℕ) × (world.block other_address ≡ Some (hand seat words))
+resolving_holds config world seat address at (inl can) other_address is = resolve_holds config world seat address at can.facts other_address is
+resolving_holds config world seat address (resolve.Copying to end at) (inr follows) other_address is = absurd (follows.facts)
+resolving_holds config world seat address _ (inr follows) other_address is = absurd cc
 
-call_holds : (c : Config) (w : World) (seat made : ℕ) (kept : Kept) (command : Command) (fixed : Option Reply) (spot : Spot) → SpotFacts c w seat made kept command fixed spot → (a : ℕ) → call_hand spot ≡ Some a
-    → (words : ℕ) × (w.block a ≡ Some (hand seat words))
-call_holds c w seat made kept command fixed (Making at) facts a is = make_holds c w seat made kept.command command fixed at facts a is
-call_holds c w seat made kept command fixed (Resolving address at next) facts a is = resolving_holds c w seat address at facts.0 a is
-call_holds c w seat made kept command fixed _ facts a is = absurd cc
+call_holds : (config : Config) (world : World) (seat made : ℕ) (kept : Kept) (command : Command) (fixed : Option Reply) (spot : Spot) → SpotFacts config world seat made kept command fixed spot → (a : ℕ) → call_hand spot ≡ Some a
+    → (words : ℕ) × (world.block a ≡ Some (hand seat words))
+call_holds config world seat made kept command fixed (Making at) facts a is = make_holds config world seat made kept.command command fixed at facts a is
+call_holds config world seat made kept command fixed (Resolving address at next) facts a is = resolving_holds config world seat address at facts.0 a is
+call_holds config world seat made kept command fixed _ facts a is = absurd cc
 
 -- any machine in its seat
-pub in_seat : (c : Config) (words : List ℕ) (w : World) (entries : List Entry) (number : ℕ) (a : Actor) (machine : Machine) → IsMachine c words w entries number a machine → IsInSeat c w number machine
-in_seat c words w entries number a (mutating m) thread =
-    subst (λ k. IsInSeat c w k (mutating m)) thread.number_is (record {
+pub in_seat : (config : Config) (words : List ℕ) (world : World) (entries : List Entry) (number : ℕ) (actor : Actor) (machine : Machine) → IsMachine config words world entries number actor machine → IsInSeat config world number machine
+in_seat config words world entries number actor (mutating m) thread =
+    subst (λ k. IsInSeat config world k (mutating m)) thread.number_is (record {
       records = thread.mine.marking.records;
       scans = thread.mine.marking.scans;
       copies = thread.mine.copying.copies_is;
       works = thread.mine.copying.works_none;
       goes_on = tt;
       rooms = thread.mine.rooms;
-      takes = λ t is. call_takes c w m.seat m.made m.kept a.command thread.fixed m.spot t is thread.mine.facts;
-      carries = λ x is. call_stands c w m.seat m.made m.kept a.command thread.fixed m.spot x is thread.mine.facts;
-      holds = λ b is. call_holds c w m.seat m.made m.kept a.command thread.fixed m.spot thread.mine.facts b is;
+      takes = λ t is. call_takes config world m.seat m.made m.kept actor.command thread.fixed m.spot t is thread.mine.facts;
+      carries = λ x is. call_stands config world m.seat m.made m.kept actor.command thread.fixed m.spot x is thread.mine.facts;
+      holds = λ b is. call_holds config world m.seat m.made m.kept actor.command thread.fixed m.spot thread.mine.facts b is;
     })
-in_seat c words w entries number a (helping h) facts =
-    let at = help_at c w number h.spot facts.facts in
+in_seat config words world entries number actor (helping h) facts =
+    let at = help_at config world number h.spot facts.facts in
     record { records = at.records; scans = at.scans; copies = at.copies; works = at.works; goes_on = at.goes_on; rooms = at.rooms; takes = at.takes; carries = at.carries; holds = at.holds }
-in_seat c words w entries number a (controlling k) facts =
-    let at = control_at c w number k.spot facts.facts in
+in_seat config words world entries number actor (controlling k) facts =
+    let at = control_at config world number k.spot facts.facts in
     record { records = at.records; scans = at.scans; copies = at.copies; works = at.works; goes_on = at.goes_on; rooms = at.rooms; takes = at.takes; carries = at.carries; holds = at.holds }
 
 -- What a mutator may use: an object on which it works, by each part of a call.
-module _ (c : Config) (w : World) (seat : ℕ) (k command : Command) (fixed : Option Reply) where
-  object_usable : (root object : ℕ) → HasObject c w seat root object → UsableIn c w object
+module _ (config : Config) (world : World) (seat : ℕ) (other_command command : Command) (fixed : Option Reply) where
+  object_usable : (root object : ℕ) → HasObject config world seat root object → UsableIn config world object
   object_usable root object of = inr (of.name, of.refs, of.nums, of.target)
 
-  field_usable : (object : ℕ) (at : FieldSpot) → FieldFacts c w seat k command fixed object at → UsableIn c w object
+  field_usable : (object : ℕ) (at : FieldSpot) → FieldFacts config world seat other_command command fixed object at → UsableIn config world object
   field_usable object fields.Load facts = object_usable facts.1.src object facts.1.of
   field_usable object (fields.LoadExpected expect value) facts = object_usable facts.1.obj object facts.1.of
   field_usable object (fields.LoadOld value) facts = object_usable facts.1.obj object facts.1.of
@@ -296,31 +296,31 @@ module _ (c : Config) (w : World) (seat : ℕ) (k command : Command) (fixed : Op
   field_usable object (fields.Swap value) facts = object_usable facts.1.obj object facts.1.of
   field_usable object (fields.Exchange found expect value) facts = object_usable facts.1.obj object facts.1.of
 
-  number_usable : (object refs : ℕ) (at : NumberSpot) → NumberFacts c w seat k command fixed object refs at → UsableIn c w object
+  number_usable : (object refs : ℕ) (at : NumberSpot) → NumberFacts config world seat other_command command fixed object refs at → UsableIn config world object
   number_usable object refs numbers.Load facts = object_usable facts.1.obj object facts.1.of
   number_usable object refs numbers.Store facts = object_usable facts.1.obj object facts.1.of
 
-  show_usable : (value : ℕ) (at : ShowSpot) → ShowFacts c w k fixed value at → UsableIn c w value
+  show_usable : (value : ℕ) (at : ShowSpot) → ShowFacts config world other_command fixed value at → UsableIn config world value
   show_usable value show.LoadName facts = facts.1
   show_usable value (show.StoreRoot reply) facts = facts.2
 
-  record_usable : (address object : ℕ) (next : Overwritten) → before_record next ≡ Some object → RecordFacts c w seat k command fixed address next → UsableIn c w object
-  record_usable address object (overwrites.Set it value) is facts = subst (UsableIn c w) (same_Some it object is) (field_usable it (fields.Store value) facts)
+  record_usable : (address object : ℕ) (next : Overwritten) → before_record next ≡ Some object → RecordFacts config world seat other_command command fixed address next → UsableIn config world object
+  record_usable address object (overwrites.Set it value) is facts = subst (UsableIn config world) (same_Some it object is) (field_usable it (fields.Store value) facts)
   record_usable address object overwrites.Xchg is facts = absurd cc
   record_usable address object overwrites.Cas is facts = absurd cc
 
-  resolve_usable : (found object : ℕ) (next : Loaded) → before_resolve next ≡ Some object → LoadedFacts c w seat k command fixed found next → UsableIn c w object
+  resolve_usable : (found object : ℕ) (next : Loaded) → before_resolve next ≡ Some object → LoadedFacts config world seat other_command command fixed found next → UsableIn config world object
   resolve_usable found object ForRoot is facts = absurd cc
-  resolve_usable found object (ToCompare it expect value) is facts = subst (UsableIn c w) (same_Some it object is) (object_usable facts.is_cas.obj it facts.is_cas.of)
+  resolve_usable found object (ToCompare it expect value) is facts = subst (UsableIn config world) (same_Some it object is) (object_usable facts.is_cas.obj it facts.is_cas.of)
 
   -- a root that was loaded, alone or one of two
-  same_usable : (a word : ℕ) → UsableIn c w word → a ≡ word → UsableIn c w a
-  same_usable a word usable is = subst (λ x. UsableIn c w x) (sym is) usable
+  same_usable : (a word : ℕ) → UsableIn config world word → a ≡ word → UsableIn config world a
+  same_usable a word usable is = subst (λ x. UsableIn config world x) (sym is) usable
 
-  either_usable : (a word other : ℕ) → UsableIn c w word → UsableIn c w other → (a ≡ word) ⊎ (a ≡ other) → UsableIn c w a
+  either_usable : (a word other : ℕ) → UsableIn config world word → UsableIn config world other → (a ≡ word) ⊎ (a ≡ other) → UsableIn config world a
   either_usable a word other first second which = ⊎_elim (λ is. same_usable a word first is) (λ is. same_usable a other second is) which
 
-  roots_usable : (made : ℕ) (at : LoadSpot) → LoadFacts c w seat made k command fixed at → (a : ℕ) → IsOfRoots k at a → UsableIn c w a
+  roots_usable : (made : ℕ) (at : LoadSpot) → LoadFacts config world seat made other_command command fixed at → (a : ℕ) → IsOfRoots other_command at a → UsableIn config world a
   roots_usable made load.First facts a is = absurd is
   roots_usable made (load.Second first) facts a is = let root = facts.2 in same_usable a first (root.first_is root.some).usable is
   roots_usable made (load.Third first second) facts a is =
@@ -332,122 +332,122 @@ module _ (c : Config) (w : World) (seat : ℕ) (k command : Command) (fixed : Op
       ⊎_elim
       (λ (first : a ≡ object). same_usable a object (roots.first_is.first_is roots.first_is.some).usable first)
       (λ rest. ⊎_elim
-      (λ (has_second : (1 < length (command_roots k)) × (a ≡ second)). same_usable a second (roots.second_is has_second.0).usable has_second.1)
-      (λ (has_third : (2 < length (command_roots k)) × (a ≡ third)). same_usable a third (roots.third_is has_third.0).usable has_third.1)
+      (λ (has_second : (1 < length (command_roots other_command)) × (a ≡ second)). same_usable a second (roots.second_is has_second.0).usable has_second.1)
+      (λ (has_third : (2 < length (command_roots other_command)) × (a ≡ third)). same_usable a third (roots.third_is has_third.0).usable has_third.1)
       rest)
       is
 
-  cas_usable : (object field expect value a : ℕ) → IsCas c w seat command object field expect value → (a ≡ expect) ⊎ (a ≡ value) → UsableIn c w a
+  cas_usable : (object field expect value a : ℕ) → IsCas config world seat command object field expect value → (a ≡ expect) ⊎ (a ≡ value) → UsableIn config world a
   cas_usable object field expect value a cas is = either_usable a expect value cas.expect_is.usable cas.value_is.usable is
 
-  of_field_usable : (object : ℕ) (at : FieldSpot) → FieldFacts c w seat k command fixed object at → (a : ℕ) → IsOfField at a → UsableIn c w a
+  of_field_usable : (object : ℕ) (at : FieldSpot) → FieldFacts config world seat other_command command fixed object at → (a : ℕ) → IsOfField at a → UsableIn config world a
   of_field_usable object fields.Load facts a is = absurd is
-  of_field_usable object (fields.LoadExpected expect value) facts a is = cas_usable object (index_of k) expect value a facts.1 is
+  of_field_usable object (fields.LoadExpected expect value) facts a is = cas_usable object (index_of other_command) expect value a facts.1 is
   of_field_usable object (fields.LoadOld value) facts a is = same_usable a value facts.1.value_is.usable is
   of_field_usable object (fields.Store value) facts a is = same_usable a value facts.1.value_is.usable is
   of_field_usable object (fields.Swap value) facts a is = same_usable a value facts.1.value_is.usable is
-  of_field_usable object (fields.Exchange found expect value) facts a is = cas_usable object (index_of k) expect value a facts.1 is
+  of_field_usable object (fields.Exchange found expect value) facts a is = cas_usable object (index_of other_command) expect value a facts.1 is
 
-  of_loaded_usable : (found : ℕ) (next : Loaded) → LoadedFacts c w seat k command fixed found next → (a : ℕ) → IsOfLoaded next a → UsableIn c w a
+  of_loaded_usable : (found : ℕ) (next : Loaded) → LoadedFacts config world seat other_command command fixed found next → (a : ℕ) → IsOfLoaded next a → UsableIn config world a
   of_loaded_usable found ForRoot facts a is = absurd is
-  of_loaded_usable found (ToCompare object expect value) facts a is = cas_usable object (index_of k) expect value a facts.is_cas is
+  of_loaded_usable found (ToCompare object expect value) facts a is = cas_usable object (index_of other_command) expect value a facts.is_cas is
 
-  of_overwritten_usable : (address : ℕ) (next : Overwritten) → RecordFacts c w seat k command fixed address next → (a : ℕ) → IsOfOverwritten next a → UsableIn c w a
+  of_overwritten_usable : (address : ℕ) (next : Overwritten) → RecordFacts config world seat other_command command fixed address next → (a : ℕ) → IsOfOverwritten next a → UsableIn config world a
   of_overwritten_usable address (overwrites.Set object value) facts a is = same_usable a value facts.1.value_is.usable is
   of_overwritten_usable address overwrites.Xchg facts a is = absurd is
   of_overwritten_usable address overwrites.Cas facts a is = absurd is
 
-  copy_usable : (dst value a : ℕ) → IsCopy c w seat command dst value ⊎ IsDrop command dst value → a ≡ value → UsableIn c w a
+  copy_usable : (dst value a : ℕ) → IsCopy config world seat command dst value ⊎ IsDrop command dst value → a ≡ value → UsableIn config world a
   copy_usable dst value a (inl is_copy) is = same_usable a value is_copy.value_is.usable is
   copy_usable dst value a (inr is_drop) is = inl (is ∙ is_drop.value_is)
 
   -- what a call stores into a pin slot
-  slot_usable : (of_slot : Command) (value a : ℕ) → IsOfSlot c w seat of_slot value → a ≡ value → UsableIn c w a
+  slot_usable : (of_slot : Command) (value a : ℕ) → IsOfSlot config world seat of_slot value → a ≡ value → UsableIn config world a
   slot_usable (Pin slot obj) value a of is = same_usable a value (object_usable obj value of.1) is
   slot_usable (Unpin slot) value a of is = inl (is ∙ of.1)
   slot_usable _ value a of is = absurd of
 
-  pin_usable : (value : ℕ) (at : PinSpot) → PinFacts c w seat k command fixed value at → (a : ℕ) → a ≡ value → UsableIn c w a
-  pin_usable value pins.Look facts a is = slot_usable k value a facts.2 is
-  pin_usable value pins.Store facts a is = slot_usable k value a facts.2 is
+  pin_usable : (value : ℕ) (at : PinSpot) → PinFacts config world seat other_command command fixed value at → (a : ℕ) → a ≡ value → UsableIn config world a
+  pin_usable value pins.Look facts a is = slot_usable other_command value a facts.2 is
+  pin_usable value pins.Store facts a is = slot_usable other_command value a facts.2 is
 
-call_usable : (c : Config) (w : World) (seat made : ℕ) (kept : Kept) (command : Command) (fixed : Option Reply) (spot : Spot) → SpotFacts c w seat made kept command fixed spot → (a : ℕ) → IsOfCall kept.command spot a → UsableIn c w a
-call_usable c w seat made kept command fixed (Loading at) facts a is = roots_usable c w seat kept.command command fixed made at facts a is
-call_usable c w seat made kept command fixed (OnField object at) facts a is = of_field_usable c w seat kept.command command fixed object at facts a is
-call_usable c w seat made kept command fixed (Resolving address at next) facts a is = of_loaded_usable c w seat kept.command command fixed address next facts.1 a is
-call_usable c w seat made kept command fixed (Recording at address next) facts a is = of_overwritten_usable c w seat kept.command command fixed address next facts.1 a is
-call_usable c w seat made kept command fixed (StoreRoot value) facts a is = copy_usable c w seat kept.command command fixed (dst_of kept.command) value a facts.2 is
-call_usable c w seat made kept command fixed (Pinning value at) facts a is = pin_usable c w seat kept.command command fixed value at facts a is
-call_usable c w seat made kept command fixed _ facts a is = absurd is
+call_usable : (config : Config) (world : World) (seat made : ℕ) (kept : Kept) (command : Command) (fixed : Option Reply) (spot : Spot) → SpotFacts config world seat made kept command fixed spot → (a : ℕ) → IsOfCall kept.command spot a → UsableIn config world a
+call_usable config world seat made kept command fixed (Loading at) facts a is = roots_usable config world seat kept.command command fixed made at facts a is
+call_usable config world seat made kept command fixed (OnField object at) facts a is = of_field_usable config world seat kept.command command fixed object at facts a is
+call_usable config world seat made kept command fixed (Resolving address at next) facts a is = of_loaded_usable config world seat kept.command command fixed address next facts.1 a is
+call_usable config world seat made kept command fixed (Recording at address next) facts a is = of_overwritten_usable config world seat kept.command command fixed address next facts.1 a is
+call_usable config world seat made kept command fixed (StoreRoot value) facts a is = copy_usable config world seat kept.command command fixed (dst_of kept.command) value a facts.2 is
+call_usable config world seat made kept command fixed (Pinning value at) facts a is = pin_usable config world seat kept.command command fixed value at facts a is
+call_usable config world seat made kept command fixed _ facts a is = absurd is
 
-works_usable : (c : Config) (w : World) (seat made object : ℕ) (kept : Kept) (command : Command) (fixed : Option Reply) (spot : Spot) → works_on spot ≡ Some object → SpotFacts c w seat made kept command fixed spot → UsableIn c w object
-works_usable c w seat made object kept command fixed (OnField it at) is facts = subst (UsableIn c w) (same_Some it object is) (field_usable c w seat kept.command command fixed it at facts)
-works_usable c w seat made object kept command fixed (OnNumber it refs at) is facts = subst (UsableIn c w) (same_Some it object is) (number_usable c w seat kept.command command fixed it refs at facts)
-works_usable c w seat made object kept command fixed (Showing it at) is facts = subst (UsableIn c w) (same_Some it object is) (show_usable c w seat kept.command command fixed it at facts)
-works_usable c w seat made object kept command fixed (Recording at address next) is facts = record_usable c w seat kept.command command fixed address object next is facts.1
-works_usable c w seat made object kept command fixed (Resolving address at next) is facts = resolve_usable c w seat kept.command command fixed address object next is facts.1
-works_usable c w seat made object kept command fixed _ is facts = absurd cc
+works_usable : (config : Config) (world : World) (seat made object : ℕ) (kept : Kept) (command : Command) (fixed : Option Reply) (spot : Spot) → works_on spot ≡ Some object → SpotFacts config world seat made kept command fixed spot → UsableIn config world object
+works_usable config world seat made object kept command fixed (OnField it at) is facts = subst (UsableIn config world) (same_Some it object is) (field_usable config world seat kept.command command fixed it at facts)
+works_usable config world seat made object kept command fixed (OnNumber it refs at) is facts = subst (UsableIn config world) (same_Some it object is) (number_usable config world seat kept.command command fixed it refs at facts)
+works_usable config world seat made object kept command fixed (Showing it at) is facts = subst (UsableIn config world) (same_Some it object is) (show_usable config world seat kept.command command fixed it at facts)
+works_usable config world seat made object kept command fixed (Recording at address next) is facts = record_usable config world seat kept.command command fixed address object next is facts.1
+works_usable config world seat made object kept command fixed (Resolving address at next) is facts = resolve_usable config world seat kept.command command fixed address object next is facts.1
+works_usable config world seat made object kept command fixed _ is facts = absurd cc
 
 -- who waits for an object makes one
-module _ (w : World) (seat made : ℕ) (k command : Command) (fixed : Option Reply) where
+module _ (world : World) (seat made : ℕ) (other_command command : Command) (fixed : Option Reply) where
   making : (dst refs nums : ℕ) → IsMaking made command fixed dst refs nums → MakesObject command
   making dst refs nums makes = record { dst = dst; refs = refs; nums = nums; is = makes.is }
 
-  polling_makes : IsPolling w seat made k command fixed → MakesObject command
+  polling_makes : IsPolling world seat made other_command command fixed → MakesObject command
   polling_makes (inl heard) = making _ _ _ heard.0.0
   polling_makes (inr (inl given)) = making _ _ _ given.0
   polling_makes (inr (inr refused)) = record { dst = refused.0.dst; refs = refused.0.refs; nums = refused.0.nums; is = refused.0.is }
 
-  answered_makes : IsAnswered w seat made k command fixed → MakesObject command
+  answered_makes : IsAnswered world seat made other_command command fixed → MakesObject command
   answered_makes (inl given) = making _ _ _ given.0
   answered_makes (inr full) = record { dst = full.0.dst; refs = full.0.refs; nums = full.0.nums; is = full.0.is }
 
-  waiting_makes : (c : Config) (at : WaitSpot) → WaitFacts c w seat made k command fixed at → MakesObject command
-  waiting_makes c wait.StoreRequest facts = making _ _ _ facts.0
-  waiting_makes c wait.AskRoom facts = making _ _ _ facts.0
-  waiting_makes c wait.StepOut facts = making _ _ _ facts.0.0
-  waiting_makes c wait.Poll facts = polling_makes facts
-  waiting_makes c wait.LoadAnswer facts = answered_makes facts
-  waiting_makes c (wait.StoreRoot address) facts = making _ _ _ facts.0.0
-  waiting_makes c (wait.ClearAnswer reply) facts = facts.4
+  waiting_makes : (config : Config) (at : WaitSpot) → WaitFacts config world seat made other_command command fixed at → MakesObject command
+  waiting_makes config wait.StoreRequest facts = making _ _ _ facts.0
+  waiting_makes config wait.AskRoom facts = making _ _ _ facts.0
+  waiting_makes config wait.StepOut facts = making _ _ _ facts.0.0
+  waiting_makes config wait.Poll facts = polling_makes facts
+  waiting_makes config wait.LoadAnswer facts = answered_makes facts
+  waiting_makes config (wait.StoreRoot address) facts = making _ _ _ facts.0.0
+  waiting_makes config (wait.ClearAnswer reply) facts = facts.4
 
-  waits_make : (c : Config) (kept : Kept) (spot : Spot) → kept.command ≡ k → is_waiting spot ≡ true → SpotFacts c w seat made kept command fixed spot → MakesObject command
-  waits_make c kept (Waiting at) is waiting facts = waiting_makes c at (subst (λ j. WaitFacts c w seat made j command fixed at) is facts)
-  waits_make c kept (Entering at Waited) is waiting facts = answered_makes (subst (λ j. IsAnswered w seat made j command fixed) is facts)
-  waits_make c kept _ is waiting facts = absurd cc
+  waits_make : (config : Config) (kept : Kept) (spot : Spot) → kept.command ≡ other_command → is_waiting spot ≡ true → SpotFacts config world seat made kept command fixed spot → MakesObject command
+  waits_make config kept (Waiting at) is waiting facts = waiting_makes config at (subst (λ j. WaitFacts config world seat made j command fixed at) is facts)
+  waits_make config kept (Entering at Waited) is waiting facts = answered_makes (subst (λ j. IsAnswered world seat made j command fixed) is facts)
+  waits_make config kept _ is waiting facts = absurd cc
 
 -- who clears its answer has taken what it was answered
-clearing_taken : (c : Config) (w : World) (seat made : ℕ) (kept : Kept) (command : Command) (fixed : Option Reply) (reply : Reply) → SpotFacts c w seat made kept command fixed (Waiting (wait.ClearAnswer reply))
-    → AsksNothing w seat × HasTaken c w seat reply
-clearing_taken c w seat made kept command fixed reply facts = (record { no_request = facts.1; no_promise = facts.2 }, facts.3)
+clearing_taken : (config : Config) (world : World) (seat made : ℕ) (kept : Kept) (command : Command) (fixed : Option Reply) (reply : Reply) → SpotFacts config world seat made kept command fixed (Waiting (wait.ClearAnswer reply))
+    → AsksNothing world seat × HasTaken config world seat reply
+clearing_taken config world seat made kept command fixed reply facts = (record { no_request = facts.1; no_promise = facts.2 }, facts.3)
 
 -- who is answered has an answer, and stores that
-answered_some : (w : World) (seat made : ℕ) (k command : Command) (fixed : Option Reply) → IsAnswered w seat made k command fixed → 0 < w.memory (Answer seat)
-answered_some w seat made k command fixed (inl given) = let more = given.1.1 in omega (arith, more)
-answered_some w seat made k command fixed (inr full) = let one = full.1.1 in omega (arith, one)
+answered_some : (world : World) (seat made : ℕ) (other_command command : Command) (fixed : Option Reply) → IsAnswered world seat made other_command command fixed → 0 < world.memory (Answer seat)
+answered_some world seat made other_command command fixed (inl given) = let more = given.1.1 in omega (arith, more)
+answered_some world seat made other_command command fixed (inr full) = let one = full.1.1 in omega (arith, one)
 
-has_answer : (c : Config) (w : World) (seat made : ℕ) (kept : Kept) (command : Command) (fixed : Option Reply) (spot : Spot) → is_answered spot ≡ true → SpotFacts c w seat made kept command fixed spot → 0 < w.memory (Answer seat)
-has_answer c w seat made kept command fixed (Entering at Waited) is facts = answered_some w seat made kept.command command fixed facts
-has_answer c w seat made kept command fixed (Waiting wait.LoadAnswer) is facts = answered_some w seat made kept.command command fixed facts
-has_answer c w seat made kept command fixed (Waiting (wait.StoreRoot address)) is facts = let more = facts.0.1.1 in omega (arith, more)
-has_answer c w seat made kept command fixed _ is facts = absurd cc
+has_answer : (config : Config) (world : World) (seat made : ℕ) (kept : Kept) (command : Command) (fixed : Option Reply) (spot : Spot) → is_answered spot ≡ true → SpotFacts config world seat made kept command fixed spot → 0 < world.memory (Answer seat)
+has_answer config world seat made kept command fixed (Entering at Waited) is facts = answered_some world seat made kept.command command fixed facts
+has_answer config world seat made kept command fixed (Waiting wait.LoadAnswer) is facts = answered_some world seat made kept.command command fixed facts
+has_answer config world seat made kept command fixed (Waiting (wait.StoreRoot address)) is facts = let more = facts.0.1.1 in omega (arith, more)
+has_answer config world seat made kept command fixed _ is facts = absurd cc
 
 -- at a spot it has the facts of that spot
-facts_at : (c : Config) (w : World) (seat made : ℕ) (kept : Kept) (command : Command) (fixed : Option Reply) (spot here : Spot) → spot ≡ here → SpotFacts c w seat made kept command fixed spot → SpotFacts c w seat made kept command fixed here
-facts_at c w seat made kept command fixed spot here is facts = subst (λ s. SpotFacts c w seat made kept command fixed s) is facts
+facts_at : (config : Config) (world : World) (seat made : ℕ) (kept : Kept) (command : Command) (fixed : Option Reply) (spot here : Spot) → spot ≡ here → SpotFacts config world seat made kept command fixed spot → SpotFacts config world seat made kept command fixed here
+facts_at config world seat made kept command fixed spot here is facts = subst (λ s. SpotFacts config world seat made kept command fixed s) is facts
 
-pub served : (c : Config) (w : World) (m : Mutating) (command : Command) (fixed : Option Reply) → Mine c w m command fixed → IsServed c w command m
-served c w m command fixed mine = record {
+pub served : (config : Config) (world : World) (mutator : Mutating) (command : Command) (fixed : Option Reply) → Mine config world mutator command fixed → IsServed config world command mutator
+served config world mutator command fixed mine = record {
   roots = mine.seated.usable;
-  resolved = λ object is. works_usable c w m.seat m.made object m.kept command fixed m.spot is mine.facts;
+  resolved = λ object is. works_usable config world mutator.seat mutator.made object mutator.kept command fixed mutator.spot is mine.facts;
   unasked = λ calm. let none = mine.seated.unasked calm in (record { no_request = none.0; no_promise = none.2 }, none.1);
-  waits = λ waiting. waits_make w m.seat m.made m.kept.command command fixed c m.kept m.spot refl waiting mine.facts;
-  loaded = λ a is. call_usable c w m.seat m.made m.kept command fixed m.spot mine.facts a is;
-  answered = λ is. has_answer c w m.seat m.made m.kept command fixed m.spot is mine.facts;
-  stored = λ address is. (facts_at c w m.seat m.made m.kept command fixed m.spot (Waiting (wait.StoreRoot address)) is mine.facts).1;
+  waits = λ waiting. waits_make world mutator.seat mutator.made mutator.kept.command command fixed config mutator.kept mutator.spot refl waiting mine.facts;
+  loaded = λ a is. call_usable config world mutator.seat mutator.made mutator.kept command fixed mutator.spot mine.facts a is;
+  answered = λ is. has_answer config world mutator.seat mutator.made mutator.kept command fixed mutator.spot is mine.facts;
+  stored = λ address is. (facts_at config world mutator.seat mutator.made mutator.kept command fixed mutator.spot (Waiting (wait.StoreRoot address)) is mine.facts).1;
   knows_phase = mine.marking.phase_is;
   knows_set = mine.copying.set_is;
-  resolves = λ address at next is. (facts_at c w m.seat m.made m.kept command fixed m.spot (Resolving address at next) is mine.facts).0;
-  covers = λ object value is. (facts_at c w m.seat m.made m.kept command fixed m.spot (OnField object (fields.Store value)) is mine.facts).2;
-  taken = λ reply is. clearing_taken c w m.seat m.made m.kept command fixed reply (facts_at c w m.seat m.made m.kept command fixed m.spot (Waiting (wait.ClearAnswer reply)) is mine.facts);
+  resolves = λ address at next is. (facts_at config world mutator.seat mutator.made mutator.kept command fixed mutator.spot (Resolving address at next) is mine.facts).0;
+  covers = λ object value is. (facts_at config world mutator.seat mutator.made mutator.kept command fixed mutator.spot (OnField object (fields.Store value)) is mine.facts).2;
+  taken = λ reply is. clearing_taken config world mutator.seat mutator.made mutator.kept command fixed reply (facts_at config world mutator.seat mutator.made mutator.kept command fixed mutator.spot (Waiting (wait.ClearAnswer reply)) is mine.facts);
 }

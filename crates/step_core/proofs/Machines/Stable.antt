@@ -51,25 +51,25 @@ use Rattle.cycle_steps.proofs.Parts.{recording_steps}
 use Rattle.step_core.proofs.Mutators.WhileMarking.{covered_stays, marking_relied, copying_relied}
 use Rattle.heap_world.proofs.Keeping.{points_stay, usable_stays, keeps_of}
 
-module _ (c : Config) (u w : World) (seat : ℕ) (keeps : Keeps c seat u w) where
+module _ (config : Config) (world other_world : World) (seat : ℕ) (keeps : Keeps config seat world other_world) where
   -- so it does for a root
-  pub root_stays : (word index : ℕ) → Points u.block word (u.graph.root (seat + 1) index) → Points w.block word (w.graph.root (seat + 1) index)
-  root_stays word index is = rw (keeps.roots index) (points_stay u.block w.block keeps.names word _ is)
+  pub root_stays : (word index : ℕ) → Points world.block word (world.graph.root (seat + 1) index) → Points other_world.block word (other_world.graph.root (seat + 1) index)
+  root_stays word index is = rw (keeps.roots index) (points_stay world.block other_world.block keeps.names word _ is)
 
   -- so does the word of a root that was loaded
-  root_word_stays : (word index : ℕ) → IsRootWord c u seat index word → IsRootWord c w seat index word
-  root_word_stays word index is = record { stands = root_stays word index is.stands; usable = usable_stays c u w keeps.targets word is.usable }
+  root_word_stays : (word index : ℕ) → IsRootWord config world seat index word → IsRootWord config other_world seat index word
+  root_word_stays word index is = record { stands = root_stays word index is.stands; usable = usable_stays config world other_world keeps.targets word is.usable }
 
   -- also of a command
-  loaded_stays : (k : Command) (i word : ℕ) → HasRoot c u seat k i word → HasRoot c w seat k i word
-  loaded_stays k i word has below = root_word_stays word (command_root k i) (has below)
+  loaded_stays : (command : Command) (i word : ℕ) → HasRoot config world seat command i word → HasRoot config other_world seat command i word
+  loaded_stays command i word has below = root_word_stays word (command_root command i) (has below)
 
   -- and that of the first one
-  first_stays : (k : Command) (first : ℕ) → HasFirst c u seat k first → HasFirst c w seat k first
-  first_stays k first has = record { some = has.some; first_is = loaded_stays k 0 first has.first_is; not_null = has.not_null }
+  first_stays : (command : Command) (first : ℕ) → HasFirst config world seat command first → HasFirst config other_world seat command first
+  first_stays command first has = record { some = has.some; first_is = loaded_stays command 0 first has.first_is; not_null = has.not_null }
 
   -- an object in hand stays
-  abbrev object_stays : (root object : ℕ) → HasObject c u seat root object → HasObject c w seat root object
+  abbrev object_stays : (root object : ℕ) → HasObject config world seat root object → HasObject config other_world seat root object
   object_stays root object has = record {
     name = has.name;
     refs = has.refs;
@@ -79,11 +79,11 @@ module _ (c : Config) (u w : World) (seat : ℕ) (keeps : Keeps c seat u w) wher
   }
 
   -- what a Get counts on stays
-  pub get_stays : (command : Command) (object field dst : ℕ) → IsGet c u seat command object field dst → IsGet c w seat command object field dst
+  pub get_stays : (command : Command) (object field dst : ℕ) → IsGet config world seat command object field dst → IsGet config other_world seat command object field dst
   get_stays command object field dst is = record { src = is.src; is = is.is; small = is.small; of = object_stays is.src object is.of; below = is.below }
 
   -- what a Set counts on stays
-  pub set_stays : (command : Command) (object field value : ℕ) → IsSet c u seat command object field value → IsSet c w seat command object field value
+  pub set_stays : (command : Command) (object field value : ℕ) → IsSet config world seat command object field value → IsSet config other_world seat command object field value
   set_stays command object field value is = record {
     obj = is.obj;
     val = is.val;
@@ -94,7 +94,7 @@ module _ (c : Config) (u w : World) (seat : ℕ) (keeps : Keeps c seat u w) wher
   }
 
   -- what a Cas counts on stays
-  pub cas_stays : (command : Command) (object field expect value : ℕ) → IsCas c u seat command object field expect value → IsCas c w seat command object field expect value
+  pub cas_stays : (command : Command) (object field expect value : ℕ) → IsCas config world seat command object field expect value → IsCas config other_world seat command object field expect value
   cas_stays command object field expect value is = record {
     obj = is.obj;
     expected = is.expected;
@@ -107,7 +107,7 @@ module _ (c : Config) (u w : World) (seat : ℕ) (keeps : Keeps c seat u w) wher
   }
 
   -- what an Xchg counts on stays
-  pub xchg_stays : (command : Command) (object field value dst : ℕ) → IsXchg c u seat command object field value dst → IsXchg c w seat command object field value dst
+  pub xchg_stays : (command : Command) (object field value dst : ℕ) → IsXchg config world seat command object field value dst → IsXchg config other_world seat command object field value dst
   xchg_stays command object field value dst is = record {
     obj = is.obj;
     val = is.val;
@@ -119,52 +119,52 @@ module _ (c : Config) (u w : World) (seat : ℕ) (keeps : Keeps c seat u w) wher
   }
 
   -- what an Rd counts on stays
-  rd_stays : (command : Command) (object refs index : ℕ) → IsRd c u seat command object refs index → IsRd c w seat command object refs index
+  rd_stays : (command : Command) (object refs index : ℕ) → IsRd config world seat command object refs index → IsRd config other_world seat command object refs index
   rd_stays command object refs index is = record { obj = is.obj; is = is.is; of = object_stays is.obj object is.of; refs_are = is.refs_are; below = is.below }
 
   -- what a Wr counts on stays
-  wr_stays : (command : Command) (object refs index value : ℕ) → IsWr c u seat command object refs index value → IsWr c w seat command object refs index value
+  wr_stays : (command : Command) (object refs index value : ℕ) → IsWr config world seat command object refs index value → IsWr config other_world seat command object refs index value
   wr_stays command object refs index value is = record { obj = is.obj; is = is.is; of = object_stays is.obj object is.of; refs_are = is.refs_are; below = is.below }
 
   -- a reference that was found stays
-  pub found_stays : (fixed : Option Reply) (value dst : ℕ) → IsFound u fixed value dst → IsFound w fixed value dst
+  pub found_stays : (fixed : Option Reply) (value dst : ℕ) → IsFound world fixed value dst → IsFound other_world fixed value dst
   found_stays fixed value dst is = record { name = is.name; settled = is.settled; is = keeps.names value is.name is.is; small = is.small }
 
   -- that two words name the same stays, and that they name others
-  pub same_stays : (a b : ℕ) → NameTheSame u.block a b → NameTheSame w.block a b
-  same_stays a b (inl null) = inl null
-  same_stays a b (inr both) = inr (both.0, keeps.names a both.0 both.1, keeps.names b both.0 both.2)
+  pub same_stays : (address b : ℕ) → NameTheSame world.block address b → NameTheSame other_world.block address b
+  same_stays address b (inl null) = inl null
+  same_stays address b (inr both) = inr (both.0, keeps.names address both.0 both.1, keeps.names b both.0 both.2)
 
-  others_stay : (a b : ℕ) → NameOthers u.block a b → NameOthers w.block a b
-  others_stay a b others = record {
+  others_stay : (address b : ℕ) → NameOthers world.block address b → NameOthers other_world.block address b
+  others_stay address b others = record {
     name = others.name;
-    is = keeps.names a others.name others.is;
+    is = keeps.names address others.name others.is;
     other = ⊎_elim (λ null. inl null) (λ more. inr (more.0, keeps.names b more.0 more.1, more.2)) others.other;
   }
 
-  pub compared_stays : (fixed : Option Reply) (found expect : ℕ) → IsCompared u.block fixed found expect → IsCompared w.block fixed found expect
+  pub compared_stays : (fixed : Option Reply) (found expect : ℕ) → IsCompared world.block fixed found expect → IsCompared other_world.block fixed found expect
   compared_stays fixed found expect (inl settled) = inl (settled.0, others_stay found expect settled.1)
   compared_stays fixed found expect (inr same) = inr (same.0, same_stays found expect same.1)
 
   -- what holds while a reference is resolved stays
-  pub resolved_stays : (k command : Command) (fixed : Option Reply) (found : ℕ) (next : Loaded) → LoadedFacts c u seat k command fixed found next → LoadedFacts c w seat k command fixed found next
-  resolved_stays k command fixed found ForRoot facts = found_stays fixed found (dst_of k) facts
-  resolved_stays k command fixed found (ToCompare object expect value) facts = record {
+  pub resolved_stays : (other_command command : Command) (fixed : Option Reply) (found : ℕ) (next : Loaded) → LoadedFacts config world seat other_command command fixed found next → LoadedFacts config other_world seat other_command command fixed found next
+  resolved_stays other_command command fixed found ForRoot facts = found_stays fixed found (dst_of other_command) facts
+  resolved_stays other_command command fixed found (ToCompare object expect value) facts = record {
     some = facts.some;
-    is_cas = cas_stays command object (index_of k) expect value facts.is_cas;
+    is_cas = cas_stays command object (index_of other_command) expect value facts.is_cas;
     settled = compared_stays fixed found expect facts.settled;
   }
 
   -- what a Copy counts on stays
-  copy_stays : (command : Command) (dst value : ℕ) → IsCopy c u seat command dst value → IsCopy c w seat command dst value
+  copy_stays : (command : Command) (dst value : ℕ) → IsCopy config world seat command dst value → IsCopy config other_world seat command dst value
   copy_stays command dst value is = record { src = is.src; is = is.is; value_is = root_word_stays value is.src is.value_is }
 
   -- that nothing is promised to it stays
-  pub unpromised_stays : HasNoPromise u.block seat → HasNoPromise w.block seat
+  pub unpromised_stays : HasNoPromise world.block seat → HasNoPromise other_world.block seat
   unpromised_stays none a words is = none a words (keeps.no_promises a words is)
 
   -- what it has asked for stays asked
-  pub asked_stays : (what : Asking) → IsAsked u.memory u.block u.graph.count seat what → IsAsked w.memory w.block w.graph.count seat what
+  pub asked_stays : (what : Asking) → IsAsked world.memory world.block world.graph.count seat what → IsAsked other_world.memory other_world.block other_world.graph.count seat what
   asked_stays asking.nothing is = (keeps.wait ∙ is.0, keeps.answer ∙ is.1, unpromised_stays is.2)
   asked_stays (asking.asks refs nums) is = (
     record {
@@ -191,110 +191,110 @@ module _ (c : Config) (u w : World) (seat : ℕ) (keeps : Keeps c seat u w) wher
   )
 
   -- so does the asking of a call
-  pub asking_stays : (made : ℕ) (k command : Command) (fixed : Option Reply) (what : Asking) → IsAsking u seat made k command fixed what → IsAsking w seat made k command fixed what
-  asking_stays made k command fixed what is = (is.0, asked_stays what is.1)
+  pub asking_stays : (made : ℕ) (other_command command : Command) (fixed : Option Reply) (what : Asking) → IsAsking world seat made other_command command fixed what → IsAsking other_world seat made other_command command fixed what
+  asking_stays made other_command command fixed what is = (is.0, asked_stays what is.1)
 
   -- with the bit that a mutator waits, where that stays
-  pub heard_stays : (bit_at (u.memory Ask) 1 ≡ 1 → bit_at (w.memory Ask) 1 ≡ 1) → (made : ℕ) (k command : Command) (fixed : Option Reply) → IsHeard u seat made k command fixed → IsHeard w seat made k command fixed
-  heard_stays bit made k command fixed is = (asking_stays made k command fixed (asking.asks (refs_of k) (nums_of k)) is.0, bit is.1)
+  pub heard_stays : (bit_at (world.memory Ask) 1 ≡ 1 → bit_at (other_world.memory Ask) 1 ≡ 1) → (made : ℕ) (other_command command : Command) (fixed : Option Reply) → IsHeard world seat made other_command command fixed → IsHeard other_world seat made other_command command fixed
+  heard_stays bit made other_command command fixed is = (asking_stays made other_command command fixed (asking.asks (refs_of other_command) (nums_of other_command)) is.0, bit is.1)
 
   -- and what is known while it polls, and once it is answered
-  pub polling_stays : (bit_at (u.memory Ask) 1 ≡ 1 → bit_at (w.memory Ask) 1 ≡ 1) → (made : ℕ) (k command : Command) (fixed : Option Reply) → IsPolling u seat made k command fixed
-      → IsPolling w seat made k command fixed
-  polling_stays bit made k command fixed is = ⊎_elim
-      (λ waits. inl (heard_stays bit made k command fixed waits))
+  pub polling_stays : (bit_at (world.memory Ask) 1 ≡ 1 → bit_at (other_world.memory Ask) 1 ≡ 1) → (made : ℕ) (other_command command : Command) (fixed : Option Reply) → IsPolling world seat made other_command command fixed
+      → IsPolling other_world seat made other_command command fixed
+  polling_stays bit made other_command command fixed is = ⊎_elim
+      (λ waits. inl (heard_stays bit made other_command command fixed waits))
       (λ rest. inr (⊎_elim
-      (λ given. inl (asking_stays made k command fixed (asking.given (refs_of k) (nums_of k)) given))
+      (λ given. inl (asking_stays made other_command command fixed (asking.given (refs_of other_command) (nums_of other_command)) given))
       (λ no. inr (no.0, asked_stays asking.refused no.1))
       rest))
       is
 
-  pub answered_stays : (made : ℕ) (k command : Command) (fixed : Option Reply) → IsAnswered u seat made k command fixed → IsAnswered w seat made k command fixed
-  answered_stays made k command fixed is = ⊎_elim
-      (λ given. inl (asking_stays made k command fixed (asking.given (refs_of k) (nums_of k)) given))
+  pub answered_stays : (made : ℕ) (other_command command : Command) (fixed : Option Reply) → IsAnswered world seat made other_command command fixed → IsAnswered other_world seat made other_command command fixed
+  answered_stays made other_command command fixed is = ⊎_elim
+      (λ given. inl (asking_stays made other_command command fixed (asking.given (refs_of other_command) (nums_of other_command)) given))
       (λ full. inr (full.0, asked_stays asking.refused full.1))
       is
 
   -- what a mutator counts on in each part of a call stays
-  load_stays : (made : ℕ) (k command : Command) (fixed : Option Reply) (at : LoadSpot) → LoadFacts c u seat made k command fixed at → LoadFacts c w seat made k command fixed at
-  load_stays made k command fixed load.First facts = facts
-  load_stays made k command fixed (load.Second first) facts = (facts.0, facts.1, first_stays k first facts.2)
-  load_stays made k command fixed (load.Third first second) facts = (facts.0, facts.1, first_stays k first facts.2, loaded_stays k 1 second facts.3)
-  load_stays made k command fixed (load.Shape object second third) facts = (
+  load_stays : (made : ℕ) (other_command command : Command) (fixed : Option Reply) (at : LoadSpot) → LoadFacts config world seat made other_command command fixed at → LoadFacts config other_world seat made other_command command fixed at
+  load_stays made other_command command fixed load.First facts = facts
+  load_stays made other_command command fixed (load.Second first) facts = (facts.0, facts.1, first_stays other_command first facts.2)
+  load_stays made other_command command fixed (load.Third first second) facts = (facts.0, facts.1, first_stays other_command first facts.2, loaded_stays other_command 1 second facts.3)
+  load_stays made other_command command fixed (load.Shape object second third) facts = (
     facts.0,
     facts.1,
-    record { first_is = first_stays k object facts.2.first_is; second_is = loaded_stays k 1 second facts.2.second_is; third_is = loaded_stays k 2 third facts.2.third_is },
+    record { first_is = first_stays other_command object facts.2.first_is; second_is = loaded_stays other_command 1 second facts.2.second_is; third_is = loaded_stays other_command 2 third facts.2.third_is },
     facts.3,
   )
 
-  pub field_stays : (k command : Command) (fixed : Option Reply) (object : ℕ) (at : FieldSpot) → FieldFacts c u seat k command fixed object at → FieldFacts c w seat k command fixed object at
-  field_stays k command fixed object fields.Load facts = (facts.0, get_stays command object (index_of k) (dst_of k) facts.1)
-  field_stays k command fixed object (fields.LoadExpected expect value) facts = (facts.0, cas_stays command object (index_of k) expect value facts.1)
-  field_stays k command fixed object (fields.LoadOld value) facts = (facts.0, set_stays command object (index_of k) value facts.1)
-  field_stays k command fixed object (fields.Store value) facts = (facts.0, set_stays command object (index_of k) value facts.1, covered_stays c u w object (index_of k) keeps.marks facts.2)
-  field_stays k command fixed object (fields.Swap value) facts = (facts.0, xchg_stays command object (index_of k) value (dst_of k) facts.1)
-  field_stays k command fixed object (fields.Exchange found expect value) facts = (facts.0, cas_stays command object (index_of k) expect value facts.1, same_stays found expect facts.2)
+  pub field_stays : (other_command command : Command) (fixed : Option Reply) (object : ℕ) (at : FieldSpot) → FieldFacts config world seat other_command command fixed object at → FieldFacts config other_world seat other_command command fixed object at
+  field_stays other_command command fixed object fields.Load facts = (facts.0, get_stays command object (index_of other_command) (dst_of other_command) facts.1)
+  field_stays other_command command fixed object (fields.LoadExpected expect value) facts = (facts.0, cas_stays command object (index_of other_command) expect value facts.1)
+  field_stays other_command command fixed object (fields.LoadOld value) facts = (facts.0, set_stays command object (index_of other_command) value facts.1)
+  field_stays other_command command fixed object (fields.Store value) facts = (facts.0, set_stays command object (index_of other_command) value facts.1, covered_stays config world other_world object (index_of other_command) keeps.marks facts.2)
+  field_stays other_command command fixed object (fields.Swap value) facts = (facts.0, xchg_stays command object (index_of other_command) value (dst_of other_command) facts.1)
+  field_stays other_command command fixed object (fields.Exchange found expect value) facts = (facts.0, cas_stays command object (index_of other_command) expect value facts.1, same_stays found expect facts.2)
 
-  pub record_stays : (k command : Command) (fixed : Option Reply) (address : ℕ) (next : Overwritten) → RecordFacts c u seat k command fixed address next → RecordFacts c w seat k command fixed address next
-  record_stays k command fixed address (overwrites.Set object value) facts = field_stays k command fixed object (fields.Store value) facts
-  record_stays k command fixed address overwrites.Xchg facts = found_stays fixed address (dst_of k) facts
-  record_stays k command fixed address overwrites.Cas facts = facts
+  pub record_stays : (other_command command : Command) (fixed : Option Reply) (address : ℕ) (next : Overwritten) → RecordFacts config world seat other_command command fixed address next → RecordFacts config other_world seat other_command command fixed address next
+  record_stays other_command command fixed address (overwrites.Set object value) facts = field_stays other_command command fixed object (fields.Store value) facts
+  record_stays other_command command fixed address overwrites.Xchg facts = found_stays fixed address (dst_of other_command) facts
+  record_stays other_command command fixed address overwrites.Cas facts = facts
 
-  number_stays : (k command : Command) (fixed : Option Reply) (object refs : ℕ) (at : NumberSpot) → NumberFacts c u seat k command fixed object refs at → NumberFacts c w seat k command fixed object refs at
-  number_stays k command fixed object refs numbers.Load facts = (facts.0, rd_stays command object refs (index_of k) facts.1)
-  number_stays k command fixed object refs numbers.Store facts = (facts.0, wr_stays command object refs (index_of k) (stored_number k) facts.1)
+  number_stays : (other_command command : Command) (fixed : Option Reply) (object refs : ℕ) (at : NumberSpot) → NumberFacts config world seat other_command command fixed object refs at → NumberFacts config other_world seat other_command command fixed object refs at
+  number_stays other_command command fixed object refs numbers.Load facts = (facts.0, rd_stays command object refs (index_of other_command) facts.1)
+  number_stays other_command command fixed object refs numbers.Store facts = (facts.0, wr_stays command object refs (index_of other_command) (stored_number other_command) facts.1)
 
-  show_stays : (k : Command) (fixed : Option Reply) (value : ℕ) (at : ShowSpot) → ShowFacts c u k fixed value at → ShowFacts c w k fixed value at
-  show_stays k fixed value show.LoadName facts = (found_stays fixed value (dst_of k) facts.0, usable_stays c u w keeps.targets value facts.1)
-  show_stays k fixed value (show.StoreRoot reply) facts = (facts.0, facts.1, usable_stays c u w keeps.targets value facts.2)
+  show_stays : (command : Command) (fixed : Option Reply) (value : ℕ) (at : ShowSpot) → ShowFacts config world command fixed value at → ShowFacts config other_world command fixed value at
+  show_stays command fixed value show.LoadName facts = (found_stays fixed value (dst_of command) facts.0, usable_stays config world other_world keeps.targets value facts.1)
+  show_stays command fixed value (show.StoreRoot reply) facts = (facts.0, facts.1, usable_stays config world other_world keeps.targets value facts.2)
 
   -- so does what the call counts on that is about a pin slot
-  of_slot_stays : (k : Command) (value : ℕ) → IsOfSlot c u seat k value → IsOfSlot c w seat k value
+  of_slot_stays : (command : Command) (value : ℕ) → IsOfSlot config world seat command value → IsOfSlot config other_world seat command value
   of_slot_stays (Pin slot obj) value of = (of.0, object_stays obj value of.1)
   of_slot_stays (Unpin slot) value of = of
   of_slot_stays _ value of = absurd of
 
-  fits_stays : (k : Command) → SlotFits u seat k → SlotFits w seat k
+  fits_stays : (command : Command) → SlotFits world seat command → SlotFits other_world seat command
   fits_stays (Pin slot obj) fits = keeps.pins slot ∙ fits
-  fits_stays k fits = λ none. fits (sym (keeps.pins (slot_of k)) ∙ none)
+  fits_stays command fits = λ none. fits (sym (keeps.pins (slot_of command)) ∙ none)
 
-  pin_facts_stay : (k command : Command) (fixed : Option Reply) (value : ℕ) (at : PinSpot) → PinFacts c u seat k command fixed value at → PinFacts c w seat k command fixed value at
-  pin_facts_stay k command fixed value pins.Look facts = (facts.0, facts.1, of_slot_stays k value facts.2)
-  pin_facts_stay k command fixed value pins.Store facts = (facts.0, facts.1, of_slot_stays k value facts.2, fits_stays k facts.3)
+  pin_facts_stay : (other_command command : Command) (fixed : Option Reply) (value : ℕ) (at : PinSpot) → PinFacts config world seat other_command command fixed value at → PinFacts config other_world seat other_command command fixed value at
+  pin_facts_stay other_command command fixed value pins.Look facts = (facts.0, facts.1, of_slot_stays other_command value facts.2)
+  pin_facts_stay other_command command fixed value pins.Store facts = (facts.0, facts.1, of_slot_stays other_command value facts.2, fits_stays other_command facts.3)
 
-  make_stays : (made : ℕ) (k command : Command) (fixed : Option Reply) → ((words : ℕ) (take : TakeSpot) → TakeFacts c u seat words take → TakeFacts c w seat words take)
-      → ((refs nums address done : ℕ) → IsFilling u seat made refs nums address done → IsFilling w seat made refs nums address done) → (at : MakeSpot)
-      → MakeFacts c u seat made k command fixed at → MakeFacts c w seat made k command fixed at
-  make_stays made k command fixed taking filling (make.Taking take) facts = (facts.0, taking (words_made k) take facts.1)
-  make_stays made k command fixed taking filling (make.StoreWord address done) facts = (facts.0, filling (refs_of k) (nums_of k) address done facts.1, facts.2)
-  make_stays made k command fixed taking filling (make.StoreRoot address) facts = (facts.0, filling (refs_of k) (nums_of k) address (words_made k) facts.1)
+  make_stays : (made : ℕ) (other_command command : Command) (fixed : Option Reply) → ((words : ℕ) (take : TakeSpot) → TakeFacts config world seat words take → TakeFacts config other_world seat words take)
+      → ((refs nums address done : ℕ) → IsFilling world seat made refs nums address done → IsFilling other_world seat made refs nums address done) → (at : MakeSpot)
+      → MakeFacts config world seat made other_command command fixed at → MakeFacts config other_world seat made other_command command fixed at
+  make_stays made other_command command fixed taking filling (make.Taking take) facts = (facts.0, taking (words_made other_command) take facts.1)
+  make_stays made other_command command fixed taking filling (make.StoreWord address done) facts = (facts.0, filling (refs_of other_command) (nums_of other_command) address done facts.1, facts.2)
+  make_stays made other_command command fixed taking filling (make.StoreRoot address) facts = (facts.0, filling (refs_of other_command) (nums_of other_command) address (words_made other_command) facts.1)
 
-  pub enter_stays : (made : ℕ) (k command : Command) (fixed : Option Reply) (next : Entered) → EnterFacts u seat made k command fixed next → EnterFacts w seat made k command fixed next
-  enter_stays made k command fixed Call facts = facts
-  enter_stays made k command fixed Waited facts = answered_stays made k command fixed facts
+  pub enter_stays : (made : ℕ) (other_command command : Command) (fixed : Option Reply) (next : Entered) → EnterFacts world seat made other_command command fixed next → EnterFacts other_world seat made other_command command fixed next
+  enter_stays made other_command command fixed Call facts = facts
+  enter_stays made other_command command fixed Waited facts = answered_stays made other_command command fixed facts
 
   -- what was answered and taken stays so
-  taken_stays : (reply : Reply) → HasTaken c u seat reply → HasTaken c w seat reply
-  taken_stays (Ref name) taken = (taken.0, taken.1, subst (λ a. TargetIn c w a taken.0 taken.1 name) (sym keeps.answer) (keeps.targets (u.memory (Answer seat)) taken.0 taken.1 name taken.2))
+  taken_stays : (reply : Reply) → HasTaken config world seat reply → HasTaken config other_world seat reply
+  taken_stays (Ref name) taken = (taken.0, taken.1, subst (λ a. TargetIn config other_world a taken.0 taken.1 name) (sym keeps.answer) (keeps.targets (world.memory (Answer seat)) taken.0 taken.1 name taken.2))
   taken_stays Full full = keeps.answer ∙ full
   taken_stays _ other = absurd other
 
-  pub wait_stays : (bit_at (u.memory Ask) 1 ≡ 1 → bit_at (w.memory Ask) 1 ≡ 1) → (made : ℕ) (k command : Command) (fixed : Option Reply) (at : WaitSpot) → WaitFacts c u seat made k command fixed at → WaitFacts c w seat made k command fixed at
-  wait_stays bit made k command fixed wait.StoreRequest facts = asking_stays made k command fixed asking.nothing facts
-  wait_stays bit made k command fixed wait.AskRoom facts = asking_stays made k command fixed (asking.asks (refs_of k) (nums_of k)) facts
-  wait_stays bit made k command fixed wait.StepOut facts = heard_stays bit made k command fixed facts
-  wait_stays bit made k command fixed wait.Poll facts = polling_stays bit made k command fixed facts
-  wait_stays bit made k command fixed wait.LoadAnswer facts = answered_stays made k command fixed facts
-  wait_stays bit made k command fixed (wait.StoreRoot address) facts = (asking_stays made k command fixed (asking.given (refs_of k) (nums_of k)) facts.0, keeps.answer ∙ facts.1)
-  wait_stays bit made k command fixed (wait.ClearAnswer reply) facts = (facts.0, keeps.wait ∙ facts.1, unpromised_stays facts.2, taken_stays reply facts.3, facts.4)
+  pub wait_stays : (bit_at (world.memory Ask) 1 ≡ 1 → bit_at (other_world.memory Ask) 1 ≡ 1) → (made : ℕ) (other_command command : Command) (fixed : Option Reply) (at : WaitSpot) → WaitFacts config world seat made other_command command fixed at → WaitFacts config other_world seat made other_command command fixed at
+  wait_stays bit made other_command command fixed wait.StoreRequest facts = asking_stays made other_command command fixed asking.nothing facts
+  wait_stays bit made other_command command fixed wait.AskRoom facts = asking_stays made other_command command fixed (asking.asks (refs_of other_command) (nums_of other_command)) facts
+  wait_stays bit made other_command command fixed wait.StepOut facts = heard_stays bit made other_command command fixed facts
+  wait_stays bit made other_command command fixed wait.Poll facts = polling_stays bit made other_command command fixed facts
+  wait_stays bit made other_command command fixed wait.LoadAnswer facts = answered_stays made other_command command fixed facts
+  wait_stays bit made other_command command fixed (wait.StoreRoot address) facts = (asking_stays made other_command command fixed (asking.given (refs_of other_command) (nums_of other_command)) facts.0, keeps.answer ∙ facts.1)
+  wait_stays bit made other_command command fixed (wait.ClearAnswer reply) facts = (facts.0, keeps.wait ∙ facts.1, unpromised_stays facts.2, taken_stays reply facts.3, facts.4)
 
   -- and at its spot, if that of a taking does, that of the words of a new object, of a resolving and of a recording, and the bit that a
   -- mutator waits
-  facts_stay : (made : ℕ) (kept : Kept) (command : Command) (fixed : Option Reply) → ((words : ℕ) (take : TakeSpot) → TakeFacts c u seat words take → TakeFacts c w seat words take)
-      → ((refs nums address done : ℕ) → IsFilling u seat made refs nums address done → IsFilling w seat made refs nums address done)
-      → ((address : ℕ) (at : ResolveSpot) → IsResolving c u seat address at → IsResolving c w seat address at)
-      → ((address : ℕ) (at : RememberSpot) → CanRecord c u seat address at → CanRecord c w seat address at) → (bit_at (u.memory Ask) 1 ≡ 1 → bit_at (w.memory Ask) 1 ≡ 1) → (spot : Spot)
-      → SpotFacts c u seat made kept command fixed spot → SpotFacts c w seat made kept command fixed spot
+  facts_stay : (made : ℕ) (kept : Kept) (command : Command) (fixed : Option Reply) → ((words : ℕ) (take : TakeSpot) → TakeFacts config world seat words take → TakeFacts config other_world seat words take)
+      → ((refs nums address done : ℕ) → IsFilling world seat made refs nums address done → IsFilling other_world seat made refs nums address done)
+      → ((address : ℕ) (at : ResolveSpot) → IsResolving config world seat address at → IsResolving config other_world seat address at)
+      → ((address : ℕ) (at : RememberSpot) → CanRecord config world seat address at → CanRecord config other_world seat address at) → (bit_at (world.memory Ask) 1 ≡ 1 → bit_at (other_world.memory Ask) 1 ≡ 1) → (spot : Spot)
+      → SpotFacts config world seat made kept command fixed spot → SpotFacts config other_world seat made kept command fixed spot
   facts_stay made kept command fixed taking filling resolving recording bit Rest facts = facts
   facts_stay made kept command fixed taking filling resolving recording bit (Ended reply) facts = facts
   facts_stay made kept command fixed taking filling resolving recording bit (Entering at next) facts = enter_stays made kept.command command fixed next facts
@@ -315,48 +315,48 @@ module _ (c : Config) (u w : World) (seat : ℕ) (keeps : Keeps c seat u w) wher
   facts_stay made kept command fixed taking filling resolving recording bit Gone facts = facts
 
   -- what a mutator knows of its seat stays
-  pub seated_stays : (made : ℕ) (waiting : Bool) → IsSeatedIn c u seat made waiting → IsSeatedIn c w seat made waiting
+  pub seated_stays : (made : ℕ) (waiting : Bool) → IsSeatedIn config world seat made waiting → IsSeatedIn config other_world seat made waiting
   seated_stays made waiting seated = record {
     below = seated.below;
     counted = keeps.count ∙ seated.counted;
-    usable = λ i below. subst (λ word. UsableIn c w word) (sym (keeps.root_words i)) (usable_stays c u w keeps.targets _ (seated.usable i below));
+    usable = λ i below. subst (λ word. UsableIn config other_world word) (sym (keeps.root_words i)) (usable_stays config world other_world keeps.targets _ (seated.usable i below));
     unasked = λ calm. let was = seated.unasked calm in (keeps.wait ∙ was.0, keeps.answer ∙ was.1, unpromised_stays was.2);
   }
 
   -- a root that counts stays
-  recording_stays : (dst value : ℕ) (next : Overwritten) (index : ℕ) → root_recording w seat dst value next index ≡ root_recording u seat dst value next index
+  recording_stays : (dst value : ℕ) (next : Overwritten) (index : ℕ) → root_recording other_world seat dst value next index ≡ root_recording world seat dst value next index
   recording_stays dst value overwrites.Xchg index = rw (keeps.root_words index) refl
   recording_stays dst value _ index = keeps.root_words index
 
-  resolving_stays : (dst value : ℕ) (next : Loaded) (index : ℕ) → root_resolving w seat dst value next index ≡ root_resolving u seat dst value next index
+  resolving_stays : (dst value : ℕ) (next : Loaded) (index : ℕ) → root_resolving other_world seat dst value next index ≡ root_resolving world seat dst value next index
   resolving_stays dst value ForRoot index = rw (keeps.root_words index) refl
   resolving_stays dst value (ToCompare object expect more) index = keeps.root_words index
 
-  pub now_stays : (kept : Kept) (spot : Spot) (index : ℕ) → root_now w seat kept spot index ≡ root_now u seat kept spot index
+  pub now_stays : (kept : Kept) (spot : Spot) (index : ℕ) → root_now other_world seat kept spot index ≡ root_now world seat kept spot index
   now_stays kept (Showing value at) index = rw (keeps.root_words index) refl
   now_stays kept (Resolving address at next) index = resolving_stays (dst_of kept.command) address next index
   now_stays kept (Recording at address next) index = recording_stays (dst_of kept.command) address next index
   now_stays kept _ index = keeps.root_words index
 
 -- the words of a new object stay
-filling_stays : (c : Config) (u w : World) (seat : ℕ) → Rely c seat u w → (made refs nums address done : ℕ) → IsFilling u seat made refs nums address done → IsFilling w seat made refs nums address done
-filling_stays c u w seat rely made refs nums address done facts = record {
+filling_stays : (config : Config) (world other_world : World) (seat : ℕ) → Rely config seat world other_world → (made refs nums address done : ℕ) → IsFilling world seat made refs nums address done → IsFilling other_world seat made refs nums address done
+filling_stays config world other_world seat rely made refs nums address done facts = record {
   room = rely.rooms address _ facts.room refl;
   within = facts.within;
   stored = λ k below. rely.room_words address k _ facts.room refl (let within = facts.within in omega arith) ∙ facts.stored k below;
 }
 
 -- all that it knows stays
-pub mine_stays : (c : Config) (u w : World) (m : Mutating) (command : Command) (fixed : Option Reply) → Shared c u → Rely c m.seat u w → Mine c u m command fixed → Mine c w m command fixed
-mine_stays c u w m command fixed shared rely mine = let keeps : Keeps c m.seat u w = keeps_of c m.seat u w rely in record {
-  seated = seated_stays c u w m.seat keeps m.made (is_waiting m.spot) mine.seated;
+pub mine_stays : (config : Config) (world other_world : World) (mutator : Mutating) (command : Command) (fixed : Option Reply) → Shared config world → Rely config mutator.seat world other_world → Mine config world mutator command fixed → Mine config other_world mutator command fixed
+mine_stays config world other_world mutator command fixed shared rely mine = let keeps : Keeps config mutator.seat world other_world = keeps_of config mutator.seat world other_world rely in record {
+  seated = seated_stays config world other_world mutator.seat keeps mutator.made (is_waiting mutator.spot) mine.seated;
   ready = mine.ready;
-  marking = marking_relied c u w m.seat (recording_of m.spot) m.kept.phase (has_phase m.spot) rely.marks mine.marking;
-  copying = copying_relied c u w m.seat (copies_at m.spot) m.kept.cset (has_set m.spot) rely.copies mine.copying;
-  roots = λ i below. rw (now_stays c u w m.seat keeps m.kept m.spot i) (root_stays c u w m.seat keeps _ i (mine.roots i below));
+  marking = marking_relied config world other_world mutator.seat (recording_of mutator.spot) mutator.kept.phase (has_phase mutator.spot) rely.marks mine.marking;
+  copying = copying_relied config world other_world mutator.seat (copies_at mutator.spot) mutator.kept.cset (has_set mutator.spot) rely.copies mine.copying;
+  roots = λ i below. rw (now_stays config world other_world mutator.seat keeps mutator.kept mutator.spot i) (root_stays config world other_world mutator.seat keeps _ i (mine.roots i below));
   rooms = λ a x is room. mine.rooms a x (rely.no_rooms a x is room) room;
-  facts = facts_stay c u w m.seat keeps m.made m.kept command fixed (take_stays c u w m.seat rely)
-      (filling_stays c u w m.seat rely m.made)
-      (λ address at can. still_resolving c u w m.seat address at shared rely can)
-      (λ address at can. ((recording_steps.steps c m.seat address).stands u at tt can).stays w rely) rely.asked m.spot mine.facts;
+  facts = facts_stay config world other_world mutator.seat keeps mutator.made mutator.kept command fixed (take_stays config world other_world mutator.seat rely)
+      (filling_stays config world other_world mutator.seat rely mutator.made)
+      (λ address at can. still_resolving config world other_world mutator.seat address at shared rely can)
+      (λ address at can. ((recording_steps.steps config mutator.seat address).stands world at tt can).stays other_world rely) rely.asked mutator.spot mine.facts;
 }

@@ -55,126 +55,126 @@ use Rattle.heap_world.specs.Asking.{Asking, HasNoPromise, IsAsked}
 use Rattle.heap_world.specs.Rely.{Rely}
 
 -- a word is that of a root of the mutator: it stands for the root's reference, and may be used
-pub record IsRootWord (c : Config) (w : World) (seat index word : ℕ) : Type 0 where
-  pub stands : Points w.block word (w.graph.root (seat + 1) index)
-  pub usable : UsableIn c w word
+pub record IsRootWord (config : Config) (world : World) (seat index word : ℕ) : Type 0 where
+  pub stands : Points world.block word (world.graph.root (seat + 1) index)
+  pub usable : UsableIn config world word
 
 -- A word is that of a root which the command loads. Of a root that the command does not load nothing is known.
 abbrev pub HasRoot : Config → World → ℕ → Command → ℕ → ℕ → Type 0
-HasRoot c w seat command k word = k < length (command_roots command) → IsRootWord c w seat (command_root command k) word
+HasRoot config world seat command index word = index < length (command_roots command) → IsRootWord config world seat (command_root command index) word
 
 -- the call has begun and nothing is settled
-pub record IsBegun (made : ℕ) (command : Command) (fixed : Option Reply) (k : Command) : Type 0 where
+pub record IsBegun (made : ℕ) (command : Command) (fixed : Option Reply) (other_command : Command) : Type 0 where
   pub unsettled : fixed ≡ None
-  pub is : command ≡ k
-  pub next : is_next made k ≡ true
+  pub is : command ≡ other_command
+  pub next : is_next made other_command ≡ true
 
 -- the object that a root of the mutator names
-pub record HasObject (c : Config) (w : World) (seat root object : ℕ) : Type 0 where
+pub record HasObject (config : Config) (world : World) (seat root object : ℕ) : Type 0 where
   pub name : Name
   pub refs : ℕ
   pub nums : ℕ
-  pub root_is : w.graph.root (seat + 1) root ≡ Some name
-  pub target : TargetIn c w object refs nums name
+  pub root_is : world.graph.root (seat + 1) root ≡ Some name
+  pub target : TargetIn config world object refs nums name
 
 -- the first root of a command is loaded, and if the command works on an object, it is not null
-pub record HasFirst (c : Config) (w : World) (seat : ℕ) (k : Command) (first : ℕ) : Type 0 where
-  pub some : 0 < length (command_roots k)
-  pub first_is : HasRoot c w seat k 0 first
-  pub not_null : is_on_object k ≡ true → first ≢ 0
+pub record HasFirst (config : Config) (world : World) (seat : ℕ) (command : Command) (first : ℕ) : Type 0 where
+  pub some : 0 < length (command_roots command)
+  pub first_is : HasRoot config world seat command 0 first
+  pub not_null : is_on_object command ≡ true → first ≢ 0
 
 -- all roots are loaded
-pub record HasRoots (c : Config) (w : World) (seat : ℕ) (k : Command) (first second third : ℕ) : Type 0 where
-  pub first_is : HasFirst c w seat k first
-  pub second_is : HasRoot c w seat k 1 second
-  pub third_is : HasRoot c w seat k 2 third
+pub record HasRoots (config : Config) (world : World) (seat : ℕ) (command : Command) (first second third : ℕ) : Type 0 where
+  pub first_is : HasFirst config world seat command first
+  pub second_is : HasRoot config world seat command 1 second
+  pub third_is : HasRoot config world seat command 2 third
 
 -- The command works on a reference field of an object, or on a number of it.
-pub record IsGet (c : Config) (w : World) (seat : ℕ) (command : Command) (object field dst : ℕ) : Type 0 where
+pub record IsGet (config : Config) (world : World) (seat : ℕ) (command : Command) (object field dst : ℕ) : Type 0 where
   pub src : ℕ
   pub is : command ≡ Get dst src field
   pub small : dst < 16
-  pub of : HasObject c w seat src object
+  pub of : HasObject config world seat src object
   pub below : field < of.refs
 
-pub record IsSet (c : Config) (w : World) (seat : ℕ) (command : Command) (object field value : ℕ) : Type 0 where
+pub record IsSet (config : Config) (world : World) (seat : ℕ) (command : Command) (object field value : ℕ) : Type 0 where
   pub obj : ℕ
   pub val : ℕ
   pub is : command ≡ Set obj field val
-  pub of : HasObject c w seat obj object
+  pub of : HasObject config world seat obj object
   pub below : field < of.refs
-  pub value_is : IsRootWord c w seat val value
+  pub value_is : IsRootWord config world seat val value
 
-pub record IsCas (c : Config) (w : World) (seat : ℕ) (command : Command) (object field expect value : ℕ) : Type 0 where
+pub record IsCas (config : Config) (world : World) (seat : ℕ) (command : Command) (object field expect value : ℕ) : Type 0 where
   pub obj : ℕ
   pub expected : ℕ
   pub val : ℕ
   pub is : command ≡ Cas obj field expected val
-  pub of : HasObject c w seat obj object
+  pub of : HasObject config world seat obj object
   pub below : field < of.refs
-  pub expect_is : IsRootWord c w seat expected expect
-  pub value_is : IsRootWord c w seat val value
+  pub expect_is : IsRootWord config world seat expected expect
+  pub value_is : IsRootWord config world seat val value
 
-pub record IsXchg (c : Config) (w : World) (seat : ℕ) (command : Command) (object field value dst : ℕ) : Type 0 where
+pub record IsXchg (config : Config) (world : World) (seat : ℕ) (command : Command) (object field value dst : ℕ) : Type 0 where
   pub obj : ℕ
   pub val : ℕ
   pub is : command ≡ Xchg dst obj field val
   pub small : dst < 16
-  pub of : HasObject c w seat obj object
+  pub of : HasObject config world seat obj object
   pub below : field < of.refs
-  pub value_is : IsRootWord c w seat val value
+  pub value_is : IsRootWord config world seat val value
 
-pub record IsRd (c : Config) (w : World) (seat : ℕ) (command : Command) (object refs index : ℕ) : Type 0 where
+pub record IsRd (config : Config) (world : World) (seat : ℕ) (command : Command) (object refs index : ℕ) : Type 0 where
   pub obj : ℕ
   pub is : command ≡ Rd obj index
-  pub of : HasObject c w seat obj object
+  pub of : HasObject config world seat obj object
   pub refs_are : refs ≡ of.refs
   pub below : index < of.nums
 
-pub record IsWr (c : Config) (w : World) (seat : ℕ) (command : Command) (object refs index value : ℕ) : Type 0 where
+pub record IsWr (config : Config) (world : World) (seat : ℕ) (command : Command) (object refs index value : ℕ) : Type 0 where
   pub obj : ℕ
   pub is : command ≡ Wr obj index value
-  pub of : HasObject c w seat obj object
+  pub of : HasObject config world seat obj object
   pub refs_are : refs ≡ of.refs
   pub below : index < of.nums
 
 -- the reply shows the object that was found, of which a copy is in hand
-pub record IsFound (w : World) (fixed : Option Reply) (value dst : ℕ) : Type 0 where
+pub record IsFound (world : World) (fixed : Option Reply) (value dst : ℕ) : Type 0 where
   pub name : Name
   pub settled : fixed ≡ Some (reply.Ref name)
-  pub is : name_at (w.block value) ≡ Some name
+  pub is : name_at (world.block value) ≡ Some name
   pub small : dst < 16
 
 -- two words name the same: both are null, or what stands at them is of one name
 abbrev pub NameTheSame : Plot → ℕ → ℕ → Type 0
-NameTheSame block a b = ((a ≡ 0) × (b ≡ 0)) ⊎ ((name : Name) × (name_at (block a) ≡ Some name) × (name_at (block b) ≡ Some name))
+NameTheSame block address other_address = ((address ≡ 0) × (other_address ≡ 0)) ⊎ ((name : Name) × (name_at (block address) ≡ Some name) × (name_at (block other_address) ≡ Some name))
 
 -- a word names an object, and another word is null or names another
-pub record NameOthers (block : Plot) (a b : ℕ) : Type 0 where
+pub record NameOthers (block : Plot) (address other_address : ℕ) : Type 0 where
   pub name : Name
-  pub is : name_at (block a) ≡ Some name
-  pub other : (b ≡ 0) ⊎ ((more : Name) × (name_at (block b) ≡ Some more) × (name ≢ more))
+  pub is : name_at (block address) ≡ Some name
+  pub other : (other_address ≡ 0) ⊎ ((more : Name) × (name_at (block other_address) ≡ Some more) × (name ≢ more))
 
 -- what was found in the field that a Cas is about to exchange is compared with what is to be there: it is settled that they differ, or
 -- they name the same and nothing is settled
 abbrev pub IsCompared : Plot → Option Reply → (found expect : ℕ) → Type 0
 IsCompared block fixed found expect = ((fixed ≡ Some reply.No) × NameOthers block found expect) ⊎ ((fixed ≡ None) × NameTheSame block found expect)
 
-pub record IsComparing (c : Config) (w : World) (seat : ℕ) (k command : Command) (fixed : Option Reply) (object found expect value : ℕ) : Type 0 where
+pub record IsComparing (config : Config) (world : World) (seat : ℕ) (other_command command : Command) (fixed : Option Reply) (object found expect value : ℕ) : Type 0 where
   pub some : found ≢ 0
-  pub is_cas : IsCas c w seat command object (index_of k) expect value
-  pub settled : IsCompared w.block fixed found expect
+  pub is_cas : IsCas config world seat command object (index_of other_command) expect value
+  pub settled : IsCompared world.block fixed found expect
 
 -- what holds while a reference that was found in a field is resolved
 abbrev pub LoadedFacts : Config → World → ℕ → Command → Command → Option Reply → (found : ℕ) → Loaded → Type 0
-LoadedFacts c w seat k command fixed found ForRoot = IsFound w fixed found (dst_of k)
-LoadedFacts c w seat k command fixed found (ToCompare object expect value) = IsComparing c w seat k command fixed object found expect value
+LoadedFacts config world seat k command fixed found ForRoot = IsFound world fixed found (dst_of k)
+LoadedFacts config world seat k command fixed found (ToCompare object expect value) = IsComparing config world seat k command fixed object found expect value
 
 -- the command makes one root another, or null
-pub record IsCopy (c : Config) (w : World) (seat : ℕ) (command : Command) (dst value : ℕ) : Type 0 where
+pub record IsCopy (config : Config) (world : World) (seat : ℕ) (command : Command) (dst value : ℕ) : Type 0 where
   pub src : ℕ
   pub is : command ≡ Copy dst src
-  pub value_is : IsRootWord c w seat src value
+  pub value_is : IsRootWord config world seat src value
 
 pub record IsDrop (command : Command) (dst value : ℕ) : Type 0 where
   pub is : command ≡ Drop dst
@@ -190,10 +190,10 @@ pub record IsMaking (made : ℕ) (command : Command) (fixed : Option Reply) (dst
   pub few : made < most_objects
 
 -- room in hand, in which so many words of the new object stand
-pub record IsFilling (w : World) (seat made refs nums address done : ℕ) : Type 0 where
-  pub room : w.block address ≡ Some (hand seat (3 + refs + nums))
+pub record IsFilling (world : World) (seat made refs nums address done : ℕ) : Type 0 where
+  pub room : world.block address ≡ Some (hand seat (3 + refs + nums))
   pub within : done ≤ 3 + refs + nums
-  pub stored : (k : ℕ) → k < done → w.memory (Heap (address + k)) ≡ fresh_word seat made refs nums k
+  pub stored : (k : ℕ) → k < done → world.memory (Heap (address + k)) ≡ fresh_word seat made refs nums k
 
 -- the command makes an object for which there was no room, and the history has no reply, or that the heap is full
 pub record IsRefused (command : Command) (fixed : Option Reply) : Type 0 where
@@ -213,132 +213,132 @@ pub record IsFull (command : Command) (fixed : Option Reply) : Type 0 where
 
 -- the command makes an object, and the mutator has asked so for it
 abbrev pub IsAsking : World → ℕ → ℕ → Command → Command → Option Reply → Asking → Type 0
-IsAsking w seat made k command fixed what = IsMaking made command fixed (dst_of k) (refs_of k) (nums_of k) × IsAsked w.memory w.block w.graph.count seat what
+IsAsking world seat made k command fixed what = IsMaking made command fixed (dst_of k) (refs_of k) (nums_of k) × IsAsked world.memory world.block world.graph.count seat what
 
 -- it asks for its object, and the word of what is asked has the bit that a mutator waits
 abbrev pub IsHeard : World → ℕ → ℕ → Command → Command → Option Reply → Type 0
-IsHeard w seat made k command fixed = IsAsking w seat made k command fixed (asking.asks (refs_of k) (nums_of k)) × (bit_at (w.memory Ask) 1 ≡ 1)
+IsHeard world seat made k command fixed = IsAsking world seat made k command fixed (asking.asks (refs_of k) (nums_of k)) × (bit_at (world.memory Ask) 1 ≡ 1)
 
 -- Where a mutator polls, it asks for its object, was given it, or was refused it. The words that count may say so before the
 -- word of the table does that it polls: then the history does not have yet that the heap is full.
 abbrev pub IsPolling : World → ℕ → ℕ → Command → Command → Option Reply → Type 0
-IsPolling w seat made k command fixed =
-    IsHeard w seat made k command fixed
-    ⊎ (IsAsking w seat made k command fixed (asking.given (refs_of k) (nums_of k)) ⊎ (IsRefused command fixed × IsAsked w.memory w.block w.graph.count seat asking.refused))
+IsPolling world seat made k command fixed =
+    IsHeard world seat made k command fixed
+    ⊎ (IsAsking world seat made k command fixed (asking.given (refs_of k) (nums_of k)) ⊎ (IsRefused command fixed × IsAsked world.memory world.block world.graph.count seat asking.refused))
 
 -- and once it has found that it is answered, it was given its object, or the heap is full
 abbrev pub IsAnswered : World → ℕ → ℕ → Command → Command → Option Reply → Type 0
-IsAnswered w seat made k command fixed =
-    IsAsking w seat made k command fixed (asking.given (refs_of k) (nums_of k)) ⊎ (IsFull command fixed × IsAsked w.memory w.block w.graph.count seat asking.refused)
+IsAnswered world seat made k command fixed =
+    IsAsking world seat made k command fixed (asking.given (refs_of k) (nums_of k)) ⊎ (IsFull command fixed × IsAsked world.memory world.block world.graph.count seat asking.refused)
 
 -- What holds in each part of a call of this command, of which the mutator keeps k. `fixed` is the reply that the history has
 -- for the call, once it is settled.
 abbrev pub LoadFacts : Config → World → ℕ → ℕ → Command → Command → Option Reply → LoadSpot → Type 0
-LoadFacts c w seat made k command fixed load.First = IsBegun made command fixed k × (0 < length (command_roots k))
-LoadFacts c w seat made k command fixed (load.Second first) = IsBegun made command fixed k × (1 < length (command_roots k)) × HasFirst c w seat k first
-LoadFacts c w seat made k command fixed (load.Third first second) = IsBegun made command fixed k × (2 < length (command_roots k)) × HasFirst c w seat k first × HasRoot c w seat k 1 second
-LoadFacts c w seat made k command fixed (load.Shape object second third) =
-    IsBegun made command fixed k × (is_on_object k ≡ true) × HasRoots c w seat k object second third × (IsPin k → ⊥)
+LoadFacts config world seat made k command fixed load.First = IsBegun made command fixed k × (0 < length (command_roots k))
+LoadFacts config world seat made k command fixed (load.Second first) = IsBegun made command fixed k × (1 < length (command_roots k)) × HasFirst config world seat k first
+LoadFacts config world seat made k command fixed (load.Third first second) = IsBegun made command fixed k × (2 < length (command_roots k)) × HasFirst config world seat k first × HasRoot config world seat k 1 second
+LoadFacts config world seat made k command fixed (load.Shape object second third) =
+    IsBegun made command fixed k × (is_on_object k ≡ true) × HasRoots config world seat k object second third × (IsPin k → ⊥)
 
 abbrev pub FieldFacts : Config → World → ℕ → Command → Command → Option Reply → ℕ → FieldSpot → Type 0
-FieldFacts c w seat k command fixed object fields.Load = (fixed ≡ None) × IsGet c w seat command object (index_of k) (dst_of k)
-FieldFacts c w seat k command fixed object (fields.LoadExpected expect value) = (fixed ≡ None) × IsCas c w seat command object (index_of k) expect value
-FieldFacts c w seat k command fixed object (fields.LoadOld value) = (fixed ≡ None) × IsSet c w seat command object (index_of k) value
-FieldFacts c w seat k command fixed object (fields.Store value) = (fixed ≡ None) × IsSet c w seat command object (index_of k) value × IsCovered c w object (index_of k)
-FieldFacts c w seat k command fixed object (fields.Swap value) = (fixed ≡ None) × IsXchg c w seat command object (index_of k) value (dst_of k)
-FieldFacts c w seat k command fixed object (fields.Exchange found expect value) = (fixed ≡ None) × IsCas c w seat command object (index_of k) expect value × NameTheSame w.block found expect
+FieldFacts config world seat k command fixed object fields.Load = (fixed ≡ None) × IsGet config world seat command object (index_of k) (dst_of k)
+FieldFacts config world seat k command fixed object (fields.LoadExpected expect value) = (fixed ≡ None) × IsCas config world seat command object (index_of k) expect value
+FieldFacts config world seat k command fixed object (fields.LoadOld value) = (fixed ≡ None) × IsSet config world seat command object (index_of k) value
+FieldFacts config world seat k command fixed object (fields.Store value) = (fixed ≡ None) × IsSet config world seat command object (index_of k) value × IsCovered config world object (index_of k)
+FieldFacts config world seat k command fixed object (fields.Swap value) = (fixed ≡ None) × IsXchg config world seat command object (index_of k) value (dst_of k)
+FieldFacts config world seat k command fixed object (fields.Exchange found expect value) = (fixed ≡ None) × IsCas config world seat command object (index_of k) expect value × NameTheSame world.block found expect
 
 -- what follows once an overwritten reference is recorded: a Set covers what its field had in the snapshot, and of an Xchg and a Cas the
 -- reply is settled
 abbrev pub RecordFacts : Config → World → ℕ → Command → Command → Option Reply → ℕ → Overwritten → Type 0
-RecordFacts c w seat k command fixed address (overwrites.Set object value) = FieldFacts c w seat k command fixed object (fields.Store value)
-RecordFacts c w seat k command fixed address overwrites.Xchg = IsFound w fixed address (dst_of k)
-RecordFacts c w seat k command fixed address overwrites.Cas = fixed ≡ Some reply.Yes
+RecordFacts config world seat k command fixed address (overwrites.Set object value) = FieldFacts config world seat k command fixed object (fields.Store value)
+RecordFacts config world seat k command fixed address overwrites.Xchg = IsFound world fixed address (dst_of k)
+RecordFacts config world seat k command fixed address overwrites.Cas = fixed ≡ Some reply.Yes
 
 abbrev pub NumberFacts : Config → World → ℕ → Command → Command → Option Reply → ℕ → ℕ → NumberSpot → Type 0
-NumberFacts c w seat k command fixed object refs numbers.Load = (fixed ≡ None) × IsRd c w seat command object refs (index_of k)
-NumberFacts c w seat k command fixed object refs numbers.Store = (fixed ≡ None) × IsWr c w seat command object refs (index_of k) (stored_number k)
+NumberFacts config world seat k command fixed object refs numbers.Load = (fixed ≡ None) × IsRd config world seat command object refs (index_of k)
+NumberFacts config world seat k command fixed object refs numbers.Store = (fixed ≡ None) × IsWr config world seat command object refs (index_of k) (stored_number k)
 
 -- what a command counts on that is about a pin slot: it puts the object of a root into the slot, or it empties the slot
 abbrev pub IsOfSlot : Config → World → ℕ → Command → ℕ → Type 0
-IsOfSlot c w seat (Pin slot obj) value = (slot < 4) × HasObject c w seat obj value
-IsOfSlot c w seat (Unpin slot) value = (slot < 4) × (value ≡ 0)
-IsOfSlot c w seat _ value = ⊥
+IsOfSlot config world seat (Pin slot obj) value = (slot < 4) × HasObject config world seat obj value
+IsOfSlot config world seat (Unpin slot) value = (slot < 4) × (value ≡ 0)
+IsOfSlot config world seat _ value = ⊥
 
 -- the slot is empty that is to be, or holds something
 abbrev pub SlotFits : World → ℕ → Command → Type 0
-SlotFits w seat (Pin slot obj) = w.graph.pin (seat + 1) slot ≡ None
-SlotFits w seat k = w.graph.pin (seat + 1) (slot_of k) ≡ None → ⊥
+SlotFits world seat (Pin slot obj) = world.graph.pin (seat + 1) slot ≡ None
+SlotFits world seat command = world.graph.pin (seat + 1) (slot_of command) ≡ None → ⊥
 
 abbrev pub PinFacts : Config → World → ℕ → Command → Command → Option Reply → ℕ → PinSpot → Type 0
-PinFacts c w seat k command fixed value pins.Look = (fixed ≡ None) × (command ≡ k) × IsOfSlot c w seat k value
-PinFacts c w seat k command fixed value pins.Store = (fixed ≡ None) × (command ≡ k) × IsOfSlot c w seat k value × SlotFits w seat k
+PinFacts config world seat k command fixed value pins.Look = (fixed ≡ None) × (command ≡ k) × IsOfSlot config world seat k value
+PinFacts config world seat k command fixed value pins.Store = (fixed ≡ None) × (command ≡ k) × IsOfSlot config world seat k value × SlotFits world seat k
 
 abbrev pub ShowFacts : Config → World → Command → Option Reply → ℕ → ShowSpot → Type 0
-ShowFacts c w k fixed value show.LoadName = IsFound w fixed value (dst_of k) × UsableIn c w value
-ShowFacts c w k fixed value (show.StoreRoot reply) = (fixed ≡ Some reply) × (dst_of k < 16) × UsableIn c w value
+ShowFacts config world command fixed value show.LoadName = IsFound world fixed value (dst_of command) × UsableIn config world value
+ShowFacts config world command fixed value (show.StoreRoot reply) = (fixed ≡ Some reply) × (dst_of command < 16) × UsableIn config world value
 
 abbrev pub MakeFacts : Config → World → ℕ → ℕ → Command → Command → Option Reply → MakeSpot → Type 0
-MakeFacts c w seat made k command fixed (make.Taking take) = IsMaking made command fixed (dst_of k) (refs_of k) (nums_of k) × TakeFacts c w seat (words_made k) take
-MakeFacts c w seat made k command fixed (make.StoreWord address done) =
-    IsMaking made command fixed (dst_of k) (refs_of k) (nums_of k) × IsFilling w seat made (refs_of k) (nums_of k) address done × (done < words_made k)
-MakeFacts c w seat made k command fixed (make.StoreRoot address) =
-    IsMaking made command fixed (dst_of k) (refs_of k) (nums_of k) × IsFilling w seat made (refs_of k) (nums_of k) address (words_made k)
+MakeFacts config world seat made k command fixed (make.Taking take) = IsMaking made command fixed (dst_of k) (refs_of k) (nums_of k) × TakeFacts config world seat (words_made k) take
+MakeFacts config world seat made k command fixed (make.StoreWord address done) =
+    IsMaking made command fixed (dst_of k) (refs_of k) (nums_of k) × IsFilling world seat made (refs_of k) (nums_of k) address done × (done < words_made k)
+MakeFacts config world seat made k command fixed (make.StoreRoot address) =
+    IsMaking made command fixed (dst_of k) (refs_of k) (nums_of k) × IsFilling world seat made (refs_of k) (nums_of k) address (words_made k)
 
 abbrev pub EnterFacts : World → ℕ → ℕ → Command → Command → Option Reply → Entered → Type 0
-EnterFacts w seat made k command fixed Call = IsBegun made command fixed k
-EnterFacts w seat made k command fixed Waited = IsAnswered w seat made k command fixed
+EnterFacts world seat made k command fixed Call = IsBegun made command fixed k
+EnterFacts world seat made k command fixed Waited = IsAnswered world seat made k command fixed
 
 abbrev pub WaitFacts : Config → World → ℕ → ℕ → Command → Command → Option Reply → WaitSpot → Type 0
-WaitFacts c w seat made k command fixed wait.StoreRequest = IsAsking w seat made k command fixed asking.nothing
-WaitFacts c w seat made k command fixed wait.AskRoom = IsAsking w seat made k command fixed (asking.asks (refs_of k) (nums_of k))
-WaitFacts c w seat made k command fixed wait.StepOut = IsHeard w seat made k command fixed
-WaitFacts c w seat made k command fixed wait.Poll = IsPolling w seat made k command fixed
-WaitFacts c w seat made k command fixed wait.LoadAnswer = IsAnswered w seat made k command fixed
-WaitFacts c w seat made k command fixed (wait.StoreRoot address) =
-    IsAsking w seat made k command fixed (asking.given (refs_of k) (nums_of k)) × (w.memory (Answer seat) ≡ address)
-WaitFacts c w seat made k command fixed (wait.ClearAnswer reply) =
-    (fixed ≡ Some reply) × (w.memory (Wait seat) ≡ 0) × HasNoPromise w.block seat × HasTaken c w seat reply × MakesObject command
+WaitFacts config world seat made k command fixed wait.StoreRequest = IsAsking world seat made k command fixed asking.nothing
+WaitFacts config world seat made k command fixed wait.AskRoom = IsAsking world seat made k command fixed (asking.asks (refs_of k) (nums_of k))
+WaitFacts config world seat made k command fixed wait.StepOut = IsHeard world seat made k command fixed
+WaitFacts config world seat made k command fixed wait.Poll = IsPolling world seat made k command fixed
+WaitFacts config world seat made k command fixed wait.LoadAnswer = IsAnswered world seat made k command fixed
+WaitFacts config world seat made k command fixed (wait.StoreRoot address) =
+    IsAsking world seat made k command fixed (asking.given (refs_of k) (nums_of k)) × (world.memory (Answer seat) ≡ address)
+WaitFacts config world seat made k command fixed (wait.ClearAnswer reply) =
+    (fixed ≡ Some reply) × (world.memory (Wait seat) ≡ 0) × HasNoPromise world.block seat × HasTaken config world seat reply × MakesObject command
 
 -- and at each spot
 abbrev pub SpotFacts : Config → World → ℕ → ℕ → Kept → Command → Option Reply → Spot → Type 0
-SpotFacts c w seat made kept command fixed Rest = fixed ≡ None
-SpotFacts c w seat made kept command fixed (Ended reply) = fixed ≡ None
-SpotFacts c w seat made kept command fixed (Entering at next) = EnterFacts w seat made kept.command command fixed next
-SpotFacts c w seat made kept command fixed LoadPhase = IsBegun made command fixed kept.command
-SpotFacts c w seat made kept command fixed LoadSet = IsBegun made command fixed kept.command
-SpotFacts c w seat made kept command fixed (Loading at) = LoadFacts c w seat made kept.command command fixed at
-SpotFacts c w seat made kept command fixed (OnField object at) = FieldFacts c w seat kept.command command fixed object at
-SpotFacts c w seat made kept command fixed (Resolving address at next) = IsResolving c w seat address at × LoadedFacts c w seat kept.command command fixed address next
-SpotFacts c w seat made kept command fixed (Recording at address next) = CanRecord c w seat address at × RecordFacts c w seat kept.command command fixed address next
-SpotFacts c w seat made kept command fixed (OnNumber object refs at) = NumberFacts c w seat kept.command command fixed object refs at
-SpotFacts c w seat made kept command fixed (Showing value at) = ShowFacts c w kept.command fixed value at
-SpotFacts c w seat made kept command fixed (StoreRoot value) =
-    (fixed ≡ None) × (dst_of kept.command < 16) × (IsCopy c w seat command (dst_of kept.command) value ⊎ IsDrop command (dst_of kept.command) value)
-SpotFacts c w seat made kept command fixed (Making at) = MakeFacts c w seat made kept.command command fixed at
-SpotFacts c w seat made kept command fixed AskCycle = (fixed ≡ None) × (command ≡ Gc)
-SpotFacts c w seat made kept command fixed (Pinning value at) = PinFacts c w seat kept.command command fixed value at
-SpotFacts c w seat made kept command fixed (Waiting at) = WaitFacts c w seat made kept.command command fixed at
-SpotFacts c w seat made kept command fixed (Leave reply) = fixed ≡ Some reply
-SpotFacts c w seat made kept command fixed Gone = fixed ≡ None
+SpotFacts config world seat made kept command fixed Rest = fixed ≡ None
+SpotFacts config world seat made kept command fixed (Ended reply) = fixed ≡ None
+SpotFacts config world seat made kept command fixed (Entering at next) = EnterFacts world seat made kept.command command fixed next
+SpotFacts config world seat made kept command fixed LoadPhase = IsBegun made command fixed kept.command
+SpotFacts config world seat made kept command fixed LoadSet = IsBegun made command fixed kept.command
+SpotFacts config world seat made kept command fixed (Loading at) = LoadFacts config world seat made kept.command command fixed at
+SpotFacts config world seat made kept command fixed (OnField object at) = FieldFacts config world seat kept.command command fixed object at
+SpotFacts config world seat made kept command fixed (Resolving address at next) = IsResolving config world seat address at × LoadedFacts config world seat kept.command command fixed address next
+SpotFacts config world seat made kept command fixed (Recording at address next) = CanRecord config world seat address at × RecordFacts config world seat kept.command command fixed address next
+SpotFacts config world seat made kept command fixed (OnNumber object refs at) = NumberFacts config world seat kept.command command fixed object refs at
+SpotFacts config world seat made kept command fixed (Showing value at) = ShowFacts config world kept.command fixed value at
+SpotFacts config world seat made kept command fixed (StoreRoot value) =
+    (fixed ≡ None) × (dst_of kept.command < 16) × (IsCopy config world seat command (dst_of kept.command) value ⊎ IsDrop command (dst_of kept.command) value)
+SpotFacts config world seat made kept command fixed (Making at) = MakeFacts config world seat made kept.command command fixed at
+SpotFacts config world seat made kept command fixed AskCycle = (fixed ≡ None) × (command ≡ Gc)
+SpotFacts config world seat made kept command fixed (Pinning value at) = PinFacts config world seat kept.command command fixed value at
+SpotFacts config world seat made kept command fixed (Waiting at) = WaitFacts config world seat made kept.command command fixed at
+SpotFacts config world seat made kept command fixed (Leave reply) = fixed ≡ Some reply
+SpotFacts config world seat made kept command fixed Gone = fixed ≡ None
 
 -- The facts of a seat that all places share, over the words and numbers that they read: it is a mutator's, it has made as many
 -- objects as the graph says, its root words may be used, and while it does not wait for an object it has asked for none, and
 -- none is promised to it.
-pub record IsSeated (c : Config) (seat count made : ℕ) (waiting : Bool) (wait answer cset evac : ℕ) (root : ℕ → ℕ) (block : Plot) : Type 0 where
-  pub below : seat < c.mutators
+pub record IsSeated (config : Config) (seat count made : ℕ) (waiting : Bool) (wait answer cset evac : ℕ) (root : ℕ → ℕ) (block : Plot) : Type 0 where
+  pub below : seat < config.mutators
   pub counted : count ≡ made
-  pub usable : (i : ℕ) → i < 16 → IsUsable c cset evac block (root i)
+  pub usable : (index : ℕ) → index < 16 → IsUsable config cset evac block (root index)
   pub unasked : waiting ≡ false → (wait ≡ 0) × (answer ≡ 0) × HasNoPromise block seat
 
 -- those of a seat in a world, by the objects that its mutator has made and whether it waits
 abbrev pub IsSeatedIn : Config → World → ℕ → ℕ → Bool → Type 0
-IsSeatedIn c w seat made waiting =
-    IsSeated c seat (w.graph.count (seat + 1)) made waiting (w.memory (Wait seat)) (w.memory (Answer seat)) (w.memory Cset) (w.memory Evac) (λ i. w.memory (Root seat i)) w.block
+IsSeatedIn config world seat made waiting =
+    IsSeated config seat (world.graph.count (seat + 1)) made waiting (world.memory (Wait seat)) (world.memory (Answer seat)) (world.memory Cset) (world.memory Evac) (λ i. world.memory (Root seat i)) world.block
 
 -- and those of a mutator
 abbrev pub Seated : Config → World → Mutating → Type 0
-Seated c w m = IsSeatedIn c w m.seat m.made (is_waiting m.spot)
+Seated config world mutator = IsSeatedIn config world mutator.seat mutator.made (is_waiting mutator.spot)
 
 -- Of marking a mutator counts on this: what it is about to record is what its spot says, it scans nothing, and where its call has
 -- loaded the phase, that is the phase.
@@ -349,10 +349,10 @@ pub record HasMarking (phase : ℕ) (recording : Option ℕ) (scanning : Option 
 
 -- that of a seat in a world, by what its spot has in hand, the phase that its call keeps, and whether it has loaded it
 abbrev pub HasMarkingBy : World → ℕ → Option ℕ → ℕ → Bool → Type 0
-HasMarkingBy w seat in_hand loaded knows = HasMarking (w.memory Phase) (w.ghost.recording seat) (w.ghost.scanning seat) in_hand loaded knows
+HasMarkingBy world seat in_hand loaded knows = HasMarking (world.memory Phase) (world.ghost.recording seat) (world.ghost.scanning seat) in_hand loaded knows
 
 abbrev pub HasMarkingIn : World → ℕ → Kept → Spot → Type 0
-HasMarkingIn w seat kept spot = HasMarkingBy w seat (recording_of spot) kept.phase (has_phase spot)
+HasMarkingIn world seat kept spot = HasMarkingBy world seat (recording_of spot) kept.phase (has_phase spot)
 
 -- Of evacuation a mutator counts on this: it copies where its spot says so, it works on no unit, and where its call has loaded the
 -- collection set, that is the set.
@@ -362,30 +362,30 @@ pub record HasCopying (cset : ℕ) (copying : Bool) (working : Option ℕ) (copi
   pub set_is : knows ≡ true → loaded ≡ cset
 
 abbrev pub HasCopyingBy : World → ℕ → Bool → ℕ → Bool → Type 0
-HasCopyingBy w seat copies loaded knows = HasCopying (w.memory Cset) (w.ghost.copying seat) (w.ghost.working seat) copies loaded knows
+HasCopyingBy world seat copies loaded knows = HasCopying (world.memory Cset) (world.ghost.copying seat) (world.ghost.working seat) copies loaded knows
 
 abbrev pub HasCopyingIn : World → ℕ → Kept → Spot → Type 0
-HasCopyingIn w seat kept spot = HasCopyingBy w seat (copies_at spot) kept.cset (has_set spot)
+HasCopyingIn world seat kept spot = HasCopyingBy world seat (copies_at spot) kept.cset (has_set spot)
 
 -- what a mutator counts on
-pub record Mine (c : Config) (w : World) (m : Mutating) (command : Command) (fixed : Option Reply) : Type 0 where
-  pub seated : Seated c w m
-  pub ready : IsReady c m
-  pub marking : HasMarkingIn w m.seat m.kept m.spot
-  pub copying : HasCopyingIn w m.seat m.kept m.spot
-  pub roots : (i : ℕ) → i < 16 → Points w.block (root_now w m.seat m.kept m.spot i) (w.graph.root (m.seat + 1) i)
-  pub rooms : (a : ℕ) (x : Block) → w.block a ≡ Some x → room_of x ≡ Some m.seat → IsRoomOf m.seat m.kept m.spot a x
-  pub facts : SpotFacts c w m.seat m.made m.kept command fixed m.spot
+pub record Mine (config : Config) (world : World) (mutator : Mutating) (command : Command) (fixed : Option Reply) : Type 0 where
+  pub seated : Seated config world mutator
+  pub ready : IsReady config mutator
+  pub marking : HasMarkingIn world mutator.seat mutator.kept mutator.spot
+  pub copying : HasCopyingIn world mutator.seat mutator.kept mutator.spot
+  pub roots : (index : ℕ) → index < 16 → Points world.block (root_now world mutator.seat mutator.kept mutator.spot index) (world.graph.root (mutator.seat + 1) index)
+  pub rooms : (address : ℕ) (piece : Block) → world.block address ≡ Some piece → room_of piece ≡ Some mutator.seat → IsRoomOf mutator.seat mutator.kept mutator.spot address piece
+  pub facts : SpotFacts config world mutator.seat mutator.made mutator.kept command fixed mutator.spot
 
 -- the graph after the entry that a step settles, if it settles one
 abbrev pub graph_by : Graph → ℕ → Command → Option Reply → Graph
-graph_by g seat command None = g
-graph_by g seat command (Some reply) = after_entry g (entry_of seat command reply)
+graph_by graph seat command None = graph
+graph_by graph seat command (Some reply) = after_entry graph (entry_of seat command reply)
 
 -- the entry that a step settles is legal, if it settles one
 abbrev pub LegalBy : Config → Graph → ℕ → Command → Option Reply → Type 0
-LegalBy c g seat command None = Unit {0}
-LegalBy c g seat command (Some reply) = IsLegal c.regions c.region_words g (seat + 1) command reply (after_entry g (entry_of seat command reply))
+LegalBy config graph seat command None = Unit {0}
+LegalBy config graph seat command (Some reply) = IsLegal config.regions config.region_words graph (seat + 1) command reply (after_entry graph (entry_of seat command reply))
 
 -- the settled reply after a step that settles one, gives it, or does neither
 abbrev pub fixed_by : Option Reply → Option Reply → Option Reply → Option Reply
@@ -396,22 +396,22 @@ fixed_by fixed None None = fixed
 -- What a step of a mutator owes: the world after it, whose memory is that after the access and whose graph is that after
 -- the entry which it settles; that the entry is legal, and the first of its call; what all machines share, what the
 -- mutator counts on from here, and what the others rely on.
-pub record Stepped (c : Config) (u : World) (m : Mutating) (command : Command) (order : Order) (fixed : Option Reply) : Type 0 where
+pub record Stepped (config : Config) (u : World) (mutator : Mutating) (command : Command) (order : Order) (fixed : Option Reply) : Type 0 where
   pub world : World
-  pub memory : world.memory ≡ touched u.memory (touch_of c m order)
-  pub graph : world.graph ≡ graph_by u.graph m.seat (command_by order command) (told_of u.memory m)
-  pub legal : LegalBy c u.graph m.seat (command_by order command) (told_of u.memory m)
-  pub settles : (reply : Reply) → told_of u.memory m ≡ Some reply → (fixed ≡ None) × (given_at m.spot ≡ None)
-  pub shared : Shared c world
-  pub mine : Mine c world (next_of c m order (u.memory (touch_of c m order).word)) (command_by order command) (fixed_by fixed (told_of u.memory m) (given_at m.spot))
-  pub others : (seat : ℕ) → seat ≢ m.seat → Rely c seat u world
+  pub memory : world.memory ≡ touched u.memory (touch_of config mutator order)
+  pub graph : world.graph ≡ graph_by u.graph mutator.seat (command_by order command) (told_of u.memory mutator)
+  pub legal : LegalBy config u.graph mutator.seat (command_by order command) (told_of u.memory mutator)
+  pub settles : (reply : Reply) → told_of u.memory mutator ≡ Some reply → (fixed ≡ None) × (given_at mutator.spot ≡ None)
+  pub shared : Shared config world
+  pub mine : Mine config world (next_of config mutator order (u.memory (touch_of config mutator order).word)) (command_by order command) (fixed_by fixed (told_of u.memory mutator) (given_at mutator.spot))
+  pub others : (seat : ℕ) → seat ≢ mutator.seat → Rely config seat u world
 
 -- What is proved of each spot: from the shared facts and the mutator's own its step is as it should be, under each order
 -- that it takes.
 abbrev pub OrderedRow : Config → World → Mutating → Command → Order → Option Reply → Type 0
-OrderedRow c u m command order fixed =
-    Shared c u → Mine c u m command fixed → takes_at m.spot m.made order ≡ true → Stepped c u m command order fixed
+OrderedRow config world mutator command order fixed =
+    Shared config world → Mine config world mutator command fixed → takes_at mutator.spot mutator.made order ≡ true → Stepped config world mutator command order fixed
 
 -- in a call there is no order
 abbrev pub Row : Config → World → Mutating → Command → Option Reply → Type 0
-Row c u m command fixed = Shared c u → Mine c u m command fixed → Stepped c u m command Nothing fixed
+Row config world mutator command fixed = Shared config world → Mine config world mutator command fixed → Stepped config world mutator command Nothing fixed

@@ -23,97 +23,97 @@ use Rattle.step_core.proofs.Machines.Ready.{leaving, rest_ready}
 use Rattle.step_core.proofs.History.Settling.{legal_answer, graph_answer}
 use Rattle.alloc_buffers.specs.Facts.{OnlySpares}
 
-module _ (c : Config) (u : World) (seat made : ℕ) (kept : Kept) (command : Command) (fixed : Option Reply) where
+module _ (config : Config) (world : World) (seat made : ℕ) (kept : Kept) (command : Command) (fixed : Option Reply) where
   abbrev at_spot : Spot → Mutating
   at_spot spot = mutator_at seat made kept spot
 
   -- what a mutator counts on once its first access under an order is made: it enters the heap for a call, or has ended
   abbrev MineBegun : Order → Type 0
-  MineBegun order = Mine c (accessed_by c u (at_spot Rest) order) (call_begun order (at_spot Rest)) (command_by order command) fixed
+  MineBegun order = Mine config (accessed_by config world (at_spot Rest) order) (call_begun order (at_spot Rest)) (command_by order command) fixed
 
-  begins : (k : Command) → IsSeatedIn c u seat made false → HasMarkingBy u seat None kept.phase false → HasCopyingBy u seat false kept.cset false → ((i : ℕ) → i < 16 → Points u.block (u.memory (Root seat i)) (u.graph.root (seat + 1) i)) → OnlySpares u seat
-      → fixed ≡ None → is_next made k ≡ true → MineBegun (Begin k)
-  begins k seated marking copying roots rooms unsettled next =
+  begins : (command : Command) → IsSeatedIn config world seat made false → HasMarkingBy world seat None kept.phase false → HasCopyingBy world seat false kept.cset false → ((index : ℕ) → index < 16 → Points world.block (world.memory (Root seat index)) (world.graph.root (seat + 1) index)) → OnlySpares world seat
+      → fixed ≡ None → is_next made command ≡ true → MineBegun (Begin command)
+  begins command seated marking copying roots rooms unsettled next =
       record { seated = seated; ready = refl; marking = marking; copying = copying; roots = roots; rooms = rooms; facts = record { unsettled = unsettled; is = refl; next = next } }
 
-  ends : IsSeatedIn c u seat made false → HasMarkingBy u seat None kept.phase false → HasCopyingBy u seat false kept.cset false → ((i : ℕ) → i < 16 → Points u.block (u.memory (Root seat i)) (u.graph.root (seat + 1) i)) → OnlySpares u seat
+  ends : IsSeatedIn config world seat made false → HasMarkingBy world seat None kept.phase false → HasCopyingBy world seat false kept.cset false → ((index : ℕ) → index < 16 → Points world.block (world.memory (Root seat index)) (world.graph.root (seat + 1) index)) → OnlySpares world seat
       → fixed ≡ None → MineBegun End
   ends seated marking copying roots rooms unsettled = record { seated = seated; ready = refl; marking = marking; copying = copying; roots = roots; rooms = rooms; facts = unsettled }
 
   -- a mutator that has not begun a call begins one, or ends
-  pub at_rest : (order : Order) → OrderedRow c u (at_spot Rest) command order fixed
+  pub at_rest : (order : Order) → OrderedRow config world (at_spot Rest) command order fixed
   at_rest Nothing shared mine takes = cc
   at_rest (Hint address) shared mine takes = cc
   at_rest (Begin k) shared mine takes = record {
-    world = accessed_by c u (at_spot Rest) (Begin k);
+    world = accessed_by config world (at_spot Rest) (Begin k);
     memory = refl;
     graph = refl;
     legal = tt;
     settles = λ r e. cc;
     shared = shared;
     mine = begins k mine.seated mine.marking mine.copying mine.roots mine.rooms mine.facts takes;
-    others = λ j d. let marks = marks_in c u (accessed_by c u (at_spot Rest) (Begin k)).memory u.graph j refl (λ n. refl) (λ t. refl) (λ t k. refl) (λ a. refl) in let copies = copies_in c u (accessed_by c u (at_spot Rest) (Begin k)).memory u.graph j refl refl (λ r. refl) (λ a. refl) in let kept_fields = fields_in c u (accessed_by c u (at_spot Rest) (Begin k)).memory u.graph (λ r. refl) (λ r. refl) refl (λ a. refl) in search (arith, nat_tests, marks, copies, kept_fields);
+    others = λ j d. let marks = marks_in config world (accessed_by config world (at_spot Rest) (Begin k)).memory world.graph j refl (λ n. refl) (λ t. refl) (λ t k. refl) (λ a. refl) in let copies = copies_in config world (accessed_by config world (at_spot Rest) (Begin k)).memory world.graph j refl refl (λ r. refl) (λ a. refl) in let kept_fields = fields_in config world (accessed_by config world (at_spot Rest) (Begin k)).memory world.graph (λ r. refl) (λ r. refl) refl (λ a. refl) in search (arith, nat_tests, marks, copies, kept_fields);
   }
   at_rest End shared mine takes = record {
-    world = accessed_by c u (at_spot Rest) End;
+    world = accessed_by config world (at_spot Rest) End;
     memory = refl;
     graph = refl;
     legal = tt;
     settles = λ r e. cc;
     shared = shared;
     mine = ends mine.seated mine.marking mine.copying mine.roots mine.rooms mine.facts;
-    others = λ j d. let marks = marks_in c u (accessed_by c u (at_spot Rest) End).memory u.graph j refl (λ n. refl) (λ t. refl) (λ t k. refl) (λ a. refl) in let copies = copies_in c u (accessed_by c u (at_spot Rest) End).memory u.graph j refl refl (λ r. refl) (λ a. refl) in let kept_fields = fields_in c u (accessed_by c u (at_spot Rest) End).memory u.graph (λ r. refl) (λ r. refl) refl (λ a. refl) in search (arith, nat_tests, marks, copies, kept_fields);
+    others = λ j d. let marks = marks_in config world (accessed_by config world (at_spot Rest) End).memory world.graph j refl (λ n. refl) (λ t. refl) (λ t k. refl) (λ a. refl) in let copies = copies_in config world (accessed_by config world (at_spot Rest) End).memory world.graph j refl refl (λ r. refl) (λ a. refl) in let kept_fields = fields_in config world (accessed_by config world (at_spot Rest) End).memory world.graph (λ r. refl) (λ r. refl) refl (λ a. refl) in search (arith, nat_tests, marks, copies, kept_fields);
   }
 
   -- so does one that has ended a call
-  pub at_ended : (r : Reply) (order : Order) → OrderedRow c u (at_spot (Ended r)) command order fixed
+  pub at_ended : (r : Reply) (order : Order) → OrderedRow config world (at_spot (Ended r)) command order fixed
   at_ended r Nothing shared mine takes = cc
   at_ended r (Hint address) shared mine takes = cc
   at_ended r (Begin k) shared mine takes = record {
-    world = accessed_by c u (at_spot (Ended r)) (Begin k);
+    world = accessed_by config world (at_spot (Ended r)) (Begin k);
     memory = refl;
     graph = refl;
     legal = tt;
     settles = λ q e. cc;
     shared = shared;
     mine = begins k mine.seated mine.marking mine.copying mine.roots mine.rooms mine.facts takes;
-    others = λ j d. let marks = marks_in c u (accessed_by c u (at_spot (Ended r)) (Begin k)).memory u.graph j refl (λ n. refl) (λ t. refl) (λ t k. refl) (λ a. refl) in let copies = copies_in c u (accessed_by c u (at_spot (Ended r)) (Begin k)).memory u.graph j refl refl (λ r. refl) (λ a. refl) in let kept_fields = fields_in c u (accessed_by c u (at_spot (Ended r)) (Begin k)).memory u.graph (λ r. refl) (λ r. refl) refl (λ a. refl) in search (arith, nat_tests, marks, copies, kept_fields);
+    others = λ j d. let marks = marks_in config world (accessed_by config world (at_spot (Ended r)) (Begin k)).memory world.graph j refl (λ n. refl) (λ t. refl) (λ t k. refl) (λ a. refl) in let copies = copies_in config world (accessed_by config world (at_spot (Ended r)) (Begin k)).memory world.graph j refl refl (λ r. refl) (λ a. refl) in let kept_fields = fields_in config world (accessed_by config world (at_spot (Ended r)) (Begin k)).memory world.graph (λ r. refl) (λ r. refl) refl (λ a. refl) in search (arith, nat_tests, marks, copies, kept_fields);
   }
   at_ended r End shared mine takes = record {
-    world = accessed_by c u (at_spot (Ended r)) End;
+    world = accessed_by config world (at_spot (Ended r)) End;
     memory = refl;
     graph = refl;
     legal = tt;
     settles = λ q e. cc;
     shared = shared;
     mine = ends mine.seated mine.marking mine.copying mine.roots mine.rooms mine.facts;
-    others = λ j d. let marks = marks_in c u (accessed_by c u (at_spot (Ended r)) End).memory u.graph j refl (λ n. refl) (λ t. refl) (λ t k. refl) (λ a. refl) in let copies = copies_in c u (accessed_by c u (at_spot (Ended r)) End).memory u.graph j refl refl (λ r. refl) (λ a. refl) in let kept_fields = fields_in c u (accessed_by c u (at_spot (Ended r)) End).memory u.graph (λ r. refl) (λ r. refl) refl (λ a. refl) in search (arith, nat_tests, marks, copies, kept_fields);
+    others = λ j d. let marks = marks_in config world (accessed_by config world (at_spot (Ended r)) End).memory world.graph j refl (λ n. refl) (λ t. refl) (λ t k. refl) (λ a. refl) in let copies = copies_in config world (accessed_by config world (at_spot (Ended r)) End).memory world.graph j refl refl (λ r. refl) (λ a. refl) in let kept_fields = fields_in config world (accessed_by config world (at_spot (Ended r)) End).memory world.graph (λ r. refl) (λ r. refl) refl (λ a. refl) in search (arith, nat_tests, marks, copies, kept_fields);
   }
 
   -- the step that asks for a cycle settles Ok
-  pub at_ask : Row c u (at_spot AskCycle) command fixed
+  pub at_ask : Row config world (at_spot AskCycle) command fixed
   at_ask shared mine =
-      let gc : (outcome u.graph (seat + 1) command).reply ≡ reply.Ok = ap (λ k. (outcome u.graph (seat + 1) k).reply) mine.facts.1 in
+      let gc : (outcome world.graph (seat + 1) command).reply ≡ reply.Ok = ap (λ k. (outcome world.graph (seat + 1) k).reply) mine.facts.1 in
       record {
-        world = accessed c u (at_spot AskCycle);
+        world = accessed config world (at_spot AskCycle);
         memory = refl;
-        graph = sym (graph_answer u.graph seat command reply.Ok refl (ap (pinned_by u.graph (seat + 1)) mine.facts.1) ∙ ap (λ k. (outcome u.graph (seat + 1) k).graph) mine.facts.1);
-        legal = legal_answer c u.graph seat command reply.Ok refl (ap (pinned_by u.graph (seat + 1)) mine.facts.1) gc;
+        graph = sym (graph_answer world.graph seat command reply.Ok refl (ap (pinned_by world.graph (seat + 1)) mine.facts.1) ∙ ap (λ k. (outcome world.graph (seat + 1) k).graph) mine.facts.1);
+        legal = legal_answer config world.graph seat command reply.Ok refl (ap (pinned_by world.graph (seat + 1)) mine.facts.1) gc;
         settles = λ r e. (mine.facts.0, refl);
         shared = shared;
-        mine = leaving c _ seat made kept command reply.Ok mine.seated (mine.marking.records, mine.marking.scans, mine.copying.copies_is, mine.copying.works_none) mine.roots mine.rooms;
-        others = λ j d. let marks = marks_in c u (accessed c u (at_spot AskCycle)).memory u.graph j refl (λ n. refl) (λ t. refl) (λ t k. refl) (λ a. refl) in let copies = copies_in c u (accessed c u (at_spot AskCycle)).memory u.graph j refl refl (λ r. refl) (λ a. refl) in let kept_fields = fields_in c u (accessed c u (at_spot AskCycle)).memory u.graph (λ r. refl) (λ r. refl) refl (λ a. refl) in let waits = still_waits (u.memory Ask) in search (arith, nat_tests, marks, copies, kept_fields, waits);
+        mine = leaving config _ seat made kept command reply.Ok mine.seated (mine.marking.records, mine.marking.scans, mine.copying.copies_is, mine.copying.works_none) mine.roots mine.rooms;
+        others = λ j d. let marks = marks_in config world (accessed config world (at_spot AskCycle)).memory world.graph j refl (λ n. refl) (λ t. refl) (λ t k. refl) (λ a. refl) in let copies = copies_in config world (accessed config world (at_spot AskCycle)).memory world.graph j refl refl (λ r. refl) (λ a. refl) in let kept_fields = fields_in config world (accessed config world (at_spot AskCycle)).memory world.graph (λ r. refl) (λ r. refl) refl (λ a. refl) in let waits = still_waits (world.memory Ask) in search (arith, nat_tests, marks, copies, kept_fields, waits);
       }
 
   -- the last step of a call gives its reply
-  pub at_leave : (r : Reply) → Row c u (at_spot (Leave r)) command fixed
+  pub at_leave : (r : Reply) → Row config world (at_spot (Leave r)) command fixed
   at_leave r shared mine = record {
-    world = accessed c u (at_spot (Leave r));
+    world = accessed config world (at_spot (Leave r));
     memory = refl;
     graph = refl;
     legal = tt;
     settles = λ q e. cc;
     shared = shared;
-    mine = record { seated = mine.seated; ready = rest_ready c seat made kept (Ended r) refl mine.seated.below; marking = mine.marking; copying = mine.copying; roots = mine.roots; rooms = mine.rooms; facts = refl };
-    others = λ j d. let marks = marks_in c u (accessed c u (at_spot (Leave r))).memory u.graph j refl (λ n. refl) (λ t. refl) (λ t k. refl) (λ a. refl) in let copies = copies_in c u (accessed c u (at_spot (Leave r))).memory u.graph j refl refl (λ r. refl) (λ a. refl) in let kept_fields = fields_in c u (accessed c u (at_spot (Leave r))).memory u.graph (λ r. refl) (λ r. refl) refl (λ a. refl) in search (arith, nat_tests, marks, copies, kept_fields);
+    mine = record { seated = mine.seated; ready = rest_ready config seat made kept (Ended r) refl mine.seated.below; marking = mine.marking; copying = mine.copying; roots = mine.roots; rooms = mine.rooms; facts = refl };
+    others = λ j d. let marks = marks_in config world (accessed config world (at_spot (Leave r))).memory world.graph j refl (λ n. refl) (λ t. refl) (λ t k. refl) (λ a. refl) in let copies = copies_in config world (accessed config world (at_spot (Leave r))).memory world.graph j refl refl (λ r. refl) (λ a. refl) in let kept_fields = fields_in config world (accessed config world (at_spot (Leave r))).memory world.graph (λ r. refl) (λ r. refl) refl (λ a. refl) in search (arith, nat_tests, marks, copies, kept_fields);
   }

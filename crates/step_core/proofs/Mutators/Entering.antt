@@ -36,18 +36,18 @@ use Rattle.step_core.proofs.Machines.Ready.{ready_of, state_word}
 
 -- the world after a store into a state word
 abbrev pub state_world : World → ℕ → ℕ → World
-state_world u seat value = record { memory = touched u.memory (touch (State seat) (stores value)); block = u.block; ghost = u.ghost; graph = u.graph }
+state_world world seat value = record { memory = touched world.memory (touch (State seat) (stores value)); block = world.block; ghost = world.ghost; graph = world.graph }
 
 -- a state word is no word that the facts of a mutator speak of
-pub state_marks : (c : Config) (u : World) (seat j value : ℕ) → RelyMarks c j u (state_world u seat value)
-state_marks c u seat j value = marks_in c u (state_world u seat value).memory u.graph j refl (λ n. refl) (λ t. refl) (λ t k. refl) (λ a. refl)
+pub state_marks : (config : Config) (world : World) (seat j value : ℕ) → RelyMarks config j world (state_world world seat value)
+state_marks config world seat j value = marks_in config world (state_world world seat value).memory world.graph j refl (λ n. refl) (λ t. refl) (λ t k. refl) (λ a. refl)
 
 -- nor is it one of evacuation
-state_copies : (c : Config) (u : World) (seat j value : ℕ) → RelyCopies c j u (state_world u seat value)
-state_copies c u seat j value = copies_in c u (state_world u seat value).memory u.graph j refl refl (λ r. refl) (λ a. refl)
+state_copies : (config : Config) (world : World) (seat j value : ℕ) → RelyCopies config j world (state_world world seat value)
+state_copies config world seat j value = copies_in config world (state_world world seat value).memory world.graph j refl refl (λ r. refl) (λ a. refl)
 
-pub state_keeps : (c : Config) (u : World) (seat j value : ℕ) → Keeps c j u (state_world u seat value)
-state_keeps c u seat j value = let marks = state_marks c u seat j value in let kept = marks.keeps in let copies = state_copies c u seat j value in let kept_copies = copies.keeps in search (arith, nat_tests, kept, kept_copies)
+pub state_keeps : (config : Config) (world : World) (seat j value : ℕ) → Keeps config j world (state_world world seat value)
+state_keeps config world seat j value = let marks = state_marks config world seat j value in let kept = marks.keeps in let copies = state_copies config world seat j value in let kept_copies = copies.keeps in search (arith, nat_tests, kept, kept_copies)
 
 -- an entering that goes on stays one
 still_enters : (next : Entered) (at : EnterSpot) → is_still_outside at ≡ true → after_enter next at ≡ Entering at next
@@ -56,49 +56,49 @@ still_enters Waited Inside outside = absurd (false≢true outside)
 still_enters Call at outside = refl
 still_enters Waited at outside = refl
 
-module _ (c : Config) (u : World) (seat made : ℕ) (kept : Kept) (command : Command) (fixed : Option Reply) where
+module _ (config : Config) (world : World) (seat made : ℕ) (kept : Kept) (command : Command) (fixed : Option Reply) where
   abbrev at_spot : Spot → Mutating
   at_spot spot = mutator_at seat made kept spot
 
   -- the accesses of an entering can be made
-  enter_ready : (at : EnterSpot) (next : Entered) → is_still_outside at ≡ true → seat < c.mutators → is_ready c seat made kept (Entering at next) ≡ true
-  enter_ready Raise next outside below = ready_of _ true (state_word c seat below) refl
+  enter_ready : (at : EnterSpot) (next : Entered) → is_still_outside at ≡ true → seat < config.mutators → is_ready config seat made kept (Entering at next) ≡ true
+  enter_ready Raise next outside below = ready_of _ true (state_word config seat below) refl
   enter_ready Look next outside below = refl
-  enter_ready Lower next outside below = ready_of _ true (state_word c seat below) refl
+  enter_ready Lower next outside below = ready_of _ true (state_word config seat below) refl
   enter_ready Await next outside below = refl
   enter_ready Inside next outside below = absurd (false≢true outside)
 
-  module _ (before : EnterSpot) (next : Entered) (mine : Mine c u (at_spot (Entering before next)) command fixed) where
+  module _ (before : EnterSpot) (next : Entered) (mine : Mine config world (at_spot (Entering before next)) command fixed) where
     -- what it counts on where it goes on entering
-    mine_at : (w : World) → Keeps c seat u w → RelyMarks c seat u w → RelyCopies c seat u w → w.block ≡ u.block → (at : EnterSpot) → is_still_outside at ≡ true → Mine c w (at_spot (after_enter next at)) command fixed
-    mine_at w keeps marks copies same at outside = subst (λ spot. Mine c w (at_spot spot) command fixed) (sym (still_enters next at outside)) (record {
-      seated = seated_stays c u w seat keeps made (is_waiting (Entering before next)) mine.seated;
+    mine_at : (w : World) → Keeps config seat world w → RelyMarks config seat world w → RelyCopies config seat world w → w.block ≡ world.block → (at : EnterSpot) → is_still_outside at ≡ true → Mine config w (at_spot (after_enter next at)) command fixed
+    mine_at w keeps marks copies same at outside = subst (λ spot. Mine config w (at_spot spot) command fixed) (sym (still_enters next at outside)) (record {
+      seated = seated_stays config world w seat keeps made (is_waiting (Entering before next)) mine.seated;
       ready = enter_ready at next outside mine.seated.below;
-      marking = marking_relied c u w seat None kept.phase false marks mine.marking;
-      copying = copying_relied c u w seat false kept.cset false copies mine.copying;
-      roots = λ i below. rw (keeps.root_words i) (root_stays c u w seat keeps _ i (mine.roots i below));
+      marking = marking_relied config world w seat None kept.phase false marks mine.marking;
+      copying = copying_relied config world w seat false kept.cset false copies mine.copying;
+      roots = λ i below. rw (keeps.root_words i) (root_stays config world w seat keeps _ i (mine.roots i below));
       rooms = λ a x is. mine.rooms a x (ap (λ plot. plot a) (sym same) ∙ is);
-      facts = enter_stays c u w seat keeps made kept.command command fixed next mine.facts;
+      facts = enter_stays config world w seat keeps made kept.command command fixed next mine.facts;
     })
 
     -- in the same world
-    mine_on : (at : EnterSpot) → is_still_outside at ≡ true → Mine c u (at_spot (after_enter next at)) command fixed
-    mine_on = mine_at u (keeps_of c seat u u (rely_same c seat u)) (same_marks c u seat) (same_copies c u seat) refl
+    mine_on : (at : EnterSpot) → is_still_outside at ≡ true → Mine config world (at_spot (after_enter next at)) command fixed
+    mine_on = mine_at world (keeps_of config seat world world (rely_same config seat world)) (same_marks config world seat) (same_copies config world seat) refl
 
     -- after a store into its state word
-    mine_stored : (value : ℕ) (at : EnterSpot) → is_still_outside at ≡ true → Mine c (state_world u seat value) (at_spot (after_enter next at)) command fixed
-    mine_stored value = mine_at (state_world u seat value) (state_keeps c u seat seat value) (state_marks c u seat seat value) (state_copies c u seat seat value) refl
+    mine_stored : (value : ℕ) (at : EnterSpot) → is_still_outside at ≡ true → Mine config (state_world world seat value) (at_spot (after_enter next at)) command fixed
+    mine_stored value = mine_at (state_world world seat value) (state_keeps config world seat seat value) (state_marks config world seat seat value) (state_copies config world seat seat value) refl
 
   -- and once it is inside: a call begins with the phase, and one that has waited has its answer
-  mine_inside : (next : Entered) → Mine c u (at_spot (Entering Look next)) command fixed → Mine c u (at_spot (after_enter next Inside)) command fixed
+  mine_inside : (next : Entered) → Mine config world (at_spot (Entering Look next)) command fixed → Mine config world (at_spot (after_enter next Inside)) command fixed
   mine_inside Call mine = record { seated = mine.seated; ready = refl; marking = mine.marking; copying = mine.copying; roots = mine.roots; rooms = mine.rooms; facts = mine.facts }
   mine_inside Waited mine = record { seated = mine.seated; ready = ready_of _ true (lt-ltb _ _ mine.seated.below) refl; marking = mine.marking; copying = mine.copying; roots = mine.roots; rooms = mine.rooms; facts = mine.facts }
 
   -- a step of an entering is a step of the mutator
-  lifted : (at : EnterSpot) (next : Entered) → Shared c u → Mine c (entered_world u seat at) (at_spot (after_enter next (enter_next at (u.memory (enter_touch seat at).word)))) command fixed
-      → Stepped c u (at_spot (Entering at next)) command Nothing fixed
+  lifted : (at : EnterSpot) (next : Entered) → Shared config world → Mine config (entered_world world seat at) (at_spot (after_enter next (enter_next at (world.memory (enter_touch seat at).word)))) command fixed
+      → Stepped config world (at_spot (Entering at next)) command Nothing fixed
   lifted at next shared mine =
-      let step = enters c u seat at (λ w. Mine c w (at_spot (after_enter next (enter_next at (u.memory (enter_touch seat at).word)))) command fixed) shared mine in
+      let step = enters config world seat at (λ w. Mine config w (at_spot (after_enter next (enter_next at (world.memory (enter_touch seat at).word)))) command fixed) shared mine in
       record {
         world = step.world;
         memory = step.memory;
@@ -111,25 +111,25 @@ module _ (c : Config) (u : World) (seat made : ℕ) (kept : Kept) (command : Com
       }
 
   -- the steps of an entering
-  pub at_enter : (at : EnterSpot) (next : Entered) → Row c u (at_spot (Entering at next)) command fixed
+  pub at_enter : (at : EnterSpot) (next : Entered) → Row config world (at_spot (Entering at next)) command fixed
   at_enter Raise next shared mine = lifted Raise next shared (mine_stored Raise next mine 1 Look refl)
-  at_enter Look next shared mine = lifted Look next shared (by_pause (u.memory Pause == 0))
+  at_enter Look next shared mine = lifted Look next shared (by_pause (world.memory Pause == 0))
     where
-      by_pause : (b : Bool) → Mine c u (at_spot (after_enter next (if b then Inside else Lower))) command fixed
+      by_pause : (holds : Bool) → Mine config world (at_spot (after_enter next (if holds then Inside else Lower))) command fixed
       by_pause true = mine_inside next mine
       by_pause false = mine_on Look next mine Lower refl
   at_enter Lower next shared mine = lifted Lower next shared (mine_stored Lower next mine 0 Await refl)
-  at_enter Await next shared mine = lifted Await next shared (by_pause (u.memory Pause == 0))
+  at_enter Await next shared mine = lifted Await next shared (by_pause (world.memory Pause == 0))
     where
-      by_pause : (b : Bool) → Mine c u (at_spot (after_enter next (if b then Raise else Await))) command fixed
+      by_pause : (holds : Bool) → Mine config world (at_spot (after_enter next (if holds then Raise else Await))) command fixed
       by_pause true = mine_on Await next mine Raise refl
       by_pause false = mine_on Await next mine Await refl
   at_enter Inside next shared mine = absurd (false≢true mine.ready)
 
   -- the load of the phase
-  pub at_load_phase : Row c u (at_spot LoadPhase) command fixed
+  pub at_load_phase : Row config world (at_spot LoadPhase) command fixed
   at_load_phase shared mine =
-      looks c u (at_spot LoadPhase) Phase command fixed refl refl refl shared
+      looks config world (at_spot LoadPhase) Phase command fixed refl refl refl shared
       (record {
         seated = mine.seated;
         ready = and_from _ _ refl (lt-ltb _ _ (let most = shared.phased.phase_is in omega (arith, most)));

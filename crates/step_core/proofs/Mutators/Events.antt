@@ -47,148 +47,148 @@ use Rattle.step_core.proofs.Mutators.Spots.{mutator_at}
 use Rattle.step_core.proofs.Control.Held.{IsKept, held_image, outside_held, other_holds}
 
 -- A step of a mutator.
-module _ (change : Change) (c : Config) (g : Graph) (s : Stage Actor) (past : List Entry) (number : ℕ) (order : Order) (m : Mutating) (command : Command) (calls : List Entry)
-    (follows : Follows c g s past) (shaken : IsKept c s) (here : slice_get s.machines number ≡ Some (record { machine = mutating m; command = command; calls = calls })) (takes : takes_at m.spot m.made order ≡ true) where
+module _ (change : Change) (config : Config) (graph : Graph) (stage : Stage Actor) (past : List Entry) (number : ℕ) (order : Order) (mutator : Mutating) (command : Command) (calls : List Entry)
+    (follows : Follows config graph stage past) (shaken : IsKept config stage) (here : slice_get stage.machines number ≡ Some (record { machine = mutating mutator; command = command; calls = calls })) (takes : takes_at mutator.spot mutator.made order ≡ true) where
   abbrev before : Actor
-  before = record { machine = mutating m; command = command; calls = calls }
+  before = record { machine = mutating mutator; command = command; calls = calls }
 
   abbrev u : World
-  u = world_of c s follows.block follows.ghost (after g past)
+  u = world_of config stage follows.block follows.ghost (after graph past)
 
-  thread : IsThread c s.words u (of_thread past (number + 1)) number before m
+  thread : IsThread config stage.words u (of_thread past (number + 1)) number before mutator
   thread = follows.machines number before here
 
-  below : number < c.mutators
-  below = subst (λ k. k < c.mutators) thread.number_is thread.mine.seated.below
+  below : number < config.mutators
+  below = subst (λ k. k < config.mutators) thread.number_is thread.mine.seated.below
 
-  not_control : number ≢ control_number c
+  not_control : number ≢ control_number config
   not_control = λ e. (let less = below in omega (arith, less, e))
 
-  word : is_word c (touch_of c m order).word ≡ true
-  word = order_word c m.seat m.made m.kept order m.spot thread.mine.seated.below thread.mine.ready takes
+  word : is_word config (touch_of config mutator order).word ≡ true
+  word = order_word config mutator.seat mutator.made mutator.kept order mutator.spot thread.mine.seated.below thread.mine.ready takes
 
   -- while an image counts it is outside
-  outside_now : (image : Counting) → held_image c s ≡ Some image → is_within (standing_at m.spot) ≡ false
-  outside_now image held = outside_held c s shaken image held number before (let less = below in omega (arith, less)) here
+  outside_now : (image : Counting) → held_image config stage ≡ Some image → is_within (standing_at mutator.spot) ≡ false
+  outside_now image held = outside_held config stage shaken image held number before (let less = below in omega (arith, less)) here
 
   -- what it tells where its access is of no word of the image, or none counts
   abbrev words_then : List ℕ
-  words_then = words_after c s.words (touch_of c m order)
+  words_then = words_after config stage.words (touch_of config mutator order)
 
   abbrev entries : List Entry
-  entries = entries_of m.seat (command_by order command) (settled_by_step (settled c s) m)
+  entries = entries_of mutator.seat (command_by order command) (settled_by_step (settled config stage) mutator)
 
   -- whatever the control stands at in a pause, the words of the image stay in the table
-  image_words_stay : is_within (standing_at m.spot) ≡ false → (i : ℕ) → slice_index words_then (image_start c + i) ≡ slice_index s.words (image_start c + i)
+  image_words_stay : is_within (standing_at mutator.spot) ≡ false → (i : ℕ) → slice_index words_then (image_start config + i) ≡ slice_index stage.words (image_start config + i)
   image_words_stay out i = ⊎_elim
-      (λ (outside : is_image (touch_of c m order).word ≡ false). image_kept c s.words (touch_of c m order) i word outside)
-      (λ (polls : m.spot ≡ Waiting wait.Poll).
-      ap (λ spot. slice_index (words_after c s.words (touch_at c m.seat m.made m.kept order spot)) (image_start c + i)) polls
-      ∙ ap (λ words. slice_index words (image_start c + i)) (words_loaded c s.words (Answer m.seat)))
-      (outside_touch c m.seat m.made m.kept order m.spot out takes)
+      (λ (outside : is_image (touch_of config mutator order).word ≡ false). image_kept config stage.words (touch_of config mutator order) i word outside)
+      (λ (polls : mutator.spot ≡ Waiting wait.Poll).
+      ap (λ spot. slice_index (words_after config stage.words (touch_at config mutator.seat mutator.made mutator.kept order spot)) (image_start config + i)) polls
+      ∙ ap (λ words. slice_index words (image_start config + i)) (words_loaded config stage.words (Answer mutator.seat)))
+      (outside_touch config mutator.seat mutator.made mutator.kept order mutator.spot out takes)
 
   -- so what the control knows of them stays
-  aims_then : (k : ℕ) (b : Actor) → k ≢ number → slice_get s.machines k ≡ Some b → (control : Controlling) → b.machine ≡ controlling control
-      → IsAim c s.words control.spot control.image → IsAim c words_then control.spot control.image
-  aims_then k b differs there = aims_stay c g s past follows shaken number before here (let less = below in omega (arith, less)) words_then image_words_stay k b there
+  aims_then : (k : ℕ) (actor : Actor) → k ≢ number → slice_get stage.machines k ≡ Some actor → (control : Controlling) → actor.machine ≡ controlling control
+      → IsAim config stage.words control.spot control.image → IsAim config words_then control.spot control.image
+  aims_then k actor differs there = aims_stay config graph stage past follows shaken number before here (let less = below in omega (arith, less)) words_then image_words_stay k actor there
 
   abbrev new_then : ℕ → Actor
-  new_then got = took_of change c before order got (mutating m)
+  new_then got = took_of change config before order got (mutating mutator)
 
   -- where it polls, and no image counts or its word is none of it, what counts is in the history
-  told_now : ((image : Counting) → held_image c s ≡ Some image → is_image (touch_of c m order).word ≡ false) → m.spot ≡ Waiting wait.Poll → u.memory (Answer m.seat) ≡ 1 → thread.fixed ≡ Some Full
-  told_now no_image polls one = by_image (held_image c s) refl
+  told_now : ((image : Counting) → held_image config stage ≡ Some image → is_image (touch_of config mutator order).word ≡ false) → mutator.spot ≡ Waiting wait.Poll → u.memory (Answer mutator.seat) ≡ 1 → thread.fixed ≡ Some Full
+  told_now no_image polls one = by_image (held_image config stage) refl
     where
-      by_image : (o : Option Counting) → held_image c s ≡ o → thread.fixed ≡ Some Full
-      by_image (Some image) held = absurd (false≢true (sym (no_image image held) ∙ ap (λ spot. is_image (touch_at c m.seat m.made m.kept order spot).word) polls))
+      by_image : (found : Option Counting) → held_image config stage ≡ found → thread.fixed ≡ Some Full
+      by_image (Some image) held = absurd (false≢true (sym (no_image image held) ∙ ap (λ spot. is_image (touch_at config mutator.seat mutator.made mutator.kept order spot).word) polls))
       by_image None none =
           let now : u.memory (Answer number) ≡ 1 = subst (λ n. u.memory (Answer n) ≡ 1) thread.number_is one in
-          let raw : view c s.words (Answer number) ≡ 1 = ap (λ o. settled_by c s.words o (Answer number)) (sym none) ∙ now in
+          let raw : view config stage.words (Answer number) ≡ 1 = ap (λ found. settled_by config stage.words found (Answer number)) (sym none) ∙ now in
           ⊎_elim
-          (λ (both : (view c s.words (Answer number) ≡ 1) × (thread.fixed ≡ Some Full)). both.1)
-          (λ (no : (view c s.words (Answer number) ≡ 0) × (thread.fixed ≡ None)). let zero_raw = no.0 in absurd (omega (arith, raw, zero_raw)))
+          (λ (both : (view config stage.words (Answer number) ≡ 1) × (thread.fixed ≡ Some Full)). both.1)
+          (λ (no : (view config stage.words (Answer number) ≡ 0) × (thread.fixed ≡ None)). let zero_raw = no.0 in absurd (omega (arith, raw, zero_raw)))
           (thread.seen.full now)
 
   -- a step of which no image word is touched while an image counts
-  follows_plain : ((image : Counting) → held_image c s ≡ Some image → is_image (touch_of c m order).word ≡ false) → Follows c g (moved (kind change c) s number before order) (past ++ entries)
+  follows_plain : ((image : Counting) → held_image config stage ≡ Some image → is_image (touch_of config mutator order).word ≡ false) → Follows config graph (moved (kind change config) stage number before order) (past ++ entries)
   unfolding kind
   follows_plain no_image =
-      let at : ℕ = table_index (placed c (touch_of c m order)) in
-      let step = each_step c u m command order thread.fixed (told_now no_image) follows.no_more_pins follows.shared thread.mine takes in
-      let owes : Owes c s.words words_then u past number s.machines (touched u.memory (touch_of c m order)) entries (new_then (u.memory (touch_of c m order).word)) =
-      owes_stepped change c s.words (held_image c s) follows.block follows.ghost (after g past) past number s.machines order m command calls follows.words word (λ image held. (outside_now image held, no_image image held))
+      let at : ℕ = table_index (placed config (touch_of config mutator order)) in
+      let step = each_step config u mutator command order thread.fixed (told_now no_image) follows.no_more_pins follows.shared thread.mine takes in
+      let owes : Owes config stage.words words_then u past number stage.machines (touched u.memory (touch_of config mutator order)) entries (new_then (u.memory (touch_of config mutator order).word)) =
+      owes_stepped change config stage.words (held_image config stage) follows.block follows.ghost (after graph past) past number stage.machines order mutator command calls follows.words word (λ image held. (outside_now image held, no_image image held))
       follows.promised_to follows.shared thread step takes aims_then in
-      let found : slice_index s.words at ≡ u.memory (touch_of c m order).word = settled_found c s.words (touch_of c m order) (held_image c s) word no_image in
-      let memory_then : settled c (record { words = words_then; machines = slice_set s.machines number (new_then (slice_index s.words at)) }) ≡ touched u.memory (touch_of c m order) =
-      ap (settled_by c words_then) (other_holds c s number (new_then (slice_index s.words at)) not_control) ∙ settled_touched c s.words (touch_of c m order) (held_image c s) word follows.words no_image in
-      follows_owes c g s past number before (new_then (slice_index s.words at)) words_then entries follows
-      (subst (λ memory. Owes c s.words words_then u past number s.machines memory entries (new_then (slice_index s.words at))) (sym memory_then)
-      (subst (λ got. Owes c s.words words_then u past number s.machines (touched u.memory (touch_of c m order)) entries (new_then got)) (sym found) owes))
-      here (length-set s.words _ _ ∙ follows.words)
+      let found : slice_index stage.words at ≡ u.memory (touch_of config mutator order).word = settled_found config stage.words (touch_of config mutator order) (held_image config stage) word no_image in
+      let memory_then : settled config (record { words = words_then; machines = slice_set stage.machines number (new_then (slice_index stage.words at)) }) ≡ touched u.memory (touch_of config mutator order) =
+      ap (settled_by config words_then) (other_holds config stage number (new_then (slice_index stage.words at)) not_control) ∙ settled_touched config stage.words (touch_of config mutator order) (held_image config stage) word follows.words no_image in
+      follows_owes config graph stage past number before (new_then (slice_index stage.words at)) words_then entries follows
+      (subst (λ memory. Owes config stage.words words_then u past number stage.machines memory entries (new_then (slice_index stage.words at))) (sym memory_then)
+      (subst (λ got. Owes config stage.words words_then u past number stage.machines (touched u.memory (touch_of config mutator order)) entries (new_then got)) (sym found) owes))
+      here (length-set stage.words _ _ ∙ follows.words)
 
 -- A mutator that looks for its answer while an image counts.
-module _ (change : Change) (c : Config) (g : Graph) (s : Stage Actor) (past : List Entry) (seat made : ℕ) (kept : Kept) (command : Command) (calls : List Entry)
-    (follows : Follows c g s past) (here : slice_get s.machines seat ≡ Some (record { machine = mutating (mutator_at seat made kept (Waiting wait.Poll)); command = command; calls = calls })) (image : Counting) (held : held_image c s ≡ Some image)
-    (other : seat ≢ control_number c) where
+module _ (change : Change) (config : Config) (graph : Graph) (stage : Stage Actor) (past : List Entry) (seat made : ℕ) (kept : Kept) (command : Command) (calls : List Entry)
+    (follows : Follows config graph stage past) (here : slice_get stage.machines seat ≡ Some (record { machine = mutating (mutator_at seat made kept (Waiting wait.Poll)); command = command; calls = calls })) (image : Counting) (held : held_image config stage ≡ Some image)
+    (other : seat ≢ control_number config) where
   abbrev polling : Actor
   polling = record { machine = mutating (mutator_at seat made kept (Waiting wait.Poll)); command = command; calls = calls }
 
   abbrev polled_then : ℕ → Actor
   polled_then got = record { machine = mutating (mutator_at seat made kept (if got == 0 then Waiting wait.Poll else Entering Raise Waited)); command = command; calls = calls ++ [] }
 
-  follows_poll : Follows c g (moved (kind change c) s seat polling Nothing) (past ++ [])
+  follows_poll : Follows config graph (moved (kind change config) stage seat polling Nothing) (past ++ [])
   unfolding kind
   follows_poll =
-      let held_world : World = record { memory = mixed c s.words image; block = follows.block; ghost = follows.ghost; graph = after g past } in
-      let memory_is : settled c s ≡ mixed c s.words image = ap (settled_by c s.words) held in
-      let world_is : world_of c s follows.block follows.ghost (after g past) ≡ held_world = ap (λ memory. record { memory = memory; block = follows.block; ghost = follows.ghost; graph = after g past }) memory_is in
-      let at : ℕ = table_index (placed c (touch (Answer seat) loads)) in
-      let words_then : List ℕ = words_after c s.words (touch (Answer seat) loads) in
-      let same_words : words_then ≡ s.words = words_loaded c s.words (Answer seat) in
-      let thread = subst (λ w. IsThread c s.words w (of_thread past (seat + 1)) seat polling (mutator_at seat made kept (Waiting wait.Poll))) world_is (follows.machines seat polling here) in
-      let below : seat < c.mutators = thread.mine.seated.below in
-      let found : slice_index s.words at ≡ view c s.words (Answer seat) = found-placed c s.words (touch (Answer seat) loads) (lt-ltb _ _ below) in
-      let owes : Owes c s.words s.words held_world past seat s.machines (mixed c s.words image) [] (polled_then (view c s.words (Answer seat))) =
-      polls_owes c s.words image follows.block follows.ghost (after g past) past seat made kept s.machines command calls (subst (λ w. Shared c w) world_is follows.shared) follows.promised_to thread in
-      let memory_then : settled c (record { words = words_then; machines = slice_set s.machines seat (polled_then (slice_index s.words at)) }) ≡ mixed c s.words image =
-      ap (settled_by c words_then) (other_holds c s seat (polled_then (slice_index s.words at)) other ∙ held) ∙ ap (λ ws. mixed c ws image) same_words in
-      follows_owes c g s past seat polling (polled_then (slice_index s.words at)) words_then [] follows
-      (subst (λ memory. Owes c s.words words_then (world_of c s follows.block follows.ghost (after g past)) past seat s.machines memory [] (polled_then (slice_index s.words at))) (sym memory_then)
-      (subst (λ w. Owes c s.words words_then w past seat s.machines (mixed c s.words image) [] (polled_then (slice_index s.words at))) (sym world_is)
-      (subst (λ ws. Owes c s.words ws held_world past seat s.machines (mixed c s.words image) [] (polled_then (slice_index s.words at))) (sym same_words)
-      (subst (λ got. Owes c s.words s.words held_world past seat s.machines (mixed c s.words image) [] (polled_then got)) (sym found) owes))))
-      here (length-set s.words _ _ ∙ follows.words)
+      let held_world : World = record { memory = mixed config stage.words image; block = follows.block; ghost = follows.ghost; graph = after graph past } in
+      let memory_is : settled config stage ≡ mixed config stage.words image = ap (settled_by config stage.words) held in
+      let world_is : world_of config stage follows.block follows.ghost (after graph past) ≡ held_world = ap (λ memory. record { memory = memory; block = follows.block; ghost = follows.ghost; graph = after graph past }) memory_is in
+      let at : ℕ = table_index (placed config (touch (Answer seat) loads)) in
+      let words_then : List ℕ = words_after config stage.words (touch (Answer seat) loads) in
+      let same_words : words_then ≡ stage.words = words_loaded config stage.words (Answer seat) in
+      let thread = subst (λ w. IsThread config stage.words w (of_thread past (seat + 1)) seat polling (mutator_at seat made kept (Waiting wait.Poll))) world_is (follows.machines seat polling here) in
+      let below : seat < config.mutators = thread.mine.seated.below in
+      let found : slice_index stage.words at ≡ view config stage.words (Answer seat) = found-placed config stage.words (touch (Answer seat) loads) (lt-ltb _ _ below) in
+      let owes : Owes config stage.words stage.words held_world past seat stage.machines (mixed config stage.words image) [] (polled_then (view config stage.words (Answer seat))) =
+      polls_owes config stage.words image follows.block follows.ghost (after graph past) past seat made kept stage.machines command calls (subst (λ w. Shared config w) world_is follows.shared) follows.promised_to thread in
+      let memory_then : settled config (record { words = words_then; machines = slice_set stage.machines seat (polled_then (slice_index stage.words at)) }) ≡ mixed config stage.words image =
+      ap (settled_by config words_then) (other_holds config stage seat (polled_then (slice_index stage.words at)) other ∙ held) ∙ ap (λ ws. mixed config ws image) same_words in
+      follows_owes config graph stage past seat polling (polled_then (slice_index stage.words at)) words_then [] follows
+      (subst (λ memory. Owes config stage.words words_then (world_of config stage follows.block follows.ghost (after graph past)) past seat stage.machines memory [] (polled_then (slice_index stage.words at))) (sym memory_then)
+      (subst (λ w. Owes config stage.words words_then w past seat stage.machines (mixed config stage.words image) [] (polled_then (slice_index stage.words at))) (sym world_is)
+      (subst (λ ws. Owes config stage.words ws held_world past seat stage.machines (mixed config stage.words image) [] (polled_then (slice_index stage.words at))) (sym same_words)
+      (subst (λ got. Owes config stage.words stage.words held_world past seat stage.machines (mixed config stage.words image) [] (polled_then got)) (sym found) owes))))
+      here (length-set stage.words _ _ ∙ follows.words)
 
 -- A step of a mutator, by whether an image counts.
-module _ (change : Change) (c : Config) (g : Graph) (s : Stage Actor) (past : List Entry) (number : ℕ) (order : Order) (m : Mutating) (command : Command) (calls : List Entry)
-    (follows : Follows c g s past) (shaken : IsKept c s) (here : slice_get s.machines number ≡ Some (record { machine = mutating m; command = command; calls = calls })) (takes : takes_at m.spot m.made order ≡ true) where
+module _ (change : Change) (config : Config) (graph : Graph) (stage : Stage Actor) (past : List Entry) (number : ℕ) (order : Order) (mutator : Mutating) (command : Command) (calls : List Entry)
+    (follows : Follows config graph stage past) (shaken : IsKept config stage) (here : slice_get stage.machines number ≡ Some (record { machine = mutating mutator; command = command; calls = calls })) (takes : takes_at mutator.spot mutator.made order ≡ true) where
   abbrev Goal : Type 0
-  Goal = Follows c g (moved (kind change c) s number (record { machine = mutating m; command = command; calls = calls }) order) (past ++ entries_of m.seat (command_by order command) (settled_by_step (settled c s) m))
+  Goal = Follows config graph (moved (kind change config) stage number (record { machine = mutating mutator; command = command; calls = calls }) order) (past ++ entries_of mutator.seat (command_by order command) (settled_by_step (settled config stage) mutator))
 
   -- the same at a spot, a number and under an order
   abbrev At : ℕ → Order → Spot → Type 0
-  At n o spot = Follows c g (moved (kind change c) s n (record { machine = mutating (mutator_at m.seat m.made m.kept spot); command = command; calls = calls }) o)
-      (past ++ entries_of m.seat (command_by o command) (settled_by_step (settled c s) (mutator_at m.seat m.made m.kept spot)))
+  At n order spot = Follows config graph (moved (kind change config) stage n (record { machine = mutating (mutator_at mutator.seat mutator.made mutator.kept spot); command = command; calls = calls }) order)
+      (past ++ entries_of mutator.seat (command_by order command) (settled_by_step (settled config stage) (mutator_at mutator.seat mutator.made mutator.kept spot)))
 
   -- it looks for its answer
-  by_poll : m.spot ≡ Waiting wait.Poll → (image : Counting) → held_image c s ≡ Some image → Goal
+  by_poll : mutator.spot ≡ Waiting wait.Poll → (image : Counting) → held_image config stage ≡ Some image → Goal
   by_poll polls image held =
-      let thread = follows.machines number (record { machine = mutating m; command = command; calls = calls }) here in
-      let less : m.seat < c.mutators = thread.mine.seated.below in
-      let nothing : order ≡ Nothing = in_call (Waiting wait.Poll) m.made order refl (subst (λ spot. takes_at spot m.made order ≡ true) polls takes) in
-      let there : slice_get s.machines m.seat ≡ Some (record { machine = mutating (mutator_at m.seat m.made m.kept (Waiting wait.Poll)); command = command; calls = calls }) =
-      ap (slice_get s.machines) thread.number_is ∙ here ∙ ap (λ spot. Some (record { machine = mutating (mutator_at m.seat m.made m.kept spot); command = command; calls = calls })) polls in
+      let thread = follows.machines number (record { machine = mutating mutator; command = command; calls = calls }) here in
+      let less : mutator.seat < config.mutators = thread.mine.seated.below in
+      let nothing : order ≡ Nothing = in_call (Waiting wait.Poll) mutator.made order refl (subst (λ spot. takes_at spot mutator.made order ≡ true) polls takes) in
+      let there : slice_get stage.machines mutator.seat ≡ Some (record { machine = mutating (mutator_at mutator.seat mutator.made mutator.kept (Waiting wait.Poll)); command = command; calls = calls }) =
+      ap (slice_get stage.machines) thread.number_is ∙ here ∙ ap (λ spot. Some (record { machine = mutating (mutator_at mutator.seat mutator.made mutator.kept spot); command = command; calls = calls })) polls in
       subst (λ spot. At number order spot) (sym polls)
       (subst (λ o. At number o (Waiting wait.Poll)) (sym nothing)
       (subst (λ n. At n Nothing (Waiting wait.Poll)) thread.number_is
-      (follows_poll change c g s past m.seat m.made m.kept command calls follows there image held (λ e. omega (arith, less, e)))))
+      (follows_poll change config graph stage past mutator.seat mutator.made mutator.kept command calls follows there image held (λ e. omega (arith, less, e)))))
 
   pub follows_mutator : Goal
-  follows_mutator = by_image (held_image c s) refl
+  follows_mutator = by_image (held_image config stage) refl
     where
-      by_image : (o : Option Counting) → held_image c s ≡ o → Goal
-      by_image None none = follows_plain change c g s past number order m command calls follows shaken here takes (λ image held. absurd (let clash = sym none ∙ held in cc))
+      by_image : (found : Option Counting) → held_image config stage ≡ found → Goal
+      by_image None none = follows_plain change config graph stage past number order mutator command calls follows shaken here takes (λ image held. absurd (let clash = sym none ∙ held in cc))
       by_image (Some image) held = ⊎_elim
-          (λ (outside : is_image (touch_of c m order).word ≡ false). follows_plain change c g s past number order m command calls follows shaken here takes (λ other other_held. outside))
-          (λ (polls : m.spot ≡ Waiting wait.Poll). by_poll polls image held)
-          (outside_touch c m.seat m.made m.kept order m.spot (outside_now change c g s past number order m command calls follows shaken here takes image held) takes)
+          (λ (outside : is_image (touch_of config mutator order).word ≡ false). follows_plain change config graph stage past number order mutator command calls follows shaken here takes (λ other other_held. outside))
+          (λ (polls : mutator.spot ≡ Waiting wait.Poll). by_poll polls image held)
+          (outside_touch config mutator.seat mutator.made mutator.kept order mutator.spot (outside_now change config graph stage past number order mutator command calls follows shaken here takes image held) takes)

@@ -32,7 +32,7 @@ use Rattle.heap_world.proofs.Unwritten.{unwritten_stays}
 use Rattle.std.proofs.lemmas.Option.{same_Some, none-some}
 use Rattle.heap_world.proofs.Pieces.{object_reads}
 
-module _ (c : Config) (u : World) (seat made : ℕ) (kept : Kept) (command : Command) (fixed : Option Reply) where
+module _ (config : Config) (world : World) (seat made : ℕ) (kept : Kept) (command : Command) (fixed : Option Reply) where
   abbrev at_spot : Spot → Mutating
   at_spot spot = mutator_at seat made kept spot
 
@@ -48,38 +48,38 @@ module _ (c : Config) (u : World) (seat made : ℕ) (kept : Kept) (command : Com
   abbrev nums : ℕ
   nums = nums_of kept.command
 
-  module _ (address done : ℕ) (shared : Shared c u) (mine : Mine c u (at_spot (Making (make.StoreWord address done))) command fixed) where
+  module _ (address done : ℕ) (shared : Shared config world) (mine : Mine config world (at_spot (Making (make.StoreWord address done))) command fixed) where
     -- the world with one word more stored
     abbrev stored_world : World
-    stored_world = accessed c u (at_spot (Making (make.StoreWord address done)))
+    stored_world = accessed config world (at_spot (Making (make.StoreWord address done)))
 
     -- the words of other pieces stay
-    else_stays : (a k : ℕ) (b : Block) → u.block a ≡ Some b → a ≢ address → k < words_of b → stored_world.memory (Heap (a + k)) ≡ u.memory (Heap (a + k))
-    else_stays a k b is other below =
+    else_stays : (a k : ℕ) (piece : Block) → world.block a ≡ Some piece → a ≢ address → k < words_of piece → stored_world.memory (Heap (a + k)) ≡ world.memory (Heap (a + k))
+    else_stays a k piece is other below =
         cond-false ((address + done) == (a + k)) _ _
         (ne_eqb (address + done) (a + k)
-        (λ e. far c (λ r. u.memory (Top r)) u.block shared.parsable.plotted a address k done b (hand seat (3 + refs + nums)) is mine.facts.1.room other below mine.facts.2 (sym e)))
+        (λ e. far config (λ r. world.memory (Top r)) world.block shared.parsable.plotted a address k done piece (hand seat (3 + refs + nums)) is mine.facts.1.room other below mine.facts.2 (sym e)))
 
     -- a piece that is not the room stands elsewhere
-    not_room : (a : ℕ) (b : Block) → u.block a ≡ Some b → (hand seat (3 + refs + nums) ≡ b → ⊥) → a ≢ address
-    not_room a b is differs same = differs (same_Some (hand seat (3 + refs + nums)) b (sym mine.facts.1.room ∙ ap u.block (sym same) ∙ is))
+    not_room : (a : ℕ) (piece : Block) → world.block a ≡ Some piece → (hand seat (3 + refs + nums) ≡ piece → ⊥) → a ≢ address
+    not_room a piece is differs same = differs (same_Some (hand seat (3 + refs + nums)) piece (sym mine.facts.1.room ∙ ap world.block (sym same) ∙ is))
 
     -- its first word stays
-    head_stays : (a : ℕ) (b : Block) → u.block a ≡ Some b → (hand seat (3 + refs + nums) ≡ b → ⊥) → 0 < words_of b → stored_world.memory (Heap a) ≡ u.memory (Heap a)
-    head_stays a b is differs some =
-        let header : a + 0 ≡ a = omega arith in
-        ap (λ x. stored_world.memory (Heap x)) (sym header) ∙ else_stays a 0 b is (not_room a b is differs) some ∙ ap (λ x. u.memory (Heap x)) header
+    head_stays : (address : ℕ) (piece : Block) → world.block address ≡ Some piece → (hand seat (3 + refs + nums) ≡ piece → ⊥) → 0 < words_of piece → stored_world.memory (Heap address) ≡ world.memory (Heap address)
+    head_stays address piece is differs some =
+        let header : address + 0 ≡ address = omega arith in
+        ap (λ x. stored_world.memory (Heap x)) (sym header) ∙ else_stays address 0 piece is (not_room address piece is differs) some ∙ ap (λ x. world.memory (Heap x)) header
 
     -- the references of objects stay
-    fields_stay : (a more_refs more_nums k : ℕ) (n : Name) → u.block a ≡ Some (thing n more_refs more_nums) → k < more_refs → stored_world.memory (Heap (a + 3 + k)) ≡ u.memory (Heap (a + 3 + k))
-    fields_stay a more_refs more_nums k n is below =
-        let there : a + (3 + k) ≡ a + 3 + k = omega arith in
+    fields_stay : (address more_refs more_nums k : ℕ) (name : Name) → world.block address ≡ Some (thing name more_refs more_nums) → k < more_refs → stored_world.memory (Heap (address + 3 + k)) ≡ world.memory (Heap (address + 3 + k))
+    fields_stay address more_refs more_nums k name is below =
+        let there : address + (3 + k) ≡ address + 3 + k = omega arith in
         ap (λ b. stored_world.memory (Heap b)) (sym there)
-        ∙ else_stays a (3 + k) (thing n more_refs more_nums) is (not_room a (thing n more_refs more_nums) is (λ differ. cc)) (omega (arith, below))
-        ∙ ap (λ b. u.memory (Heap b)) there
+        ∙ else_stays address (3 + k) (thing name more_refs more_nums) is (not_room address (thing name more_refs more_nums) is (λ differ. cc)) (omega (arith, below))
+        ∙ ap (λ b. world.memory (Heap b)) there
 
     -- machines share what they shared
-    shared_stored : Shared c stored_world
+    shared_stored : Shared config stored_world
     shared_stored = record {
       parsable = shared.parsable;
       contents = record {
@@ -88,14 +88,14 @@ module _ (c : Config) (u : World) (seat made : ℕ) (kept : Kept) (command : Com
               let o = shared.contents.objects.each a more_refs more_nums n is in
               let other : a ≢ address = not_room a (thing n more_refs more_nums) is (λ differ. cc) in
               let kept = λ (k : ℕ) (below : k < 3 + more_refs + more_nums). else_stays a k (thing n more_refs more_nums) is other below in
-              (o.0, o.1, object_reads (λ b. u.memory (Heap b)) (λ b. stored_world.memory (Heap b)) u.block u.block a more_refs more_nums n o.0 kept (λ b m e. e) o.2);
+              (o.0, o.1, object_reads (λ b. world.memory (Heap b)) (λ b. stored_world.memory (Heap b)) world.block world.block a more_refs more_nums n o.0 kept (λ b m e. e) o.2);
           once = shared.contents.objects.once;
         };
         given = shared.contents.given;
       };
       owned = shared.owned;
       phased = shared.phased;
-      unwritten = unwritten_stays (λ a. u.memory (Heap a)) (λ a. stored_world.memory (Heap a)) u.block u.block
+      unwritten = unwritten_stays (λ a. world.memory (Heap a)) (λ a. stored_world.memory (Heap a)) world.block world.block
           (λ a seat_then words is. (is, λ k below. else_stays a k (promised seat_then words) is (not_room a (promised seat_then words) is (λ differ. cc)) below))
           (λ a words is. (
             is,
@@ -104,23 +104,23 @@ module _ (c : Config) (u : World) (seat made : ℕ) (kept : Kept) (command : Com
           ))
           (λ a words is. (is, head_stays a (filler words) is (λ differ. cc) (let some = shared.parsable.fillers a words is in omega (arith, some))))
           shared.unwritten;
-      marked = marked_elsewhere c (u.memory Phase) (λ n. u.memory (Grey n)) (λ n. u.memory (Black n)) (λ t. u.memory (Count t)) (λ t k. u.memory (Buffer t k)) (λ r. u.memory (Top r)) (λ r. u.memory (Tams r))
-          (λ a. u.memory (Heap a)) u.block u.ghost.snapshot u.ghost.recording u.ghost.scanning shared.marked (λ a. stored_world.memory (Heap a))
+      marked = marked_elsewhere config (world.memory Phase) (λ n. world.memory (Grey n)) (λ n. world.memory (Black n)) (λ t. world.memory (Count t)) (λ t k. world.memory (Buffer t k)) (λ r. world.memory (Top r)) (λ r. world.memory (Tams r))
+          (λ a. world.memory (Heap a)) world.block world.ghost.snapshot world.ghost.recording world.ghost.scanning shared.marked (λ a. stored_world.memory (Heap a))
           fields_stay;
-      evacuated = evacuated_words c (u.memory Phase) (u.memory Cset) (u.memory Evac) (u.memory Claim) (u.memory Free) (λ r. u.memory (Top r)) (λ r. u.memory (Tams r)) (λ a. u.memory (Heap a)) (λ n. u.memory (Black n))
-          u.block u.ghost.owner u.ghost.copying u.ghost.working shared.evacuated (λ a. stored_world.memory (Heap a))
+      evacuated = evacuated_words config (world.memory Phase) (world.memory Cset) (world.memory Evac) (world.memory Claim) (world.memory Free) (λ r. world.memory (Top r)) (λ r. world.memory (Tams r)) (λ a. world.memory (Heap a)) (λ n. world.memory (Black n))
+          world.block world.ghost.owner world.ghost.copying world.ghost.working shared.evacuated (λ a. stored_world.memory (Heap a))
           (λ a more_refs more_nums to n is. (
             head_stays a (moved n more_refs more_nums to) is (λ differ. cc) (omega arith),
             else_stays a 1 (moved n more_refs more_nums to) is (not_room a (moved n more_refs more_nums to) is (λ differ. cc)) (omega arith),
             else_stays a 2 (moved n more_refs more_nums to) is (not_room a (moved n more_refs more_nums to) is (λ differ. cc)) (omega arith),
-            λ k less. subst (λ b. stored_world.memory (Heap b) ≡ u.memory (Heap b)) (let there : a + (3 + k) ≡ a + 3 + k = omega arith in there)
+            λ k less. subst (λ b. stored_world.memory (Heap b) ≡ world.memory (Heap b)) (let there : a + (3 + k) ≡ a + 3 + k = omega arith in there)
                 (else_stays a (3 + k) (moved n more_refs more_nums to) is (not_room a (moved n more_refs more_nums to) is (λ differ. cc)) (omega (arith, less))),
           ))
           (λ a words to is. let long = shared.parsable.spents a words to is in (
             head_stays a (spent words to) is (λ differ. cc) (omega (arith, long)),
             else_stays a 1 (spent words to) is (not_room a (spent words to) is (λ differ. cc)) (omega (arith, long)),
           ));
-      updated = λ on. updated_elsewhere c (u.memory Cset) (u.memory Claim) (λ r. u.memory (Top r)) (λ r. u.memory (Limit r)) (λ a. u.memory (Heap a)) u.block u.ghost.scanning (shared.updated on) (λ a. stored_world.memory (Heap a)) fields_stay;
+      updated = λ on. updated_elsewhere config (world.memory Cset) (world.memory Claim) (λ r. world.memory (Top r)) (λ r. world.memory (Limit r)) (λ a. world.memory (Heap a)) world.block world.ghost.scanning (shared.updated on) (λ a. stored_world.memory (Heap a)) fields_stay;
       pinned = shared.pinned;
     }
 
@@ -140,11 +140,11 @@ module _ (c : Config) (u : World) (seat made : ℕ) (kept : Kept) (command : Com
     }
 
     -- the mutator goes on with the next word, or with the root
-    mine_stored : (b : Bool) → nat_lt (done + 1) (3 + refs + nums) ≡ b
-        → Mine c stored_world (at_spot (Making (if b then make.StoreWord address (done + 1) else make.StoreRoot address))) command fixed
+    mine_stored : (holds : Bool) → nat_lt (done + 1) (3 + refs + nums) ≡ holds
+        → Mine config stored_world (at_spot (Making (if holds then make.StoreWord address (done + 1) else make.StoreRoot address))) command fixed
     mine_stored true more = record {
       seated = mine.seated;
-      ready = word_ready c seat made kept command fixed mine.facts.0 (λ r. u.memory (Top r)) u.block shared.parsable.plotted address mine.facts.1.room mine.seated.below (done + 1) (ltb-true _ _ more);
+      ready = word_ready config seat made kept command fixed mine.facts.0 (λ r. world.memory (Top r)) world.block shared.parsable.plotted address mine.facts.1.room mine.seated.below (done + 1) (ltb-true _ _ more);
       marking = mine.marking;
       copying = mine.copying;
       roots = mine.roots;
@@ -153,7 +153,7 @@ module _ (c : Config) (u : World) (seat made : ℕ) (kept : Kept) (command : Com
     }
     mine_stored false all = record {
       seated = mine.seated;
-      ready = fresh_ready c seat made kept command fixed mine.facts.0 (λ r. u.memory (Top r)) u.block shared.parsable.plotted address mine.facts.1.room mine.seated.below;
+      ready = fresh_ready config seat made kept command fixed mine.facts.0 (λ r. world.memory (Top r)) world.block shared.parsable.plotted address mine.facts.1.room mine.seated.below;
       marking = mine.marking;
       copying = mine.copying;
       roots = mine.roots;
@@ -165,17 +165,17 @@ module _ (c : Config) (u : World) (seat made : ℕ) (kept : Kept) (command : Com
     }
 
     -- the shapes of objects stay
-    shape_stays : (a : ℕ) → IsMarkable u.block a → stored_world.memory (Heap (a + 1)) ≡ u.memory (Heap (a + 1))
-    shape_stays a (IsMarkable.object n more_refs more_nums is) = else_stays a 1 (thing n more_refs more_nums) is (not_room a (thing n more_refs more_nums) is (λ differ. cc)) (omega arith)
-    shape_stays a (IsMarkable.to_come other words is) =
-        else_stays a 1 (promised other words) is (not_room a (promised other words) is (λ differ. cc)) (let long = shared.parsable.promises a other words is in omega (arith, long))
+    shape_stays : (address : ℕ) → IsMarkable world.block address → stored_world.memory (Heap (address + 1)) ≡ world.memory (Heap (address + 1))
+    shape_stays address (IsMarkable.object n more_refs more_nums is) = else_stays address 1 (thing n more_refs more_nums) is (not_room address (thing n more_refs more_nums) is (λ differ. cc)) (omega arith)
+    shape_stays address (IsMarkable.to_come other words is) =
+        else_stays address 1 (promised other words) is (not_room address (promised other words) is (λ differ. cc)) (let long = shared.parsable.promises address other words is in omega (arith, long))
 
     -- room in hand is no copy of an object
-    not_body : (a : ℕ) (b : Body) (x : Block) → body_at (u.block a) ≡ Some b → u.block a ≡ Some x → hand seat (3 + refs + nums) ≡ x → ⊥
-    not_body a b x is there same = none-some b (ap (λ (y : Block). body_at (Some y)) same ∙ ap body_at (sym there) ∙ is)
+    not_body : (address : ℕ) (body : Body) (piece : Block) → body_at (world.block address) ≡ Some body → world.block address ≡ Some piece → hand seat (3 + refs + nums) ≡ piece → ⊥
+    not_body address body piece is there same = none-some body (ap (λ (piece : Block). body_at (Some piece)) same ∙ ap body_at (sym there) ∙ is)
 
     -- others can rely on what they knew
-    others_stored : (j : ℕ) → j ≢ seat → Rely c j u stored_world
+    others_stored : (j : ℕ) → j ≢ seat → Rely config j world stored_world
     others_stored j differs = record {
       names = λ a n is. is;
       targets = λ a more_refs more_nums n has. record { piece = has.piece; safe = has.safe };
@@ -200,16 +200,16 @@ module _ (c : Config) (u : World) (seat made : ℕ) (kept : Kept) (command : Com
       answer = refl;
       state = refl;
       asked = λ is. is;
-      marks = rely_marks c u stored_world j refl (λ n. refl) (λ t. refl) (λ t k. refl) refl (λ t. refl) refl (λ a is. is) shape_stays;
-      copies = rely_copies c u stored_world j (same_plot c u stored_world refl refl refl (λ r is. refl)) refl refl
+      marks = rely_marks config world stored_world j refl (λ n. refl) (λ t. refl) (λ t k. refl) refl (λ t. refl) refl (λ a is. is) shape_stays;
+      copies = rely_copies config world stored_world j (same_plot config world stored_world refl refl refl (λ r is. refl)) refl refl
           (λ a k b seated copies inside is from below.
-          let piece = body_piece (u.block a) b is in
+          let piece = body_piece (world.block a) b is in
           else_stays a k piece.0 piece.1 (not_room a piece.0 piece.1 (λ same. not_body a b piece.0 is piece.1 same)) (let long = piece.2 in omega (arith, below, long)));
-      fields = fields_stored c u stored_world (λ r. refl) (λ r. refl) refl (λ a words is. is) (λ a words is. is) (λ on a more_refs more_nums k n is below. inl (fields_stay a more_refs more_nums k n is below));
+      fields = fields_stored config world stored_world (λ r. refl) (λ r. refl) refl (λ a words is. is) (λ a words is. is) (λ on a more_refs more_nums k n is below. inl (fields_stay a more_refs more_nums k n is below));
     }
 
   -- the step that stores a word of a new object
-  pub at_store_word : (address done : ℕ) → Row c u (at_spot (Making (make.StoreWord address done))) command fixed
+  pub at_store_word : (address done : ℕ) → Row config world (at_spot (Making (make.StoreWord address done))) command fixed
   at_store_word address done shared mine = record {
     world = stored_world address done shared mine;
     memory = refl;
@@ -221,9 +221,9 @@ module _ (c : Config) (u : World) (seat made : ℕ) (kept : Kept) (command : Com
     others = others_stored address done shared mine;
   }
 
-  module _ (address : ℕ) (shared : Shared c u) (mine : Mine c u (at_spot (Making (make.StoreRoot address))) command fixed) where
+  module _ (address : ℕ) (shared : Shared config world) (mine : Mine config world (at_spot (Making (make.StoreRoot address))) command fixed) where
     -- all words of the object stand in the room in hand
-    has : HasNew c u seat made command kept.command fixed address
+    has : HasNew config world seat made command kept.command fixed address
     has = record {
       making = mine.facts.0;
       within = mine.seated.below;
@@ -234,23 +234,23 @@ module _ (c : Config) (u : World) (seat made : ℕ) (kept : Kept) (command : Com
       long = refl;
       own = record { no_room = λ j differs room. differs (sym (same_Some seat j room)); no_promise = λ j words differs same. cc; no_dead = λ words same. cc; no_filler = λ words same. cc; no_spare = λ j words same. cc; no_carved = λ j words same. cc };
       known = λ on. inr ((shared.marked.marking on).young address seat (hand seat (3 + refs + nums)) mine.facts.1.room refl);
-      outside = room_outside c u shared address seat (3 + refs + nums) mine.facts.1.room;
+      outside = room_outside config world shared address seat (3 + refs + nums) mine.facts.1.room;
       kept = λ on. inr ((shared.evacuated.kept on).young address seat (hand seat (3 + refs + nums)) mine.facts.1.room refl);
       stored = mine.facts.1.stored;
       shared = shared;
     }
 
     -- the mutator has only to leave
-    mine_made : Mine c (made_world has) (mutator_at seat (made + 1) kept (Leave (made_reply has))) command (Some (made_reply has))
+    mine_made : Mine config (made_world has) (mutator_at seat (made + 1) kept (Leave (made_reply has))) command (Some (made_reply has))
     mine_made =
-        leaving c (made_world has) seat (made + 1) kept command (made_reply has)
+        leaving config (made_world has) seat (made + 1) kept command (made_reply has)
         (record { below = mine.seated.below; counted = count_made has; usable = usable_made has mine.seated.usable; unasked = λ calm. let was = mine.seated.unasked calm in (was.0, was.1, λ a words is. was.2 a words (promise_before has a seat words is).1) })
         (mine.marking.records, mine.marking.scans, mine.copying.copies_is, mine.copying.works_none)
         (roots_made has mine.roots)
         (λ a x is room. let old = room_before has a seat x is room in ⊎_elim (λ spares. spares) (λ new. absurd (old.0 new.0)) (mine.rooms a x old.1 room))
 
   -- the step that stores a new object into a root settles its name
-  pub at_store_fresh : (address : ℕ) → Row c u (at_spot (Making (make.StoreRoot address))) command fixed
+  pub at_store_fresh : (address : ℕ) → Row config world (at_spot (Making (make.StoreRoot address))) command fixed
   at_store_fresh address shared mine = let new = has address shared mine in record {
     world = made_world new;
     memory = refl;

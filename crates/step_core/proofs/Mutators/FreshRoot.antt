@@ -33,33 +33,33 @@ use Rattle.heap_world.proofs.RootChanges.{roots_written, usable_written}
 
 -- a piece that is no other seat's, neither its room nor promised to it, and no dead object or filler, nor free words of a buffer or carved words
 pub record IsOwn (seat : ℕ) (piece : Block) : Type 0 where
-  pub no_room : (j : ℕ) → j ≢ seat → room_of piece ≢ Some j
-  pub no_promise : (j words : ℕ) → j ≢ seat → piece ≡ promised j words → ⊥
+  pub no_room : (other_seat : ℕ) → other_seat ≢ seat → room_of piece ≢ Some other_seat
+  pub no_promise : (other_seat words : ℕ) → other_seat ≢ seat → piece ≡ promised other_seat words → ⊥
   pub no_dead : (words : ℕ) → piece ≡ dead words → ⊥
   pub no_filler : (words : ℕ) → piece ≡ filler words → ⊥
-  pub no_spare : (j words : ℕ) → piece ≡ spare j words → ⊥
-  pub no_carved : (j words : ℕ) → piece ≡ carved j words → ⊥
+  pub no_spare : (other_seat words : ℕ) → piece ≡ spare other_seat words → ⊥
+  pub no_carved : (other_seat words : ℕ) → piece ≡ carved other_seat words → ⊥
 
 -- What is needed where a mutator stores its next object into a root: the command makes it, and a piece of the seat's own has all
 -- its words.
-pub record HasNew (c : Config) (u : World) (seat made : ℕ) (command k : Command) (fixed : Option Reply) (address : ℕ) : Type 0 where
-  pub making : IsMaking made command fixed (dst_of k) (refs_of k) (nums_of k)
-  pub within : seat < c.mutators
-  pub counted : u.graph.count (seat + 1) ≡ made
+pub record HasNew (config : Config) (world : World) (seat made : ℕ) (command other_command : Command) (fixed : Option Reply) (address : ℕ) : Type 0 where
+  pub making : IsMaking made command fixed (dst_of other_command) (refs_of other_command) (nums_of other_command)
+  pub within : seat < config.mutators
+  pub counted : world.graph.count (seat + 1) ≡ made
   pub piece : Block
-  pub here : u.block address ≡ Some piece
+  pub here : world.block address ≡ Some piece
   pub unnamed : name_at (Some piece) ≡ None
-  pub long : words_of piece ≡ 3 + refs_of k + nums_of k
+  pub long : words_of piece ≡ 3 + refs_of other_command + nums_of other_command
   pub own : IsOwn seat piece
-  pub known : u.memory Phase ≡ 1 → (u.ghost.snapshot.starts address ≡ true) ⊎ IsYoung c u.ghost.snapshot.top address
-  pub outside : IsCollected c (u.memory Cset) address → ⊥
-  pub kept : 2 ≤ u.memory Phase → HasMark c (λ n. u.memory (Black n)) address ⊎ IsYoung c (λ r. u.memory (Tams r)) address
-  pub stored : (i : ℕ) → i < 3 + refs_of k + nums_of k → u.memory (Heap (address + i)) ≡ fresh_word seat made (refs_of k) (nums_of k) i
-  pub shared : Shared c u
+  pub known : world.memory Phase ≡ 1 → (world.ghost.snapshot.starts address ≡ true) ⊎ IsYoung config world.ghost.snapshot.top address
+  pub outside : IsCollected config (world.memory Cset) address → ⊥
+  pub kept : 2 ≤ world.memory Phase → HasMark config (λ n. world.memory (Black n)) address ⊎ IsYoung config (λ r. world.memory (Tams r)) address
+  pub stored : (i : ℕ) → i < 3 + refs_of other_command + nums_of other_command → world.memory (Heap (address + i)) ≡ fresh_word seat made (refs_of other_command) (nums_of other_command) i
+  pub shared : Shared config world
 
 module _ {c : Config} {u : World} {seat made : ℕ} {command k : Command} {fixed : Option Reply} {address : ℕ} (has : HasNew c u seat made command k fixed address) where
   abbrev top : ℕ → ℕ
-  top r = u.memory (Top r)
+  top region = u.memory (Top region)
 
   abbrev refs : ℕ
   refs = refs_of k
@@ -97,8 +97,8 @@ module _ {c : Config} {u : World} {seat made : ℕ} {command k : Command} {fixed
   name_is = ap (next_name seat) has.counted
 
   -- no object has it
-  not_given : (o : Object) → u.graph.object name ≡ Some o → ⊥
-  not_given o is = let given = has.shared.contents.given name o is in let most = given.by_thread (omega arith) in omega (arith, most)
+  not_given : (object : Object) → u.graph.object name ≡ Some object → ⊥
+  not_given object is = let given = has.shared.contents.given name object is in let most = given.by_thread (omega arith) in omega (arith, most)
 
   -- its words are those of a blank object
   new_is : IsThing (λ a. u.memory (Heap a)) made_world.block address refs nums name (blank refs nums)
@@ -139,19 +139,19 @@ module _ {c : Config} {u : World} {seat made : ℕ} {command k : Command} {fixed
   }
 
   -- room was there before, elsewhere
-  pub room_before : (a j : ℕ) (x : Block) → made_world.block a ≡ Some x → room_of x ≡ Some j → (a ≢ address) × (u.block a ≡ Some x)
+  pub room_before : (a seat : ℕ) (piece : Block) → made_world.block a ≡ Some piece → room_of piece ≡ Some seat → (a ≢ address) × (u.block a ≡ Some piece)
   room_before = old_room c top u.block address refs nums name has.piece has.unnamed has.long has.here
 
   -- what is promised was promised before, elsewhere
-  pub promise_before : (a j words : ℕ) → made_world.block a ≡ Some (promised j words) → (a ≢ address) × (u.block a ≡ Some (promised j words))
+  pub promise_before : (a seat words : ℕ) → made_world.block a ≡ Some (promised seat words) → (a ≢ address) × (u.block a ≡ Some (promised seat words))
   promise_before = old_promise c top u.block address refs nums name has.piece has.unnamed has.long has.here
 
   -- the mutator's roots stand for its thread's, with the new one
-  pub roots_made : ((i : ℕ) → i < 16 → Points u.block (u.memory (Root seat i)) (u.graph.root (seat + 1) i)) → (i : ℕ) → i < 16
-      → Points made_world.block (made_world.memory (Root seat i)) (made_world.graph.root (seat + 1) i)
+  pub roots_made : ((index : ℕ) → index < 16 → Points u.block (u.memory (Root seat index)) (u.graph.root (seat + 1) index)) → (index : ℕ) → index < 16
+      → Points made_world.block (made_world.memory (Root seat index)) (made_world.graph.root (seat + 1) index)
   roots_made roots =
       roots_written made_world.block u.memory u.graph.root seat (dst_of k) address (Some name)
-      (λ i below. points_stay u.block made_world.block names (u.memory (Root seat i)) (u.graph.root (seat + 1) i) (roots i below))
+      (λ index below. points_stay u.block made_world.block names (u.memory (Root seat index)) (u.graph.root (seat + 1) index) (roots index below))
       (ap name_at (updated_there u.block address (Some (thing name refs nums))))
 
   -- the new object is there, and may be used
@@ -162,10 +162,10 @@ module _ {c : Config} {u : World} {seat made : ℕ} {command k : Command} {fixed
   taken_made = subst (λ n. TargetIn c made_world address refs nums n) name_is target_made
 
   -- and may be used
-  pub usable_made : ((i : ℕ) → i < 16 → UsableIn c u (u.memory (Root seat i))) → (i : ℕ) → i < 16 → UsableIn c made_world (made_world.memory (Root seat i))
+  pub usable_made : ((index : ℕ) → index < 16 → UsableIn c u (u.memory (Root seat index))) → (index : ℕ) → index < 16 → UsableIn c made_world (made_world.memory (Root seat index))
   usable_made usable =
       usable_written c (u.memory Cset) (u.memory Evac) made_world.block u.memory seat (dst_of k) address
-      (λ i below. usable_stays c u made_world targets (u.memory (Root seat i)) (usable i below))
+      (λ index below. usable_stays c u made_world targets (u.memory (Root seat index)) (usable index below))
       (inr (name, refs, nums, target_made))
 
   -- it has made one object more

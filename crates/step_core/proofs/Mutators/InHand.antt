@@ -21,37 +21,37 @@ use Rattle.mutator.specs.declared.spot.Kept.{Kept}
 use Rattle.alloc_buffers.specs.Facts.{OnlySpares}
 
 -- a reply that shows a reference is not full
-pub shown_not_full : (r : Reference) → is_full (shown r) ≡ false
+pub shown_not_full : (reference : Reference) → is_full (shown reference) ≡ false
 shown_not_full None = refl
 shown_not_full (Some n) = refl
 
 -- With the reference of a field in hand for a root, and settled, a call goes on: it stores null, or loads the name first.
-pub field_mine : (c : Config) (w : World) (seat made : ℕ) (kept : Kept) (command : Command) (got : ℕ) (v : Reference)
-    → Shared c w → IsSeatedIn c w seat made false → HasMarkingBy w seat None kept.phase true → HasCopyingBy w seat false kept.cset true → dst_of kept.command < 16
-    → ((i : ℕ) → i < 16 → Points w.block (if i == dst_of kept.command then got else w.memory (Root seat i)) (w.graph.root (seat + 1) i))
-    → OnlySpares w seat
-    → Points w.block got v → UsableIn c w got
-    → Mine c w (mutator_at seat made kept (after_field got)) command (Some (shown v))
-field_mine c w seat made kept command got v shared seated marking copying small roots rooms is usable = ⊎_elim
+pub field_mine : (config : Config) (world : World) (seat made : ℕ) (kept : Kept) (command : Command) (got : ℕ) (reference : Reference)
+    → Shared config world → IsSeatedIn config world seat made false → HasMarkingBy world seat None kept.phase true → HasCopyingBy world seat false kept.cset true → dst_of kept.command < 16
+    → ((index : ℕ) → index < 16 → Points world.block (if index == dst_of kept.command then got else world.memory (Root seat index)) (world.graph.root (seat + 1) index))
+    → OnlySpares world seat
+    → Points world.block got reference → UsableIn config world got
+    → Mine config world (mutator_at seat made kept (after_field got)) command (Some (shown reference))
+field_mine config world seat made kept command got reference shared seated marking copying small roots rooms is usable = ⊎_elim
     (λ (none : (got == 0) ≡ true).
     let below = seated.below in
     let zero_got : got ≡ 0 = eqb-true _ _ none in
     rw none (record {
       seated = seated;
-      ready = ready_of (is_word c (Root seat (dst_of kept.command))) (is_number got) (grind (arith, nat_tests)) (number_small got (points_small c _ w.block shared.parsable.plotted got v is));
+      ready = ready_of (is_word config (Root seat (dst_of kept.command))) (is_number got) (grind (arith, nat_tests)) (number_small got (points_small config _ world.block shared.parsable.plotted got reference is));
       marking = marking;
       copying = copying;
       roots = roots;
       rooms = rooms;
-      facts = (ap (λ r. Some (shown r)) (null_if_0 c _ w.block shared.parsable.plotted got v is zero_got), small, usable);
+      facts = (ap (λ r. Some (shown r)) (null_if_0 config _ world.block shared.parsable.plotted got reference is zero_got), small, usable);
     }))
     (λ (some : (got == 0) ≡ false).
-    let named = named_if_not_0 c _ w.block shared.parsable.plotted got v is (eqb-false _ _ some) in
-    let body = named_body (w.block got) named.0 named.2 in
-    let there = body_piece (w.block got) (body_of named.0 body.0 body.1) body.2 in
+    let named = named_if_not_0 config _ world.block shared.parsable.plotted got reference is (eqb-false _ _ some) in
+    let body = named_body (world.block got) named.0 named.2 in
+    let there = body_piece (world.block got) (body_of named.0 body.0 body.1) body.2 in
     rw some (record {
       seated = seated;
-      ready = ready_of _ true (piece_word c _ w.block shared.parsable.plotted got 2 there.0 there.1 (let long = there.2 in omega (arith, long))) refl;
+      ready = ready_of _ true (piece_word config _ world.block shared.parsable.plotted got 2 there.0 there.1 (let long = there.2 in omega (arith, long))) refl;
       marking = marking;
       copying = copying;
       roots = roots;

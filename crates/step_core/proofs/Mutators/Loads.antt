@@ -35,7 +35,7 @@ use Rattle.step_core.proofs.Mutators.Loading.{looks, replies}
 use Rattle.alloc_buffers.specs.Facts.{OnlySpares}
 
 -- the roots that a command loads are below 16
-root_small : (made : ℕ) (k : Command) (i : ℕ) → is_next made k ≡ true → i < length (command_roots k) → command_root k i < 16
+root_small : (made : ℕ) (command : Command) (i : ℕ) → is_next made command ≡ true → i < length (command_roots command) → command_root command i < 16
 root_small made (Get dst src field) zero next below = grind (arith, nat_tests)
 root_small made (Get dst src field) (suc i) next below = absurd (omega arith)
 root_small made (Set obj field val) zero next below = grind (arith, nat_tests)
@@ -62,61 +62,61 @@ root_small made (Pin slot obj) (suc i) next below = absurd (omega arith)
 root_small made _ i next below = absurd (omega arith)
 
 -- the object of a command whose first root is not null
-abbrev object_of : (c : Config) (u : World) (seat : ℕ) (k : Command) (object : ℕ) → Shared c u → is_on_object k ≡ true → HasFirst c u seat k object → HasObject c u seat (command_root k 0) object
-object_of c u seat k object shared on first =
+abbrev object_of : (config : Config) (world : World) (seat : ℕ) (command : Command) (object : ℕ) → Shared config world → is_on_object command ≡ true → HasFirst config world seat command object → HasObject config world seat (command_root command 0) object
+object_of config world seat command object shared on first =
     let is = first.first_is first.some in
-    let named = named_if_not_0 c _ u.block shared.parsable.plotted object _ is.stands (first.not_null on) in
+    let named = named_if_not_0 config _ world.block shared.parsable.plotted object _ is.stands (first.not_null on) in
     ⊎_elim
     (λ null. absurd (first.not_null on null))
     (λ at. record { name = at.0; refs = at.1; nums = at.2; root_is = named.1 ∙ sym named.2 ∙ ap name_at at.3.piece; target = at.3 })
     is.usable
 
 -- a call of a command has begun: what a mutator counts on that has no root in hand
-record IsUnderWay (c : Config) (u : World) (seat made phase cset : ℕ) (command : Command) (fixed : Option Reply) (k : Command) : Type 0 where
-  seated : IsSeatedIn c u seat made false
-  marking : HasMarkingBy u seat None phase true
-  copying : HasCopyingBy u seat false cset true
-  roots : (i : ℕ) → i < 16 → Points u.block (u.memory (Root seat i)) (u.graph.root (seat + 1) i)
-  rooms : OnlySpares u seat
-  facts : IsBegun made command fixed k
+record IsUnderWay (config : Config) (world : World) (seat made phase cset : ℕ) (command : Command) (fixed : Option Reply) (other_command : Command) : Type 0 where
+  seated : IsSeatedIn config world seat made false
+  marking : HasMarkingBy world seat None phase true
+  copying : HasCopyingBy world seat false cset true
+  roots : (index : ℕ) → index < 16 → Points world.block (world.memory (Root seat index)) (world.graph.root (seat + 1) index)
+  rooms : OnlySpares world seat
+  facts : IsBegun made command fixed other_command
 
 -- yes and no are not full
-full_no : (b : Bool) → is_full (yes_or_no b) ≡ false
+full_no : (holds : Bool) → is_full (yes_or_no holds) ≡ false
 full_no true = refl
 full_no false = refl
 
-module _ (c : Config) (u : World) (seat made : ℕ) (kept : Kept) (command : Command) (fixed : Option Reply) where
+module _ (config : Config) (world : World) (seat made : ℕ) (kept : Kept) (command : Command) (fixed : Option Reply) where
   abbrev at_spot : Spot → Mutating
   at_spot spot = mutator_at seat made kept spot
 
   -- what the call of a command keeps that has loaded this collection set
   abbrev keeping : Command → ℕ → Kept
-  keeping k now = record { command = k; phase = kept.phase; cset = now }
+  keeping command now = record { command = command; phase = kept.phase; cset = now }
 
   -- the mutator in a call of a command
   abbrev at_call : Command → Spot → Mutating
-  at_call k spot = mutator_at seat made (keeping k kept.cset) spot
+  at_call command spot = mutator_at seat made (keeping command kept.cset) spot
 
   -- what it counts on at a spot, once the call has a settled reply or none
   abbrev HasSpot : Command → ℕ → Option Reply → Spot → Type 0
-  HasSpot k now settled spot = Mine c u (mutator_at seat made (keeping k now) spot) command settled
+  HasSpot k now settled spot = Mine config world (mutator_at seat made (keeping k now) spot) command settled
 
   -- a call of a command has begun, which has loaded this collection set, and no root is in hand
   abbrev HasBegunWith : Command → ℕ → Type 0
-  HasBegunWith k now = IsUnderWay c u seat made kept.phase now command fixed k
+  HasBegunWith k now = IsUnderWay config world seat made kept.phase now command fixed k
 
   abbrev HasBegun : Command → Type 0
-  HasBegun k = HasBegunWith k kept.cset
+  HasBegun command = HasBegunWith command kept.cset
 
   -- it can go on with the command's first root
-  root_mine : (k : Command) (now : ℕ) → 0 < length (command_roots k) → HasBegunWith k now → HasSpot k now fixed (Loading load.First)
-  root_mine k now some mine =
+  root_mine : (command : Command) (now : ℕ) → 0 < length (command_roots command) → HasBegunWith command now → HasSpot command now fixed (Loading load.First)
+  root_mine command now some mine =
       let below = mine.seated.below in
-      let small = root_small made k 0 mine.facts.next some in
+      let small = root_small made command 0 mine.facts.next some in
       record { seated = mine.seated; ready = grind (arith, nat_tests); marking = mine.marking; copying = mine.copying; roots = mine.roots; rooms = mine.rooms; facts = (mine.facts, some) }
 
   -- where it goes on after the collection set
-  set_mine : (k : Command) (now : ℕ) → HasBegunWith k now → HasSpot k now fixed (first_spot k)
+  set_mine : (command : Command) (now : ℕ) → HasBegunWith command now → HasSpot command now fixed (first_spot command)
   set_mine (New dst refs nums) now mine =
       let below = mine.seated.below in
       let next = mine.facts.next in
@@ -178,15 +178,15 @@ module _ (c : Config) (u : World) (seat made : ℕ) (kept : Kept) (command : Com
 
   -- it leaves with the reply that is settled
   leave_mine : (k : Command) (r : Reply) → HasBegun k → HasSpot k kept.cset (Some r) (Leave r)
-  leave_mine k r mine = leaving c _ seat made (keeping k kept.cset) command r mine.seated (mine.marking.records, mine.marking.scans, mine.copying.copies_is, mine.copying.works_none) mine.roots mine.rooms
+  leave_mine k r mine = leaving config _ seat made (keeping k kept.cset) command r mine.seated (mine.marking.records, mine.marking.scans, mine.copying.copies_is, mine.copying.works_none) mine.roots mine.rooms
 
   -- it can go on with the shape of the command's object
-  shape_mine : (k : Command) (object second third : ℕ) → Shared c u → HasBegun k → is_on_object k ≡ true → (IsPin k → ⊥) → HasRoots c u seat k object second third → HasSpot k kept.cset fixed (Loading (load.Shape object second third))
-  shape_mine k object second third shared mine on no_pin has =
-      let of : HasObject c u seat (command_root k 0) object = object_of c u seat k object shared on has.first_is in
+  shape_mine : (command : Command) (object second third : ℕ) → Shared config world → HasBegun command → is_on_object command ≡ true → (IsPin command → ⊥) → HasRoots config world seat command object second third → HasSpot command kept.cset fixed (Loading (load.Shape object second third))
+  shape_mine command object second third shared mine on no_pin has =
+      let of : HasObject config world seat (command_root command 0) object = object_of config world seat command object shared on has.first_is in
       record {
         seated = mine.seated;
-        ready = ready_of _ true (word_in c u shared seat (command_root k 0) object (object + 1) 1 of (omega arith) refl) refl;
+        ready = ready_of _ true (word_in config world shared seat (command_root command 0) object (object + 1) 1 of (omega arith) refl) refl;
         marking = mine.marking;
         copying = mine.copying;
         roots = mine.roots;
@@ -195,27 +195,27 @@ module _ (c : Config) (u : World) (seat made : ℕ) (kept : Kept) (command : Com
       }
 
   -- the word of a root of the command stands for the root
-  root_has : (k : Command) (i : ℕ) → HasBegun k → HasRoot c u seat k i (u.memory (Root seat (command_root k i)))
-  root_has k i mine below =
-      let small = root_small made k i mine.facts.next below in
-      record { stands = mine.roots (command_root k i) small; usable = mine.seated.usable (command_root k i) small }
+  root_has : (command : Command) (i : ℕ) → HasBegun command → HasRoot config world seat command i (world.memory (Root seat (command_root command i)))
+  root_has command i mine below =
+      let small = root_small made command i mine.facts.next below in
+      record { stands = mine.roots (command_root command i) small; usable = mine.seated.usable (command_root command i) small }
 
   -- it can go on with the second root, and with the third
-  second_mine : (k : Command) (first : ℕ) → HasBegun k → 1 < length (command_roots k) → HasFirst c u seat k first → HasSpot k kept.cset fixed (Loading (load.Second first))
-  second_mine k first mine more has =
+  second_mine : (command : Command) (first : ℕ) → HasBegun command → 1 < length (command_roots command) → HasFirst config world seat command first → HasSpot command kept.cset fixed (Loading (load.Second first))
+  second_mine command first mine more has =
       let below = mine.seated.below in
-      let small = root_small made k 1 mine.facts.next more in
+      let small = root_small made command 1 mine.facts.next more in
       record { seated = mine.seated; ready = grind (arith, nat_tests); marking = mine.marking; copying = mine.copying; roots = mine.roots; rooms = mine.rooms; facts = (mine.facts, more, has) }
 
   -- it can go on with the third root
-  third_mine : (k : Command) (first second : ℕ) → HasBegun k → 2 < length (command_roots k) → HasFirst c u seat k first → HasRoot c u seat k 1 second → HasSpot k kept.cset fixed (Loading (load.Third first second))
-  third_mine k first second mine more has has_second =
+  third_mine : (command : Command) (first second : ℕ) → HasBegun command → 2 < length (command_roots command) → HasFirst config world seat command first → HasRoot config world seat command 1 second → HasSpot command kept.cset fixed (Loading (load.Third first second))
+  third_mine command first second mine more has has_second =
       let below = mine.seated.below in
-      let small = root_small made k 2 mine.facts.next more in
+      let small = root_small made command 2 mine.facts.next more in
       record { seated = mine.seated; ready = grind (arith, nat_tests); marking = mine.marking; copying = mine.copying; roots = mine.roots; rooms = mine.rooms; facts = (mine.facts, more, has, has_second) }
 
   -- where it goes on after the first root
-  first_mine : (k : Command) (first : ℕ) → Shared c u → HasBegun k → HasFirst c u seat k first → HasSpot k kept.cset fixed (after_first k first)
+  first_mine : (command : Command) (first : ℕ) → Shared config world → HasBegun command → HasFirst config world seat command first → HasSpot command kept.cset fixed (after_first command first)
   first_mine (Get dst src field) first shared mine has =
       shape_mine (Get dst src field) first 0 0 shared mine refl (λ pins. pins) (record { first_is = has; second_is = λ below. absurd (omega arith); third_is = λ below. absurd (omega arith) })
   first_mine (Rd obj index) first shared mine has =
@@ -230,10 +230,10 @@ module _ (c : Config) (u : World) (seat made : ℕ) (kept : Kept) (command : Com
       let below = mine.seated.below in
       let next = mine.facts.next in
       let small : dst < 16 = grind (arith, nat_tests) in
-      let value_is : IsRootWord c u seat src first = has.first_is has.some in
+      let value_is : IsRootWord config world seat src first = has.first_is has.some in
       record {
         seated = mine.seated;
-        ready = ready_of _ _ (grind (arith, nat_tests)) (number_small first (points_small c _ u.block shared.parsable.plotted first _ value_is.stands));
+        ready = ready_of _ _ (grind (arith, nat_tests)) (number_small first (points_small config _ world.block shared.parsable.plotted first _ value_is.stands));
         marking = mine.marking;
         copying = mine.copying;
         roots = mine.roots;
@@ -251,88 +251,88 @@ module _ (c : Config) (u : World) (seat made : ℕ) (kept : Kept) (command : Com
         copying = mine.copying;
         roots = mine.roots;
         rooms = mine.rooms;
-        facts = (mine.facts.unsettled, mine.facts.is, (small, object_of c u seat (Pin slot obj) first shared refl has));
+        facts = (mine.facts.unsettled, mine.facts.is, (small, object_of config world seat (Pin slot obj) first shared refl has));
       }
   first_mine _ first shared mine has = let some = has.some in absurd (omega arith)
 
   -- the load of the collection set
-  pub at_load_set : Row c u (at_spot LoadSet) command fixed
+  pub at_load_set : Row config world (at_spot LoadSet) command fixed
   at_load_set shared mine =
-      let begun : HasBegunWith kept.command (u.memory Cset) = record { seated = mine.seated; marking = mine.marking; copying = record { copies_is = mine.copying.copies_is; works_none = mine.copying.works_none; set_is = λ on. refl }; roots = mine.roots; rooms = mine.rooms; facts = mine.facts } in
-      looks c u (at_spot LoadSet) Cset command fixed refl refl refl shared (set_mine kept.command (u.memory Cset) begun)
+      let begun : HasBegunWith kept.command (world.memory Cset) = record { seated = mine.seated; marking = mine.marking; copying = record { copies_is = mine.copying.copies_is; works_none = mine.copying.works_none; set_is = λ on. refl }; roots = mine.roots; rooms = mine.rooms; facts = mine.facts } in
+      looks config world (at_spot LoadSet) Cset command fixed refl refl refl shared (set_mine kept.command (world.memory Cset) begun)
 
   -- the first root of a command is null, and there is no object
-  root_lacks : (k : Command) → Shared c u → HasBegun k → 0 < length (command_roots k) → lacks_object k (u.memory (Root seat (command_root k 0))) ≡ true → Stepped c u (at_call k (Loading load.First)) command Nothing fixed
+  root_lacks : (k : Command) → Shared config world → HasBegun k → 0 < length (command_roots k) → lacks_object k (world.memory (Root seat (command_root k 0))) ≡ true → Stepped config world (at_call k (Loading load.First)) command Nothing fixed
   root_lacks k shared mine some lacks =
       let parts = and_parts _ _ lacks in
-      let null : u.graph.root (seat + 1) (command_root k 0) ≡ None = null_if_0 c _ u.block shared.parsable.plotted _ _ (root_has k 0 mine some).stands (eqb-true _ _ parts.1) in
-      replies c u (at_call k (Loading load.First)) (Root seat (command_root k 0)) command fixed reply.Bad refl
+      let null : world.graph.root (seat + 1) (command_root k 0) ≡ None = null_if_0 config _ world.block shared.parsable.plotted _ _ (root_has k 0 mine some).stands (eqb-true _ _ parts.1) in
+      replies config world (at_call k (Loading load.First)) (Root seat (command_root k 0)) command fixed reply.Bad refl
       (cond-true _ _ _ lacks) refl mine.facts.unsettled refl
-      (ap (pinned_by u.graph (seat + 1)) mine.facts.is ∙ pinned_on_null u.graph (seat + 1) k null)
-      (ap (λ x. outcome u.graph (seat + 1) x) mine.facts.is ∙ bad_on_null u.graph (seat + 1) k parts.0 null)
+      (ap (pinned_by world.graph (seat + 1)) mine.facts.is ∙ pinned_on_null world.graph (seat + 1) k null)
+      (ap (λ x. outcome world.graph (seat + 1) x) mine.facts.is ∙ bad_on_null world.graph (seat + 1) k parts.0 null)
       shared (rw lacks (leave_mine k reply.Bad mine))
 
   -- it is not, or the command works on none
-  root_goes : (k : Command) → Shared c u → HasBegun k → 0 < length (command_roots k) → lacks_object k (u.memory (Root seat (command_root k 0))) ≡ false → Stepped c u (at_call k (Loading load.First)) command Nothing fixed
+  root_goes : (k : Command) → Shared config world → HasBegun k → 0 < length (command_roots k) → lacks_object k (world.memory (Root seat (command_root k 0))) ≡ false → Stepped config world (at_call k (Loading load.First)) command Nothing fixed
   root_goes k shared mine some lacks =
-      looks c u (at_call k (Loading load.First)) (Root seat (command_root k 0)) command fixed refl (cond-false _ _ _ lacks) refl shared
-      (rw lacks (first_mine k (u.memory (Root seat (command_root k 0))) shared mine (record {
+      looks config world (at_call k (Loading load.First)) (Root seat (command_root k 0)) command fixed refl (cond-false _ _ _ lacks) refl shared
+      (rw lacks (first_mine k (world.memory (Root seat (command_root k 0))) shared mine (record {
         some = some;
         first_is = root_has k 0 mine;
-        not_null = λ on is. absurd (let both : lacks_object k (u.memory (Root seat (command_root k 0))) ≡ true = rw on (eq-eqb _ _ is) in cc);
+        not_null = λ on is. absurd (let both : lacks_object k (world.memory (Root seat (command_root k 0))) ≡ true = rw on (eq-eqb _ _ is) in cc);
       })))
 
   -- the load of the first root
-  pub at_load_root : Row c u (at_spot (Loading load.First)) command fixed
+  pub at_load_root : Row config world (at_spot (Loading load.First)) command fixed
   at_load_root shared mine =
       let k : Command = kept.command in
       let base : HasBegun k = record { seated = mine.seated; marking = mine.marking; copying = mine.copying; roots = mine.roots; rooms = mine.rooms; facts = mine.facts.0 } in
-      ⊎_elim (root_lacks k shared base mine.facts.1) (root_goes k shared base mine.facts.1) (cases_Bool (lacks_object k (u.memory (Root seat (command_root k 0)))))
+      ⊎_elim (root_lacks k shared base mine.facts.1) (root_goes k shared base mine.facts.1) (cases_Bool (lacks_object k (world.memory (Root seat (command_root k 0)))))
 
   -- where it goes on after the second root; for a Same it is settled here whether the roots are the same
-  second_step : (k : Command) (first : ℕ) → Shared c u → HasBegun k → 1 < length (command_roots k) → HasFirst c u seat k first → Stepped c u (at_call k (Loading (load.Second first))) command Nothing fixed
+  second_step : (k : Command) (first : ℕ) → Shared config world → HasBegun k → 1 < length (command_roots k) → HasFirst config world seat k first → Stepped config world (at_call k (Loading (load.Second first))) command Nothing fixed
   second_step (Set obj field val) first shared mine more has =
-      looks c u (at_call (Set obj field val) (Loading (load.Second first))) (Root seat val) command fixed refl refl refl shared
-      (shape_mine (Set obj field val) first (u.memory (Root seat val)) 0 shared mine refl (λ pins. pins) (record { first_is = has; second_is = root_has (Set obj field val) 1 mine; third_is = λ below. absurd (omega arith) }))
+      looks config world (at_call (Set obj field val) (Loading (load.Second first))) (Root seat val) command fixed refl refl refl shared
+      (shape_mine (Set obj field val) first (world.memory (Root seat val)) 0 shared mine refl (λ pins. pins) (record { first_is = has; second_is = root_has (Set obj field val) 1 mine; third_is = λ below. absurd (omega arith) }))
   second_step (Cas obj field expect val) first shared mine more has =
-      looks c u (at_call (Cas obj field expect val) (Loading (load.Second first))) (Root seat expect) command fixed refl refl refl shared
-      (third_mine (Cas obj field expect val) first (u.memory (Root seat expect)) mine (omega arith) has (root_has (Cas obj field expect val) 1 mine))
+      looks config world (at_call (Cas obj field expect val) (Loading (load.Second first))) (Root seat expect) command fixed refl refl refl shared
+      (third_mine (Cas obj field expect val) first (world.memory (Root seat expect)) mine (omega arith) has (root_has (Cas obj field expect val) 1 mine))
   second_step (Xchg dst obj field val) first shared mine more has =
-      looks c u (at_call (Xchg dst obj field val) (Loading (load.Second first))) (Root seat val) command fixed refl refl refl shared
-      (shape_mine (Xchg dst obj field val) first (u.memory (Root seat val)) 0 shared mine refl (λ pins. pins) (record { first_is = has; second_is = root_has (Xchg dst obj field val) 1 mine; third_is = λ below. absurd (omega arith) }))
+      looks config world (at_call (Xchg dst obj field val) (Loading (load.Second first))) (Root seat val) command fixed refl refl refl shared
+      (shape_mine (Xchg dst obj field val) first (world.memory (Root seat val)) 0 shared mine refl (λ pins. pins) (record { first_is = has; second_is = root_has (Xchg dst obj field val) 1 mine; third_is = λ below. absurd (omega arith) }))
   second_step (Same a b) first shared mine more has =
-      let got : ℕ = u.memory (Root seat b) in
+      let got : ℕ = world.memory (Root seat b) in
       let is_first = has.first_is has.some in
       let is_second = root_has (Same a b) 1 mine more in
-      let stand : name_the_same u.memory first got ≡ same_reference (u.graph.root (seat + 1) a) (u.graph.root (seat + 1) b) = names_agree c u shared first got _ _ is_first.stands is_second.stands in
-      let agree : name_the_same u.memory first got ≡ (first == got) = stand ∙ sym (same_words c u shared first got _ _ is_first.usable is_second.usable is_first.stands is_second.stands) in
-      replies c u (at_call (Same a b) (Loading (load.Second first))) (Root seat b) command fixed (yes_or_no (name_the_same u.memory first got)) refl refl refl mine.facts.unsettled
-      (full_no (name_the_same u.memory first got))
-      (ap (pinned_by u.graph (seat + 1)) mine.facts.is)
-      (ap (λ x. outcome u.graph (seat + 1) x) mine.facts.is ∙ ap (λ x. answers (yes_or_no x) u.graph) (sym stand))
+      let stand : name_the_same world.memory first got ≡ same_reference (world.graph.root (seat + 1) a) (world.graph.root (seat + 1) b) = names_agree config world shared first got _ _ is_first.stands is_second.stands in
+      let agree : name_the_same world.memory first got ≡ (first == got) = stand ∙ sym (same_words config world shared first got _ _ is_first.usable is_second.usable is_first.stands is_second.stands) in
+      replies config world (at_call (Same a b) (Loading (load.Second first))) (Root seat b) command fixed (yes_or_no (name_the_same world.memory first got)) refl refl refl mine.facts.unsettled
+      (full_no (name_the_same world.memory first got))
+      (ap (pinned_by world.graph (seat + 1)) mine.facts.is)
+      (ap (λ x. outcome world.graph (seat + 1) x) mine.facts.is ∙ ap (λ x. answers (yes_or_no x) world.graph) (sym stand))
       shared
       (subst (λ f. HasSpot (Same a b) kept.cset f (Leave (yes_or_no (first == got)))) (ap (λ x. Some (yes_or_no x)) (sym agree)) (leave_mine (Same a b) (yes_or_no (first == got)) mine))
   second_step _ first shared mine more has = absurd (omega arith)
 
   -- the load of the second root
-  pub at_load_second : (first : ℕ) → Row c u (at_spot (Loading (load.Second first))) command fixed
+  pub at_load_second : (first : ℕ) → Row config world (at_spot (Loading (load.Second first))) command fixed
   at_load_second first shared mine =
       second_step kept.command first shared (record { seated = mine.seated; marking = mine.marking; copying = mine.copying; roots = mine.roots; rooms = mine.rooms; facts = mine.facts.0 }) mine.facts.1 mine.facts.2
 
   -- where it goes on after the third root: only a Cas has one
-  third_step : (k : Command) (first second : ℕ) → Shared c u → HasBegun k → 2 < length (command_roots k) → HasFirst c u seat k first → HasRoot c u seat k 1 second → Stepped c u (at_call k (Loading (load.Third first second))) command Nothing fixed
+  third_step : (k : Command) (first second : ℕ) → Shared config world → HasBegun k → 2 < length (command_roots k) → HasFirst config world seat k first → HasRoot config world seat k 1 second → Stepped config world (at_call k (Loading (load.Third first second))) command Nothing fixed
   third_step (Cas obj field expect val) first second shared mine more has has_second =
-      looks c u (at_call (Cas obj field expect val) (Loading (load.Third first second))) (Root seat val) command fixed refl refl refl shared
-      (shape_mine (Cas obj field expect val) first second (u.memory (Root seat val)) shared mine refl (λ pins. pins) (record { first_is = has; second_is = has_second; third_is = root_has (Cas obj field expect val) 2 mine }))
+      looks config world (at_call (Cas obj field expect val) (Loading (load.Third first second))) (Root seat val) command fixed refl refl refl shared
+      (shape_mine (Cas obj field expect val) first second (world.memory (Root seat val)) shared mine refl (λ pins. pins) (record { first_is = has; second_is = has_second; third_is = root_has (Cas obj field expect val) 2 mine }))
   third_step _ first second shared mine more has has_second = absurd (omega arith)
 
   -- the load of the third root
-  pub at_load_third : (first second : ℕ) → Row c u (at_spot (Loading (load.Third first second))) command fixed
+  pub at_load_third : (first second : ℕ) → Row config world (at_spot (Loading (load.Third first second))) command fixed
   at_load_third first second shared mine =
       third_step kept.command first second shared (record { seated = mine.seated; marking = mine.marking; copying = mine.copying; roots = mine.roots; rooms = mine.rooms; facts = mine.facts.0 }) mine.facts.1 mine.facts.2 mine.facts.3
 
   -- A Set goes on with its field: while objects are marked it looks first what it will overwrite.
-  set_part : (obj field val object value : ℕ) → Shared c u → HasBegun (Set obj field val) → IsSet c u seat command object field value
+  set_part : (obj field val object value : ℕ) → Shared config world → HasBegun (Set obj field val) → IsSet config world seat command object field value
       → HasSpot (Set obj field val) kept.cset fixed (OnField object (first_of_set kept.phase value))
   set_part obj field val object value shared mine is = ⊎_elim
       (λ (marks : (kept.phase == 1) ≡ true). rw marks (record {
@@ -346,27 +346,27 @@ module _ (c : Config) (u : World) (seat made : ℕ) (kept : Kept) (command : Com
       }))
       (λ (off : (kept.phase == 1) ≡ false). rw off (record {
         seated = mine.seated;
-        ready = ready_of _ _ there (number_small value (points_small c _ u.block shared.parsable.plotted value _ is.value_is.stands));
+        ready = ready_of _ _ there (number_small value (points_small config _ world.block shared.parsable.plotted value _ is.value_is.stands));
         marking = mine.marking;
         copying = mine.copying;
         roots = mine.roots;
         rooms = mine.rooms;
-        facts = (mine.facts.unsettled, is, covered_unmarked c u object field shared (λ on. eqb-false _ _ off (mine.marking.phase_is refl ∙ on)));
+        facts = (mine.facts.unsettled, is, covered_unmarked config world object field shared (λ on. eqb-false _ _ off (mine.marking.phase_is refl ∙ on)));
       }))
       (cases_Bool (kept.phase == 1))
     where
-      there : is_word c (Heap (object + 3 + field)) ≡ true
-      there = word_in c u shared seat is.obj object (object + 3 + field) (3 + field) is.of (let below = is.below in omega (arith, below)) (omega arith)
+      there : is_word config (Heap (object + 3 + field)) ≡ true
+      there = word_in config world shared seat is.obj object (object + 3 + field) (3 + field) is.of (let below = is.below in omega (arith, below)) (omega arith)
 
   -- where it goes on with a part of the object that there is
-  part_mine : (k : Command) (object second third shape : ℕ) → Shared c u → HasBegun k → HasRoots c u seat k object second third → (of : HasObject c u seat (command_root k 0) object)
-      → refs_in shape ≡ of.refs → nums_in shape ≡ of.nums → is_on_object k ≡ true → has_part k shape ≡ true → HasSpot k kept.cset fixed (with_part kept.phase k object second third shape)
+  part_mine : (command : Command) (object second third shape : ℕ) → Shared config world → HasBegun command → HasRoots config world seat command object second third → (of : HasObject config world seat (command_root command 0) object)
+      → refs_in shape ≡ of.refs → nums_in shape ≡ of.nums → is_on_object command ≡ true → has_part command shape ≡ true → HasSpot command kept.cset fixed (with_part kept.phase command object second third shape)
   part_mine (Get dst src field) object second third shape shared mine has of refs nums on part =
       let next = mine.facts.next in
       let below : field < of.refs = let lt = ltb-true _ _ part in omega arith in
       record {
         seated = mine.seated;
-        ready = ready_of _ true (word_in c u shared seat src object (object + 3 + field) (3 + field) of (omega arith) (omega arith)) refl;
+        ready = ready_of _ true (word_in config world shared seat src object (object + 3 + field) (3 + field) of (omega arith) (omega arith)) refl;
         marking = mine.marking;
         copying = mine.copying;
         roots = mine.roots;
@@ -380,7 +380,7 @@ module _ (c : Config) (u : World) (seat made : ℕ) (kept : Kept) (command : Com
       let below : field < of.refs = let lt = ltb-true _ _ part in omega arith in
       record {
         seated = mine.seated;
-        ready = ready_of _ true (word_in c u shared seat obj object (object + 3 + field) (3 + field) of (omega arith) (omega arith)) refl;
+        ready = ready_of _ true (word_in config world shared seat obj object (object + 3 + field) (3 + field) of (omega arith) (omega arith)) refl;
         marking = mine.marking;
         copying = mine.copying;
         roots = mine.roots;
@@ -393,10 +393,10 @@ module _ (c : Config) (u : World) (seat made : ℕ) (kept : Kept) (command : Com
   part_mine (Xchg dst obj field val) object second third shape shared mine has of refs nums on part =
       let next = mine.facts.next in
       let below : field < of.refs = let lt = ltb-true _ _ part in omega arith in
-      let value_is : IsRootWord c u seat val second = has.second_is (omega arith) in
+      let value_is : IsRootWord config world seat val second = has.second_is (omega arith) in
       record {
         seated = mine.seated;
-        ready = ready_of _ _ (word_in c u shared seat obj object (object + 3 + field) (3 + field) of (omega arith) (omega arith)) (number_small second (points_small c _ u.block shared.parsable.plotted second _ value_is.stands));
+        ready = ready_of _ _ (word_in config world shared seat obj object (object + 3 + field) (3 + field) of (omega arith) (omega arith)) (number_small second (points_small config _ world.block shared.parsable.plotted second _ value_is.stands));
         marking = mine.marking;
         copying = mine.copying;
         roots = mine.roots;
@@ -407,7 +407,7 @@ module _ (c : Config) (u : World) (seat made : ℕ) (kept : Kept) (command : Com
       let below : index < of.nums = let lt = ltb-true _ _ part in omega arith in
       record {
         seated = mine.seated;
-        ready = ready_of _ true (word_in c u shared seat obj object (object + 3 + refs_in shape + index) (3 + refs_in shape + index) of (omega arith) (omega arith)) refl;
+        ready = ready_of _ true (word_in config world shared seat obj object (object + 3 + refs_in shape + index) (3 + refs_in shape + index) of (omega arith) (omega arith)) refl;
         marking = mine.marking;
         copying = mine.copying;
         roots = mine.roots;
@@ -420,7 +420,7 @@ module _ (c : Config) (u : World) (seat made : ℕ) (kept : Kept) (command : Com
       let small : is_number value ≡ true = grind (arith, nat_tests) in
       record {
         seated = mine.seated;
-        ready = ready_of _ _ (word_in c u shared seat obj object (object + 3 + refs_in shape + index) (3 + refs_in shape + index) of (omega arith) (omega arith)) small;
+        ready = ready_of _ _ (word_in config world shared seat obj object (object + 3 + refs_in shape + index) (3 + refs_in shape + index) of (omega arith) (omega arith)) small;
         marking = mine.marking;
         copying = mine.copying;
         roots = mine.roots;
@@ -430,19 +430,19 @@ module _ (c : Config) (u : World) (seat made : ℕ) (kept : Kept) (command : Com
   part_mine _ object second third shape shared mine has of refs nums on part = cc
 
   -- the load of the shape settles Bad where the object has no such part
-  pub at_load_shape : (object second third : ℕ) → Row c u (at_spot (Loading (load.Shape object second third))) command fixed
+  pub at_load_shape : (object second third : ℕ) → Row config world (at_spot (Loading (load.Shape object second third))) command fixed
   at_load_shape object second third shared mine =
       let k : Command = kept.command in
       let base : HasBegun k = record { seated = mine.seated; marking = mine.marking; copying = mine.copying; roots = mine.roots; rooms = mine.rooms; facts = mine.facts.0 } in
-      let of : HasObject c u seat (command_root k 0) object = object_of c u seat k object shared mine.facts.1 mine.facts.2.first_is in
-      let sizes = shape_in c u shared seat (command_root k 0) object of in
+      let of : HasObject config world seat (command_root k 0) object = object_of config world seat k object shared mine.facts.1 mine.facts.2.first_is in
+      let sizes = shape_in config world shared seat (command_root k 0) object of in
       ⊎_elim
-      (λ (part : has_part k (u.memory (Heap (object + 1))) ≡ true).
-      looks c u (at_spot (Loading (load.Shape object second third))) (Heap (object + 1)) command fixed refl (cond-true _ _ _ part) refl shared
-      (rw part (part_mine k object second third (u.memory (Heap (object + 1))) shared base mine.facts.2 of sizes.0 sizes.1 mine.facts.1 part)))
-      (λ (lacks : has_part k (u.memory (Heap (object + 1))) ≡ false).
-      replies c u (at_spot (Loading (load.Shape object second third))) (Heap (object + 1)) command fixed reply.Bad refl (cond-false _ _ _ lacks) refl mine.facts.0.unsettled refl
-      (ap (pinned_by u.graph (seat + 1)) mine.facts.0.is ∙ pins_none u.graph (seat + 1) k mine.facts.3)
-      (ap (λ x. outcome u.graph (seat + 1) x) mine.facts.0.is ∙ bad_on_shape c u shared seat object k of mine.facts.1 lacks)
+      (λ (part : has_part k (world.memory (Heap (object + 1))) ≡ true).
+      looks config world (at_spot (Loading (load.Shape object second third))) (Heap (object + 1)) command fixed refl (cond-true _ _ _ part) refl shared
+      (rw part (part_mine k object second third (world.memory (Heap (object + 1))) shared base mine.facts.2 of sizes.0 sizes.1 mine.facts.1 part)))
+      (λ (lacks : has_part k (world.memory (Heap (object + 1))) ≡ false).
+      replies config world (at_spot (Loading (load.Shape object second third))) (Heap (object + 1)) command fixed reply.Bad refl (cond-false _ _ _ lacks) refl mine.facts.0.unsettled refl
+      (ap (pinned_by world.graph (seat + 1)) mine.facts.0.is ∙ pins_none world.graph (seat + 1) k mine.facts.3)
+      (ap (λ x. outcome world.graph (seat + 1) x) mine.facts.0.is ∙ bad_on_shape config world shared seat object k of mine.facts.1 lacks)
       shared (rw lacks (leave_mine k reply.Bad base)))
-      (cases_Bool (has_part k (u.memory (Heap (object + 1)))))
+      (cases_Bool (has_part k (world.memory (Heap (object + 1)))))

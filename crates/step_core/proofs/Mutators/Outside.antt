@@ -37,35 +37,35 @@ use Rattle.step_core.proofs.Machines.Stepped.{Mine}
 use Rattle.step_core.proofs.Mutators.Spots.{mutator_at}
 
 -- one of the same
-cond_same : (b : Bool) (n : ℕ) → (if b then n else n) ≡ n
+cond_same : (holds : Bool) (n : ℕ) → (if holds then n else n) ≡ n
 cond_same true n = refl
 cond_same false n = refl
 
 -- its access is of no word of the image, or it looks for its answer
-pub outside_touch : (c : Config) (seat made : ℕ) (kept : Kept) (order : Order) (spot : Spot) → is_within (standing_at spot) ≡ false → takes_at spot made order ≡ true
-    → (is_image (touch_at c seat made kept order spot).word ≡ false) ⊎ (spot ≡ Waiting wait.Poll)
-outside_touch c seat made kept Nothing Rest out takes = cc
-outside_touch c seat made kept (Begin k) Rest out takes = inl refl
-outside_touch c seat made kept End Rest out takes = inl refl
-outside_touch c seat made kept (Hint address) Rest out takes = cc
-outside_touch c seat made kept Nothing (Ended reply) out takes = cc
-outside_touch c seat made kept (Begin k) (Ended reply) out takes = inl refl
-outside_touch c seat made kept End (Ended reply) out takes = inl refl
-outside_touch c seat made kept (Hint address) (Ended reply) out takes = cc
-outside_touch c seat made kept order (Entering enter.Raise then_on) out takes = inl refl
-outside_touch c seat made kept order (Entering enter.Look then_on) out takes = inl refl
-outside_touch c seat made kept order (Entering enter.Lower then_on) out takes = inl refl
-outside_touch c seat made kept order (Entering enter.Await then_on) out takes = inl refl
-outside_touch c seat made kept order (Entering enter.Inside then_on) out takes = cc
-outside_touch c seat made kept order (Waiting wait.Poll) out takes = inr refl
-outside_touch c seat made kept order (Waiting wait.StoreRequest) out takes = cc
-outside_touch c seat made kept order (Waiting wait.AskRoom) out takes = cc
-outside_touch c seat made kept order (Waiting wait.StepOut) out takes = cc
-outside_touch c seat made kept order (Waiting wait.LoadAnswer) out takes = cc
-outside_touch c seat made kept order (Waiting (wait.StoreRoot address)) out takes = cc
-outside_touch c seat made kept order (Waiting (wait.ClearAnswer reply)) out takes = cc
-outside_touch c seat made kept order Gone out takes = cc
-outside_touch c seat made kept order _ out takes = cc
+pub outside_touch : (config : Config) (seat made : ℕ) (kept : Kept) (order : Order) (spot : Spot) → is_within (standing_at spot) ≡ false → takes_at spot made order ≡ true
+    → (is_image (touch_at config seat made kept order spot).word ≡ false) ⊎ (spot ≡ Waiting wait.Poll)
+outside_touch config seat made kept Nothing Rest out takes = cc
+outside_touch config seat made kept (Begin k) Rest out takes = inl refl
+outside_touch config seat made kept End Rest out takes = inl refl
+outside_touch config seat made kept (Hint address) Rest out takes = cc
+outside_touch config seat made kept Nothing (Ended reply) out takes = cc
+outside_touch config seat made kept (Begin k) (Ended reply) out takes = inl refl
+outside_touch config seat made kept End (Ended reply) out takes = inl refl
+outside_touch config seat made kept (Hint address) (Ended reply) out takes = cc
+outside_touch config seat made kept order (Entering enter.Raise then_on) out takes = inl refl
+outside_touch config seat made kept order (Entering enter.Look then_on) out takes = inl refl
+outside_touch config seat made kept order (Entering enter.Lower then_on) out takes = inl refl
+outside_touch config seat made kept order (Entering enter.Await then_on) out takes = inl refl
+outside_touch config seat made kept order (Entering enter.Inside then_on) out takes = cc
+outside_touch config seat made kept order (Waiting wait.Poll) out takes = inr refl
+outside_touch config seat made kept order (Waiting wait.StoreRequest) out takes = cc
+outside_touch config seat made kept order (Waiting wait.AskRoom) out takes = cc
+outside_touch config seat made kept order (Waiting wait.StepOut) out takes = cc
+outside_touch config seat made kept order (Waiting wait.LoadAnswer) out takes = cc
+outside_touch config seat made kept order (Waiting (wait.StoreRoot address)) out takes = cc
+outside_touch config seat made kept order (Waiting (wait.ClearAnswer reply)) out takes = cc
+outside_touch config seat made kept order Gone out takes = cc
+outside_touch config seat made kept order _ out takes = cc
 
 -- it settles nothing
 pub outside_told : (memory : Word → ℕ) (seat made : ℕ) (kept : Kept) (spot : Spot) → is_within (standing_at spot) ≡ false → told_at memory seat made kept spot ≡ None
@@ -92,84 +92,84 @@ outside_given Gone out = refl
 outside_given _ out = cc
 
 -- no step of a resolving is of an answer
-copy_answer : (memory : Word → ℕ) (seat address copy end t : ℕ) (at : CopySpot) → touched memory (resolves.copy_touch seat address copy end at) (Answer t) ≡ memory (Answer t)
-copy_answer memory seat address copy end t (copying.LoadWord words index) = refl
-copy_answer memory seat address copy end t (copying.StoreWord words index found) = refl
-copy_answer memory seat address copy end t copying.StoreHeader = refl
-copy_answer memory seat address copy end t copying.Publish = refl
-copy_answer memory seat address copy end t (copying.GiveBack answer) = refl
+copy_answer : (memory : Word → ℕ) (seat address copy end mutator : ℕ) (at : CopySpot) → touched memory (resolves.copy_touch seat address copy end at) (Answer mutator) ≡ memory (Answer mutator)
+copy_answer memory seat address copy end mutator (copying.LoadWord words index) = refl
+copy_answer memory seat address copy end mutator (copying.StoreWord words index found) = refl
+copy_answer memory seat address copy end mutator copying.StoreHeader = refl
+copy_answer memory seat address copy end mutator copying.Publish = refl
+copy_answer memory seat address copy end mutator (copying.GiveBack answer) = refl
 
-resolve_answer : (c : Config) (memory : Word → ℕ) (seat address t : ℕ) (at : ResolveSpot) → touched memory (resolves.touch_at c seat address at) (Answer t) ≡ memory (Answer t)
-resolve_answer c memory seat address t resolve.LoadHeader = refl
-resolve_answer c memory seat address t (resolve.Entering at) = refl
-resolve_answer c memory seat address t resolve.LoadShape = refl
-resolve_answer c memory seat address t (resolve.Taking words at) = others_stay seat words memory at (Answer t) refl
-resolve_answer c memory seat address t (resolve.Copying copy end at) = copy_answer memory seat address copy end t at
-resolve_answer c memory seat address t (resolve.Leaving answer) = refl
-resolve_answer c memory seat address t (resolve.Stopping at) = refl
-resolve_answer c memory seat address t resolve.LoadAgain = refl
-resolve_answer c memory seat address t (resolve.Resolved answer) = refl
+resolve_answer : (config : Config) (memory : Word → ℕ) (seat address mutator : ℕ) (at : ResolveSpot) → touched memory (resolves.touch_at config seat address at) (Answer mutator) ≡ memory (Answer mutator)
+resolve_answer config memory seat address mutator resolve.LoadHeader = refl
+resolve_answer config memory seat address mutator (resolve.Entering at) = refl
+resolve_answer config memory seat address mutator resolve.LoadShape = refl
+resolve_answer config memory seat address mutator (resolve.Taking words at) = others_stay seat words memory at (Answer mutator) refl
+resolve_answer config memory seat address mutator (resolve.Copying copy end at) = copy_answer memory seat address copy end mutator at
+resolve_answer config memory seat address mutator (resolve.Leaving answer) = refl
+resolve_answer config memory seat address mutator (resolve.Stopping at) = refl
+resolve_answer config memory seat address mutator resolve.LoadAgain = refl
+resolve_answer config memory seat address mutator (resolve.Resolved answer) = refl
 
 -- a step of a mutator never writes into its answer that the heap is full
-pub answer_before : (c : Config) (memory : Word → ℕ) (seat made : ℕ) (kept : Kept) (order : Order) (spot : Spot) → touched memory (touch_at c seat made kept order spot) (Answer seat) ≡ 1 → memory (Answer seat) ≡ 1
-answer_before c memory seat made kept Nothing Rest now = now
-answer_before c memory seat made kept (Begin k) Rest now = now
-answer_before c memory seat made kept End Rest now = now
-answer_before c memory seat made kept (Hint address) Rest now = now
-answer_before c memory seat made kept Nothing (Ended reply) now = now
-answer_before c memory seat made kept (Begin k) (Ended reply) now = now
-answer_before c memory seat made kept End (Ended reply) now = now
-answer_before c memory seat made kept (Hint address) (Ended reply) now = now
-answer_before c memory seat made kept order (Entering enter.Raise then_on) now = now
-answer_before c memory seat made kept order (Entering enter.Look then_on) now = now
-answer_before c memory seat made kept order (Entering enter.Lower then_on) now = now
-answer_before c memory seat made kept order (Entering enter.Await then_on) now = now
-answer_before c memory seat made kept order (Entering enter.Inside then_on) now = now
-answer_before c memory seat made kept order (Loading load.First) now = now
-answer_before c memory seat made kept order (Loading (load.Second first)) now = now
-answer_before c memory seat made kept order (Loading (load.Third first second)) now = now
-answer_before c memory seat made kept order (Loading (load.Shape object second third)) now = now
-answer_before c memory seat made kept order (OnField object fields.Load) now = now
-answer_before c memory seat made kept order (OnField object (fields.LoadExpected expect value)) now = now
-answer_before c memory seat made kept order (OnField object (fields.LoadOld value)) now = now
-answer_before c memory seat made kept order (OnField object (fields.Store value)) now = now
-answer_before c memory seat made kept order (OnField object (fields.Swap value)) now = now
-answer_before c memory seat made kept order (OnField object (fields.Exchange found expect value)) now = now
-answer_before c memory seat made kept order (Recording remember.LoadCount address next) now = now
-answer_before c memory seat made kept order (Recording (remember.LoadEntry entry) address next) now = now
-answer_before c memory seat made kept order (Recording (remember.MarkEntry entry found) address next) now = now
-answer_before c memory seat made kept order (Recording remember.ClearCount address next) now = now
-answer_before c memory seat made kept order (Recording (remember.StoreEntry entry) address next) now = now
-answer_before c memory seat made kept order (Recording (remember.StoreCount entry) address next) now = now
-answer_before c memory seat made kept order (Recording remember.Recorded address next) now = now
-answer_before c memory seat made kept order (OnNumber object refs numbers.Load) now = now
-answer_before c memory seat made kept order (OnNumber object refs numbers.Store) now = now
-answer_before c memory seat made kept order (Showing value show.LoadName) now = now
-answer_before c memory seat made kept order (Showing value (show.StoreRoot reply)) now = now
-answer_before c memory seat made kept order (Pinning value pins.Look) now = now
-answer_before c memory seat made kept order (Pinning value pins.Store) now = now
-answer_before c memory seat made kept order (Making (make.Taking take)) now = sym (others_stay seat (words_made kept.command) memory take (Answer seat) refl) ∙ now
-answer_before c memory seat made kept order (Making (make.StoreWord address done)) now = now
-answer_before c memory seat made kept order (Making (make.StoreRoot address)) now = now
-answer_before c memory seat made kept order (Waiting wait.StoreRequest) now = now
-answer_before c memory seat made kept order (Waiting wait.AskRoom) now = now
-answer_before c memory seat made kept order (Waiting wait.StepOut) now = now
-answer_before c memory seat made kept order (Waiting wait.Poll) now = sym (cond_same (seat == seat) (memory (Answer seat))) ∙ now
-answer_before c memory seat made kept order (Waiting wait.LoadAnswer) now = sym (cond_same (seat == seat) (memory (Answer seat))) ∙ now
-answer_before c memory seat made kept order (Waiting (wait.StoreRoot address)) now = now
-answer_before c memory seat made kept order (Waiting (wait.ClearAnswer reply)) now = absurd (let cleared = cond-true (seat == seat) 0 (memory (Answer seat)) (eq-eqb seat seat refl) in omega (arith, now, cleared))
-answer_before c memory seat made kept order (Resolving address at next) now = sym (resolve_answer c memory seat address seat at) ∙ now
-answer_before c memory seat made kept order _ now = now
+pub answer_before : (config : Config) (memory : Word → ℕ) (seat made : ℕ) (kept : Kept) (order : Order) (spot : Spot) → touched memory (touch_at config seat made kept order spot) (Answer seat) ≡ 1 → memory (Answer seat) ≡ 1
+answer_before config memory seat made kept Nothing Rest now = now
+answer_before config memory seat made kept (Begin k) Rest now = now
+answer_before config memory seat made kept End Rest now = now
+answer_before config memory seat made kept (Hint address) Rest now = now
+answer_before config memory seat made kept Nothing (Ended reply) now = now
+answer_before config memory seat made kept (Begin k) (Ended reply) now = now
+answer_before config memory seat made kept End (Ended reply) now = now
+answer_before config memory seat made kept (Hint address) (Ended reply) now = now
+answer_before config memory seat made kept order (Entering enter.Raise then_on) now = now
+answer_before config memory seat made kept order (Entering enter.Look then_on) now = now
+answer_before config memory seat made kept order (Entering enter.Lower then_on) now = now
+answer_before config memory seat made kept order (Entering enter.Await then_on) now = now
+answer_before config memory seat made kept order (Entering enter.Inside then_on) now = now
+answer_before config memory seat made kept order (Loading load.First) now = now
+answer_before config memory seat made kept order (Loading (load.Second first)) now = now
+answer_before config memory seat made kept order (Loading (load.Third first second)) now = now
+answer_before config memory seat made kept order (Loading (load.Shape object second third)) now = now
+answer_before config memory seat made kept order (OnField object fields.Load) now = now
+answer_before config memory seat made kept order (OnField object (fields.LoadExpected expect value)) now = now
+answer_before config memory seat made kept order (OnField object (fields.LoadOld value)) now = now
+answer_before config memory seat made kept order (OnField object (fields.Store value)) now = now
+answer_before config memory seat made kept order (OnField object (fields.Swap value)) now = now
+answer_before config memory seat made kept order (OnField object (fields.Exchange found expect value)) now = now
+answer_before config memory seat made kept order (Recording remember.LoadCount address next) now = now
+answer_before config memory seat made kept order (Recording (remember.LoadEntry entry) address next) now = now
+answer_before config memory seat made kept order (Recording (remember.MarkEntry entry found) address next) now = now
+answer_before config memory seat made kept order (Recording remember.ClearCount address next) now = now
+answer_before config memory seat made kept order (Recording (remember.StoreEntry entry) address next) now = now
+answer_before config memory seat made kept order (Recording (remember.StoreCount entry) address next) now = now
+answer_before config memory seat made kept order (Recording remember.Recorded address next) now = now
+answer_before config memory seat made kept order (OnNumber object refs numbers.Load) now = now
+answer_before config memory seat made kept order (OnNumber object refs numbers.Store) now = now
+answer_before config memory seat made kept order (Showing value show.LoadName) now = now
+answer_before config memory seat made kept order (Showing value (show.StoreRoot reply)) now = now
+answer_before config memory seat made kept order (Pinning value pins.Look) now = now
+answer_before config memory seat made kept order (Pinning value pins.Store) now = now
+answer_before config memory seat made kept order (Making (make.Taking take)) now = sym (others_stay seat (words_made kept.command) memory take (Answer seat) refl) ∙ now
+answer_before config memory seat made kept order (Making (make.StoreWord address done)) now = now
+answer_before config memory seat made kept order (Making (make.StoreRoot address)) now = now
+answer_before config memory seat made kept order (Waiting wait.StoreRequest) now = now
+answer_before config memory seat made kept order (Waiting wait.AskRoom) now = now
+answer_before config memory seat made kept order (Waiting wait.StepOut) now = now
+answer_before config memory seat made kept order (Waiting wait.Poll) now = sym (cond_same (seat == seat) (memory (Answer seat))) ∙ now
+answer_before config memory seat made kept order (Waiting wait.LoadAnswer) now = sym (cond_same (seat == seat) (memory (Answer seat))) ∙ now
+answer_before config memory seat made kept order (Waiting (wait.StoreRoot address)) now = now
+answer_before config memory seat made kept order (Waiting (wait.ClearAnswer reply)) now = absurd (let cleared = cond-true (seat == seat) 0 (memory (Answer seat)) (eq-eqb seat seat refl) in omega (arith, now, cleared))
+answer_before config memory seat made kept order (Resolving address at next) now = sym (resolve_answer config memory seat address seat at) ∙ now
+answer_before config memory seat made kept order _ now = now
 
 -- who is refused settles and gives nothing until it has cleared its answer
-pub refused_quiet : (c : Config) (w : World) (seat made : ℕ) (kept : Kept) (command : Command) (fixed : Option Reply) (spot : Spot) → w.memory (Answer seat) ≡ 1
-    → Mine c w (mutator_at seat made kept spot) command fixed → (told_at w.memory seat made kept spot ≡ None) × (given_at spot ≡ None)
-refused_quiet c w seat made kept command fixed (Waiting wait.StoreRequest) full mine = (refl, refl)
-refused_quiet c w seat made kept command fixed (Waiting wait.AskRoom) full mine = (refl, refl)
-refused_quiet c w seat made kept command fixed (Waiting wait.StepOut) full mine = (refl, refl)
-refused_quiet c w seat made kept command fixed (Waiting wait.Poll) full mine = (refl, refl)
-refused_quiet c w seat made kept command fixed (Waiting wait.LoadAnswer) full mine = (refl, refl)
-refused_quiet c w seat made kept command fixed (Waiting (wait.StoreRoot address)) full mine = absurd (let more = mine.facts.0.1.1 in omega (arith, full, more))
-refused_quiet c w seat made kept command fixed (Waiting (wait.ClearAnswer reply)) full mine = (refl, refl)
-refused_quiet c w seat made kept command fixed (Entering at then_on) full mine = (refl, refl)
-refused_quiet c w seat made kept command fixed _ full mine = absurd (let none = (mine.seated.unasked refl).1 in omega (arith, full, none))
+pub refused_quiet : (config : Config) (world : World) (seat made : ℕ) (kept : Kept) (command : Command) (fixed : Option Reply) (spot : Spot) → world.memory (Answer seat) ≡ 1
+    → Mine config world (mutator_at seat made kept spot) command fixed → (told_at world.memory seat made kept spot ≡ None) × (given_at spot ≡ None)
+refused_quiet config world seat made kept command fixed (Waiting wait.StoreRequest) full mine = (refl, refl)
+refused_quiet config world seat made kept command fixed (Waiting wait.AskRoom) full mine = (refl, refl)
+refused_quiet config world seat made kept command fixed (Waiting wait.StepOut) full mine = (refl, refl)
+refused_quiet config world seat made kept command fixed (Waiting wait.Poll) full mine = (refl, refl)
+refused_quiet config world seat made kept command fixed (Waiting wait.LoadAnswer) full mine = (refl, refl)
+refused_quiet config world seat made kept command fixed (Waiting (wait.StoreRoot address)) full mine = absurd (let more = mine.facts.0.1.1 in omega (arith, full, more))
+refused_quiet config world seat made kept command fixed (Waiting (wait.ClearAnswer reply)) full mine = (refl, refl)
+refused_quiet config world seat made kept command fixed (Entering at then_on) full mine = (refl, refl)
+refused_quiet config world seat made kept command fixed _ full mine = absurd (let none = (mine.seated.unasked refl).1 in omega (arith, full, none))

@@ -35,31 +35,31 @@ use Rattle.step_core.proofs.Machines.Ready.{number_small, no_hand}
 use Rattle.alloc_buffers.specs.Facts.{OnlySpares}
 
 -- the address of an object is small
-markable_small : (c : Config) (w : World) (a : ℕ) → Shared c w → IsMarkable w.block a → a < 2 ^ 32
-markable_small c w a shared (IsMarkable.object name refs nums is) = piece_small c (λ r. w.memory (Top r)) w.block shared.parsable.plotted a (thing name refs nums) is
-markable_small c w a shared (IsMarkable.to_come seat words is) = piece_small c (λ r. w.memory (Top r)) w.block shared.parsable.plotted a (promised seat words) is
+markable_small : (config : Config) (world : World) (address : ℕ) → Shared config world → IsMarkable world.block address → address < 2 ^ 32
+markable_small config world address shared (IsMarkable.object name refs nums is) = piece_small config (λ r. world.memory (Top r)) world.block shared.parsable.plotted address (thing name refs nums) is
+markable_small config world address shared (IsMarkable.to_come seat words is) = piece_small config (λ r. world.memory (Top r)) world.block shared.parsable.plotted address (promised seat words) is
 
 -- the numbers of the accesses by which a mutator records an address are words
-remember_numbers : (c : Config) (w : World) (seat address : ℕ) (at : RememberSpot) → Shared c w → CanRecord c w seat address at → form_fits (satb.touch_at c seat address at).form ≡ true
-remember_numbers c w seat address LoadCount shared can = refl
-remember_numbers c w seat address (LoadEntry entry) shared can = refl
-remember_numbers c w seat address (MarkEntry entry found) shared can = lt-ltb _ _ (omega arith)
-remember_numbers c w seat address ClearCount shared can = refl
-remember_numbers c w seat address (StoreEntry entry) shared can = number_small address (markable_small c w address shared can.markable)
-remember_numbers c w seat address (StoreCount entry) shared can = number_small (entry + 1) (let below = can.words.facts.1 in omega (arith, below))
-remember_numbers c w seat address Recorded shared can = refl
+remember_numbers : (config : Config) (world : World) (seat address : ℕ) (at : RememberSpot) → Shared config world → CanRecord config world seat address at → form_fits (satb.touch_at config seat address at).form ≡ true
+remember_numbers config world seat address LoadCount shared can = refl
+remember_numbers config world seat address (LoadEntry entry) shared can = refl
+remember_numbers config world seat address (MarkEntry entry found) shared can = lt-ltb _ _ (omega arith)
+remember_numbers config world seat address ClearCount shared can = refl
+remember_numbers config world seat address (StoreEntry entry) shared can = number_small address (markable_small config world address shared can.markable)
+remember_numbers config world seat address (StoreCount entry) shared can = number_small (entry + 1) (let below = can.words.facts.1 in omega (arith, below))
+remember_numbers config world seat address Recorded shared can = refl
 
 -- a recording that goes on has not ended
 still_records : (at : RememberSpot) → satb.is_ended at ≡ false → (if satb.is_ended at then false else true) ≡ true
 still_records at going = rw going refl
 
 -- the accesses can be made
-pub record_ready : (c : Config) (w : World) (seat made : ℕ) (kept : Kept) (at : RememberSpot) (address : ℕ) (next : Overwritten) → satb.is_ended at ≡ false → Shared c w → CanRecord c w seat address at
-    → is_ready c seat made kept (Recording at address next) ≡ true
-record_ready c w seat made kept at address next going shared can =
+pub record_ready : (config : Config) (world : World) (seat made : ℕ) (kept : Kept) (at : RememberSpot) (address : ℕ) (next : Overwritten) → satb.is_ended at ≡ false → Shared config world → CanRecord config world seat address at
+    → is_ready config seat made kept (Recording at address next) ≡ true
+record_ready config world seat made kept at address next going shared can =
     and_from _ _
-    (and_from _ _ (is_word_from c (satb.touch_at c seat address at).word ((recording_steps.steps c seat address).stands w at tt can).inside) (remember_numbers c w seat address at shared can))
-    (and_from _ _ (still_records at going) (and_from _ _ can.words.ready (is_word_from c (Heap address) (markable_word c w address shared can.markable))))
+    (and_from _ _ (is_word_from config (satb.touch_at config seat address at).word ((recording_steps.steps config seat address).stands world at tt can).inside) (remember_numbers config world seat address at shared can))
+    (and_from _ _ (still_records at going) (and_from _ _ can.words.ready (is_word_from config (Heap address) (markable_word config world address shared can.markable))))
 
 -- what is recorded in a phase is not null, and the phase is 1
 pub recorded_some : (phase got : ℕ) → is_to_record phase got ≡ true → (phase ≡ 1) × (got ≢ 0)
@@ -72,31 +72,31 @@ null_unrecorded : (phase got : ℕ) → is_to_record phase got ≡ false → (ph
 null_unrecorded phase got other on = grind (arith, nat_tests)
 
 -- A mutator that overwrites the reference of a field takes it in hand and can record it, or need not: marking needs the field no more.
-pub data Overwrites (c : Config) (u : World) (seat phase object field got : ℕ) : Type 0 where
-  takes : is_to_record phase got ≡ true → TakesInHand c u seat got → IsCovered c (with_in_hand u seat got) object field → Overwrites c u seat phase object field got
-  leaves : is_to_record phase got ≡ false → IsCovered c u object field → Overwrites c u seat phase object field got
+pub data Overwrites (config : Config) (world : World) (seat phase object field got : ℕ) : Type 0 where
+  takes : is_to_record phase got ≡ true → TakesInHand config world seat got → IsCovered config (with_in_hand world seat got) object field → Overwrites config world seat phase object field got
+  leaves : is_to_record phase got ≡ false → IsCovered config world object field → Overwrites config world seat phase object field got
 
 -- so it is with each reference that a field of an object has
-pub overwrites_of : (c : Config) (u : World) (seat phase object field : ℕ) (v : Reference) → seat < c.mutators → Shared c u → HasMarkingBy u seat None phase true → OnlySpares u seat
-    → Points u.block (u.memory (Heap (object + 3 + field))) v → Overwrites c u seat phase object field (u.memory (Heap (object + 3 + field)))
-overwrites_of c u seat phase object field v below shared marking none stands = let got : ℕ = u.memory (Heap (object + 3 + field)) in ⊎_elim
+pub overwrites_of : (config : Config) (world : World) (seat phase object field : ℕ) (reference : Reference) → seat < config.mutators → Shared config world → HasMarkingBy world seat None phase true → OnlySpares world seat
+    → Points world.block (world.memory (Heap (object + 3 + field))) reference → Overwrites config world seat phase object field (world.memory (Heap (object + 3 + field)))
+overwrites_of config world seat phase object field reference below shared marking none stands = let got : ℕ = world.memory (Heap (object + 3 + field)) in ⊎_elim
     (λ (records : is_to_record phase got ≡ true).
     let some = recorded_some phase got records in
-    let named = named_if_not_0 c (λ r. u.memory (Top r)) u.block shared.parsable.plotted got v stands some.1 in
-    let on : u.memory Phase ≡ 1 = sym (marking.phase_is refl) ∙ some.0 in
-    let piece = named_thing (u.block got) named.0 (λ refs nums to is. unmoved c u shared (omega (arith, on)) got refs nums to named.0 is) named.2 in
-    let held = recording_steps.begins c u seat got below on (IsMarkable.object named.0 piece.0 piece.1 piece.2) marking.records marking.scans (no_hand u seat none) shared in
-    Overwrites.takes records held (covered_found c u (with_in_hand u seat got) object field shared held.keeps.marks (inr held.noted)))
+    let named = named_if_not_0 config (λ r. world.memory (Top r)) world.block shared.parsable.plotted got reference stands some.1 in
+    let on : world.memory Phase ≡ 1 = sym (marking.phase_is refl) ∙ some.0 in
+    let piece = named_thing (world.block got) named.0 (λ refs nums to is. unmoved config world shared (omega (arith, on)) got refs nums to named.0 is) named.2 in
+    let held = recording_steps.begins config world seat got below on (IsMarkable.object named.0 piece.0 piece.1 piece.2) marking.records marking.scans (no_hand world seat none) shared in
+    Overwrites.takes records held (covered_found config world (with_in_hand world seat got) object field shared held.keeps.marks (inr held.noted)))
     (λ (other : is_to_record phase got ≡ false). Overwrites.leaves other (⊎_elim
-    (λ (on : (phase == 1) ≡ true). covered_found c u u object field shared (same_marks c u seat).keeps (inl (null_unrecorded phase got other on)))
-    (λ (off : (phase == 1) ≡ false). covered_unmarked c u object field shared (λ on. eqb-false _ _ off (marking.phase_is refl ∙ on)))
+    (λ (on : (phase == 1) ≡ true). covered_found config world world object field shared (same_marks config world seat).keeps (inl (null_unrecorded phase got other on)))
+    (λ (off : (phase == 1) ≡ false). covered_unmarked config world object field shared (λ on. eqb-false _ _ off (marking.phase_is refl ∙ on)))
     (cases_Bool (phase == 1))))
     (cases_Bool (is_to_record phase got))
 
 -- What a step owes from the world in which the mutator has the reference in hand, it owes from that in which it takes it.
-pub stepped_in_hand : (c : Config) (u : World) (m : Mutating) (got : ℕ) (command : Command) (fixed : Option Reply) → TakesInHand c u m.seat got → Stepped c (with_in_hand u m.seat got) m command Nothing fixed
-    → Stepped c u m command Nothing fixed
-stepped_in_hand c u m got command fixed held step = record {
+pub stepped_in_hand : (config : Config) (world : World) (mutator : Mutating) (got : ℕ) (command : Command) (fixed : Option Reply) → TakesInHand config world mutator.seat got → Stepped config (with_in_hand world mutator.seat got) mutator command Nothing fixed
+    → Stepped config world mutator command Nothing fixed
+stepped_in_hand config world mutator got command fixed held step = record {
   world = step.world;
   memory = step.memory;
   graph = step.graph;
@@ -104,12 +104,12 @@ stepped_in_hand c u m got command fixed held step = record {
   settles = step.settles;
   shared = step.shared;
   mine = step.mine;
-  others = λ j d. rely_twice c j u (with_in_hand u m.seat got) step.world held.own.phase (held.others j d) (step.others j d);
+  others = λ j d. rely_twice config j world (with_in_hand world mutator.seat got) step.world held.own.phase (held.others j d) (step.others j d);
 }
 
 -- a mutator that can record an address still can after a store into an object
-pub can_stored : (c : Config) (w : World) (seat v at value : ℕ) (g : Graph) → CanRecord c w seat v LoadCount → CanRecord c (stored w at value g) seat v LoadCount
-can_stored c w seat v at value g can = record {
+pub can_stored : (config : Config) (world : World) (seat v at value : ℕ) (graph : Graph) → CanRecord config world seat v LoadCount → CanRecord config (stored world at value graph) seat v LoadCount
+can_stored config world seat v at value graph can = record {
   seated = can.seated;
   phase = can.phase;
   markable = can.markable;

@@ -28,44 +28,44 @@ use Rattle.step_core.proofs.Mutators.Resolves.{resolving_fits}
 use Rattle.step_core.proofs.Mutators.Resolving.{going_now}
 use Rattle.step_core.proofs.Mutators.Spots.{mutator_at}
 
-module _ (c : Config) (u : World) (shared : Shared c u) where
+module _ (config : Config) (world : World) (shared : Shared config world) where
   -- a word that stands for a reference is one
-  reference_fits : (word : ℕ) (r : Reference) → Points u.block word r → is_reference_word c word ≡ true
-  reference_fits word r points = ⊎_elim
-      (λ (null : word ≡ 0). cond-true (word == 0) true (is_word c (Heap word)) (eq-eqb word 0 null))
-      (λ (some : word ≢ 0). cond-false (word == 0) true (is_word c (Heap word)) (ne_eqb word 0 some) ∙ of_object r points some)
+  reference_fits : (word : ℕ) (reference : Reference) → Points world.block word reference → is_reference_word config word ≡ true
+  reference_fits word reference points = ⊎_elim
+      (λ (null : word ≡ 0). cond-true (word == 0) true (is_word config (Heap word)) (eq-eqb word 0 null))
+      (λ (some : word ≢ 0). cond-false (word == 0) true (is_word config (Heap word)) (ne_eqb word 0 some) ∙ of_object reference points some)
       (cases_eq word 0)
     where
-      of_object : (r : Reference) → Points u.block word r → word ≢ 0 → is_word c (Heap word) ≡ true
+      of_object : (reference : Reference) → Points world.block word reference → word ≢ 0 → is_word config (Heap word) ≡ true
       of_object None is other = absurd (other is)
       of_object (Some name) is other =
-          let piece = named_piece (u.block word) name is in
-          let long = some_words c (λ k. u.memory (Top k)) u.block shared.parsable shared.owned.rooms word piece.0 piece.1 in
-          ap (λ a. is_word c (Heap a)) (omega arith) ∙ piece_word c (λ k. u.memory (Top k)) u.block shared.parsable.plotted word 0 piece.0 piece.1 (omega (arith, long))
+          let piece = named_piece (world.block word) name is in
+          let long = some_words config (λ k. world.memory (Top k)) world.block shared.parsable shared.owned.rooms word piece.0 piece.1 in
+          ap (λ a. is_word config (Heap a)) (omega arith) ∙ piece_word config (λ k. world.memory (Top k)) world.block shared.parsable.plotted word 0 piece.0 piece.1 (omega (arith, long))
 
   module _ (seat made : ℕ) (kept : Kept) (command : Command) (fixed : Option Reply) where
     -- what is found in a field is one, where it is to be used
-    field_fits : (object : ℕ) (at : FieldSpot) → Mine c u (mutator_at seat made kept (OnField object at)) command fixed
-        → field_goes c at (u.memory (touch_of c (mutator_at seat made kept (OnField object at)) Nothing).word) ≡ true
-    field_fits object fields.Load mine = let get = mine.facts.1 in let here = field_in c u shared seat get.src object _ get.of get.below in reference_fits _ here.0 here.2
-    field_fits object (fields.LoadExpected expect value) mine = let cas = mine.facts.1 in let here = field_in c u shared seat cas.obj object _ cas.of cas.below in reference_fits _ here.0 here.2
-    field_fits object (fields.Swap value) mine = let swap = mine.facts.1 in let here = field_in c u shared seat swap.obj object _ swap.of swap.below in reference_fits _ here.0 here.2
+    field_fits : (object : ℕ) (at : FieldSpot) → Mine config world (mutator_at seat made kept (OnField object at)) command fixed
+        → field_goes config at (world.memory (touch_of config (mutator_at seat made kept (OnField object at)) Nothing).word) ≡ true
+    field_fits object fields.Load mine = let get = mine.facts.1 in let here = field_in config world shared seat get.src object _ get.of get.below in reference_fits _ here.0 here.2
+    field_fits object (fields.LoadExpected expect value) mine = let cas = mine.facts.1 in let here = field_in config world shared seat cas.obj object _ cas.of cas.below in reference_fits _ here.0 here.2
+    field_fits object (fields.Swap value) mine = let swap = mine.facts.1 in let here = field_in config world shared seat swap.obj object _ swap.of swap.below in reference_fits _ here.0 here.2
     field_fits object (fields.LoadOld value) mine = refl
     field_fits object (fields.Store value) mine = refl
     field_fits object (fields.Exchange found expect value) mine = refl
 
     -- the word that a mutator finds is fit for its part
-    pub part_fits : (spot : Spot) → Mine c u (mutator_at seat made kept spot) command fixed → PartFit c seat kept spot (u.memory (touch_of c (mutator_at seat made kept spot) Nothing).word)
+    pub part_fits : (spot : Spot) → Mine config world (mutator_at seat made kept spot) command fixed → PartFit config seat kept spot (world.memory (touch_of config (mutator_at seat made kept spot) Nothing).word)
     part_fits (OnField object at) mine = field_fits object at mine
     part_fits (Resolving address at next) mine =
-        resolving_fits c u seat address kept.phase at (going_now c u seat made kept command fixed at address next mine) shared (mine.marking.phase_is refl) mine.facts.0
+        resolving_fits config world seat address kept.phase at (going_now config world seat made kept command fixed at address next mine) shared (mine.marking.phase_is refl) mine.facts.0
     part_fits _ mine = tt
 
 -- outside the heap each word is fit
-pub part_outside : (c : Config) (seat : ℕ) (kept : Kept) (spot : Spot) (got : ℕ) → is_within (standing_at spot) ≡ false → PartFit c seat kept spot got
-part_outside c seat kept (OnField object at) got out = absurd (cc (out))
-part_outside c seat kept (Resolving address at next) got out = absurd (cc (out))
-part_outside c seat kept _ got out = tt
+pub part_outside : (config : Config) (seat : ℕ) (kept : Kept) (spot : Spot) (got : ℕ) → is_within (standing_at spot) ≡ false → PartFit config seat kept spot got
+part_outside config seat kept (OnField object at) got out = absurd (cc (out))
+part_outside config seat kept (Resolving address at next) got out = absurd (cc (out))
+part_outside config seat kept _ got out = tt
 
 -- a mutator that is in the heap has a call in progress
 pub within_call : (spot : Spot) → is_within (standing_at spot) ≡ true → is_between_calls spot ≡ false

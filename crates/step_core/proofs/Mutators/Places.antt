@@ -42,78 +42,78 @@ use Rattle.step_core.proofs.Mutators.Takes.{at_taking}
 use Rattle.step_core.proofs.Mutators.Fresh.{at_store_word, at_store_fresh}
 use Rattle.step_core.proofs.Mutators.Spots.{mutator_at}
 
-module _ (c : Config) (u : World) (seat made : ℕ) (kept : Kept) (command : Command) (fixed : Option Reply) where
+module _ (config : Config) (world : World) (seat made : ℕ) (kept : Kept) (command : Command) (fixed : Option Reply) where
   -- by the spot of each part of a call
-  each_load : (at : LoadSpot) → Row c u (mutator_at seat made kept (Loading at)) command fixed
-  each_load load.First = at_load_root c u seat made kept command fixed
-  each_load (load.Second first) = at_load_second c u seat made kept command fixed first
-  each_load (load.Third first second) = at_load_third c u seat made kept command fixed first second
-  each_load (load.Shape object second third) = at_load_shape c u seat made kept command fixed object second third
+  each_load : (at : LoadSpot) → Row config world (mutator_at seat made kept (Loading at)) command fixed
+  each_load load.First = at_load_root config world seat made kept command fixed
+  each_load (load.Second first) = at_load_second config world seat made kept command fixed first
+  each_load (load.Third first second) = at_load_third config world seat made kept command fixed first second
+  each_load (load.Shape object second third) = at_load_shape config world seat made kept command fixed object second third
 
-  each_field : (object : ℕ) (at : FieldSpot) → Row c u (mutator_at seat made kept (OnField object at)) command fixed
-  each_field object fields.Load = at_load_field c u seat made kept command fixed object
-  each_field object (fields.LoadExpected expect value) = at_load_expected c u seat made kept command fixed object expect value
-  each_field object (fields.LoadOld value) = at_load_old c u seat made kept command fixed object value
-  each_field object (fields.Store value) = at_store_field c u seat made kept command fixed object value
-  each_field object (fields.Swap value) = at_swap_field c u seat made kept command fixed object value
-  each_field object (fields.Exchange found expect value) = at_exchange_field c u seat made kept command fixed object found expect value
+  each_field : (object : ℕ) (at : FieldSpot) → Row config world (mutator_at seat made kept (OnField object at)) command fixed
+  each_field object fields.Load = at_load_field config world seat made kept command fixed object
+  each_field object (fields.LoadExpected expect value) = at_load_expected config world seat made kept command fixed object expect value
+  each_field object (fields.LoadOld value) = at_load_old config world seat made kept command fixed object value
+  each_field object (fields.Store value) = at_store_field config world seat made kept command fixed object value
+  each_field object (fields.Swap value) = at_swap_field config world seat made kept command fixed object value
+  each_field object (fields.Exchange found expect value) = at_exchange_field config world seat made kept command fixed object found expect value
 
-  each_number : (object refs : ℕ) (at : NumberSpot) → Row c u (mutator_at seat made kept (OnNumber object refs at)) command fixed
-  each_number object refs numbers.Load = at_load_number c u seat made kept command fixed object refs
-  each_number object refs numbers.Store = at_store_number c u seat made kept command fixed object refs
+  each_number : (object refs : ℕ) (at : NumberSpot) → Row config world (mutator_at seat made kept (OnNumber object refs at)) command fixed
+  each_number object refs numbers.Load = at_load_number config world seat made kept command fixed object refs
+  each_number object refs numbers.Store = at_store_number config world seat made kept command fixed object refs
 
-  each_show : (value : ℕ) (at : ShowSpot) → Row c u (mutator_at seat made kept (Showing value at)) command fixed
-  each_show value show.LoadName = at_load_name c u seat made kept command fixed value
-  each_show value (show.StoreRoot r) = at_store_loaded c u seat made kept command fixed value r
+  each_show : (value : ℕ) (at : ShowSpot) → Row config world (mutator_at seat made kept (Showing value at)) command fixed
+  each_show value show.LoadName = at_load_name config world seat made kept command fixed value
+  each_show value (show.StoreRoot r) = at_store_loaded config world seat made kept command fixed value r
 
-  each_pin : HasNoMorePins c.mutators u.graph → (value : ℕ) (at : PinSpot) → Row c u (mutator_at seat made kept (Pinning value at)) command fixed
-  each_pin no_more value pins.Look = at_look_pin c u seat made kept command fixed value
-  each_pin no_more value pins.Store = at_store_pin c u seat made kept command fixed no_more value
+  each_pin : HasNoMorePins config.mutators world.graph → (value : ℕ) (at : PinSpot) → Row config world (mutator_at seat made kept (Pinning value at)) command fixed
+  each_pin no_more value pins.Look = at_look_pin config world seat made kept command fixed value
+  each_pin no_more value pins.Store = at_store_pin config world seat made kept command fixed no_more value
 
-  each_make : (at : MakeSpot) → Row c u (mutator_at seat made kept (Making at)) command fixed
-  each_make (make.Taking take) = at_taking c u seat made kept command fixed take
-  each_make (make.StoreWord address done) = at_store_word c u seat made kept command fixed address done
-  each_make (make.StoreRoot address) = at_store_fresh c u seat made kept command fixed address
+  each_make : (at : MakeSpot) → Row config world (mutator_at seat made kept (Making at)) command fixed
+  each_make (make.Taking take) = at_taking config world seat made kept command fixed take
+  each_make (make.StoreWord address done) = at_store_word config world seat made kept command fixed address done
+  each_make (make.StoreRoot address) = at_store_fresh config world seat made kept command fixed address
 
   -- What the history has where a mutator polls: if the words that count say that the heap is full, so does it. (They may say so
   -- before the word of the table does; it then finds 0, and polls on.)
   abbrev HasTold : Spot → Type 0
-  HasTold spot = spot ≡ Waiting wait.Poll → u.memory (Answer seat) ≡ 1 → fixed ≡ Some reply.Full
+  HasTold spot = spot ≡ Waiting wait.Poll → world.memory (Answer seat) ≡ 1 → fixed ≡ Some reply.Full
 
   -- by the spot, in a call
-  each_call : HasNoMorePins c.mutators u.graph → (spot : Spot) → HasTold spot → is_between_calls spot ≡ false → Row c u (mutator_at seat made kept spot) command fixed
+  each_call : HasNoMorePins config.mutators world.graph → (spot : Spot) → HasTold spot → is_between_calls spot ≡ false → Row config world (mutator_at seat made kept spot) command fixed
   each_call no_more Rest told busy = absurd (cc (busy))
   each_call no_more (Ended r) told busy = absurd (cc (busy))
-  each_call no_more (Entering at next) told busy = at_enter c u seat made kept command fixed at next
-  each_call no_more LoadPhase told busy = at_load_phase c u seat made kept command fixed
-  each_call no_more LoadSet told busy = at_load_set c u seat made kept command fixed
+  each_call no_more (Entering at next) told busy = at_enter config world seat made kept command fixed at next
+  each_call no_more LoadPhase told busy = at_load_phase config world seat made kept command fixed
+  each_call no_more LoadSet told busy = at_load_set config world seat made kept command fixed
   each_call no_more (Loading at) told busy = each_load at
   each_call no_more (OnField object at) told busy = each_field object at
-  each_call no_more (Resolving address at next) told busy = at_resolve c u seat made kept command fixed at address next
-  each_call no_more (Recording at address next) told busy = at_record c u seat made kept command fixed at address next
+  each_call no_more (Resolving address at next) told busy = at_resolve config world seat made kept command fixed at address next
+  each_call no_more (Recording at address next) told busy = at_record config world seat made kept command fixed at address next
   each_call no_more (OnNumber object refs at) told busy = each_number object refs at
   each_call no_more (Showing value at) told busy = each_show value at
-  each_call no_more (StoreRoot value) told busy = at_store_root c u seat made kept command fixed value
+  each_call no_more (StoreRoot value) told busy = at_store_root config world seat made kept command fixed value
   each_call no_more (Making at) told busy = each_make at
-  each_call no_more AskCycle told busy = at_ask c u seat made kept command fixed
+  each_call no_more AskCycle told busy = at_ask config world seat made kept command fixed
   each_call no_more (Pinning value at) told busy = each_pin no_more value at
-  each_call no_more (Waiting at) told busy = each_wait c u seat made kept command fixed at (λ same. told (ap Waiting same))
-  each_call no_more (Leave r) told busy = at_leave c u seat made kept command fixed r
+  each_call no_more (Waiting at) told busy = each_wait config world seat made kept command fixed at (λ same. told (ap Waiting same))
+  each_call no_more (Leave r) told busy = at_leave config world seat made kept command fixed r
   each_call no_more Gone told busy = absurd (cc (busy))
 
   -- in a call there is no order
-  called : HasNoMorePins c.mutators u.graph → (order : Order) (spot : Spot) → HasTold spot → is_between_calls spot ≡ false → OrderedRow c u (mutator_at seat made kept spot) command order fixed
+  called : HasNoMorePins config.mutators world.graph → (order : Order) (spot : Spot) → HasTold spot → is_between_calls spot ≡ false → OrderedRow config world (mutator_at seat made kept spot) command order fixed
   called no_more order spot told busy shared mine takes =
-      subst (λ o. Stepped c u (mutator_at seat made kept spot) command o fixed) (sym (in_call spot made order busy takes)) (each_call no_more spot told busy shared mine)
+      subst (λ o. Stepped config world (mutator_at seat made kept spot) command o fixed) (sym (in_call spot made order busy takes)) (each_call no_more spot told busy shared mine)
 
   -- by the spot
-  each_place : HasNoMorePins c.mutators u.graph → (order : Order) (spot : Spot) → HasTold spot → OrderedRow c u (mutator_at seat made kept spot) command order fixed
-  each_place no_more order Rest told = at_rest c u seat made kept command fixed order
-  each_place no_more order (Ended r) told = at_ended c u seat made kept command fixed r order
+  each_place : HasNoMorePins config.mutators world.graph → (order : Order) (spot : Spot) → HasTold spot → OrderedRow config world (mutator_at seat made kept spot) command order fixed
+  each_place no_more order Rest told = at_rest config world seat made kept command fixed order
+  each_place no_more order (Ended r) told = at_ended config world seat made kept command fixed r order
   each_place no_more order Gone told = λ shared mine takes. absurd (cc (takes))
   each_place no_more order spot told = called no_more order spot told refl
 
 -- for a mutator wherever it stands
-pub each_step : (c : Config) (u : World) (m : Mutating) (command : Command) (order : Order) (fixed : Option Reply)
-    → (m.spot ≡ Waiting wait.Poll → u.memory (Answer m.seat) ≡ 1 → fixed ≡ Some reply.Full) → HasNoMorePins c.mutators u.graph → OrderedRow c u m command order fixed
-each_step c u m command order fixed told no_more = each_place c u m.seat m.made m.kept command fixed no_more order m.spot told
+pub each_step : (config : Config) (world : World) (mutator : Mutating) (command : Command) (order : Order) (fixed : Option Reply)
+    → (mutator.spot ≡ Waiting wait.Poll → world.memory (Answer mutator.seat) ≡ 1 → fixed ≡ Some reply.Full) → HasNoMorePins config.mutators world.graph → OrderedRow config world mutator command order fixed
+each_step config world mutator command order fixed told no_more = each_place config world mutator.seat mutator.made mutator.kept command fixed no_more order mutator.spot told

@@ -31,14 +31,14 @@ use Rattle.step_core.proofs.Machines.Roles.{machine_stays}
 use Rattle.step_core.proofs.Mutators.Spots.{mutator_at}
 
 -- a mutator can always say that it is in
-raise_ready : (c : Config) (seat made : ℕ) (kept : Kept) → seat < c.mutators → is_ready c seat made kept (Entering Raise Waited) ≡ true
-raise_ready c seat made kept below = grind (arith, nat_tests)
+raise_ready : (config : Config) (seat made : ℕ) (kept : Kept) → seat < config.mutators → is_ready config seat made kept (Entering Raise Waited) ≡ true
+raise_ready config seat made kept below = grind (arith, nat_tests)
 
 -- an answer in the table is the one that it has been waiting for
-answered_by : (w : World) (seat made raw : ℕ) (k command : Command) (fixed : Option Reply) → raw ≢ 0 → IsSeen raw (w.memory (Answer seat)) fixed → IsPolling w seat made k command fixed → IsAnswered w seat made k command fixed
-answered_by w seat made raw k command fixed some seen (inl waits) = absurd (some (seen.null waits.0.1.1))
-answered_by w seat made raw k command fixed some seen (inr (inl has)) = inl has
-answered_by w seat made raw k command fixed some seen (inr (inr is)) = inr (
+answered_by : (world : World) (seat made raw : ℕ) (other_command command : Command) (fixed : Option Reply) → raw ≢ 0 → IsSeen raw (world.memory (Answer seat)) fixed → IsPolling world seat made other_command command fixed → IsAnswered world seat made other_command command fixed
+answered_by world seat made raw other_command command fixed some seen (inl waits) = absurd (some (seen.null waits.0.1.1))
+answered_by world seat made raw other_command command fixed some seen (inr (inl has)) = inl has
+answered_by world seat made raw other_command command fixed some seen (inr (inr is)) = inr (
   record {
     dst = is.0.dst;
     refs = is.0.refs;
@@ -49,13 +49,13 @@ answered_by w seat made raw k command fixed some seen (inr (inr is)) = inr (
   is.1,
 )
 
-module _ (c : Config) (words : List ℕ) (image : Counting) (block : Plot) (ghost : Ghost) (g : Graph) (past : List Entry) (seat made : ℕ) (kept : Kept) (machines : List Actor) (command : Command) (calls : List Entry) where
+module _ (config : Config) (words : List ℕ) (image : Counting) (block : Plot) (ghost : Ghost) (graph : Graph) (past : List Entry) (seat made : ℕ) (kept : Kept) (machines : List Actor) (command : Command) (calls : List Entry) where
   abbrev u : World
-  u = record { memory = mixed c words image; block = block; ghost = ghost; graph = g }
+  u = record { memory = mixed config words image; block = block; ghost = ghost; graph = graph }
 
   -- the word that it finds
   abbrev raw : ℕ
-  raw = view c words (Answer seat)
+  raw = view config words (Answer seat)
 
   -- the actor at a spot
   abbrev pub polled : Spot → Actor
@@ -68,8 +68,8 @@ module _ (c : Config) (words : List ℕ) (image : Counting) (block : Plot) (ghos
   same_entries k = ap (λ es. of_thread es (k + 1)) (append-nil past)
 
   -- it goes on, or looks again
-  own_polls : (thread : IsThread c words u (of_thread past (seat + 1)) seat polls (mutator_at seat made kept (Waiting wait.Poll))) → (q : Bool) → (raw == 0) ≡ q
-      → IsThread c words u (of_thread (past ++ []) (seat + 1)) seat (polled (if q then Waiting wait.Poll else Entering Raise Waited)) (mutator_at seat made kept (if q then Waiting wait.Poll else Entering Raise Waited))
+  own_polls : (thread : IsThread config words u (of_thread past (seat + 1)) seat polls (mutator_at seat made kept (Waiting wait.Poll))) → (holds : Bool) → (raw == 0) ≡ holds
+      → IsThread config words u (of_thread (past ++ []) (seat + 1)) seat (polled (if holds then Waiting wait.Poll else Entering Raise Waited)) (mutator_at seat made kept (if holds then Waiting wait.Poll else Entering Raise Waited))
   own_polls thread true none = record {
     fixed = thread.fixed;
     number_is = refl;
@@ -85,7 +85,7 @@ module _ (c : Config) (words : List ℕ) (image : Counting) (block : Plot) (ghos
     valid = thread.valid;
     mine = record {
       seated = record { below = thread.mine.seated.below; counted = thread.mine.seated.counted; usable = thread.mine.seated.usable; unasked = λ e. absurd (cc (e)) };
-      ready = raise_ready c seat made kept thread.mine.seated.below;
+      ready = raise_ready config seat made kept thread.mine.seated.below;
       marking = thread.mine.marking;
       copying = thread.mine.copying;
       roots = thread.mine.roots;
@@ -97,18 +97,18 @@ module _ (c : Config) (words : List ℕ) (image : Counting) (block : Plot) (ghos
     entries_are = same_entries seat ∙ thread.entries_are ∙ ap (λ es. es ++ entries_of seat command thread.fixed) (sym (append-nil calls));
   }
 
-  pub polls_owes : Shared c u → PromisedToMutators c block → IsThread c words u (of_thread past (seat + 1)) seat polls (mutator_at seat made kept (Waiting wait.Poll))
-      → Owes c words words u past seat machines (mixed c words image) [] (polled (if raw == 0 then Waiting wait.Poll else Entering Raise Waited))
+  pub polls_owes : Shared config u → PromisedToMutators config block → IsThread config words u (of_thread past (seat + 1)) seat polls (mutator_at seat made kept (Waiting wait.Poll))
+      → Owes config words words u past seat machines (mixed config words image) [] (polled (if raw == 0 then Waiting wait.Poll else Entering Raise Waited))
   polls_owes shared promised_to thread = record {
     world = u;
     memory_is = refl;
     graph_is = refl;
     legal = tt;
-    entries = All-nil (IsSettled c.mutators);
+    entries = All-nil (IsSettled config.mutators);
     shared = shared;
     promised_to = promised_to;
     own = own_polls thread (raw == 0) refl;
     others = λ k b differs there known.
-        machine_stays c words words u u (of_thread past (k + 1)) (of_thread (past ++ []) (k + 1)) k b b.machine shared
-        (record { rely = rely_same c k u; answer = refl; counts = inr (record { graph = refl; promised = λ v. refl }); aims = λ control same is. is }) (same_entries k) known;
+        machine_stays config words words u u (of_thread past (k + 1)) (of_thread (past ++ []) (k + 1)) k b b.machine shared
+        (record { rely = rely_same config k u; answer = refl; counts = inr (record { graph = refl; promised = λ v. refl }); aims = λ control same is. is }) (same_entries k) known;
   }

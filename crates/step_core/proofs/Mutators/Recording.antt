@@ -36,52 +36,52 @@ use Rattle.step_core.proofs.Mutators.Overwriting.{record_ready}
 use Rattle.step_core.proofs.Machines.Ready.{leaving}
 use Rattle.alloc_buffers.specs.Facts.{OnlySpares}
 
-module _ (c : Config) (u : World) (seat made : ℕ) (kept : Kept) (command : Command) (fixed : Option Reply) where
+module _ (config : Config) (world : World) (seat made : ℕ) (kept : Kept) (command : Command) (fixed : Option Reply) where
   abbrev at_spot : Spot → Mutating
   at_spot spot = mutator_at seat made kept spot
 
-  module _ (before : RememberSpot) (address : ℕ) (next : Overwritten) (mine : Mine c u (at_spot (Recording before address next)) command fixed) where
+  module _ (before : RememberSpot) (address : ℕ) (next : Overwritten) (mine : Mine config world (at_spot (Recording before address next)) command fixed) where
     -- it has not ended
     going_now : satb.is_ended before ≡ false
-    going_now = still before (and_parts _ _ (and_parts (touch_fits c (satb.touch_at c seat address before)) (remember_fits c address before) mine.ready).1).0
+    going_now = still before (and_parts _ _ (and_parts (touch_fits config (satb.touch_at config seat address before)) (remember_fits config address before) mine.ready).1).0
       where
         still : (at : RememberSpot) → (if satb.is_ended at then false else true) ≡ true → satb.is_ended at ≡ false
         still Recorded going = absurd (false≢true going)
         still _ going = refl
 
-    module _ (w : World) (shared : Shared c w) (keeps : Keeps c seat u w) (same : w.block ≡ u.block) where
+    module _ (other_world : World) (shared : Shared config other_world) (keeps : Keeps config seat world other_world) (same : other_world.block ≡ world.block) where
       -- what it counts on of marking then
-      marking_then : (at : RememberSpot) → (in_hand : Option ℕ) → CanRecord c w seat address at → w.ghost.recording seat ≡ in_hand → HasMarkingBy w seat in_hand kept.phase true
+      marking_then : (at : RememberSpot) → (in_hand : Option ℕ) → CanRecord config other_world seat address at → other_world.ghost.recording seat ≡ in_hand → HasMarkingBy other_world seat in_hand kept.phase true
       marking_then at in_hand can records = record { records = records; scans = can.scanning; phase_is = λ on. mine.marking.phase_is refl ∙ sym keeps.marks.phase }
 
       -- and of evacuation
-      copying_then : SameWork u w seat → HasCopyingBy w seat false kept.cset true
-      copying_then work = copying_kept c u w seat false kept.cset true work keeps.copies mine.copying
+      copying_then : SameWork world other_world seat → HasCopyingBy other_world seat false kept.cset true
+      copying_then work = copying_kept config world other_world seat false kept.cset true work keeps.copies mine.copying
 
       -- its roots stand for its thread's
-      roots_then : (i : ℕ) → i < 16 → Points w.block (root_now w seat kept (Recording before address next) i) (w.graph.root (seat + 1) i)
-      roots_then i below = rw (now_stays c u w seat keeps kept (Recording before address next) i) (root_stays c u w seat keeps _ i (mine.roots i below))
+      roots_then : (index : ℕ) → index < 16 → Points other_world.block (root_now other_world seat kept (Recording before address next) index) (other_world.graph.root (seat + 1) index)
+      roots_then index below = rw (now_stays config world other_world seat keeps kept (Recording before address next) index) (root_stays config world other_world seat keeps _ index (mine.roots index below))
 
       -- where it goes on recording
-      mine_at : (at : RememberSpot) → satb.is_ended at ≡ false → w.ghost.recording seat ≡ Some address → CanRecord c w seat address at → SameWork u w seat
-          → Mine c w (at_spot (Recording at address next)) command fixed
+      mine_at : (at : RememberSpot) → satb.is_ended at ≡ false → other_world.ghost.recording seat ≡ Some address → CanRecord config other_world seat address at → SameWork world other_world seat
+          → Mine config other_world (at_spot (Recording at address next)) command fixed
       mine_at at going records can work = record {
-        seated = seated_stays c u w seat keeps made false mine.seated;
-        ready = record_ready c w seat made kept at address next going shared can;
+        seated = seated_stays config world other_world seat keeps made false mine.seated;
+        ready = record_ready config other_world seat made kept at address next going shared can;
         marking = marking_then at (Some address) can records;
         copying = copying_then work;
         roots = roots_then;
         rooms = λ a x is. mine.rooms a x (ap (λ plot. plot a) (sym same) ∙ is);
-        facts = (can, record_stays c u w seat keeps kept.command command fixed address next mine.facts.1);
+        facts = (can, record_stays config world other_world seat keeps kept.command command fixed address next mine.facts.1);
       }
 
-  module _ (w : World) (seated : IsSeatedIn c w seat made false) (marking : HasMarkingBy w seat None kept.phase true) (copying : HasCopyingBy w seat false kept.cset true) (on : w.memory Phase ≡ 1) (none : OnlySpares w seat) (shared : Shared c w) where
+  module _ (other_world : World) (seated : IsSeatedIn config other_world seat made false) (marking : HasMarkingBy other_world seat None kept.phase true) (copying : HasCopyingBy other_world seat false kept.cset true) (on : other_world.memory Phase ≡ 1) (none : OnlySpares other_world seat) (shared : Shared config other_world) where
     -- where it goes on once the address is recorded
-    mine_recorded : (address : ℕ) (next : Overwritten) → ((i : ℕ) → i < 16 → Points w.block (root_recording w seat (dst_of kept.command) address next i) (w.graph.root (seat + 1) i))
-        → RecordFacts c w seat kept.command command fixed address next → Mine c w (at_spot (after_recording address next)) command fixed
+    mine_recorded : (address : ℕ) (next : Overwritten) → ((index : ℕ) → index < 16 → Points other_world.block (root_recording other_world seat (dst_of kept.command) address next index) (other_world.graph.root (seat + 1) index))
+        → RecordFacts config other_world seat kept.command command fixed address next → Mine config other_world (at_spot (after_recording address next)) command fixed
     mine_recorded address (overwrites.Set object value) roots facts = record {
       seated = seated;
-      ready = store_ready c w seat made kept object value facts.1.obj facts.1.val shared facts.1.of facts.1.below facts.1.value_is.stands;
+      ready = store_ready config other_world seat made kept object value facts.1.obj facts.1.val shared facts.1.of facts.1.below facts.1.value_is.stands;
       marking = marking;
       copying = copying;
       roots = roots;
@@ -89,25 +89,25 @@ module _ (c : Config) (u : World) (seat made : ℕ) (kept : Kept) (command : Com
       facts = facts;
     }
     mine_recorded address overwrites.Xchg roots found =
-        subst (λ f. Mine c w (at_spot (after_recording address overwrites.Xchg)) command f) (sym found.settled)
-        (field_mine c w seat made kept command address (Some found.name) shared seated marking copying found.small roots none found.is
-        (usable_unmoved c w shared (omega (arith, on)) address (Some found.name) found.is))
+        subst (λ f. Mine config other_world (at_spot (after_recording address overwrites.Xchg)) command f) (sym found.settled)
+        (field_mine config other_world seat made kept command address (Some found.name) shared seated marking copying found.small roots none found.is
+        (usable_unmoved config other_world shared (omega (arith, on)) address (Some found.name) found.is))
     mine_recorded address overwrites.Cas roots settled =
-        subst (λ f. Mine c w (at_spot (Leave reply.Yes)) command f) (sym settled) (leaving c w seat made kept command reply.Yes seated (marking.records, marking.scans, copying.copies_is, copying.works_none) roots none)
+        subst (λ f. Mine config other_world (at_spot (Leave reply.Yes)) command f) (sym settled) (leaving config other_world seat made kept command reply.Yes seated (marking.records, marking.scans, copying.copies_is, copying.works_none) roots none)
 
-  module _ (before : RememberSpot) (address : ℕ) (next : Overwritten) (mine : Mine c u (at_spot (Recording before address next)) command fixed) where
+  module _ (before : RememberSpot) (address : ℕ) (next : Overwritten) (mine : Mine config world (at_spot (Recording before address next)) command fixed) where
     -- what it counts on after a step
-    mine_then : (at : RememberSpot) (w : World) → Shared c w → Keeps c seat u w → w.block ≡ u.block → CanRecord c w seat address at → SameWork u w seat → Mine c w (at_spot (after_remember address next at)) command fixed
-    mine_then Recorded w shared keeps same can work =
-        mine_recorded w (seated_stays c u w seat keeps made false mine.seated) (marking_then before address next mine w shared keeps same Recorded None can can.recording) (copying_then before address next mine w shared keeps same work) can.phase
+    mine_then : (at : RememberSpot) (other_world : World) → Shared config other_world → Keeps config seat world other_world → other_world.block ≡ world.block → CanRecord config other_world seat address at → SameWork world other_world seat → Mine config other_world (at_spot (after_remember address next at)) command fixed
+    mine_then Recorded other_world shared keeps same can work =
+        mine_recorded other_world (seated_stays config world other_world seat keeps made false mine.seated) (marking_then before address next mine other_world shared keeps same Recorded None can can.recording) (copying_then before address next mine other_world shared keeps same work) can.phase
         (λ a x is. mine.rooms a x (ap (λ plot. plot a) (sym same) ∙ is)) shared address next
-        (roots_then before address next mine w shared keeps same) (record_stays c u w seat keeps kept.command command fixed address next mine.facts.1)
-    mine_then at w shared keeps same can work = mine_at before address next mine w shared keeps same at refl can.recording can work
+        (roots_then before address next mine other_world shared keeps same) (record_stays config world other_world seat keeps kept.command command fixed address next mine.facts.1)
+    mine_then at other_world shared keeps same can work = mine_at before address next mine other_world shared keeps same at refl can.recording can work
 
   -- each step
-  pub at_record : (at : RememberSpot) (address : ℕ) (next : Overwritten) → Row c u (at_spot (Recording at address next)) command fixed
+  pub at_record : (at : RememberSpot) (address : ℕ) (next : Overwritten) → Row config world (at_spot (Recording at address next)) command fixed
   at_record at address next shared mine =
-      let step = ((recording_steps.steps c seat address).goes u at (going_now at address next mine) shared mine.facts.0).step in
+      let step = ((recording_steps.steps config seat address).goes world at (going_now at address next mine) shared mine.facts.0).step in
       record {
         world = step.world;
         memory = step.memory;
@@ -115,6 +115,6 @@ module _ (c : Config) (u : World) (seat made : ℕ) (kept : Kept) (command : Com
         legal = tt;
         settles = λ r e. cc;
         shared = step.shared;
-        mine = mine_then at address next mine (satb.next_at at (u.memory (satb.touch_at c seat address at).word)) step.world step.shared step.keeps step.own.2 step.own.0 step.own.1;
+        mine = mine_then at address next mine (satb.next_at at (world.memory (satb.touch_at config seat address at).word)) step.world step.shared step.keeps step.own.2 step.own.0 step.own.1;
         others = step.others;
       }

@@ -15,15 +15,15 @@ use Rattle.heap_world.specs.Asking.{refused, IsAsked}
 use Rattle.step_core.proofs.Machines.Stepped.{IsRefused, SpotFacts, Mine}
 use Rattle.step_core.proofs.Mutators.Spots.{mutator_at}
 
-module _ (c : Config) (w : World) (seat made : ℕ) (kept : Kept) (command : Command) (full : w.memory (Answer seat) ≡ 1) where
+module _ (config : Config) (world : World) (seat made : ℕ) (kept : Kept) (command : Command) (full : world.memory (Answer seat) ≡ 1) where
   abbrev Own : Spot → Type 0
-  Own spot = Mine c w (mutator_at seat made kept spot) command None
+  Own spot = Mine config world (mutator_at seat made kept spot) command None
 
   -- it polls
-  polls : (spot : Spot) → Own spot → (spot ≡ Waiting wait.Poll) × IsRefused command None × IsAsked w.memory w.block w.graph.count seat refused
+  polls : (spot : Spot) → Own spot → (spot ≡ Waiting wait.Poll) × IsRefused command None × IsAsked world.memory world.block world.graph.count seat refused
   polls (Waiting wait.Poll) mine = by_facts mine.facts
     where
-      by_facts : SpotFacts c w seat made kept command None (Waiting wait.Poll) → (Waiting wait.Poll ≡ Waiting wait.Poll) × IsRefused command None × IsAsked w.memory w.block w.graph.count seat refused
+      by_facts : SpotFacts config world seat made kept command None (Waiting wait.Poll) → (Waiting wait.Poll ≡ Waiting wait.Poll) × IsRefused command None × IsAsked world.memory world.block world.graph.count seat refused
       by_facts (inl waits) = absurd (let none = waits.0.1.1 in omega (arith, full, none))
       by_facts (inr (inl has)) = absurd (let more = has.1.1 in omega (arith, full, more))
       by_facts (inr (inr is)) = (refl, is.0, is.1)
@@ -32,14 +32,14 @@ module _ (c : Config) (w : World) (seat made : ℕ) (kept : Kept) (command : Com
   polls (Waiting wait.StepOut) mine = absurd (let none = mine.facts.0.1.1 in omega (arith, full, none))
   polls (Waiting wait.LoadAnswer) mine = absurd (by_facts mine.facts)
     where
-      by_facts : SpotFacts c w seat made kept command None (Waiting wait.LoadAnswer) → ⊥
+      by_facts : SpotFacts config world seat made kept command None (Waiting wait.LoadAnswer) → ⊥
       by_facts (inl has) = (let more = has.1.1 in omega (arith, full, more))
       by_facts (inr is) = (let settled = is.0.settled in cc)
   polls (Waiting (wait.StoreRoot address)) mine = absurd (let more = mine.facts.0.1.1 in omega (arith, full, more))
   polls (Waiting (wait.ClearAnswer reply)) mine = absurd (let settled = mine.facts.0 in cc)
   polls (Entering at Waited) mine = absurd (by_facts mine.facts)
     where
-      by_facts : SpotFacts c w seat made kept command None (Entering at Waited) → ⊥
+      by_facts : SpotFacts config world seat made kept command None (Entering at Waited) → ⊥
       by_facts (inl has) = (let more = has.1.1 in omega (arith, full, more))
       by_facts (inr is) = (let settled = is.0.settled in cc)
   polls (Entering at Call) mine = absurd (let none = (mine.seated.unasked refl).1 in omega (arith, full, none))
@@ -50,7 +50,7 @@ module _ (c : Config) (w : World) (seat made : ℕ) (kept : Kept) (command : Com
   refused_new spot mine = let is = (polls spot mine).1 in subst IsNew (sym is.is) tt
 
   -- what it counts on once that is settled
-  pub refused_mine : (spot : Spot) → Own spot → Mine c w (mutator_at seat made kept spot) command (Some Full)
+  pub refused_mine : (spot : Spot) → Own spot → Mine config world (mutator_at seat made kept spot) command (Some Full)
   refused_mine spot mine =
       let is = polls spot mine in
       record {
@@ -60,6 +60,6 @@ module _ (c : Config) (w : World) (seat made : ℕ) (kept : Kept) (command : Com
         copying = mine.copying;
         roots = mine.roots;
         rooms = mine.rooms;
-        facts = subst (λ s. SpotFacts c w seat made kept command (Some Full) s) (sym is.0)
+        facts = subst (λ s. SpotFacts config world seat made kept command (Some Full) s) (sym is.0)
             (inr (inr (record { dst = is.1.dst; refs = is.1.refs; nums = is.1.nums; is = is.1.is; settled = inr refl }, is.2)));
       }

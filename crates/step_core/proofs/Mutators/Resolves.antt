@@ -20,23 +20,23 @@ use Rattle.step_core.proofs.Machines.Stepped.{IsResolving}
 
 -- The address lies in the collection set and is that of a copy. The counter counts the machine where it copies; all its room is what the spot
 -- says, and it neither records nor scans; and it can make its next access.
-pub record Resolves (c : Config) (w : World) (seat a : ℕ) (at : ResolveSpot) : Type 0 where
-  pub inside : IsCollected c (w.memory Cset) a
-  pub there : HasCopy w.block a
-  pub copying : w.ghost.copying seat ≡ is_copier at
-  pub records_none : w.ghost.recording seat ≡ None
-  pub scans_none : w.ghost.scanning seat ≡ None
-  pub rooms : (b : ℕ) (x : Block) → w.block b ≡ Some x → room_of x ≡ Some seat → IsResolvingRoom seat at b x
-  pub ready : load.is_ready c seat a at ≡ true
+pub record Resolves (config : Config) (world : World) (seat address : ℕ) (at : ResolveSpot) : Type 0 where
+  pub inside : IsCollected config (world.memory Cset) address
+  pub there : HasCopy world.block address
+  pub copying : world.ghost.copying seat ≡ is_copier at
+  pub records_none : world.ghost.recording seat ≡ None
+  pub scans_none : world.ghost.scanning seat ≡ None
+  pub rooms : (other_address : ℕ) (piece : Block) → world.block other_address ≡ Some piece → room_of piece ≡ Some seat → IsResolvingRoom seat at other_address piece
+  pub ready : load.is_ready config seat address at ≡ true
 
 -- who follows a header has free words of its buffer alone
-follows_room : (c : Config) (w : World) (seat a : ℕ) (at : ResolveSpot) (b : ℕ) (x : Block) → FollowFacts c w a at → IsSpare seat x → IsResolvingRoom seat at b x
-follows_room c w seat a (Taking words take) b x facts spares = absurd facts
-follows_room c w seat a (Copying copy end at) b x facts spares = absurd facts
-follows_room c w seat a _ b x facts spares = spares
+follows_room : (config : Config) (world : World) (seat a : ℕ) (at : ResolveSpot) (b : ℕ) (piece : Block) → FollowFacts config world a at → IsSpare seat piece → IsResolvingRoom seat at b piece
+follows_room config world seat a (Taking words take) b piece facts spares = absurd facts
+follows_room config world seat a (Copying copy end at) b piece facts spares = absurd facts
+follows_room config world seat a _ b piece facts spares = spares
 
-pub resolves_by : (c : Config) (w : World) (seat a : ℕ) (at : ResolveSpot) → Shared c w → IsResolving c w seat a at → Resolves c w seat a at
-resolves_by c w seat a at shared (inl can) = record {
+pub resolves_by : (config : Config) (world : World) (seat a : ℕ) (at : ResolveSpot) → Shared config world → IsResolving config world seat a at → Resolves config world seat a at
+resolves_by config world seat a at shared (inl can) = record {
   inside = can.inside;
   there = can.there;
   copying = can.copying;
@@ -45,81 +45,81 @@ resolves_by c w seat a at shared (inl can) = record {
   rooms = can.rooms;
   ready = can.ready;
 }
-resolves_by c w seat a at shared (inr can) = record {
+resolves_by config world seat a at shared (inr can) = record {
   inside = can.inside;
   there = HasCopy.copy can.body can.there;
-  copying = can.nothing.copying ∙ sym (following_steps.copies_none c w seat a at can);
+  copying = can.nothing.copying ∙ sym (following_steps.copies_none config world seat a at can);
   records_none = can.nothing.records_none;
   scans_none = can.nothing.scans_none;
-  rooms = λ b x is room. follows_room c w seat a at b x can.facts (can.nothing.rooms b x is room);
-  ready = following_steps.ready c w seat a at shared can;
+  rooms = λ b x is room. follows_room config world seat a at b x can.facts (can.nothing.rooms b x is room);
+  ready = following_steps.ready config world seat a at shared can;
 }
 
 -- a machine that works on no unit begins to resolve the address of a copy of an object of the graph, in phase 2 or 3
-pub resolving_begins : (c : Config) (u : World) (seat a : ℕ) (b : Body) → seat < seat_count c.mutators c.helpers → (u.memory Phase ≡ 2) ⊎ (u.memory Phase ≡ 3) → IsCollected c (u.memory Cset) a
-    → body_at (u.block a) ≡ Some b → u.ghost.copying seat ≡ false → u.ghost.working seat ≡ None → u.ghost.recording seat ≡ None → u.ghost.scanning seat ≡ None
-    → OnlySpares u seat → IsResolving c u seat a LoadHeader
-resolving_begins c u seat a b seated (inl on) inside there copying working records scans none =
-    inl (resolving_steps.begins c u seat a seated on inside (HasCopy.copy b there) copying records scans none)
-resolving_begins c u seat a b seated (inr on) inside there copying working records scans none =
-    inr (following_steps.begins c u seat a b seated on inside there working (record { copying = copying; records_none = records; scans_none = scans; rooms = none }))
+pub resolving_begins : (config : Config) (world : World) (seat address : ℕ) (body : Body) → seat < seat_count config.mutators config.helpers → (world.memory Phase ≡ 2) ⊎ (world.memory Phase ≡ 3) → IsCollected config (world.memory Cset) address
+    → body_at (world.block address) ≡ Some body → world.ghost.copying seat ≡ false → world.ghost.working seat ≡ None → world.ghost.recording seat ≡ None → world.ghost.scanning seat ≡ None
+    → OnlySpares world seat → IsResolving config world seat address LoadHeader
+resolving_begins config world seat address body seated (inl on) inside there copying working records scans none =
+    inl (resolving_steps.begins config world seat address seated on inside (HasCopy.copy body there) copying records scans none)
+resolving_begins config world seat address body seated (inr on) inside there copying working records scans none =
+    inr (following_steps.begins config world seat address body seated on inside there working (record { copying = copying; records_none = records; scans_none = scans; rooms = none }))
 
 -- it resolves, and works on no unit
-pub record ResolvesAlone (c : Config) (w : World) (seat a : ℕ) (at : ResolveSpot) : Type 0 where
-  pub can : IsResolving c w seat a at
-  pub working : w.ghost.working seat ≡ None
+pub record ResolvesAlone (config : Config) (world : World) (seat a : ℕ) (at : ResolveSpot) : Type 0 where
+  pub can : IsResolving config world seat a at
+  pub working : world.ghost.working seat ≡ None
 
 -- what a step of it owes, in the phase that there is
-pub resolving_step : (c : Config) (u : World) (seat a phase : ℕ) (at : ResolveSpot) → resolves.is_ended at ≡ false → Shared c u → phase ≡ u.memory Phase → ResolvesAlone c u seat a at
-    → PartStep c u seat (resolves.touch_at c seat a at) (λ w. ResolvesAlone c w seat a (resolves.next_at c a phase at (u.memory (resolves.touch_at c seat a at).word)))
-resolving_step c u seat a phase at going shared same alone = by_way alone.can
+pub resolving_step : (config : Config) (world : World) (seat a phase : ℕ) (at : ResolveSpot) → resolves.is_ended at ≡ false → Shared config world → phase ≡ world.memory Phase → ResolvesAlone config world seat a at
+    → PartStep config world seat (resolves.touch_at config seat a at) (λ w. ResolvesAlone config w seat a (resolves.next_at config a phase at (world.memory (resolves.touch_at config seat a at).word)))
+resolving_step config world seat a phase at going shared same alone = by_way alone.can
   where
     got : ℕ
-    got = u.memory (resolves.touch_at c seat a at).word
+    got = world.memory (resolves.touch_at config seat a at).word
 
-    by_way : IsResolving c u seat a at → PartStep c u seat (resolves.touch_at c seat a at) (λ w. ResolvesAlone c w seat a (resolves.next_at c a phase at (u.memory (resolves.touch_at c seat a at).word)))
+    by_way : IsResolving config world seat a at → PartStep config world seat (resolves.touch_at config seat a at) (λ w. ResolvesAlone config w seat a (resolves.next_at config a phase at (world.memory (resolves.touch_at config seat a at).word)))
     by_way (inl can) =
-        let step = ((resolving_steps.steps c seat a).goes u at going shared can).step in
+        let step = ((resolving_steps.steps config seat a).goes world at going shared can).step in
         record {
           world = step.world;
           memory = step.memory;
           graph = step.graph;
           shared = step.shared;
-          own = record { can = subst (λ p. IsResolving c step.world seat a (resolves.next_at c a p at got)) (sym (same ∙ can.phase)) (inl step.own.0); working = step.own.1 ∙ alone.working };
+          own = record { can = subst (λ p. IsResolving config step.world seat a (resolves.next_at config a p at got)) (sym (same ∙ can.phase)) (inl step.own.0); working = step.own.1 ∙ alone.working };
           keeps = step.keeps;
           others = step.others;
         }
     by_way (inr can) =
-        let step = ((following_steps.steps c seat a).goes u at going shared can).step in
+        let step = ((following_steps.steps config seat a).goes world at going shared can).step in
         record {
           world = step.world;
           memory = step.memory;
           graph = step.graph;
           shared = step.shared;
-          own = record { can = subst (λ p. IsResolving c step.world seat a (resolves.next_at c a p at got)) (sym (same ∙ can.phase)) (inr step.own); working = step.own.working };
+          own = record { can = subst (λ p. IsResolving config step.world seat a (resolves.next_at config a p at got)) (sym (same ∙ can.phase)) (inr step.own); working = step.own.working };
           keeps = step.keeps;
           others = step.others;
         }
 
 -- it goes on resolving while others step
-pub resolving_stays : (c : Config) (u w : World) (seat a : ℕ) (at : ResolveSpot) → Shared c u → Rely c seat u w → IsResolving c u seat a at → IsResolving c w seat a at
-resolving_stays c u w seat a at shared rely (inl can) = inl (((resolving_steps.steps c seat a).stands u at shared can).stays w rely)
-resolving_stays c u w seat a at shared rely (inr can) = inr (((following_steps.steps c seat a).stands u at shared can).stays w rely)
+pub resolving_stays : (config : Config) (world other_world : World) (seat a : ℕ) (at : ResolveSpot) → Shared config world → Rely config seat world other_world → IsResolving config world seat a at → IsResolving config other_world seat a at
+resolving_stays config world other_world seat a at shared rely (inl can) = inl (((resolving_steps.steps config seat a).stands world at shared can).stays other_world rely)
+resolving_stays config world other_world seat a at shared rely (inr can) = inr (((following_steps.steps config seat a).stands world at shared can).stays other_world rely)
 
 -- the word that it finds is fit
-pub resolving_fits : (c : Config) (u : World) (seat a phase : ℕ) (at : ResolveSpot) → resolves.is_ended at ≡ false → Shared c u → phase ≡ u.memory Phase → IsResolving c u seat a at
-    → load.IsFit c seat a phase at (u.memory (resolves.touch_at c seat a at).word)
-resolving_fits c u seat a phase at going shared same (inl can) =
-    subst (λ p. load.IsFit c seat a p at (u.memory (resolves.touch_at c seat a at).word)) (sym (same ∙ can.phase)) ((resolving_steps.steps c seat a).goes u at going shared can).fits
-resolving_fits c u seat a phase at going shared same (inr can) =
-    subst (λ p. load.IsFit c seat a p at (u.memory (resolves.touch_at c seat a at).word)) (sym (same ∙ can.phase)) ((following_steps.steps c seat a).goes u at going shared can).fits
+pub resolving_fits : (config : Config) (world : World) (seat a phase : ℕ) (at : ResolveSpot) → resolves.is_ended at ≡ false → Shared config world → phase ≡ world.memory Phase → IsResolving config world seat a at
+    → load.IsFit config seat a phase at (world.memory (resolves.touch_at config seat a at).word)
+resolving_fits config world seat a phase at going shared same (inl can) =
+    subst (λ p. load.IsFit config seat a p at (world.memory (resolves.touch_at config seat a at).word)) (sym (same ∙ can.phase)) ((resolving_steps.steps config seat a).goes world at going shared can).fits
+resolving_fits config world seat a phase at going shared same (inr can) =
+    subst (λ p. load.IsFit config seat a p at (world.memory (resolves.touch_at config seat a at).word)) (sym (same ∙ can.phase)) ((following_steps.steps config seat a).goes world at going shared can).fits
 
 -- its access is of a word of the table
-pub resolving_inside : (c : Config) (u : World) (seat a : ℕ) (at : ResolveSpot) → Shared c u → IsResolving c u seat a at → IsWord c (resolves.touch_at c seat a at).word
-resolving_inside c u seat a at shared (inl can) = ((resolving_steps.steps c seat a).stands u at shared can).inside
-resolving_inside c u seat a at shared (inr can) = ((following_steps.steps c seat a).stands u at shared can).inside
+pub resolving_inside : (config : Config) (world : World) (seat a : ℕ) (at : ResolveSpot) → Shared config world → IsResolving config world seat a at → IsWord config (resolves.touch_at config seat a at).word
+resolving_inside config world seat a at shared (inl can) = ((resolving_steps.steps config seat a).stands world at shared can).inside
+resolving_inside config world seat a at shared (inr can) = ((following_steps.steps config seat a).stands world at shared can).inside
 
 -- and in the end it has the answer
-pub resolving_answers : (c : Config) (u : World) (seat a answer : ℕ) → IsResolving c u seat a (Resolved answer) → IsAnswer c u a answer
-resolving_answers c u seat a answer (inl can) = resolving_steps.answers c u seat a answer can
-resolving_answers c u seat a answer (inr can) = following_steps.answers c u seat a answer can
+pub resolving_answers : (config : Config) (world : World) (seat a answer : ℕ) → IsResolving config world seat a (Resolved answer) → IsAnswer config world a answer
+resolving_answers config world seat a answer (inl can) = resolving_steps.answers config world seat a answer can
+resolving_answers config world seat a answer (inr can) = following_steps.answers config world seat a answer can

@@ -46,31 +46,31 @@ use Rattle.step_core.proofs.Machines.Ready.{leaving, ready_of, number_small}
 use Rattle.alloc_buffers.specs.Facts.{OnlySpares}
 
 -- an address of the set lies there, by the test of its bit
-pub lies_there : (c : Config) (cset a : ℕ) → lies_in_set c cset a ≡ true → IsCollected c cset a
-lies_there c cset a is = eqb-true _ _ is
+pub lies_there : (config : Config) (cset address : ℕ) → lies_in_set config cset address ≡ true → IsCollected config cset address
+lies_there config cset address is = eqb-true _ _ is
 
 -- what has to be resolved is not null, lies in the collection set, and objects are copied or references to them updated
-pub resolved_some : (c : Config) (phase cset got : ℕ) → must_resolve c phase cset got ≡ true → (got ≢ 0) × (2 ≤ phase) × IsCollected c cset got
-resolved_some c phase cset got is = ⊎_elim
-    (λ (null : (got == 0) ≡ true). absurd (false≢true (sym (cond-true (got == 0) false (if nat_lt phase evacuation_phase then false else lies_in_set c cset got) null) ∙ is)))
+pub resolved_some : (config : Config) (phase cset got : ℕ) → must_resolve config phase cset got ≡ true → (got ≢ 0) × (2 ≤ phase) × IsCollected config cset got
+resolved_some config phase cset got is = ⊎_elim
+    (λ (null : (got == 0) ≡ true). absurd (false≢true (sym (cond-true (got == 0) false (if nat_lt phase evacuation_phase then false else lies_in_set config cset got) null) ∙ is)))
     (λ (some : (got == 0) ≡ false).
-    let rest : (if nat_lt phase evacuation_phase then false else lies_in_set c cset got) ≡ true = sym (cond-false (got == 0) false (if nat_lt phase evacuation_phase then false else lies_in_set c cset got) some) ∙ is in
+    let rest : (if nat_lt phase evacuation_phase then false else lies_in_set config cset got) ≡ true = sym (cond-false (got == 0) false (if nat_lt phase evacuation_phase then false else lies_in_set config cset got) some) ∙ is in
     ⊎_elim
-    (λ (early : nat_lt phase evacuation_phase ≡ true). absurd (false≢true (sym (cond-true (nat_lt phase evacuation_phase) false (lies_in_set c cset got) early) ∙ rest)))
+    (λ (early : nat_lt phase evacuation_phase ≡ true). absurd (false≢true (sym (cond-true (nat_lt phase evacuation_phase) false (lies_in_set config cset got) early) ∙ rest)))
     (λ (late : nat_lt phase evacuation_phase ≡ false).
-    (eqb-false _ _ some, ltb-false _ _ late, lies_there c cset got (sym (cond-false (nat_lt phase evacuation_phase) false (lies_in_set c cset got) late) ∙ rest)))
+    (eqb-false _ _ some, ltb-false _ _ late, lies_there config cset got (sym (cond-false (nat_lt phase evacuation_phase) false (lies_in_set config cset got) late) ∙ rest)))
     (cases_Bool (nat_lt phase evacuation_phase)))
     (cases_Bool (got == 0))
 
 -- what needs no resolving is null, or objects are not copied yet, or it does not lie in the set
-pub resolved_none : (c : Config) (phase cset got : ℕ) → must_resolve c phase cset got ≡ false → (got ≡ 0) ⊎ ((phase < 2) ⊎ (IsCollected c cset got → ⊥))
-resolved_none c phase cset got is = ⊎_elim
+pub resolved_none : (config : Config) (phase cset got : ℕ) → must_resolve config phase cset got ≡ false → (got ≡ 0) ⊎ ((phase < 2) ⊎ (IsCollected config cset got → ⊥))
+resolved_none config phase cset got is = ⊎_elim
     (λ (null : (got == 0) ≡ true). inl (eqb-true _ _ null))
     (λ (some : (got == 0) ≡ false).
-    let rest : (if nat_lt phase evacuation_phase then false else lies_in_set c cset got) ≡ false = sym (cond-false (got == 0) false (if nat_lt phase evacuation_phase then false else lies_in_set c cset got) some) ∙ is in
+    let rest : (if nat_lt phase evacuation_phase then false else lies_in_set config cset got) ≡ false = sym (cond-false (got == 0) false (if nat_lt phase evacuation_phase then false else lies_in_set config cset got) some) ∙ is in
     ⊎_elim
     (λ (early : nat_lt phase evacuation_phase ≡ true). inr (inl (ltb-true _ _ early)))
-    (λ (late : nat_lt phase evacuation_phase ≡ false). inr (inr (eqb-false _ _ (sym (cond-false (nat_lt phase evacuation_phase) false (lies_in_set c cset got) late) ∙ rest))))
+    (λ (late : nat_lt phase evacuation_phase ≡ false). inr (inr (eqb-false _ _ (sym (cond-false (nat_lt phase evacuation_phase) false (lies_in_set config cset got) late) ∙ rest))))
     (cases_Bool (nat_lt phase evacuation_phase)))
     (cases_Bool (got == 0))
 
@@ -79,58 +79,58 @@ two_or_three : (phase : ℕ) → 2 ≤ phase → phase ≤ 3 → (phase ≡ 2) �
 two_or_three phase late most = ⊎_elim (λ (two : phase ≡ 2). inl two) (λ (other : phase ≢ 2). inr (grind (arith, late, most, other))) (cases_eq phase 2)
 
 -- a reference that needs no resolving may be used
-pub usable_found : (c : Config) (w : World) (phase cset got : ℕ) (v : Reference) → Shared c w → phase ≡ w.memory Phase → cset ≡ w.memory Cset → must_resolve c phase cset got ≡ false → Points w.block got v → UsableIn c w got
-usable_found c w phase cset got v shared phase_is set_is other is = ⊎_elim
+pub usable_found : (config : Config) (world : World) (phase cset got : ℕ) (reference : Reference) → Shared config world → phase ≡ world.memory Phase → cset ≡ world.memory Cset → must_resolve config phase cset got ≡ false → Points world.block got reference → UsableIn config world got
+usable_found config world phase cset got reference shared phase_is set_is other is = ⊎_elim
     (λ (null : got ≡ 0). inl null)
     (λ rest. ⊎_elim
-    (λ (early : phase < 2). usable_unmoved c w shared (omega (arith, early, phase_is)) got v is)
-    (λ (outside : IsCollected c cset got → ⊥).
-    let apart : IsCollected c (w.memory Cset) got → ⊥ = λ inside. outside (subst (λ set. IsCollected c set got) (sym set_is) inside) in
-    by_reference apart v is)
+    (λ (early : phase < 2). usable_unmoved config world shared (omega (arith, early, phase_is)) got reference is)
+    (λ (outside : IsCollected config cset got → ⊥).
+    let apart : IsCollected config (world.memory Cset) got → ⊥ = λ inside. outside (subst (λ set. IsCollected config set got) (sym set_is) inside) in
+    by_reference apart reference is)
     rest)
-    (resolved_none c phase cset got other)
+    (resolved_none config phase cset got other)
   where
-    by_reference : (IsCollected c (w.memory Cset) got → ⊥) → (r : Reference) → Points w.block got r → UsableIn c w got
+    by_reference : (IsCollected config (world.memory Cset) got → ⊥) → (other_reference : Reference) → Points world.block got other_reference → UsableIn config world got
     by_reference apart None null = inl null
     by_reference apart (Some n) named =
-        let body = named_body (w.block got) n named in
+        let body = named_body (world.block got) n named in
         ⊎_elim
         (λ now. inr (n, body.0, body.1, record { piece = now; safe = λ inside. absurd (apart inside) }))
         (λ was. absurd (apart (shared.evacuated.moved.moveds got body.0 body.1 was.0 n was.1).inside))
-        (copy_cases (w.block got) (body_of n body.0 body.1) body.2)
+        (copy_cases (world.block got) (body_of n body.0 body.1) body.2)
 
 -- a resolving can make its next access where it can resolve and has not ended
-pub resolving_ready : (c : Config) (w : World) (seat made : ℕ) (kept : Kept) (address : ℕ) (at : ResolveSpot) (next : Loaded) → Shared c w → IsResolving c w seat address at → resolves.is_ended at ≡ false
-    → is_ready c seat made kept (Resolving address at next) ≡ true
-resolving_ready c w seat made kept address at next shared can going =
-    let is = resolves_by c w seat address at shared can in
+pub resolving_ready : (config : Config) (world : World) (seat made : ℕ) (kept : Kept) (address : ℕ) (at : ResolveSpot) (next : Loaded) → Shared config world → IsResolving config world seat address at → resolves.is_ended at ≡ false
+    → is_ready config seat made kept (Resolving address at next) ≡ true
+resolving_ready config world seat made kept address at next shared can going =
+    let is = resolves_by config world seat address at shared can in
     and_from _ _
-    (and_from _ _ (is_word_from c (resolves.touch_at c seat address at).word (resolving_inside c w seat address at shared can)) refl)
+    (and_from _ _ (is_word_from config (resolves.touch_at config seat address at).word (resolving_inside config world seat address at shared can)) refl)
     (and_from _ _
-    (let piece = copy_piece c w shared address is.there in piece_begins c w shared address piece.0 piece.1 (let long = piece.2 in omega (arith, long)))
+    (let piece = copy_piece config world shared address is.there in piece_begins config world shared address piece.0 piece.1 (let long = piece.2 in omega (arith, long)))
     (and_from _ _ is.ready (rw going refl)))
 
-module _ (c : Config) (w : World) (seat made : ℕ) (kept : Kept) (command : Command) (shared : Shared c w) (seated : IsSeatedIn c w seat made false) (marking : HasMarkingBy w seat None kept.phase true)
-    (copying : HasCopyingBy w seat false kept.cset true) (none : OnlySpares w seat) where
+module _ (config : Config) (world : World) (seat made : ℕ) (kept : Kept) (command : Command) (shared : Shared config world) (seated : IsSeatedIn config world seat made false) (marking : HasMarkingBy world seat None kept.phase true)
+    (copying : HasCopyingBy world seat false kept.cset true) (none : OnlySpares world seat) where
   -- A Cas goes on with what it found, by a word that may be used for it: it exchanges where that is the one that is to be there, and
   -- leaves otherwise.
-  pub expected_mine : (fixed : Option Reply) (object expect value found answer : ℕ) (v : Reference) → IsCas c w seat command object (index_of kept.command) expect value → IsCompared w.block fixed found expect
-      → Points w.block found v → Points w.block answer v → UsableIn c w answer → ((i : ℕ) → i < 16 → Points w.block (w.memory (Root seat i)) (w.graph.root (seat + 1) i))
-      → Mine c w (mutator_at seat made kept (after_expected object expect value found answer)) command fixed
-  expected_mine fixed object expect value found answer v cas compared stands is usable roots =
+  pub expected_mine : (fixed : Option Reply) (object expect value found answer : ℕ) (reference : Reference) → IsCas config world seat command object (index_of kept.command) expect value → IsCompared world.block fixed found expect
+      → Points world.block found reference → Points world.block answer reference → UsableIn config world answer → ((index : ℕ) → index < 16 → Points world.block (world.memory (Root seat index)) (world.graph.root (seat + 1) index))
+      → Mine config world (mutator_at seat made kept (after_expected object expect value found answer)) command fixed
+  expected_mine fixed object expect value found answer reference cas compared stands is usable roots =
       by_comparison compared
     where
-      words : (answer == expect) ≡ same_reference v (w.graph.root (seat + 1) cas.expected)
-      words = same_words c w shared answer expect v _ usable cas.expect_is.usable is cas.expect_is.stands
+      words : (answer == expect) ≡ same_reference reference (world.graph.root (seat + 1) cas.expected)
+      words = same_words config world shared answer expect reference _ usable cas.expect_is.usable is cas.expect_is.stands
 
-      by_comparison : IsCompared w.block fixed found expect → Mine c w (mutator_at seat made kept (after_expected object expect value found answer)) command fixed
+      by_comparison : IsCompared world.block fixed found expect → Mine config world (mutator_at seat made kept (after_expected object expect value found answer)) command fixed
       by_comparison (inr same) =
-          let equal : (answer == expect) ≡ true = words ∙ one_reference c w shared found expect v _ stands cas.expect_is.stands same.1 in
+          let equal : (answer == expect) ≡ true = words ∙ one_reference config world shared found expect reference _ stands cas.expect_is.stands same.1 in
           let below = cas.below in
           rw equal (record {
             seated = seated;
-            ready = ready_of _ (is_number found && is_number value) (word_in c w shared seat cas.obj object (object + 3 + index_of kept.command) (3 + index_of kept.command) cas.of (omega (arith, below)) (omega arith))
-                (and_from _ _ (number_small found (points_small c _ w.block shared.parsable.plotted found v stands)) (number_small value (points_small c _ w.block shared.parsable.plotted value _ cas.value_is.stands)));
+            ready = ready_of _ (is_number found && is_number value) (word_in config world shared seat cas.obj object (object + 3 + index_of kept.command) (3 + index_of kept.command) cas.of (omega (arith, below)) (omega arith))
+                (and_from _ _ (number_small found (points_small config _ world.block shared.parsable.plotted found reference stands)) (number_small value (points_small config _ world.block shared.parsable.plotted value _ cas.value_is.stands)));
             marking = marking;
             copying = copying;
             roots = roots;
@@ -138,25 +138,25 @@ module _ (c : Config) (w : World) (seat made : ℕ) (kept : Kept) (command : Com
             facts = (same.0, cas, same.1);
           })
       by_comparison (inl other) =
-          let differs : same_reference v (w.graph.root (seat + 1) cas.expected) ≡ false = not_one c w shared found expect v _ stands cas.expect_is.stands other.1 in
-          rw (words ∙ differs) (subst (λ f. Mine c w (mutator_at seat made kept (Leave reply.No)) command f) (sym other.0)
-          (leaving c w seat made kept command reply.No seated (marking.records, marking.scans, copying.copies_is, copying.works_none) roots none))
+          let differs : same_reference reference (world.graph.root (seat + 1) cas.expected) ≡ false = not_one config world shared found expect reference _ stands cas.expect_is.stands other.1 in
+          rw (words ∙ differs) (subst (λ f. Mine config world (mutator_at seat made kept (Leave reply.No)) command f) (sym other.0)
+          (leaving config world seat made kept command reply.No seated (marking.records, marking.scans, copying.copies_is, copying.works_none) roots none))
 
   -- the reference lies in the set: the mutator resolves it
-  resolves_it : (fixed : Option Reply) (got : ℕ) (v : Reference) (next : Loaded) → must_resolve c kept.phase kept.cset got ≡ true → Points w.block got v
-      → ((i : ℕ) → i < 16 → Points w.block (root_resolving w seat (dst_of kept.command) got next i) (w.graph.root (seat + 1) i))
-      → LoadedFacts c w seat kept.command command fixed got next → Mine c w (mutator_at seat made kept (Resolving got LoadHeader next)) command fixed
-  resolves_it fixed got v next must is roots facts =
-      let some = resolved_some c kept.phase kept.cset got must in
-      let named = named_if_not_0 c _ w.block shared.parsable.plotted got v is some.0 in
-      let body = named_body (w.block got) named.0 named.2 in
-      let on : (w.memory Phase ≡ 2) ⊎ (w.memory Phase ≡ 3) = two_or_three (w.memory Phase) (let late = some.1 in let phase = marking.phase_is refl in omega (arith, late, phase)) shared.phased.phase_is in
-      let inside : IsCollected c (w.memory Cset) got = subst (λ set. IsCollected c set got) (copying.set_is refl) some.2 in
-      let can : IsResolving c w seat got LoadHeader =
-      resolving_begins c w seat got (body_of named.0 body.0 body.1) (let below = seated.below in omega (arith, below)) on inside body.2 copying.copies_is copying.works_none marking.records marking.scans none in
+  resolves_it : (fixed : Option Reply) (got : ℕ) (reference : Reference) (next : Loaded) → must_resolve config kept.phase kept.cset got ≡ true → Points world.block got reference
+      → ((index : ℕ) → index < 16 → Points world.block (root_resolving world seat (dst_of kept.command) got next index) (world.graph.root (seat + 1) index))
+      → LoadedFacts config world seat kept.command command fixed got next → Mine config world (mutator_at seat made kept (Resolving got LoadHeader next)) command fixed
+  resolves_it fixed got reference next must is roots facts =
+      let some = resolved_some config kept.phase kept.cset got must in
+      let named = named_if_not_0 config _ world.block shared.parsable.plotted got reference is some.0 in
+      let body = named_body (world.block got) named.0 named.2 in
+      let on : (world.memory Phase ≡ 2) ⊎ (world.memory Phase ≡ 3) = two_or_three (world.memory Phase) (let late = some.1 in let phase = marking.phase_is refl in omega (arith, late, phase)) shared.phased.phase_is in
+      let inside : IsCollected config (world.memory Cset) got = subst (λ set. IsCollected config set got) (copying.set_is refl) some.2 in
+      let can : IsResolving config world seat got LoadHeader =
+      resolving_begins config world seat got (body_of named.0 body.0 body.1) (let below = seated.below in omega (arith, below)) on inside body.2 copying.copies_is copying.works_none marking.records marking.scans none in
       record {
         seated = seated;
-        ready = resolving_ready c w seat made kept got LoadHeader next shared can refl;
+        ready = resolving_ready config world seat made kept got LoadHeader next shared can refl;
         marking = marking;
         copying = copying;
         roots = roots;
@@ -165,111 +165,111 @@ module _ (c : Config) (w : World) (seat made : ℕ) (kept : Kept) (command : Com
       }
 
   -- With the reference of a field in hand for a root, and settled, a call goes on.
-  pub found_mine : (got : ℕ) (v : Reference) → dst_of kept.command < 16
-      → ((i : ℕ) → i < 16 → Points w.block (if i == dst_of kept.command then got else w.memory (Root seat i)) (w.graph.root (seat + 1) i))
-      → Points w.block got v → Mine c w (mutator_at seat made kept (with_loaded c kept.phase kept.cset got ForRoot)) command (Some (shown v))
-  found_mine got v small roots is = ⊎_elim
-      (λ (must : must_resolve c kept.phase kept.cset got ≡ true).
-      let named = named_if_not_0 c _ w.block shared.parsable.plotted got v is (resolved_some c kept.phase kept.cset got must).0 in
-      rw must (resolves_it (Some (shown v)) got v ForRoot must is roots (record { name = named.0; settled = ap (λ r. Some (shown r)) named.1; is = named.2; small = small })))
-      (λ (other : must_resolve c kept.phase kept.cset got ≡ false).
-      rw other (field_mine c w seat made kept command got v shared seated marking copying small roots none is (usable_found c w kept.phase kept.cset got v shared (marking.phase_is refl) (copying.set_is refl) other is)))
-      (cases_Bool (must_resolve c kept.phase kept.cset got))
+  pub found_mine : (got : ℕ) (reference : Reference) → dst_of kept.command < 16
+      → ((index : ℕ) → index < 16 → Points world.block (if index == dst_of kept.command then got else world.memory (Root seat index)) (world.graph.root (seat + 1) index))
+      → Points world.block got reference → Mine config world (mutator_at seat made kept (with_loaded config kept.phase kept.cset got ForRoot)) command (Some (shown reference))
+  found_mine got reference small roots is = ⊎_elim
+      (λ (must : must_resolve config kept.phase kept.cset got ≡ true).
+      let named = named_if_not_0 config _ world.block shared.parsable.plotted got reference is (resolved_some config kept.phase kept.cset got must).0 in
+      rw must (resolves_it (Some (shown reference)) got reference ForRoot must is roots (record { name = named.0; settled = ap (λ r. Some (shown r)) named.1; is = named.2; small = small })))
+      (λ (other : must_resolve config kept.phase kept.cset got ≡ false).
+      rw other (field_mine config world seat made kept command got reference shared seated marking copying small roots none is (usable_found config world kept.phase kept.cset got reference shared (marking.phase_is refl) (copying.set_is refl) other is)))
+      (cases_Bool (must_resolve config kept.phase kept.cset got))
 
   -- and with that of a field that is about to be exchanged
-  pub compared_mine : (fixed : Option Reply) (object expect value got : ℕ) (v : Reference) → IsCas c w seat command object (index_of kept.command) expect value → IsCompared w.block fixed got expect → Points w.block got v
-      → ((i : ℕ) → i < 16 → Points w.block (w.memory (Root seat i)) (w.graph.root (seat + 1) i))
-      → Mine c w (mutator_at seat made kept (with_loaded c kept.phase kept.cset got (ToCompare object expect value))) command fixed
-  compared_mine fixed object expect value got v cas compared is roots = ⊎_elim
-      (λ (must : must_resolve c kept.phase kept.cset got ≡ true).
-      rw must (resolves_it fixed got v (ToCompare object expect value) must is roots (record { some = (resolved_some c kept.phase kept.cset got must).0; is_cas = cas; settled = compared })))
-      (λ (other : must_resolve c kept.phase kept.cset got ≡ false).
-      rw other (expected_mine fixed object expect value got got v cas compared is is (usable_found c w kept.phase kept.cset got v shared (marking.phase_is refl) (copying.set_is refl) other is) roots))
-      (cases_Bool (must_resolve c kept.phase kept.cset got))
+  pub compared_mine : (fixed : Option Reply) (object expect value got : ℕ) (reference : Reference) → IsCas config world seat command object (index_of kept.command) expect value → IsCompared world.block fixed got expect → Points world.block got reference
+      → ((index : ℕ) → index < 16 → Points world.block (world.memory (Root seat index)) (world.graph.root (seat + 1) index))
+      → Mine config world (mutator_at seat made kept (with_loaded config kept.phase kept.cset got (ToCompare object expect value))) command fixed
+  compared_mine fixed object expect value got reference cas compared is roots = ⊎_elim
+      (λ (must : must_resolve config kept.phase kept.cset got ≡ true).
+      rw must (resolves_it fixed got reference (ToCompare object expect value) must is roots (record { some = (resolved_some config kept.phase kept.cset got must).0; is_cas = cas; settled = compared })))
+      (λ (other : must_resolve config kept.phase kept.cset got ≡ false).
+      rw other (expected_mine fixed object expect value got got reference cas compared is is (usable_found config world kept.phase kept.cset got reference shared (marking.phase_is refl) (copying.set_is refl) other is) roots))
+      (cases_Bool (must_resolve config kept.phase kept.cset got))
 
   -- where it goes on once the address is resolved
-  mine_resolved : (fixed : Option Reply) (address answer : ℕ) (next : Loaded) → IsAnswer c w address answer
-      → ((i : ℕ) → i < 16 → Points w.block (root_resolving w seat (dst_of kept.command) address next i) (w.graph.root (seat + 1) i))
-      → LoadedFacts c w seat kept.command command fixed address next → Mine c w (mutator_at seat made kept (after_resolved address answer next)) command fixed
+  mine_resolved : (fixed : Option Reply) (address answer : ℕ) (next : Loaded) → IsAnswer config world address answer
+      → ((index : ℕ) → index < 16 → Points world.block (root_resolving world seat (dst_of kept.command) address next index) (world.graph.root (seat + 1) index))
+      → LoadedFacts config world seat kept.command command fixed address next → Mine config world (mutator_at seat made kept (after_resolved address answer next)) command fixed
   mine_resolved fixed address answer ForRoot is roots found =
-      let body = named_body (w.block address) found.name found.is in
-      let target : TargetIn c w answer body.0 body.1 found.name = is.named (body_of found.name body.0 body.1) body.2 in
-      subst (λ f. Mine c w (mutator_at seat made kept (after_resolved address answer ForRoot)) command f) (sym found.settled)
-      (field_mine c w seat made kept command answer (Some found.name) shared seated marking copying found.small
-      (λ i below. answered (ap name_at target.piece) found.is i (roots i below)) none (ap name_at target.piece) (inr (found.name, body.0, body.1, target)))
+      let body = named_body (world.block address) found.name found.is in
+      let target : TargetIn config world answer body.0 body.1 found.name = is.named (body_of found.name body.0 body.1) body.2 in
+      subst (λ f. Mine config world (mutator_at seat made kept (after_resolved address answer ForRoot)) command f) (sym found.settled)
+      (field_mine config world seat made kept command answer (Some found.name) shared seated marking copying found.small
+      (λ index below. answered (ap name_at target.piece) found.is index (roots index below)) none (ap name_at target.piece) (inr (found.name, body.0, body.1, target)))
     where
-      answered : name_at (w.block answer) ≡ Some found.name → name_at (w.block address) ≡ Some found.name → (i : ℕ) → Points w.block (if i == dst_of kept.command then address else w.memory (Root seat i)) (w.graph.root (seat + 1) i)
-          → Points w.block (if i == dst_of kept.command then answer else w.memory (Root seat i)) (w.graph.root (seat + 1) i)
-      answered new old i stands = ⊎_elim
-          (λ (same : (i == dst_of kept.command) ≡ true).
-          let was : Points w.block address (w.graph.root (seat + 1) i) = subst (λ word. Points w.block word (w.graph.root (seat + 1) i)) (cond-true (i == dst_of kept.command) address (w.memory (Root seat i)) same) stands in
-          subst (λ word. Points w.block word (w.graph.root (seat + 1) i)) (sym (cond-true (i == dst_of kept.command) answer (w.memory (Root seat i)) same))
-          (copied c w shared address answer found.name (w.graph.root (seat + 1) i) old new was))
-          (λ (other : (i == dst_of kept.command) ≡ false).
-          subst (λ word. Points w.block word (w.graph.root (seat + 1) i)) (cond-false (i == dst_of kept.command) address (w.memory (Root seat i)) other ∙ sym (cond-false (i == dst_of kept.command) answer (w.memory (Root seat i)) other)) stands)
-          (cases_Bool (i == dst_of kept.command))
+      answered : name_at (world.block answer) ≡ Some found.name → name_at (world.block address) ≡ Some found.name → (index : ℕ) → Points world.block (if index == dst_of kept.command then address else world.memory (Root seat index)) (world.graph.root (seat + 1) index)
+          → Points world.block (if index == dst_of kept.command then answer else world.memory (Root seat index)) (world.graph.root (seat + 1) index)
+      answered new old index stands = ⊎_elim
+          (λ (same : (index == dst_of kept.command) ≡ true).
+          let was : Points world.block address (world.graph.root (seat + 1) index) = subst (λ word. Points world.block word (world.graph.root (seat + 1) index)) (cond-true (index == dst_of kept.command) address (world.memory (Root seat index)) same) stands in
+          subst (λ word. Points world.block word (world.graph.root (seat + 1) index)) (sym (cond-true (index == dst_of kept.command) answer (world.memory (Root seat index)) same))
+          (copied config world shared address answer found.name (world.graph.root (seat + 1) index) old new was))
+          (λ (other : (index == dst_of kept.command) ≡ false).
+          subst (λ word. Points world.block word (world.graph.root (seat + 1) index)) (cond-false (index == dst_of kept.command) address (world.memory (Root seat index)) other ∙ sym (cond-false (index == dst_of kept.command) answer (world.memory (Root seat index)) other)) stands)
+          (cases_Bool (index == dst_of kept.command))
   mine_resolved fixed address answer (ToCompare object expect value) is roots facts =
       let name = compared_name facts.settled in
-      let body = named_body (w.block address) name.0 name.1 in
-      let target : TargetIn c w answer body.0 body.1 name.0 = is.named (body_of name.0 body.0 body.1) body.2 in
+      let body = named_body (world.block address) name.0 name.1 in
+      let target : TargetIn config world answer body.0 body.1 name.0 = is.named (body_of name.0 body.0 body.1) body.2 in
       expected_mine fixed object expect value address answer (Some name.0) facts.is_cas facts.settled name.1 (ap name_at target.piece) (inr (name.0, body.0, body.1, target)) roots
     where
-      compared_name : IsCompared w.block fixed address expect → (n : Name) × (name_at (w.block address) ≡ Some n)
+      compared_name : IsCompared world.block fixed address expect → (n : Name) × (name_at (world.block address) ≡ Some n)
       compared_name (inl other) = (other.1.name, other.1.is)
       compared_name (inr same) = ⊎_elim (λ null. absurd (facts.some null.0)) (λ both. (both.0, both.1)) same.1
 
-module _ (c : Config) (u : World) (seat made : ℕ) (kept : Kept) (command : Command) (fixed : Option Reply) where
+module _ (config : Config) (world : World) (seat made : ℕ) (kept : Kept) (command : Command) (fixed : Option Reply) where
   abbrev at_spot : Spot → Mutating
   at_spot spot = mutator_at seat made kept spot
 
-  module _ (before : ResolveSpot) (address : ℕ) (next : Loaded) (mine : Mine c u (at_spot (Resolving address before next)) command fixed) where
+  module _ (before : ResolveSpot) (address : ℕ) (next : Loaded) (mine : Mine config world (at_spot (Resolving address before next)) command fixed) where
     -- it has not ended
     pub going_now : resolves.is_ended before ≡ false
     going_now =
         still (resolves.is_ended before)
-        (and_parts (load.is_ready c seat address before) (load.is_busy (resolves.is_ended before))
-        (and_parts (is_word c (Heap address)) (resolve_ready c seat address before)
-        (and_parts (is_word c (resolves.touch_at c seat address before).word && true) (resolve_fits c seat address before) mine.ready).1).1).1
+        (and_parts (load.is_ready config seat address before) (load.is_busy (resolves.is_ended before))
+        (and_parts (is_word config (Heap address)) (resolve_ready config seat address before)
+        (and_parts (is_word config (resolves.touch_at config seat address before).word && true) (resolve_fits config seat address before) mine.ready).1).1).1
       where
-        still : (b : Bool) → load.is_busy b ≡ true → b ≡ false
+        still : (holds : Bool) → load.is_busy holds ≡ true → holds ≡ false
         still true busy = absurd (false≢true busy)
         still false busy = refl
 
-    module _ (w : World) (shared : Shared c w) (keeps : Keeps c seat u w) where
+    module _ (other_world : World) (shared : Shared config other_world) (keeps : Keeps config seat world other_world) where
       -- what it counts on of marking and of evacuation then
-      marking_then : (at : ResolveSpot) → ResolvesAlone c w seat address at → HasMarkingBy w seat None kept.phase true
-      marking_then at alone = let is = resolves_by c w seat address at shared alone.can in record { records = is.records_none; scans = is.scans_none; phase_is = λ on. mine.marking.phase_is refl ∙ sym keeps.marks.phase }
+      marking_then : (at : ResolveSpot) → ResolvesAlone config other_world seat address at → HasMarkingBy other_world seat None kept.phase true
+      marking_then at alone = let is = resolves_by config other_world seat address at shared alone.can in record { records = is.records_none; scans = is.scans_none; phase_is = λ on. mine.marking.phase_is refl ∙ sym keeps.marks.phase }
 
-      copying_then : (at : ResolveSpot) → ResolvesAlone c w seat address at → HasCopyingBy w seat (is_copier at) kept.cset true
-      copying_then at alone = record { copies_is = (resolves_by c w seat address at shared alone.can).copying; works_none = alone.working; set_is = λ on. mine.copying.set_is refl ∙ sym keeps.copies.cset }
+      copying_then : (at : ResolveSpot) → ResolvesAlone config other_world seat address at → HasCopyingBy other_world seat (is_copier at) kept.cset true
+      copying_then at alone = record { copies_is = (resolves_by config other_world seat address at shared alone.can).copying; works_none = alone.working; set_is = λ on. mine.copying.set_is refl ∙ sym keeps.copies.cset }
 
       -- its roots stand for its thread's
-      roots_then : (i : ℕ) → i < 16 → Points w.block (root_resolving w seat (dst_of kept.command) address next i) (w.graph.root (seat + 1) i)
-      roots_then i below = rw (now_stays c u w seat keeps kept (Resolving address before next) i) (root_stays c u w seat keeps _ i (mine.roots i below))
+      roots_then : (index : ℕ) → index < 16 → Points other_world.block (root_resolving other_world seat (dst_of kept.command) address next index) (other_world.graph.root (seat + 1) index)
+      roots_then index below = rw (now_stays config world other_world seat keeps kept (Resolving address before next) index) (root_stays config world other_world seat keeps _ index (mine.roots index below))
 
       -- where it goes on resolving
-      mine_at : (at : ResolveSpot) → resolves.is_ended at ≡ false → ResolvesAlone c w seat address at → Mine c w (at_spot (Resolving address at next)) command fixed
+      mine_at : (at : ResolveSpot) → resolves.is_ended at ≡ false → ResolvesAlone config other_world seat address at → Mine config other_world (at_spot (Resolving address at next)) command fixed
       mine_at at going alone = record {
-        seated = seated_stays c u w seat keeps made false mine.seated;
-        ready = resolving_ready c w seat made kept address at next shared alone.can going;
+        seated = seated_stays config world other_world seat keeps made false mine.seated;
+        ready = resolving_ready config other_world seat made kept address at next shared alone.can going;
         marking = marking_then at alone;
         copying = copying_then at alone;
         roots = roots_then;
-        rooms = (resolves_by c w seat address at shared alone.can).rooms;
-        facts = (alone.can, resolved_stays c u w seat keeps kept.command command fixed address next mine.facts.1);
+        rooms = (resolves_by config other_world seat address at shared alone.can).rooms;
+        facts = (alone.can, resolved_stays config world other_world seat keeps kept.command command fixed address next mine.facts.1);
       }
 
       -- what it counts on after a step
-      mine_then : (at : ResolveSpot) → ResolvesAlone c w seat address at → Mine c w (at_spot (after_resolve address next at)) command fixed
+      mine_then : (at : ResolveSpot) → ResolvesAlone config other_world seat address at → Mine config other_world (at_spot (after_resolve address next at)) command fixed
       mine_then (Resolved answer) alone =
-          mine_resolved c w seat made kept command shared (seated_stays c u w seat keeps made false mine.seated) (marking_then (Resolved answer) alone) (copying_then (Resolved answer) alone) (resolves_by c w seat address (Resolved answer) shared alone.can).rooms
-          fixed address answer next (resolving_answers c w seat address answer alone.can) roots_then (resolved_stays c u w seat keeps kept.command command fixed address next mine.facts.1)
+          mine_resolved config other_world seat made kept command shared (seated_stays config world other_world seat keeps made false mine.seated) (marking_then (Resolved answer) alone) (copying_then (Resolved answer) alone) (resolves_by config other_world seat address (Resolved answer) shared alone.can).rooms
+          fixed address answer next (resolving_answers config other_world seat address answer alone.can) roots_then (resolved_stays config world other_world seat keeps kept.command command fixed address next mine.facts.1)
       mine_then at alone = mine_at at refl alone
 
   -- each step
-  pub at_resolve : (at : ResolveSpot) (address : ℕ) (next : Loaded) → Row c u (at_spot (Resolving address at next)) command fixed
+  pub at_resolve : (at : ResolveSpot) (address : ℕ) (next : Loaded) → Row config world (at_spot (Resolving address at next)) command fixed
   at_resolve at address next shared mine =
-      let step = resolving_step c u seat address kept.phase at (going_now at address next mine) shared (mine.marking.phase_is refl) (record { can = mine.facts.0; working = mine.copying.works_none }) in
+      let step = resolving_step config world seat address kept.phase at (going_now at address next mine) shared (mine.marking.phase_is refl) (record { can = mine.facts.0; working = mine.copying.works_none }) in
       record {
         world = step.world;
         memory = step.memory;
@@ -277,6 +277,6 @@ module _ (c : Config) (u : World) (seat made : ℕ) (kept : Kept) (command : Com
         legal = tt;
         settles = λ r e. cc;
         shared = step.shared;
-        mine = mine_then at address next mine step.world step.shared step.keeps (resolves.next_at c address kept.phase at (u.memory (resolves.touch_at c seat address at).word)) step.own;
+        mine = mine_then at address next mine step.world step.shared step.keeps (resolves.next_at config address kept.phase at (world.memory (resolves.touch_at config seat address at).word)) step.own;
         others = step.others;
       }

@@ -27,21 +27,21 @@ use Rattle.step_core.proofs.Machines.Ready.{leaving}
 use Rattle.heap_world.proofs.RootChanges.{root_written, roots_written, usable_written}
 
 -- the facts of a seat after a word that may be used was stored into a root
-seated_written : (c : Config) (u w : World) (seat made dst value : ℕ) → w.block ≡ u.block → w.graph.count ≡ u.graph.count → w.memory ≡ write u.memory (Root seat dst) value
-    → UsableIn c u value → IsSeatedIn c u seat made false → IsSeatedIn c w seat made false
-seated_written c u w seat made dst value block count memory new seated = record {
+seated_written : (config : Config) (world other_world : World) (seat made dst value : ℕ) → other_world.block ≡ world.block → other_world.graph.count ≡ world.graph.count → other_world.memory ≡ write world.memory (Root seat dst) value
+    → UsableIn config world value → IsSeatedIn config world seat made false → IsSeatedIn config other_world seat made false
+seated_written config world other_world seat made dst value block count memory new seated = record {
   below = seated.below;
   counted = ap (λ f. f (seat + 1)) count ∙ seated.counted;
-  usable = λ i below. subst (λ b. IsUsable c (w.memory Cset) (w.memory Evac) b (w.memory (Root seat i))) (sym block)
-      (subst (λ (m : Word → ℕ). IsUsable c (m Cset) (m Evac) u.block (m (Root seat i))) (sym memory) (usable_written c (u.memory Cset) (u.memory Evac) u.block u.memory seat dst value seated.usable new i below));
+  usable = λ i below. subst (λ b. IsUsable config (other_world.memory Cset) (other_world.memory Evac) b (other_world.memory (Root seat i))) (sym block)
+      (subst (λ (memory : Word → ℕ). IsUsable config (memory Cset) (memory Evac) world.block (memory (Root seat i))) (sym memory) (usable_written config (world.memory Cset) (world.memory Evac) world.block world.memory seat dst value seated.usable new i below));
   unasked = λ calm. let was = seated.unasked calm in (
-    ap (λ (m : Word → ℕ). m (Wait seat)) memory ∙ was.0,
-    ap (λ (m : Word → ℕ). m (Answer seat)) memory ∙ was.1,
+    ap (λ (memory : Word → ℕ). memory (Wait seat)) memory ∙ was.0,
+    ap (λ (memory : Word → ℕ). memory (Answer seat)) memory ∙ was.1,
     λ a words is. was.2 a words (ap (λ b. b a) (sym block) ∙ is),
   );
 }
 
-module _ (c : Config) (u : World) (seat made : ℕ) (kept : Kept) (command : Command) (fixed : Option Reply) where
+module _ (config : Config) (world : World) (seat made : ℕ) (kept : Kept) (command : Command) (fixed : Option Reply) where
   abbrev at_spot : Spot → Mutating
   at_spot spot = mutator_at seat made kept spot
 
@@ -50,12 +50,12 @@ module _ (c : Config) (u : World) (seat made : ℕ) (kept : Kept) (command : Com
   dst = dst_of kept.command
 
   -- the store of a loaded reference, which is settled, into a root
-  pub at_store_loaded : (value : ℕ) (r : Reply) → Row c u (at_spot (Showing value (show.StoreRoot r))) command fixed
+  pub at_store_loaded : (value : ℕ) (r : Reply) → Row config world (at_spot (Showing value (show.StoreRoot r))) command fixed
   at_store_loaded value r shared mine =
-      let stands : Points u.block value (u.graph.root (seat + 1) dst) =
-      subst (λ word. Points u.block word (u.graph.root (seat + 1) dst)) (cond-true (dst == dst) value (u.memory (Root seat dst)) (eq-eqb dst dst refl)) (mine.roots dst mine.facts.1) in
+      let stands : Points world.block value (world.graph.root (seat + 1) dst) =
+      subst (λ word. Points world.block word (world.graph.root (seat + 1) dst)) (cond-true (dst == dst) value (world.memory (Root seat dst)) (eq-eqb dst dst refl)) (mine.roots dst mine.facts.1) in
       record {
-        world = accessed c u (at_spot (Showing value (show.StoreRoot r)));
+        world = accessed config world (at_spot (Showing value (show.StoreRoot r)));
         memory = refl;
         graph = refl;
         legal = tt;
@@ -63,36 +63,36 @@ module _ (c : Config) (u : World) (seat made : ℕ) (kept : Kept) (command : Com
         shared = shared;
         mine =
             rw mine.facts.0
-            (leaving c _ seat made kept command r
-            (seated_written c u (accessed c u (at_spot (Showing value (show.StoreRoot r)))) seat made dst value refl refl refl mine.facts.2 mine.seated)
+            (leaving config _ seat made kept command r
+            (seated_written config world (accessed config world (at_spot (Showing value (show.StoreRoot r)))) seat made dst value refl refl refl mine.facts.2 mine.seated)
             (mine.marking.records, mine.marking.scans, mine.copying.copies_is, mine.copying.works_none)
-            (λ i below. subst (λ word. Points u.block word (u.graph.root (seat + 1) i)) (root_written u.memory seat dst value i) (mine.roots i below)) mine.rooms);
-        others = λ j d. let marks = marks_in c u (accessed c u (at_spot (Showing value (show.StoreRoot r)))).memory (accessed c u (at_spot (Showing value (show.StoreRoot r)))).graph j refl (λ n. refl) (λ t. refl) (λ t k. refl) (λ a. refl) in let copies = copies_in c u (accessed c u (at_spot (Showing value (show.StoreRoot r)))).memory (accessed c u (at_spot (Showing value (show.StoreRoot r)))).graph j refl refl (λ r. refl) (λ a. refl) in let kept_fields = fields_in c u (accessed c u (at_spot (Showing value (show.StoreRoot r)))).memory (accessed c u (at_spot (Showing value (show.StoreRoot r)))).graph (λ r. refl) (λ r. refl) refl (λ a. refl) in search (arith, nat_tests, marks, copies, kept_fields);
+            (λ i below. subst (λ word. Points world.block word (world.graph.root (seat + 1) i)) (root_written world.memory seat dst value i) (mine.roots i below)) mine.rooms);
+        others = λ j d. let marks = marks_in config world (accessed config world (at_spot (Showing value (show.StoreRoot r)))).memory (accessed config world (at_spot (Showing value (show.StoreRoot r)))).graph j refl (λ n. refl) (λ t. refl) (λ t k. refl) (λ a. refl) in let copies = copies_in config world (accessed config world (at_spot (Showing value (show.StoreRoot r)))).memory (accessed config world (at_spot (Showing value (show.StoreRoot r)))).graph j refl refl (λ r. refl) (λ a. refl) in let kept_fields = fields_in config world (accessed config world (at_spot (Showing value (show.StoreRoot r)))).memory (accessed config world (at_spot (Showing value (show.StoreRoot r)))).graph (λ r. refl) (λ r. refl) refl (λ a. refl) in search (arith, nat_tests, marks, copies, kept_fields);
       }
 
   -- the world in which a root is a word, and in the graph a reference
   abbrev rooted_world : ℕ → Reference → World
-  rooted_world value v =
-      record { memory = touched u.memory (touch_of c (at_spot (StoreRoot value)) Nothing); block = u.block; ghost = u.ghost; graph = with_root u.graph (seat + 1) dst v }
+  rooted_world value reference =
+      record { memory = touched world.memory (touch_of config (at_spot (StoreRoot value)) Nothing); block = world.block; ghost = world.ghost; graph = with_root world.graph (seat + 1) dst reference }
 
   -- A step that stores a reference into a root settles the reply Ok of a command which makes that root the reference.
-  root_step : (value : ℕ) (v : Reference) → Shared c u → Mine c u (at_spot (StoreRoot value)) command fixed
-      → pinned_by u.graph (seat + 1) command ≡ None → outcome u.graph (seat + 1) command ≡ answers reply.Ok (with_root u.graph (seat + 1) dst v) → Points u.block value v → UsableIn c u value
-      → Stepped c u (at_spot (StoreRoot value)) command Nothing fixed
-  root_step value v shared mine none is stands new = record {
-    world = rooted_world value v;
+  root_step : (value : ℕ) (reference : Reference) → Shared config world → Mine config world (at_spot (StoreRoot value)) command fixed
+      → pinned_by world.graph (seat + 1) command ≡ None → outcome world.graph (seat + 1) command ≡ answers reply.Ok (with_root world.graph (seat + 1) dst reference) → Points world.block value reference → UsableIn config world value
+      → Stepped config world (at_spot (StoreRoot value)) command Nothing fixed
+  root_step value reference shared mine none is stands new = record {
+    world = rooted_world value reference;
     memory = refl;
-    graph = sym (graph_answer u.graph seat command reply.Ok refl none ∙ ap (λ o. o.graph) is);
-    legal = legal_answer c u.graph seat command reply.Ok refl none (ap (λ o. o.reply) is);
+    graph = sym (graph_answer world.graph seat command reply.Ok refl none ∙ ap (λ o. o.graph) is);
+    legal = legal_answer config world.graph seat command reply.Ok refl none (ap (λ o. o.reply) is);
     settles = λ r e. (mine.facts.0, refl);
     shared = shared;
-    mine = leaving c _ seat made kept command reply.Ok (seated_written c u (rooted_world value v) seat made dst value refl refl refl new mine.seated) (mine.marking.records, mine.marking.scans, mine.copying.copies_is, mine.copying.works_none) (roots_written u.block u.memory u.graph.root seat dst value v mine.roots stands) mine.rooms;
-    others = λ j d. let marks = marks_in c u (rooted_world value v).memory (rooted_world value v).graph j refl (λ n. refl) (λ t. refl) (λ t k. refl) (λ a. refl) in let copies = copies_in c u (rooted_world value v).memory (rooted_world value v).graph j refl refl (λ r. refl) (λ a. refl) in let kept_fields = fields_in c u (rooted_world value v).memory (rooted_world value v).graph (λ r. refl) (λ r. refl) refl (λ a. refl) in search (arith, nat_tests, marks, copies, kept_fields);
+    mine = leaving config _ seat made kept command reply.Ok (seated_written config world (rooted_world value reference) seat made dst value refl refl refl new mine.seated) (mine.marking.records, mine.marking.scans, mine.copying.copies_is, mine.copying.works_none) (roots_written world.block world.memory world.graph.root seat dst value reference mine.roots stands) mine.rooms;
+    others = λ j d. let marks = marks_in config world (rooted_world value reference).memory (rooted_world value reference).graph j refl (λ n. refl) (λ t. refl) (λ t k. refl) (λ a. refl) in let copies = copies_in config world (rooted_world value reference).memory (rooted_world value reference).graph j refl refl (λ r. refl) (λ a. refl) in let kept_fields = fields_in config world (rooted_world value reference).memory (rooted_world value reference).graph (λ r. refl) (λ r. refl) refl (λ a. refl) in search (arith, nat_tests, marks, copies, kept_fields);
   }
 
   -- the store of a reference into a root settles Ok
-  pub at_store_root : (value : ℕ) → Row c u (at_spot (StoreRoot value)) command fixed
+  pub at_store_root : (value : ℕ) → Row config world (at_spot (StoreRoot value)) command fixed
   at_store_root value shared mine = ⊎_elim
-      (λ copy. root_step value (u.graph.root (seat + 1) copy.src) shared mine (ap (pinned_by u.graph (seat + 1)) copy.is) (ap (λ k. outcome u.graph (seat + 1) k) copy.is) copy.value_is.stands copy.value_is.usable)
-      (λ drop. root_step value None shared mine (ap (pinned_by u.graph (seat + 1)) drop.is) (ap (λ k. outcome u.graph (seat + 1) k) drop.is) drop.value_is (inl drop.value_is))
+      (λ copy. root_step value (world.graph.root (seat + 1) copy.src) shared mine (ap (pinned_by world.graph (seat + 1)) copy.is) (ap (λ k. outcome world.graph (seat + 1) k) copy.is) copy.value_is.stands copy.value_is.usable)
+      (λ drop. root_step value None shared mine (ap (pinned_by world.graph (seat + 1)) drop.is) (ap (λ k. outcome world.graph (seat + 1) k) drop.is) drop.value_is (inl drop.value_is))
       mine.facts.2

@@ -15,8 +15,8 @@ mutator_at seat made kept spot = record { seat = seat; made = made; kept = kept;
 
 -- the world after its access under an order
 abbrev pub accessed_by : Config → World → Mutating → Order → World
-accessed_by c u m order = record { memory = touched u.memory (touch_of c m order); block = u.block; ghost = u.ghost; graph = u.graph }
+accessed_by config world mutator order = record { memory = touched world.memory (touch_of config mutator order); block = world.block; ghost = world.ghost; graph = world.graph }
 
 -- and after one in a call
 abbrev pub accessed : Config → World → Mutating → World
-accessed c u m = accessed_by c u m Nothing
+accessed config world mutator = accessed_by config world mutator Nothing

@@ -36,7 +36,7 @@ not_ended : (take : TakeSpot) → is_going take ≡ true → takes.is_ended take
 not_ended (Ended taken end) going = absurd (false≢true going)
 not_ended _ going = refl
 
-module _ (c : Config) (u : World) (seat made : ℕ) (kept : Kept) (command : Command) (fixed : Option Reply) where
+module _ (config : Config) (world : World) (seat made : ℕ) (kept : Kept) (command : Command) (fixed : Option Reply) where
   abbrev at_spot : Spot → Mutating
   at_spot spot = mutator_at seat made kept spot
 
@@ -48,15 +48,15 @@ module _ (c : Config) (u : World) (seat made : ℕ) (kept : Kept) (command : Com
   abbrev nums : ℕ
   nums = nums_of kept.command
 
-  module _ (take : TakeSpot) (mine : Mine c u (at_spot (Making (make.Taking take))) command fixed) where
+  module _ (take : TakeSpot) (mine : Mine config world (at_spot (Making (make.Taking take))) command fixed) where
     abbrev words : ℕ
     words = 3 + refs + nums
 
     -- the parts of its readiness: the access of the taking can be made, it goes on, and its numbers fit
-    ready_parts : (touch_fits c (takes.touch_at seat words take) ≡ true) × (is_going take ≡ true) × (takes.numbers_fit c words take ≡ true)
+    ready_parts : (touch_fits config (takes.touch_at seat words take) ≡ true) × (is_going take ≡ true) × (takes.numbers_fit config words take ≡ true)
     ready_parts =
-        let both = and_parts (touch_fits c (takes.touch_at seat words take)) (is_next_object made refs nums && (is_going take && takes.numbers_fit c words take)) mine.ready in
-        let inner = and_parts (is_going take) (takes.numbers_fit c words take) (and_parts (is_next_object made refs nums) (is_going take && takes.numbers_fit c words take) both.1).1 in
+        let both = and_parts (touch_fits config (takes.touch_at seat words take)) (is_next_object made refs nums && (is_going take && takes.numbers_fit config words take)) mine.ready in
+        let inner = and_parts (is_going take) (takes.numbers_fit config words take) (and_parts (is_next_object made refs nums) (is_going take && takes.numbers_fit config words take) both.1).1 in
         (both.0, inner.0, inner.1)
 
     -- so it has not ended
@@ -64,7 +64,7 @@ module _ (c : Config) (u : World) (seat made : ℕ) (kept : Kept) (command : Com
     going_now = not_ended take ready_parts.1
 
     -- a mutator that takes room for an object can take it
-    can_take : CanTake c u seat words take
+    can_take : CanTake config world seat words take
     can_take = record {
       seated = (let within = mine.seated.below in omega (arith, within));
       least = omega arith;
@@ -77,11 +77,11 @@ module _ (c : Config) (u : World) (seat made : ℕ) (kept : Kept) (command : Com
     }
 
     -- what it counts on of marking at another spot
-    marking_at : (next : TakeSpot) (w : World) (knows : Bool) → Keeps c seat u w → CanTake c w seat words next → HasMarkingBy w seat None kept.phase knows
+    marking_at : (next : TakeSpot) (w : World) (knows : Bool) → Keeps config seat world w → CanTake config w seat words next → HasMarkingBy w seat None kept.phase knows
     marking_at next w knows keeps can = record { records = can.records_none; scans = can.scans_none; phase_is = λ on. mine.marking.phase_is refl ∙ sym keeps.marks.phase }
 
     -- and of evacuation
-    copying_at : (w : World) (knows : Bool) → Keeps c seat u w → SameWork u w seat → HasCopyingBy w seat false kept.cset knows
+    copying_at : (w : World) (knows : Bool) → Keeps config seat world w → SameWork world w seat → HasCopyingBy w seat false kept.cset knows
     copying_at w knows keeps work = record {
       copies_is = work.copying ∙ mine.copying.copies_is;
       works_none = work.working ∙ mine.copying.works_none;
@@ -89,43 +89,43 @@ module _ (c : Config) (u : World) (seat made : ℕ) (kept : Kept) (command : Com
     }
 
     -- what it counts on at another spot of the taking
-    mine_at : (next : TakeSpot) (w : World) → is_going next ≡ true → Keeps c seat u w → SameWork u w seat → CanTake c w seat words next
-        → Mine c w (at_spot (Making (make.Taking next))) command fixed
+    mine_at : (next : TakeSpot) (w : World) → is_going next ≡ true → Keeps config seat world w → SameWork world w seat → CanTake config w seat words next
+        → Mine config w (at_spot (Making (make.Taking next))) command fixed
     mine_at next w going keeps work can = record {
-      seated = seated_stays c u w seat keeps made false mine.seated;
-      ready = (let both = and_parts _ _ can.ready in taking_ready c seat made kept command fixed mine.facts.0 next both.0 going both.1);
+      seated = seated_stays config world w seat keeps made false mine.seated;
+      ready = (let both = and_parts _ _ can.ready in taking_ready config seat made kept command fixed mine.facts.0 next both.0 going both.1);
       marking = marking_at next w true keeps can;
       copying = copying_at w true keeps work;
-      roots = λ i below. rw (keeps.root_words i) (root_stays c u w seat keeps _ i (mine.roots i below));
+      roots = λ i below. rw (keeps.root_words i) (root_stays config world w seat keeps _ i (mine.roots i below));
       rooms = can.rooms;
       facts = (mine.facts.0, can.facts);
     }
 
     -- what it counts on after a step of the taking: with room in hand it goes on with the object's words, and without room it asks
     -- for the object
-    mine_then : (next : TakeSpot) (w : World) → Shared c w → Keeps c seat u w → SameWork u w seat → CanTake c w seat words next → Mine c w (at_spot (after_take next)) command fixed
+    mine_then : (next : TakeSpot) (w : World) → Shared config w → Keeps config seat world w → SameWork world w seat → CanTake config w seat words next → Mine config w (at_spot (after_take next)) command fixed
     mine_then (Ended NoRoom end) w shared keeps work can = record {
-      seated = seated_waiting c w seat made false (seated_stays c u w seat keeps made false mine.seated);
-      ready = request_ready c seat made kept command fixed mine.facts.0 mine.seated.below;
+      seated = seated_waiting config w seat made false (seated_stays config world w seat keeps made false mine.seated);
+      ready = request_ready config seat made kept command fixed mine.facts.0 mine.seated.below;
       marking = marking_at (Ended NoRoom end) w false keeps can;
       copying = copying_at w false keeps work;
-      roots = λ i below. rw (keeps.root_words i) (root_stays c u w seat keeps _ i (mine.roots i below));
+      roots = λ i below. rw (keeps.root_words i) (root_stays config world w seat keeps _ i (mine.roots i below));
       rooms = can.rooms;
-      facts = (mine.facts.0, asked_stays c u w seat keeps nothing (mine.seated.unasked refl));
+      facts = (mine.facts.0, asked_stays config world w seat keeps nothing (mine.seated.unasked refl));
     }
     mine_then (Ended (At address) end) w shared keeps work can = record {
-      seated = seated_stays c u w seat keeps made false mine.seated;
-      ready = word_ready c seat made kept command fixed mine.facts.0 (λ r. w.memory (Top r)) w.block shared.parsable.plotted address can.facts.here mine.seated.below 0 (omega arith);
+      seated = seated_stays config world w seat keeps made false mine.seated;
+      ready = word_ready config seat made kept command fixed mine.facts.0 (λ r. w.memory (Top r)) w.block shared.parsable.plotted address can.facts.here mine.seated.below 0 (omega arith);
       marking = marking_at (Ended (At address) end) w true keeps can;
       copying = copying_at w true keeps work;
-      roots = λ i below. rw (keeps.root_words i) (root_stays c u w seat keeps _ i (mine.roots i below));
+      roots = λ i below. rw (keeps.root_words i) (root_stays config world w seat keeps _ i (mine.roots i below));
       rooms = can.rooms;
       facts = (mine.facts.0, record { room = can.facts.here; within = omega arith; stored = λ k below. absurd (omega arith) }, omega arith);
     }
     mine_then next w shared keeps work can = mine_at next w refl keeps work can
 
     -- the step of the taking is a step of the mutator
-    lifted : TakeStep c u seat words Fresh take → Stepped c u (at_spot (Making (make.Taking take))) command Nothing fixed
+    lifted : TakeStep config world seat words Fresh take → Stepped config world (at_spot (Making (make.Taking take))) command Nothing fixed
     lifted step = record {
       world = step.world;
       memory = step.memory;
@@ -133,12 +133,12 @@ module _ (c : Config) (u : World) (seat made : ℕ) (kept : Kept) (command : Com
       legal = tt;
       settles = λ r e. cc;
       shared = step.shared;
-      mine = mine_then (takes.next_at c words Fresh take (u.memory (takes.touch_at seat words take).word)) step.world step.shared step.keeps step.own.1 step.own.0;
+      mine = mine_then (takes.next_at config words Fresh take (world.memory (takes.touch_at seat words take).word)) step.world step.shared step.keeps step.own.1 step.own.0;
       others = step.others;
     }
 
   -- the steps of a taking of room
-  pub at_taking : (take : TakeSpot) → Row c u (at_spot (Making (make.Taking take))) command fixed
+  pub at_taking : (take : TakeSpot) → Row config world (at_spot (Making (make.Taking take))) command fixed
   at_taking take shared mine =
       lifted take mine
-      (each_take c u seat (3 + refs + nums) Fresh take (going_now take mine) shared (can_take take mine))
+      (each_take config world seat (3 + refs + nums) Fresh take (going_now take mine) shared (can_take take mine))

@@ -33,7 +33,7 @@ use Rattle.step_core.proofs.Mutators.Entering.{state_keeps}
 use Rattle.step_core.proofs.Machines.Ready.{ready_of, state_word, leaving, given_ready}
 use Rattle.step_core.proofs.Mutators.FreshRoot.{taken_made, usable_made, HasNew, made_world, made_reply, room_before, promise_before, roots_made, count_made, legal_made, graph_made, shared_made, others_made}
 
-module _ (c : Config) (u : World) (seat made : ℕ) (kept : Kept) (command : Command) (fixed : Option Reply) where
+module _ (config : Config) (world : World) (seat made : ℕ) (kept : Kept) (command : Command) (fixed : Option Reply) where
   abbrev at_spot : WaitSpot → Mutating
   at_spot at = mutator_at seat made kept (Waiting at)
 
@@ -46,9 +46,9 @@ module _ (c : Config) (u : World) (seat made : ℕ) (kept : Kept) (command : Com
   nums = nums_of kept.command
 
   -- the step that stores the request
-  pub at_store_request : Row c u (at_spot wait.StoreRequest) command fixed
+  pub at_store_request : Row config world (at_spot wait.StoreRequest) command fixed
   at_store_request shared mine = record {
-    world = accessed c u (at_spot wait.StoreRequest);
+    world = accessed config world (at_spot wait.StoreRequest);
     memory = refl;
     graph = refl;
     legal = tt;
@@ -75,26 +75,26 @@ module _ (c : Config) (u : World) (seat made : ℕ) (kept : Kept) (command : Com
         ),
       );
     };
-    others = λ j d. let marks = marks_in c u (accessed c u (at_spot wait.StoreRequest)).memory u.graph j refl (λ n. refl) (λ t. refl) (λ t k. refl) (λ a. refl) in let copies = copies_in c u (accessed c u (at_spot wait.StoreRequest)).memory u.graph j refl refl (λ r. refl) (λ a. refl) in let kept_fields = fields_in c u (accessed c u (at_spot wait.StoreRequest)).memory u.graph (λ r. refl) (λ r. refl) refl (λ a. refl) in search (arith, nat_tests, marks, copies, kept_fields);
+    others = λ j d. let marks = marks_in config world (accessed config world (at_spot wait.StoreRequest)).memory world.graph j refl (λ n. refl) (λ t. refl) (λ t k. refl) (λ a. refl) in let copies = copies_in config world (accessed config world (at_spot wait.StoreRequest)).memory world.graph j refl refl (λ r. refl) (λ a. refl) in let kept_fields = fields_in config world (accessed config world (at_spot wait.StoreRequest)).memory world.graph (λ r. refl) (λ r. refl) refl (λ a. refl) in search (arith, nat_tests, marks, copies, kept_fields);
   }
 
   -- the word by which it asks for a pause is no word that its facts speak of
-  ask_marks : (j : ℕ) → RelyMarks c j u (accessed c u (at_spot wait.AskRoom))
-  ask_marks j = marks_in c u (accessed c u (at_spot wait.AskRoom)).memory u.graph j refl (λ n. refl) (λ t. refl) (λ t k. refl) (λ a. refl)
+  ask_marks : (j : ℕ) → RelyMarks config j world (accessed config world (at_spot wait.AskRoom))
+  ask_marks j = marks_in config world (accessed config world (at_spot wait.AskRoom)).memory world.graph j refl (λ n. refl) (λ t. refl) (λ t k. refl) (λ a. refl)
 
-  ask_copies : (j : ℕ) → RelyCopies c j u (accessed c u (at_spot wait.AskRoom))
-  ask_copies j = copies_in c u (accessed c u (at_spot wait.AskRoom)).memory u.graph j refl refl (λ r. refl) (λ a. refl)
+  ask_copies : (j : ℕ) → RelyCopies config j world (accessed config world (at_spot wait.AskRoom))
+  ask_copies j = copies_in config world (accessed config world (at_spot wait.AskRoom)).memory world.graph j refl refl (λ r. refl) (λ a. refl)
 
-  ask_fields : KeepsFields c u (accessed c u (at_spot wait.AskRoom))
-  ask_fields = fields_in c u (accessed c u (at_spot wait.AskRoom)).memory u.graph (λ r. refl) (λ r. refl) refl (λ a. refl)
+  ask_fields : KeepsFields config world (accessed config world (at_spot wait.AskRoom))
+  ask_fields = fields_in config world (accessed config world (at_spot wait.AskRoom)).memory world.graph (λ r. refl) (λ r. refl) refl (λ a. refl)
 
-  ask_keeps : Keeps c seat u (accessed c u (at_spot wait.AskRoom))
+  ask_keeps : Keeps config seat world (accessed config world (at_spot wait.AskRoom))
   ask_keeps = let marks = ask_marks seat in let kept_marks = marks.keeps in let copies = ask_copies seat in let kept_copies = copies.keeps in search (arith, nat_tests, kept_marks, kept_copies)
 
   -- the step that asks for a pause
-  pub at_ask_room : Row c u (at_spot wait.AskRoom) command fixed
+  pub at_ask_room : Row config world (at_spot wait.AskRoom) command fixed
   at_ask_room shared mine = record {
-    world = accessed c u (at_spot wait.AskRoom);
+    world = accessed config world (at_spot wait.AskRoom);
     memory = refl;
     graph = refl;
     legal = tt;
@@ -102,20 +102,20 @@ module _ (c : Config) (u : World) (seat made : ℕ) (kept : Kept) (command : Com
     shared = shared;
     mine = record {
       seated = mine.seated;
-      ready = ready_of _ true (state_word c seat mine.seated.below) refl;
+      ready = ready_of _ true (state_word config seat mine.seated.below) refl;
       marking = mine.marking;
       copying = mine.copying;
       roots = mine.roots;
       rooms = mine.rooms;
-      facts = (asking_stays c u (accessed c u (at_spot wait.AskRoom)) seat ask_keeps made kept.command command fixed (asking.asks refs nums) mine.facts, now_waits (u.memory Ask));
+      facts = (asking_stays config world (accessed config world (at_spot wait.AskRoom)) seat ask_keeps made kept.command command fixed (asking.asks refs nums) mine.facts, now_waits (world.memory Ask));
     };
-    others = λ j d. let marks = ask_marks j in let copies = ask_copies j in let kept_fields = ask_fields in let waits : bit_at (u.memory Ask) 1 ≡ 1 → bit_at (bit_or (u.memory Ask) 2) 1 ≡ 1 = λ is. now_waits (u.memory Ask) in search (arith, nat_tests, marks, copies, kept_fields, waits);
+    others = λ j d. let marks = ask_marks j in let copies = ask_copies j in let kept_fields = ask_fields in let waits : bit_at (world.memory Ask) 1 ≡ 1 → bit_at (bit_or (world.memory Ask) 2) 1 ≡ 1 = λ is. now_waits (world.memory Ask) in search (arith, nat_tests, marks, copies, kept_fields, waits);
   }
 
   -- the step by which it leaves the heap, to wait
-  pub at_step_out : Row c u (at_spot wait.StepOut) command fixed
+  pub at_step_out : Row config world (at_spot wait.StepOut) command fixed
   at_step_out shared mine = record {
-    world = accessed c u (at_spot wait.StepOut);
+    world = accessed config world (at_spot wait.StepOut);
     memory = refl;
     graph = refl;
     legal = tt;
@@ -128,20 +128,20 @@ module _ (c : Config) (u : World) (seat made : ℕ) (kept : Kept) (command : Com
       copying = mine.copying;
       roots = mine.roots;
       rooms = mine.rooms;
-      facts = inl (heard_stays c u (accessed c u (at_spot wait.StepOut)) seat (state_keeps c u seat seat 0) (λ is. is) made kept.command command fixed mine.facts);
+      facts = inl (heard_stays config world (accessed config world (at_spot wait.StepOut)) seat (state_keeps config world seat seat 0) (λ is. is) made kept.command command fixed mine.facts);
     };
-    others = λ j d. let marks = marks_in c u (accessed c u (at_spot wait.StepOut)).memory u.graph j refl (λ n. refl) (λ t. refl) (λ t k. refl) (λ a. refl) in let copies = copies_in c u (accessed c u (at_spot wait.StepOut)).memory u.graph j refl refl (λ r. refl) (λ a. refl) in let kept_fields = fields_in c u (accessed c u (at_spot wait.StepOut)).memory u.graph (λ r. refl) (λ r. refl) refl (λ a. refl) in search (arith, nat_tests, marks, copies, kept_fields);
+    others = λ j d. let marks = marks_in config world (accessed config world (at_spot wait.StepOut)).memory world.graph j refl (λ n. refl) (λ t. refl) (λ t k. refl) (λ a. refl) in let copies = copies_in config world (accessed config world (at_spot wait.StepOut)).memory world.graph j refl refl (λ r. refl) (λ a. refl) in let kept_fields = fields_in config world (accessed config world (at_spot wait.StepOut)).memory world.graph (λ r. refl) (λ r. refl) refl (λ a. refl) in search (arith, nat_tests, marks, copies, kept_fields);
   }
 
   -- What it finds where it polls: its word as it counts, or 0, where the control has not stored the word yet. It goes on with an
   -- answer that the history has.
-  pub poll_mine : (got : ℕ) → (got ≡ 0) ⊎ (got ≡ u.memory (Answer seat)) → (got ≡ 1 → fixed ≡ Some reply.Full) → Mine c u (at_spot wait.Poll) command fixed
-      → Mine c u (mutator_at seat made kept (if got == 0 then Waiting wait.Poll else Entering Raise Waited)) command fixed
+  pub poll_mine : (got : ℕ) → (got ≡ 0) ⊎ (got ≡ world.memory (Answer seat)) → (got ≡ 1 → fixed ≡ Some reply.Full) → Mine config world (at_spot wait.Poll) command fixed
+      → Mine config world (mutator_at seat made kept (if got == 0 then Waiting wait.Poll else Entering Raise Waited)) command fixed
   poll_mine got found told mine = by_answer (got == 0) refl
     where
-      answered : (got == 0) ≡ false → IsAnswered u seat made kept.command command fixed
+      answered : (got == 0) ≡ false → IsAnswered world seat made kept.command command fixed
       answered some =
-          let is : got ≡ u.memory (Answer seat) = ⊎_elim (λ (none : got ≡ 0). absurd (eqb-false _ _ some none)) (λ is. is) found in
+          let is : got ≡ world.memory (Answer seat) = ⊎_elim (λ (none : got ≡ 0). absurd (eqb-false _ _ some none)) (λ is. is) found in
           ⊎_elim
           (λ waits. absurd (eqb-false _ _ some (is ∙ waits.0.1.1)))
           (λ rest. ⊎_elim
@@ -150,11 +150,11 @@ module _ (c : Config) (u : World) (seat made : ℕ) (kept : Kept) (command : Com
           rest)
           mine.facts
 
-      by_answer : (b : Bool) → (got == 0) ≡ b → Mine c u (mutator_at seat made kept (if b then Waiting wait.Poll else Entering Raise Waited)) command fixed
+      by_answer : (holds : Bool) → (got == 0) ≡ holds → Mine config world (mutator_at seat made kept (if holds then Waiting wait.Poll else Entering Raise Waited)) command fixed
       by_answer true none = mine
       by_answer false some = record {
         seated = mine.seated;
-        ready = ready_of _ true (state_word c seat mine.seated.below) refl;
+        ready = ready_of _ true (state_word config seat mine.seated.below) refl;
         marking = mine.marking;
         copying = mine.copying;
         roots = mine.roots;
@@ -163,14 +163,14 @@ module _ (c : Config) (u : World) (seat made : ℕ) (kept : Kept) (command : Com
       }
 
   -- the look for an answer, where what counts is in the history
-  pub at_poll : (u.memory (Answer seat) ≡ 1 → fixed ≡ Some reply.Full) → Row c u (at_spot wait.Poll) command fixed
-  at_poll told shared mine = looks c u (at_spot wait.Poll) (Answer seat) command fixed refl refl refl shared (poll_mine (u.memory (Answer seat)) (inr refl) told mine)
+  pub at_poll : (world.memory (Answer seat) ≡ 1 → fixed ≡ Some reply.Full) → Row config world (at_spot wait.Poll) command fixed
+  at_poll told shared mine = looks config world (at_spot wait.Poll) (Answer seat) command fixed refl refl refl shared (poll_mine (world.memory (Answer seat)) (inr refl) told mine)
 
   -- the load of the answer
-  pub at_load_answer : Row c u (at_spot wait.LoadAnswer) command fixed
-  at_load_answer shared mine = looks c u (at_spot wait.LoadAnswer) (Answer seat) command fixed refl refl refl shared (by_full (u.memory (Answer seat) == 1) refl)
+  pub at_load_answer : Row config world (at_spot wait.LoadAnswer) command fixed
+  at_load_answer shared mine = looks config world (at_spot wait.LoadAnswer) (Answer seat) command fixed refl refl refl shared (by_full (world.memory (Answer seat) == 1) refl)
     where
-      by_full : (b : Bool) → (u.memory (Answer seat) == 1) ≡ b → Mine c u (at_spot (if b then wait.ClearAnswer reply.Full else wait.StoreRoot (u.memory (Answer seat)))) command fixed
+      by_full : (holds : Bool) → (world.memory (Answer seat) == 1) ≡ holds → Mine config world (at_spot (if holds then wait.ClearAnswer reply.Full else wait.StoreRoot (world.memory (Answer seat)))) command fixed
       by_full true full = record {
         seated = mine.seated;
         ready = ready_of _ true (lt-ltb _ _ mine.seated.below) refl;
@@ -186,7 +186,7 @@ module _ (c : Config) (u : World) (seat made : ℕ) (kept : Kept) (command : Com
       by_full false other = ⊎_elim
           (λ given. record {
             seated = mine.seated;
-            ready = given_ready c seat made kept command fixed given.0 (λ r. u.memory (Top r)) u.block (u.memory (Answer seat)) shared.parsable.plotted given.1.2.here mine.seated.below;
+            ready = given_ready config seat made kept command fixed given.0 (λ r. world.memory (Top r)) world.block (world.memory (Answer seat)) shared.parsable.plotted given.1.2.here mine.seated.below;
             marking = mine.marking;
             copying = mine.copying;
             roots = mine.roots;
@@ -196,13 +196,13 @@ module _ (c : Config) (u : World) (seat made : ℕ) (kept : Kept) (command : Com
           (λ no. absurd (eqb-false _ _ other no.1.1))
           mine.facts
 
-  module _ (address : ℕ) (shared : Shared c u) (mine : Mine c u (at_spot (wait.StoreRoot address)) command fixed) where
+  module _ (address : ℕ) (shared : Shared config world) (mine : Mine config world (at_spot (wait.StoreRoot address)) command fixed) where
     -- the object that was promised stands at the address
-    promise : IsPromise u.memory u.block u.graph.count seat refs nums address
-    promise = subst (λ a. IsPromise u.memory u.block u.graph.count seat refs nums a) mine.facts.1 mine.facts.0.1.2
+    promise : IsPromise world.memory world.block world.graph.count seat refs nums address
+    promise = subst (λ a. IsPromise world.memory world.block world.graph.count seat refs nums a) mine.facts.1 mine.facts.0.1.2
 
     -- it has all its words
-    has : HasNew c u seat made command kept.command fixed address
+    has : HasNew config world seat made command kept.command fixed address
     has = record {
       making = mine.facts.0.0;
       within = mine.seated.below;
@@ -220,7 +220,7 @@ module _ (c : Config) (u : World) (seat made : ℕ) (kept : Kept) (command : Com
     }
 
     -- the mutator has to take its answer away
-    mine_made : Mine c (made_world has) (mutator_at seat (made + 1) kept (Waiting (wait.ClearAnswer (made_reply has)))) command (Some (made_reply has))
+    mine_made : Mine config (made_world has) (mutator_at seat (made + 1) kept (Waiting (wait.ClearAnswer (made_reply has)))) command (Some (made_reply has))
     mine_made = record {
       seated = record { below = mine.seated.below; counted = count_made has; usable = usable_made has mine.seated.usable; unasked = λ no. absurd (cc (no)) };
       ready = ready_of _ true (lt-ltb _ _ mine.seated.below) refl;
@@ -232,13 +232,13 @@ module _ (c : Config) (u : World) (seat made : ℕ) (kept : Kept) (command : Com
         refl,
         mine.facts.0.1.0,
         λ a words is. let old = promise_before has a seat words is in old.0 (promise.only a words old.1),
-        (refs, nums, subst (λ a. TargetIn c (made_world has) a refs nums (next_name seat made)) (sym mine.facts.1) (taken_made has)),
+        (refs, nums, subst (λ a. TargetIn config (made_world has) a refs nums (next_name seat made)) (sym mine.facts.1) (taken_made has)),
         record { dst = dst_of kept.command; refs = refs; nums = nums; is = mine.facts.0.0.is },
       );
     }
 
   -- the step that stores the object into the root settles its name
-  pub at_store_given : (address : ℕ) → Row c u (at_spot (wait.StoreRoot address)) command fixed
+  pub at_store_given : (address : ℕ) → Row config world (at_spot (wait.StoreRoot address)) command fixed
   at_store_given address shared mine = let new = has address shared mine in record {
     world = made_world new;
     memory = refl;
@@ -251,23 +251,23 @@ module _ (c : Config) (u : World) (seat made : ℕ) (kept : Kept) (command : Com
   }
 
   -- the step that takes the answer away
-  pub at_clear_answer : (r : Reply) → Row c u (at_spot (wait.ClearAnswer r)) command fixed
+  pub at_clear_answer : (r : Reply) → Row config world (at_spot (wait.ClearAnswer r)) command fixed
   at_clear_answer r shared mine = record {
-    world = accessed c u (at_spot (wait.ClearAnswer r));
+    world = accessed config world (at_spot (wait.ClearAnswer r));
     memory = refl;
     graph = refl;
     legal = tt;
     settles = λ q e. cc;
     shared = shared;
     mine = rw mine.facts.0
-        (leaving c (accessed c u (at_spot (wait.ClearAnswer r))) seat made kept command r
+        (leaving config (accessed config world (at_spot (wait.ClearAnswer r))) seat made kept command r
         (record { below = mine.seated.below; counted = mine.seated.counted; usable = mine.seated.usable; unasked = λ calm. (mine.facts.1, cond-true (seat == seat) _ _ (eq-eqb seat seat refl), mine.facts.2) })
         (mine.marking.records, mine.marking.scans, mine.copying.copies_is, mine.copying.works_none) mine.roots mine.rooms);
-    others = λ j d. let marks = marks_in c u (accessed c u (at_spot (wait.ClearAnswer r))).memory u.graph j refl (λ n. refl) (λ t. refl) (λ t k. refl) (λ a. refl) in let copies = copies_in c u (accessed c u (at_spot (wait.ClearAnswer r))).memory u.graph j refl refl (λ r. refl) (λ a. refl) in let kept_fields = fields_in c u (accessed c u (at_spot (wait.ClearAnswer r))).memory u.graph (λ r. refl) (λ r. refl) refl (λ a. refl) in search (arith, nat_tests, marks, copies, kept_fields);
+    others = λ j d. let marks = marks_in config world (accessed config world (at_spot (wait.ClearAnswer r))).memory world.graph j refl (λ n. refl) (λ t. refl) (λ t k. refl) (λ a. refl) in let copies = copies_in config world (accessed config world (at_spot (wait.ClearAnswer r))).memory world.graph j refl refl (λ r. refl) (λ a. refl) in let kept_fields = fields_in config world (accessed config world (at_spot (wait.ClearAnswer r))).memory world.graph (λ r. refl) (λ r. refl) refl (λ a. refl) in search (arith, nat_tests, marks, copies, kept_fields);
   }
 
   -- by the spot, but for the polling
-  pub each_wait : (at : WaitSpot) → (at ≡ wait.Poll → u.memory (Answer seat) ≡ 1 → fixed ≡ Some reply.Full) → Row c u (at_spot at) command fixed
+  pub each_wait : (at : WaitSpot) → (at ≡ wait.Poll → world.memory (Answer seat) ≡ 1 → fixed ≡ Some reply.Full) → Row config world (at_spot at) command fixed
   each_wait wait.StoreRequest told = at_store_request
   each_wait wait.AskRoom told = at_ask_room
   each_wait wait.StepOut told = at_step_out

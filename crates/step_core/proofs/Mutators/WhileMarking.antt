@@ -16,68 +16,68 @@ use Rattle.step_core.proofs.Machines.Stepped.{HasMarkingBy, HasCopyingBy}
 
 -- another memory and another graph
 abbrev pub world_with : World → (Word → ℕ) → Graph → World
-world_with u memory g = record { memory = memory; block = u.block; ghost = u.ghost; graph = g }
+world_with world memory graph = record { memory = memory; block = world.block; ghost = world.ghost; graph = graph }
 
 -- nothing of marking changes where none of its words does, and no word of the heap
-pub marks_in : (c : Config) (u : World) (memory : Word → ℕ) (g : Graph) (seat : ℕ) → memory Phase ≡ u.memory Phase → ((n : ℕ) → memory (Grey n) ≡ u.memory (Grey n)) → ((t : ℕ) → memory (Count t) ≡ u.memory (Count t))
-    → ((t k : ℕ) → memory (Buffer t k) ≡ u.memory (Buffer t k)) → ((a : ℕ) → memory (Heap a) ≡ u.memory (Heap a)) → RelyMarks c seat u (world_with u memory g)
-marks_in c u memory g seat phase greys counts buffers heap =
-    rely_marks c u (world_with u memory g) seat phase greys counts buffers refl (λ t. refl) refl (λ a is. is) (λ a is. heap (a + 1))
+pub marks_in : (config : Config) (world : World) (memory : Word → ℕ) (graph : Graph) (seat : ℕ) → memory Phase ≡ world.memory Phase → ((n : ℕ) → memory (Grey n) ≡ world.memory (Grey n)) → ((mutator : ℕ) → memory (Count mutator) ≡ world.memory (Count mutator))
+    → ((mutator index : ℕ) → memory (Buffer mutator index) ≡ world.memory (Buffer mutator index)) → ((address : ℕ) → memory (Heap address) ≡ world.memory (Heap address)) → RelyMarks config seat world (world_with world memory graph)
+marks_in config world memory graph seat phase greys counts buffers heap =
+    rely_marks config world (world_with world memory graph) seat phase greys counts buffers refl (λ mutator. refl) refl (λ address is. is) (λ address is. heap (address + 1))
 
 -- nor does anything of evacuation
-pub copies_in : (c : Config) (u : World) (memory : Word → ℕ) (g : Graph) (seat : ℕ) → memory Cset ≡ u.memory Cset → memory Evac ≡ u.memory Evac → ((r : ℕ) → memory (Top r) ≡ u.memory (Top r))
-    → ((a : ℕ) → memory (Heap a) ≡ u.memory (Heap a)) → RelyCopies c seat u (world_with u memory g)
-copies_in c u memory g seat cset evac tops heap =
-    rely_copies c u (world_with u memory g) seat (same_plot c u (world_with u memory g) refl cset evac (λ r is. tops r)) refl refl (λ a k b seated counted inside is from below. heap (a + k))
+pub copies_in : (config : Config) (world : World) (memory : Word → ℕ) (graph : Graph) (seat : ℕ) → memory Cset ≡ world.memory Cset → memory Evac ≡ world.memory Evac → ((region : ℕ) → memory (Top region) ≡ world.memory (Top region))
+    → ((address : ℕ) → memory (Heap address) ≡ world.memory (Heap address)) → RelyCopies config seat world (world_with world memory graph)
+copies_in config world memory graph seat cset evac tops heap =
+    rely_copies config world (world_with world memory graph) seat (same_plot config world (world_with world memory graph) refl cset evac (λ region is. tops region)) refl refl (λ address k b seated counted inside is from below. heap (address + k))
 
 -- and of updating
-pub fields_in : (c : Config) (u : World) (memory : Word → ℕ) (g : Graph) → ((r : ℕ) → memory (Tams r) ≡ u.memory (Tams r)) → ((r : ℕ) → memory (Limit r) ≡ u.memory (Limit r)) → memory Claim ≡ u.memory Claim
-    → ((a : ℕ) → memory (Heap a) ≡ u.memory (Heap a)) → KeepsFields c u (world_with u memory g)
-fields_in c u memory g tams limits claim heap = fields_kept c u (world_with u memory g) refl tams limits claim heap
+pub fields_in : (config : Config) (world : World) (memory : Word → ℕ) (graph : Graph) → ((region : ℕ) → memory (Tams region) ≡ world.memory (Tams region)) → ((region : ℕ) → memory (Limit region) ≡ world.memory (Limit region)) → memory Claim ≡ world.memory Claim
+    → ((address : ℕ) → memory (Heap address) ≡ world.memory (Heap address)) → KeepsFields config world (world_with world memory graph)
+fields_in config world memory graph tams limits claim heap = fields_kept config world (world_with world memory graph) refl tams limits claim heap
 
 -- what a mutator counts on of marking stays while others step
-pub marking_relied : (c : Config) (u w : World) (seat : ℕ) (in_hand : Option ℕ) (loaded : ℕ) (knows : Bool) → RelyMarks c seat u w → HasMarkingBy u seat in_hand loaded knows → HasMarkingBy w seat in_hand loaded knows
-marking_relied c u w seat in_hand loaded knows marks marking = record {
+pub marking_relied : (config : Config) (world other_world : World) (seat : ℕ) (in_hand : Option ℕ) (loaded : ℕ) (knows : Bool) → RelyMarks config seat world other_world → HasMarkingBy world seat in_hand loaded knows → HasMarkingBy other_world seat in_hand loaded knows
+marking_relied config world other_world seat in_hand loaded knows marks marking = record {
   records = marks.recording ∙ marking.records;
   scans = marks.scanning ∙ marking.scans;
   phase_is = λ on. marking.phase_is on ∙ sym marks.keeps.phase;
 }
 
 -- and so does what it counts on of evacuation
-pub copying_relied : (c : Config) (u w : World) (seat : ℕ) (copies : Bool) (loaded : ℕ) (knows : Bool) → RelyCopies c seat u w → HasCopyingBy u seat copies loaded knows → HasCopyingBy w seat copies loaded knows
-copying_relied c u w seat copies loaded knows copied copying = record {
+pub copying_relied : (config : Config) (world other_world : World) (seat : ℕ) (copies : Bool) (loaded : ℕ) (knows : Bool) → RelyCopies config seat world other_world → HasCopyingBy world seat copies loaded knows → HasCopyingBy other_world seat copies loaded knows
+copying_relied config world other_world seat copies loaded knows copied copying = record {
   copies_is = copied.copying ∙ copying.copies_is;
   works_none = copied.working ∙ copying.works_none;
   set_is = λ on. copying.set_is on ∙ sym copied.keeps.cset;
 }
 
 -- a field that marking needs no more stays one
-done_stays : (c : Config) (u w : World) (a k : ℕ) → KeepsMarks c u w → NeedsNoMarking u.ghost.snapshot (NotedIn c u) a k → NeedsNoMarking w.ghost.snapshot (NotedIn c w) a k
-done_stays c u w a k marks is =
-    subst (λ s. NeedsNoMarking s (NotedIn c w) a k) (sym marks.snapshot) (⊎_elim (λ null. inl null) (λ noted. inr (marks.noted (was_at u.ghost.snapshot a k) noted)) is)
+done_stays : (config : Config) (world other_world : World) (a k : ℕ) → KeepsMarks config world other_world → NeedsNoMarking world.ghost.snapshot (NotedIn config world) a k → NeedsNoMarking other_world.ghost.snapshot (NotedIn config other_world) a k
+done_stays config world other_world a k marks is =
+    subst (λ s. NeedsNoMarking s (NotedIn config other_world) a k) (sym marks.snapshot) (⊎_elim (λ null. inl null) (λ noted. inr (marks.noted (was_at world.ghost.snapshot a k) noted)) is)
 
 -- so does what a Set counts on
-pub covered_stays : (c : Config) (u w : World) (a k : ℕ) → KeepsMarks c u w → IsCovered c u a k → IsCovered c w a k
-covered_stays c u w a k marks covered refs nums name is below =
-    done_stays c u w a k marks (covered refs nums name (ap (λ (s : Snapshot). s.block a) (sym marks.snapshot) ∙ is) below)
+pub covered_stays : (config : Config) (world other_world : World) (address k : ℕ) → KeepsMarks config world other_world → IsCovered config world address k → IsCovered config other_world address k
+covered_stays config world other_world address k marks covered refs nums name is below =
+    done_stays config world other_world address k marks (covered refs nums name (ap (λ (snapshot : Snapshot). snapshot.block address) (sym marks.snapshot) ∙ is) below)
 
 -- while nobody marks, marking needs no field
-pub covered_unmarked : (c : Config) (u : World) (a k : ℕ) → Shared c u → u.memory Phase ≢ 1 → IsCovered c u a k
-covered_unmarked c u a k shared off refs nums name is below =
-    let none : None ≡ Some (thing name refs nums) = ap (λ (s : Snapshot). s.block a) (sym (shared.marked.empty off)) ∙ is in
+pub covered_unmarked : (config : Config) (world : World) (address k : ℕ) → Shared config world → world.memory Phase ≢ 1 → IsCovered config world address k
+covered_unmarked config world address k shared off refs nums name is below =
+    let none : None ≡ Some (thing name refs nums) = ap (λ (snapshot : Snapshot). snapshot.block address) (sym (shared.marked.empty off)) ∙ is in
     absurd (cc (none))
 
 -- Marking needs a field no more where the reference that it has is null or noted.
-pub covered_found : (c : Config) (u w : World) (a k : ℕ) → Shared c u → KeepsMarks c u w → (u.memory (Heap (a + 3 + k)) ≡ 0) ⊎ NotedIn c w (u.memory (Heap (a + 3 + k))) → IsCovered c w a k
-covered_found c u w a k shared marks found refs nums name is below =
-    let was : u.ghost.snapshot.block a ≡ Some (thing name refs nums) = ap (λ (s : Snapshot). s.block a) (sym marks.snapshot) ∙ is in
-    by_edge (shared.marked.traced.edges a refs nums k name was below)
+pub covered_found : (config : Config) (world other_world : World) (address k : ℕ) → Shared config world → KeepsMarks config world other_world → (world.memory (Heap (address + 3 + k)) ≡ 0) ⊎ NotedIn config other_world (world.memory (Heap (address + 3 + k))) → IsCovered config other_world address k
+covered_found config world other_world address k shared marks found refs nums name is below =
+    let was : world.ghost.snapshot.block address ≡ Some (thing name refs nums) = ap (λ (snapshot : Snapshot). snapshot.block address) (sym marks.snapshot) ∙ is in
+    by_edge (shared.marked.traced.edges address refs nums k name was below)
   where
-    by_edge : IsTracedAt c u.ghost.snapshot (λ b. u.memory (Heap b)) (λ n. u.memory (Black n)) u.ghost.scanning (NotedIn c u) a k → NeedsNoMarking w.ghost.snapshot (NotedIn c w) a k
-    by_edge (IsTracedAt.done is_done) = done_stays c u w a k marks is_done
+    by_edge : IsTracedAt config world.ghost.snapshot (λ b. world.memory (Heap b)) (λ n. world.memory (Black n)) world.ghost.scanning (NotedIn config world) address k → NeedsNoMarking other_world.ghost.snapshot (NotedIn config other_world) address k
+    by_edge (IsTracedAt.done is_done) = done_stays config world other_world address k marks is_done
     by_edge (IsTracedAt.stands same scan) =
-        subst (λ s. NeedsNoMarking s (NotedIn c w) a k) (sym marks.snapshot)
-        (⊎_elim (λ null. inl (sym same ∙ null)) (λ noted. inr (subst (NotedIn c w) same noted)) found)
+        subst (λ s. NeedsNoMarking s (NotedIn config other_world) address k) (sym marks.snapshot)
+        (⊎_elim (λ null. inl (sym same ∙ null)) (λ noted. inr (subst (NotedIn config other_world) same noted)) found)
 
 -- the bit that a mutator waits stays where a cycle is asked for, and is there where a mutator has asked for room
 pub still_waits : (n : ℕ) → bit_at n 1 ≡ 1 → bit_at (bit_or n 1) 1 ≡ 1
@@ -87,8 +87,8 @@ pub now_waits : (n : ℕ) → bit_at (bit_or n 2) 1 ≡ 1
 now_waits n = bit_at_set_same w64 n 1 (omega arith)
 
 -- what is relied on twice
-marks_twice : (c : Config) (seat : ℕ) (u v w : World) → u.memory Phase ≡ 1 → RelyMarks c seat u v → RelyMarks c seat v w → RelyMarks c seat u w
-marks_twice c seat u v w marking first second = record {
+marks_twice : (config : Config) (seat : ℕ) (u v w : World) → u.memory Phase ≡ 1 → RelyMarks config seat u v → RelyMarks config seat v w → RelyMarks config seat u w
+marks_twice config seat u v w marking first second = record {
   keeps = record {
     phase = second.keeps.phase ∙ first.keeps.phase;
     snapshot = second.keeps.snapshot ∙ first.keeps.snapshot;
@@ -103,32 +103,32 @@ marks_twice c seat u v w marking first second = record {
   greys = λ a mark. second.greys a (first.greys a mark);
 }
 
-copies_twice : (c : Config) (seat : ℕ) (u v w : World) → RelyCopies c seat u v → RelyCopies c seat v w → RelyCopies c seat u w
-copies_twice c seat u v w first second =
-    let set_then : (a : ℕ) → IsCollected c (u.memory Cset) a → IsCollected c (v.memory Cset) a = λ a is. subst (λ set. IsCollected c set a) (sym first.keeps.cset) is in
+copies_twice : (config : Config) (seat : ℕ) (u v w : World) → RelyCopies config seat u v → RelyCopies config seat v w → RelyCopies config seat u w
+copies_twice config seat u v w first second =
+    let set_then : (address : ℕ) → IsCollected config (u.memory Cset) address → IsCollected config (v.memory Cset) address = λ address is. subst (λ set. IsCollected config set address) (sym first.keeps.cset) is in
     record {
       keeps = record {
         cset = second.keeps.cset ∙ first.keeps.cset;
-        bodies = λ a b is. second.keeps.bodies a b (first.keeps.bodies a b is);
-        moveds = λ a refs nums to name is. second.keeps.moveds a refs nums to name (first.keeps.moveds a refs nums to name is);
-        spents = λ a words to is. second.keeps.spents a words to (first.keeps.spents a words to is);
-        pieces = λ a x inside is.
-            let one = first.keeps.pieces a x inside is in
-            let two = second.keeps.pieces a one.0 (set_then a inside) one.1 in
+        bodies = λ address b is. second.keeps.bodies address b (first.keeps.bodies address b is);
+        moveds = λ address refs nums to name is. second.keeps.moveds address refs nums to name (first.keeps.moveds address refs nums to name is);
+        spents = λ address words to is. second.keeps.spents address words to (first.keeps.spents address words to is);
+        pieces = λ address x inside is.
+            let one = first.keeps.pieces address x inside is in
+            let two = second.keeps.pieces address one.0 (set_then address inside) one.1 in
             (two.0, two.1, two.2 ∙ one.2, two.3 ∙ one.3);
-        no_new = λ a refs nums name inside is. first.keeps.no_new a refs nums name inside (second.keeps.no_new a refs nums name (set_then a inside) is);
+        no_new = λ address refs nums name inside is. first.keeps.no_new address refs nums name inside (second.keeps.no_new address refs nums name (set_then address inside) is);
         tops = λ r is. second.keeps.tops r (subst (λ set. IsIn set r) (sym first.keeps.cset) is) ∙ first.keeps.tops r is;
         out = λ is. second.keeps.out (first.keeps.out is);
         quiet = λ is. second.keeps.quiet (first.keeps.quiet is);
       };
       copying = second.copying ∙ first.copying;
       working = second.working ∙ first.working;
-      words = λ a k b seated counted inside is from below.
-          second.words a k b seated (first.copying ∙ counted) (set_then a inside) (first.keeps.bodies a b is) from below ∙ first.words a k b seated counted inside is from below;
+      words = λ address k b seated counted inside is from below.
+          second.words address k b seated (first.copying ∙ counted) (set_then address inside) (first.keeps.bodies address b is) from below ∙ first.words address k b seated counted inside is from below;
     }
 
-fields_twice : (c : Config) (u v w : World) → u.memory Phase ≡ 1 → KeepsFields c u v → KeepsFields c v w → KeepsFields c u w
-fields_twice c u v w marking first second = record {
+fields_twice : (config : Config) (u v w : World) → u.memory Phase ≡ 1 → KeepsFields config u v → KeepsFields config v w → KeepsFields config u w
+fields_twice config u v w marking first second = record {
   tams = λ r. second.tams r ∙ first.tams r;
   limits = λ r. second.limits r ∙ first.limits r;
   deads = λ a words is. second.deads a words (first.deads a words is);
@@ -138,8 +138,8 @@ fields_twice c u v w marking first second = record {
 }
 
 -- where objects are marked
-pub rely_twice : (c : Config) (seat : ℕ) (u v w : World) → u.memory Phase ≡ 1 → Rely c seat u v → Rely c seat v w → Rely c seat u w
-rely_twice c seat u v w marking first second = record {
+pub rely_twice : (config : Config) (seat : ℕ) (u v w : World) → u.memory Phase ≡ 1 → Rely config seat u v → Rely config seat v w → Rely config seat u w
+rely_twice config seat u v w marking first second = record {
   names = λ a name is. second.names a name (first.names a name is);
   targets = λ a refs nums name is. second.targets a refs nums name (first.targets a refs nums name is);
   rooms = λ a x is room. second.rooms a x (first.rooms a x is room) room;
@@ -161,7 +161,7 @@ rely_twice c seat u v w marking first second = record {
   answer = second.answer ∙ first.answer;
   state = second.state ∙ first.state;
   asked = λ is. second.asked (first.asked is);
-  marks = marks_twice c seat u v w marking first.marks second.marks;
-  copies = copies_twice c seat u v w first.copies second.copies;
-  fields = fields_twice c u v w marking first.fields second.fields;
+  marks = marks_twice config seat u v w marking first.marks second.marks;
+  copies = copies_twice config seat u v w first.copies second.copies;
+  fields = fields_twice config u v w marking first.fields second.fields;
 }

@@ -49,27 +49,27 @@ abbrev pub IsIn : Spot → Type 0
 IsIn spot = is_within (standing_at spot) ≡ true
 
 -- one of two
-either_in : (b : Bool) (x y : Spot) → IsIn x → IsIn y → IsIn (if b then x else y)
-either_in true x y one other = one
-either_in false x y one other = other
+either_in : (holds : Bool) (spot other_spot : Spot) → IsIn spot → IsIn other_spot → IsIn (if holds then spot else other_spot)
+either_in true spot other_spot one other = one
+either_in false spot other_spot one other = other
 
 -- one of two while it waits
-either_waits : (b : Bool) (x y : WaitSpot) → is_within (wait_standing x) ≡ true → is_within (wait_standing y) ≡ true → is_within (wait_standing (if b then x else y)) ≡ true
+either_waits : (holds : Bool) (x y : WaitSpot) → is_within (wait_standing x) ≡ true → is_within (wait_standing y) ≡ true → is_within (wait_standing (if holds then x else y)) ≡ true
 either_waits true x y one other = one
 either_waits false x y one other = other
 
-first_in : (k : Command) → IsIn (first_spot k)
+first_in : (command : Command) → IsIn (first_spot command)
 first_in (New dst refs nums) = refl
 first_in (Drop dst) = refl
 first_in Gc = refl
 first_in _ = refl
 
-roots_in_heap : (k : Command) (first second third : ℕ) → IsIn (after_roots k first second third)
+roots_in_heap : (command : Command) (first second third : ℕ) → IsIn (after_roots command first second third)
 roots_in_heap (Copy dst src) first second third = refl
 roots_in_heap (Same a b) first second third = refl
 roots_in_heap _ first second third = refl
 
-part_in : (phase : ℕ) (k : Command) (object second third shape : ℕ) → IsIn (with_part phase k object second third shape)
+part_in : (phase : ℕ) (command : Command) (object second third shape : ℕ) → IsIn (with_part phase command object second third shape)
 part_in phase (Get dst src field) object second third shape = refl
 part_in phase (Set obj field val) object second third shape = refl
 part_in phase (Cas obj field expect val) object second third shape = refl
@@ -96,8 +96,8 @@ resolved_in : (found answer : ℕ) (next : Loaded) → IsIn (after_resolved foun
 resolved_in found answer ForRoot = refl
 resolved_in found answer (ToCompare object expect value) = either_in (answer == expect) (OnField object (fields.Exchange found expect value)) (Leave reply.No) refl refl
 
-loaded_in : (c : Config) (phase cset found : ℕ) (next : Loaded) → IsIn (with_loaded c phase cset found next)
-loaded_in c phase cset found next = either_in (must_resolve c phase cset found) (Resolving found LoadHeader next) (after_resolved found found next) refl (resolved_in found found next)
+loaded_in : (config : Config) (phase cset found : ℕ) (next : Loaded) → IsIn (with_loaded config phase cset found next)
+loaded_in config phase cset found next = either_in (must_resolve config phase cset found) (Resolving found LoadHeader next) (after_resolved found found next) refl (resolved_in found found next)
 
 resolve_in : (found : ℕ) (next : Loaded) (at : ResolveSpot) → IsIn (after_resolve found next at)
 resolve_in found next (Resolved answer) = resolved_in found answer next
@@ -109,73 +109,73 @@ take_in (take.Ended NoRoom end) = refl
 take_in _ = refl
 
 -- it goes on in the heap
-pub goes_on_in : (c : Config) (m : Mutating) (order : Order) (got : ℕ) (spot : Spot) → standing_at spot ≡ inside → IsIn (next_at c m order got spot).spot
-goes_on_in c m order got LoadPhase is = refl
-goes_on_in c m order got LoadSet is = first_in m.kept.command
-goes_on_in c m order got (Loading load.First) is =
-    either_in (lacks_object m.kept.command got) (Leave reply.Bad) (after_first m.kept.command got) refl
-    (either_in (nat_lt 1 (length (command_roots m.kept.command))) (Loading (load.Second got)) (after_roots m.kept.command got 0 0) refl (roots_in_heap m.kept.command got 0 0))
-goes_on_in c m order got (Loading (load.Second first)) is =
-    either_in (nat_lt 2 (length (command_roots m.kept.command))) (Loading (load.Third first got)) (after_roots m.kept.command first got 0) refl (roots_in_heap m.kept.command first got 0)
-goes_on_in c m order got (Loading (load.Third first second)) is = roots_in_heap m.kept.command first second got
-goes_on_in c m order got (Loading (load.Shape object second third)) is =
-    either_in (has_part m.kept.command got) (with_part m.kept.phase m.kept.command object second third got) (Leave reply.Bad) (part_in m.kept.phase m.kept.command object second third got) refl
-goes_on_in c m order got (OnField object fields.Load) is = loaded_in c m.kept.phase m.kept.cset got ForRoot
-goes_on_in c m order got (OnField object (fields.LoadExpected expect value)) is = loaded_in c m.kept.phase m.kept.cset got (ToCompare object expect value)
-goes_on_in c m order got (OnField object (fields.LoadOld value)) is = overwritten_in m.kept.phase got (overwrites.Set object value)
-goes_on_in c m order got (OnField object (fields.Store value)) is = refl
-goes_on_in c m order got (OnField object (fields.Swap value)) is =
-    either_in (is_to_record m.kept.phase got) (Recording LoadCount got overwrites.Xchg) (with_loaded c m.kept.phase m.kept.cset got ForRoot) refl (loaded_in c m.kept.phase m.kept.cset got ForRoot)
-goes_on_in c m order got (OnField object (fields.Exchange found expect value)) is =
-    either_in (got == found) (overwritten m.kept.phase found overwrites.Cas) (OnField object (fields.LoadExpected expect value)) (overwritten_in m.kept.phase found overwrites.Cas) refl
-goes_on_in c m order got (Resolving address at next) is = resolve_in address next (resolves.next_at c address m.kept.phase at got)
-goes_on_in c m order got (Recording at address next) is = remember_in address next (satb.next_at at got)
-goes_on_in c m order got (OnNumber object refs numbers.Load) is = refl
-goes_on_in c m order got (OnNumber object refs numbers.Store) is = refl
-goes_on_in c m order got (Showing value show.LoadName) is = refl
-goes_on_in c m order got (Showing value (show.StoreRoot r)) is = refl
-goes_on_in c m order got (StoreRoot value) is = refl
-goes_on_in c m order got (Making (make.Taking at)) is = take_in (take_next c m.kept.command at got)
-goes_on_in c m order got (Making (make.StoreWord address done)) is = refl
-goes_on_in c m order got (Making (make.StoreRoot address)) is = refl
-goes_on_in c m order got AskCycle is = refl
-goes_on_in c m order got (Pinning value pins.Look) is = either_in (fits_slot m.kept.command got) (Pinning value pins.Store) (Leave reply.Bad) refl refl
-goes_on_in c m order got (Pinning value pins.Store) is = refl
-goes_on_in c m order got (Waiting wait.StoreRequest) is = refl
-goes_on_in c m order got (Waiting wait.AskRoom) is = refl
-goes_on_in c m order got (Waiting wait.StepOut) is = cc
-goes_on_in c m order got (Waiting wait.Poll) is = cc
-goes_on_in c m order got (Waiting wait.LoadAnswer) is = either_waits (got == 1) (wait.ClearAnswer reply.Full) (wait.StoreRoot got) refl refl
-goes_on_in c m order got (Waiting (wait.StoreRoot address)) is = refl
-goes_on_in c m order got (Waiting (wait.ClearAnswer r)) is = refl
-goes_on_in c m order got (Entering enter.Raise next) is = cc
-goes_on_in c m order got (Entering enter.Look next) is = cc
-goes_on_in c m order got (Entering enter.Lower next) is = cc
-goes_on_in c m order got (Entering enter.Await next) is = cc
-goes_on_in c m order got (Entering enter.Inside next) is = goes_in next
+pub goes_on_in : (config : Config) (mutator : Mutating) (order : Order) (got : ℕ) (spot : Spot) → standing_at spot ≡ inside → IsIn (next_at config mutator order got spot).spot
+goes_on_in config mutator order got LoadPhase is = refl
+goes_on_in config mutator order got LoadSet is = first_in mutator.kept.command
+goes_on_in config mutator order got (Loading load.First) is =
+    either_in (lacks_object mutator.kept.command got) (Leave reply.Bad) (after_first mutator.kept.command got) refl
+    (either_in (nat_lt 1 (length (command_roots mutator.kept.command))) (Loading (load.Second got)) (after_roots mutator.kept.command got 0 0) refl (roots_in_heap mutator.kept.command got 0 0))
+goes_on_in config mutator order got (Loading (load.Second first)) is =
+    either_in (nat_lt 2 (length (command_roots mutator.kept.command))) (Loading (load.Third first got)) (after_roots mutator.kept.command first got 0) refl (roots_in_heap mutator.kept.command first got 0)
+goes_on_in config mutator order got (Loading (load.Third first second)) is = roots_in_heap mutator.kept.command first second got
+goes_on_in config mutator order got (Loading (load.Shape object second third)) is =
+    either_in (has_part mutator.kept.command got) (with_part mutator.kept.phase mutator.kept.command object second third got) (Leave reply.Bad) (part_in mutator.kept.phase mutator.kept.command object second third got) refl
+goes_on_in config mutator order got (OnField object fields.Load) is = loaded_in config mutator.kept.phase mutator.kept.cset got ForRoot
+goes_on_in config mutator order got (OnField object (fields.LoadExpected expect value)) is = loaded_in config mutator.kept.phase mutator.kept.cset got (ToCompare object expect value)
+goes_on_in config mutator order got (OnField object (fields.LoadOld value)) is = overwritten_in mutator.kept.phase got (overwrites.Set object value)
+goes_on_in config mutator order got (OnField object (fields.Store value)) is = refl
+goes_on_in config mutator order got (OnField object (fields.Swap value)) is =
+    either_in (is_to_record mutator.kept.phase got) (Recording LoadCount got overwrites.Xchg) (with_loaded config mutator.kept.phase mutator.kept.cset got ForRoot) refl (loaded_in config mutator.kept.phase mutator.kept.cset got ForRoot)
+goes_on_in config mutator order got (OnField object (fields.Exchange found expect value)) is =
+    either_in (got == found) (overwritten mutator.kept.phase found overwrites.Cas) (OnField object (fields.LoadExpected expect value)) (overwritten_in mutator.kept.phase found overwrites.Cas) refl
+goes_on_in config mutator order got (Resolving address at next) is = resolve_in address next (resolves.next_at config address mutator.kept.phase at got)
+goes_on_in config mutator order got (Recording at address next) is = remember_in address next (satb.next_at at got)
+goes_on_in config mutator order got (OnNumber object refs numbers.Load) is = refl
+goes_on_in config mutator order got (OnNumber object refs numbers.Store) is = refl
+goes_on_in config mutator order got (Showing value show.LoadName) is = refl
+goes_on_in config mutator order got (Showing value (show.StoreRoot r)) is = refl
+goes_on_in config mutator order got (StoreRoot value) is = refl
+goes_on_in config mutator order got (Making (make.Taking at)) is = take_in (take_next config mutator.kept.command at got)
+goes_on_in config mutator order got (Making (make.StoreWord address done)) is = refl
+goes_on_in config mutator order got (Making (make.StoreRoot address)) is = refl
+goes_on_in config mutator order got AskCycle is = refl
+goes_on_in config mutator order got (Pinning value pins.Look) is = either_in (fits_slot mutator.kept.command got) (Pinning value pins.Store) (Leave reply.Bad) refl refl
+goes_on_in config mutator order got (Pinning value pins.Store) is = refl
+goes_on_in config mutator order got (Waiting wait.StoreRequest) is = refl
+goes_on_in config mutator order got (Waiting wait.AskRoom) is = refl
+goes_on_in config mutator order got (Waiting wait.StepOut) is = cc
+goes_on_in config mutator order got (Waiting wait.Poll) is = cc
+goes_on_in config mutator order got (Waiting wait.LoadAnswer) is = either_waits (got == 1) (wait.ClearAnswer reply.Full) (wait.StoreRoot got) refl refl
+goes_on_in config mutator order got (Waiting (wait.StoreRoot address)) is = refl
+goes_on_in config mutator order got (Waiting (wait.ClearAnswer r)) is = refl
+goes_on_in config mutator order got (Entering enter.Raise next) is = cc
+goes_on_in config mutator order got (Entering enter.Look next) is = cc
+goes_on_in config mutator order got (Entering enter.Lower next) is = cc
+goes_on_in config mutator order got (Entering enter.Await next) is = cc
+goes_on_in config mutator order got (Entering enter.Inside next) is = goes_in next
   where
     goes_in : (n : Entered) → IsIn (after_enter n enter.Inside)
     goes_in Call = refl
     goes_in Waited = refl
-goes_on_in c m order got _ is = cc
+goes_on_in config mutator order got _ is = cc
 
 -- a mutator that is not in the heap has no room but free words of its buffer
-pub spares_outside : (seat : ℕ) (kept : Kept) (spot : Spot) (a : ℕ) (x : Block) → is_within (standing_at spot) ≡ false → IsRoomOf seat kept spot a x → IsSpare seat x
-spares_outside seat kept Rest a x out is = is
-spares_outside seat kept (Ended reply) a x out is = is
-spares_outside seat kept (Entering at then_on) a x out is = is
-spares_outside seat kept (Waiting at) a x out is = is
-spares_outside seat kept Gone a x out is = is
-spares_outside seat kept _ a x out is = absurd (cc (out))
+pub spares_outside : (seat : ℕ) (kept : Kept) (spot : Spot) (a : ℕ) (piece : Block) → is_within (standing_at spot) ≡ false → IsRoomOf seat kept spot a piece → IsSpare seat piece
+spares_outside seat kept Rest a piece out is = is
+spares_outside seat kept (Ended reply) a piece out is = is
+spares_outside seat kept (Entering at then_on) a piece out is = is
+spares_outside seat kept (Waiting at) a piece out is = is
+spares_outside seat kept Gone a piece out is = is
+spares_outside seat kept _ a piece out is = absurd (cc (out))
 
 -- and these it may have
-pub outside_spares : (seat : ℕ) (kept : Kept) (spot : Spot) (a : ℕ) (x : Block) → is_within (standing_at spot) ≡ false → IsSpare seat x → IsRoomOf seat kept spot a x
-outside_spares seat kept Rest a x out is = is
-outside_spares seat kept (Ended reply) a x out is = is
-outside_spares seat kept (Entering at then_on) a x out is = is
-outside_spares seat kept (Waiting at) a x out is = is
-outside_spares seat kept Gone a x out is = is
-outside_spares seat kept _ a x out is = absurd (cc (out))
+pub outside_spares : (seat : ℕ) (kept : Kept) (spot : Spot) (a : ℕ) (piece : Block) → is_within (standing_at spot) ≡ false → IsSpare seat piece → IsRoomOf seat kept spot a piece
+outside_spares seat kept Rest a piece out is = is
+outside_spares seat kept (Ended reply) a piece out is = is
+outside_spares seat kept (Entering at then_on) a piece out is = is
+outside_spares seat kept (Waiting at) a piece out is = is
+outside_spares seat kept Gone a piece out is = is
+outside_spares seat kept _ a piece out is = absurd (cc (out))
 
 -- it is about to record nothing
 pub records_outside : (spot : Spot) → is_within (standing_at spot) ≡ false → recording_of spot ≡ None

@@ -30,17 +30,17 @@ use Rattle.step_core.proofs.Control.Pauses.{open_world}
 use Rattle.step_core.proofs.Machines.Roles.{number_of, machine_there, mutator_there, control_of}
 
 -- the control rests where it works on no unit
-still_at : (c : Config) (w : World) (number : ℕ) (spot : ControlSpot) → is_working spot ≡ false → ControlFacts c w number spot → IsResting w number
-still_at c w number (control.Working at) calm facts = absurd cc
-still_at c w number control.LookFree calm facts = facts.0
-still_at c w number (control.Stopping at) calm facts = facts.0
-still_at c w number (control.LoadWord index extent) calm facts = facts.0
-still_at c w number control.LookLeft calm facts = facts
-still_at c w number control.StoreEnd calm facts = facts
-still_at c w number control.LookAsked calm facts = facts
-still_at c w number (control.StoreWord index extent) calm facts = facts
-still_at c w number control.Go calm facts = facts
-still_at c w number control.Gone calm facts = facts
+still_at : (config : Config) (world : World) (number : ℕ) (spot : ControlSpot) → is_working spot ≡ false → ControlFacts config world number spot → IsResting world number
+still_at config world number (control.Working at) calm facts = absurd cc
+still_at config world number control.LookFree calm facts = facts.0
+still_at config world number (control.Stopping at) calm facts = facts.0
+still_at config world number (control.LoadWord index extent) calm facts = facts.0
+still_at config world number control.LookLeft calm facts = facts
+still_at config world number control.StoreEnd calm facts = facts
+still_at config world number control.LookAsked calm facts = facts
+still_at config world number (control.StoreWord index extent) calm facts = facts
+still_at config world number control.Go calm facts = facts
+still_at config world number control.Gone calm facts = facts
 
 -- a mutator between two calls asks for nothing
 asks_nothing : (spot : Spot) (answer : ℕ) (command : Command) → is_between_calls spot ≡ true → asking_at spot answer command ≡ nothing
@@ -49,61 +49,61 @@ asks_nothing (Ended reply) answer command rest = refl
 asks_nothing Gone answer command rest = refl
 asks_nothing _ answer command rest = absurd cc
 
-module _ (c : Config) (g : Graph) (s : Stage Actor) (past : List Entry) (goes : Goes c g s past) (rest : IsAtRest c s) where
+module _ (config : Config) (graph : Graph) (stage : Stage Actor) (past : List Entry) (goes : Goes config graph stage past) (rest : IsAtRest config stage) where
   abbrev the_graph : Graph
-  the_graph = after g past
+  the_graph = after graph past
 
   abbrev the_world : World
-  the_world = world_of c s goes.follows.block goes.follows.ghost the_graph
+  the_world = world_of config stage goes.follows.block goes.follows.ghost the_graph
 
   -- the control
-  the_control : (a : Actor) × (slice_get s.machines (control_number c) ≡ Some a)
-  the_control = machine_there c s.words the_world past s.machines goes.follows.seats (control_number c) (omega arith)
+  the_control : (actor : Actor) × (slice_get stage.machines (control_number config) ≡ Some actor)
+  the_control = machine_there config stage.words the_world past stage.machines goes.follows.seats (control_number config) (omega arith)
 
-  its_facts : IsMachine c s.words the_world (of_thread past (control_number c + 1)) (control_number c) the_control.0 the_control.0.machine
-  its_facts = goes.follows.machines (control_number c) the_control.0 the_control.1
+  its_facts : IsMachine config stage.words the_world (of_thread past (control_number config + 1)) (control_number config) the_control.0 the_control.0.machine
+  its_facts = goes.follows.machines (control_number config) the_control.0 the_control.1
 
   its_role : (k : Controlling) × (the_control.0.machine ≡ controlling k)
-  its_role = control_of c (control_number c) the_control.0.machine (number_of c s.words the_world (of_thread past (control_number c + 1)) (control_number c) the_control.0 the_control.0.machine its_facts) refl
+  its_role = control_of config (control_number config) the_control.0.machine (number_of config stage.words the_world (of_thread past (control_number config + 1)) (control_number config) the_control.0 the_control.0.machine its_facts) refl
 
   -- the words of the table count
-  table_counts : settled c s ≡ view c s.words
+  table_counts : settled config stage ≡ view config stage.words
   table_counts =
-      ap (λ o. settled_by c s.words (image_of o)) the_control.1 ∙ ap (λ machine. settled_by c s.words (image_read machine)) its_role.1
-      ∙ ap (settled_by c s.words) (rest.no_image (control_number c) the_control.0 its_role.0 the_control.1 its_role.1)
+      ap (λ o. settled_by config stage.words (image_of o)) the_control.1 ∙ ap (λ machine. settled_by config stage.words (image_read machine)) its_role.1
+      ∙ ap (settled_by config stage.words) (rest.no_image (control_number config) the_control.0 its_role.0 the_control.1 its_role.1)
 
   abbrev table_world : World
-  table_world = open_world c s.words goes.follows.block goes.follows.ghost the_graph
+  table_world = open_world config stage.words goes.follows.block goes.follows.ghost the_graph
 
-  still : IsResting table_world (control_number c)
+  still : IsResting table_world (control_number config)
   still =
-      let facts : IsControl c s.words the_world (control_number c) its_role.0 =
-      subst (λ machine. IsMachine c s.words the_world (of_thread past (control_number c + 1)) (control_number c) the_control.0 machine) its_role.1 its_facts in
-      still_at c the_world (control_number c) its_role.0.spot (rest.no_unit (control_number c) the_control.0 its_role.0 the_control.1 its_role.1) facts.facts
+      let facts : IsControl config stage.words the_world (control_number config) its_role.0 =
+      subst (λ machine. IsMachine config stage.words the_world (of_thread past (control_number config + 1)) (control_number config) the_control.0 machine) its_role.1 its_facts in
+      still_at config the_world (control_number config) its_role.0.spot (rest.no_unit (control_number config) the_control.0 its_role.0 the_control.1 its_role.1) facts.facts
 
-  known : (k : ℕ) (b : Actor) → slice_get s.machines k ≡ Some b → IsMachine c s.words table_world (of_thread past (k + 1)) k b b.machine
-  known k b here =
-      subst (λ memory. IsMachine c s.words (record { memory = memory; block = goes.follows.block; ghost = goes.follows.ghost; graph = the_graph }) (of_thread past (k + 1)) k b b.machine) table_counts
-      (goes.follows.machines k b here)
+  known : (k : ℕ) (actor : Actor) → slice_get stage.machines k ≡ Some actor → IsMachine config stage.words table_world (of_thread past (k + 1)) k actor actor.machine
+  known k actor here =
+      subst (λ memory. IsMachine config stage.words (record { memory = memory; block = goes.follows.block; ghost = goes.follows.ghost; graph = the_graph }) (of_thread past (k + 1)) k actor actor.machine) table_counts
+      (goes.follows.machines k actor here)
 
-  shared : Shared c table_world
-  shared = subst (λ memory. Shared c (record { memory = memory; block = goes.follows.block; ghost = goes.follows.ghost; graph = the_graph })) table_counts goes.follows.shared
+  shared : Shared config table_world
+  shared = subst (λ memory. Shared config (record { memory = memory; block = goes.follows.block; ghost = goes.follows.ghost; graph = the_graph })) table_counts goes.follows.shared
 
   abbrev asks : ℕ → Asking
-  asks = asking c s.words goes.follows.block goes.follows.ghost the_graph past s.machines goes.follows.seats still
+  asks = asking config stage.words goes.follows.block goes.follows.ghost the_graph past stage.machines goes.follows.seats still
 
-  stands : Represents c (view c s.words) the_graph asks
-  stands = words_stand c s.words goes.follows.block goes.follows.ghost the_graph past s.machines goes.follows.seats still shared goes.follows.promised_to goes.follows.no_more goes.follows.no_more_pins known rest.outside
+  stands : Represents config (view config stage.words) the_graph asks
+  stands = words_stand config stage.words goes.follows.block goes.follows.ghost the_graph past stage.machines goes.follows.seats still shared goes.follows.promised_to goes.follows.no_more goes.follows.no_more_pins known rest.outside
 
   -- nobody asks for anything
-  none_asks : (t : ℕ) → t < c.mutators → asks t ≡ nothing
-  none_asks t below =
-      let there = mutator_there c s.words table_world past s.machines goes.follows.seats known t below in
-      mutator_asks c s.words goes.follows.block goes.follows.ghost the_graph past s.machines goes.follows.seats still t there.0 there.1 there.2 there.3
-      ∙ asks_nothing there.1.spot (view c s.words (Answer t)) there.1.kept.command (rest.calls t there.0 there.1 (record { here = there.2; is = there.3 }))
+  none_asks : (mutator : ℕ) → mutator < config.mutators → asks mutator ≡ nothing
+  none_asks mutator below =
+      let there = mutator_there config stage.words table_world past stage.machines goes.follows.seats known mutator below in
+      mutator_asks config stage.words goes.follows.block goes.follows.ghost the_graph past stage.machines goes.follows.seats still mutator there.0 there.1 there.2 there.3
+      ∙ asks_nothing there.1.spot (view config stage.words (Answer mutator)) there.1.kept.command (rest.calls mutator there.0 there.1 (record { here = there.2; is = there.3 }))
 
-  pub at_rest : Represents c (settled c s) the_graph (λ t. nothing)
-  at_rest = subst (λ memory. Represents c memory the_graph (λ t. nothing)) (sym table_counts) (record {
+  pub at_rest : Represents config (settled config stage) the_graph (λ t. nothing)
+  at_rest = subst (λ memory. Represents config memory the_graph (λ t. nothing)) (sym table_counts) (record {
     block = stands.block;
     ghost = stands.ghost;
     shared = stands.shared;
@@ -111,7 +111,7 @@ module _ (c : Config) (g : Graph) (s : Stage Actor) (past : List Entry) (goes : 
     usable = stands.usable;
     none = stands.none;
     uncarved = stands.uncarved;
-    asked = λ t below. subst (IsAsked (view c s.words) stands.block the_graph.count t) (none_asks t below) (stands.asked t below);
+    asked = λ t below. subst (IsAsked (view config stage.words) stands.block the_graph.count t) (none_asks t below) (stands.asked t below);
     heard = λ t refs nums below is. absurd cc;
     promised_to = stands.promised_to;
     unmarking = stands.unmarking;

@@ -20,40 +20,40 @@ use Rattle.step_core.proofs.Machines.Roles.{machine_there, machine_begins}
 use Rattle.heap_world.proofs.Roomless.{only_spares}
 
 -- an idle control holds no image
-idle_holds : (c : Config) (phase cset : ℕ) (g : Graph) (machine : Machine) → HasNumber c (control_number c) machine → IsIdle phase cset g (control_number c) machine → image_read machine ≡ None
-idle_holds c phase cset g (controlling h) number calm = ap (λ spot. stored_image spot h.image) calm.0
-idle_holds c phase cset g _ number calm = refl
+idle_holds : (config : Config) (phase cset : ℕ) (graph : Graph) (machine : Machine) → HasNumber config (control_number config) machine → IsIdle phase cset graph (control_number config) machine → image_read machine ≡ None
+idle_holds config phase cset graph (controlling h) number calm = ap (λ spot. stored_image spot h.image) calm.0
+idle_holds config phase cset graph _ number calm = refl
 
 -- What holds of a stage that begins a graph.
-module _ (c : Config) (s : Stage Actor) (g : Graph) (begins : Begins c s g) where
+module _ (config : Config) (stage : Stage Actor) (graph : Graph) (begins : Begins config stage graph) where
   -- the control is there
-  there : (a : Actor) × (slice_get s.machines (control_number c) ≡ Some a)
-  there = machine_there c s.words (world_of c s begins.stands.block begins.stands.ghost g) [] s.machines begins.seats (control_number c) (omega arith)
+  there : (actor : Actor) × (slice_get stage.machines (control_number config) ≡ Some actor)
+  there = machine_there config stage.words (world_of config stage begins.stands.block begins.stands.ghost graph) [] stage.machines begins.seats (control_number config) (omega arith)
 
   -- no image counts
-  pub whole_begins : settled c s ≡ view c s.words
+  pub whole_begins : settled config stage ≡ view config stage.words
   whole_begins =
-      let new = begins.machines (control_number c) there.0 there.1 in
-      ap (settled_by c s.words) (ap image_of there.1 ∙ idle_holds c (view c s.words Phase) (view c s.words Cset) g there.0.machine new.number_is new.idle)
+      let new = begins.machines (control_number config) there.0 there.1 in
+      ap (settled_by config stage.words) (ap image_of there.1 ∙ idle_holds config (view config stage.words Phase) (view config stage.words Cset) graph there.0.machine new.number_is new.idle)
 
-  pub follows_begins : Follows c g s []
+  pub follows_begins : Follows config graph stage []
   follows_begins = record {
     block = begins.stands.block;
     ghost = begins.stands.ghost;
     words = begins.words;
     seats = begins.seats;
     legal = tt;
-    entries = All-nil (IsSettled c.mutators);
+    entries = All-nil (IsSettled config.mutators);
     no_more = begins.stands.no_more;
     no_more_pins = begins.stands.no_more_pins;
-    shared = subst (λ memory. Shared c (record { memory = memory; block = begins.stands.block; ghost = begins.stands.ghost; graph = g })) (sym whole_begins) begins.stands.shared;
+    shared = subst (λ memory. Shared config (record { memory = memory; block = begins.stands.block; ghost = begins.stands.ghost; graph = graph })) (sym whole_begins) begins.stands.shared;
     promised_to = begins.stands.promised_to;
     machines = λ k a is.
         let new = begins.machines k a is in
-        subst (λ memory. IsMachine c s.words (record { memory = memory; block = begins.stands.block; ghost = begins.stands.ghost; graph = g }) [] k a a.machine) (sym whole_begins)
-        (machine_begins c s.words (record { memory = view c s.words; block = begins.stands.block; ghost = begins.stands.ghost; graph = g }) k a a.machine refl new.number_is new.idle new.calls new.valid
+        subst (λ memory. IsMachine config stage.words (record { memory = memory; block = begins.stands.block; ghost = begins.stands.ghost; graph = graph }) [] k a a.machine) (sym whole_begins)
+        (machine_begins config stage.words (record { memory = view config stage.words; block = begins.stands.block; ghost = begins.stands.ghost; graph = graph }) k a a.machine refl new.number_is new.idle new.calls new.valid
         (record { roots = begins.stands.roots; spares = λ seat a. only_spares begins.stands.block begins.stands.none begins.stands.uncarved a seat; asked = begins.stands.asked; unmarking = begins.stands.unmarking; uncopying = begins.stands.uncopying; usable = begins.stands.usable }));
   }
 
-  pub goes_begins : Goes c g s []
-  goes_begins = record { follows = follows_begins; shaken = begins_shaken c s g begins; counted = begins_counted c s g begins }
+  pub goes_begins : Goes config graph stage []
+  goes_begins = record { follows = follows_begins; shaken = begins_shaken config stage graph begins; counted = begins_counted config stage graph begins }

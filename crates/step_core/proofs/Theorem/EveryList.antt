@@ -82,240 +82,240 @@ ends_left Rest made takes = refl
 ends_left (Ended reply) made takes = refl
 ends_left _ made takes = absurd (cc (takes))
 
-ends_at : (c : Config) (seat made : ℕ) (kept : Kept) (spot : Spot) → takes_at spot made End ≡ true → touch_at c seat made kept End spot ≡ touch Left (subtracts 1)
-ends_at c seat made kept Rest takes = refl
-ends_at c seat made kept (Ended reply) takes = refl
-ends_at c seat made kept _ takes = absurd (cc (takes))
+ends_at : (config : Config) (seat made : ℕ) (kept : Kept) (spot : Spot) → takes_at spot made End ≡ true → touch_at config seat made kept End spot ≡ touch Left (subtracts 1)
+ends_at config seat made kept Rest takes = refl
+ends_at config seat made kept (Ended reply) takes = refl
+ends_at config seat made kept _ takes = absurd (cc (takes))
 
 -- What a stage says in which all goes as it should.
-module _ (change : Change) (law : PausesByParts change) (c : Config) (g : Graph) (s : Stage Actor) (h : List Entry) (goes : Goes c g s h) where
+module _ (change : Change) (law : PausesByParts change) (config : Config) (graph : Graph) (stage : Stage Actor) (entries : List Entry) (goes : Goes config graph stage entries) where
   abbrev the_world : World
-  the_world = world_of c s goes.follows.block goes.follows.ghost (after g h)
+  the_world = world_of config stage goes.follows.block goes.follows.ghost (after graph entries)
 
   -- of a machine
-  known : (number : ℕ) (a : Actor) → slice_get s.machines number ≡ Some a → IsMachine c s.words the_world (of_thread h (number + 1)) number a a.machine
+  known : (number : ℕ) (actor : Actor) → slice_get stage.machines number ≡ Some actor → IsMachine config stage.words the_world (of_thread entries (number + 1)) number actor actor.machine
   known = goes.follows.machines
 
   -- of a mutator
-  thread_of : (number : ℕ) (a : Actor) (m : Mutating) → IsMutator s number a m → IsThread c s.words the_world (of_thread h (number + 1)) number a m
-  thread_of = thread_there c g s h goes
+  thread_of : (number : ℕ) (actor : Actor) (mutator : Mutating) → IsMutator stage number actor mutator → IsThread config stage.words the_world (of_thread entries (number + 1)) number actor mutator
+  thread_of = thread_there config graph stage entries goes
 
   -- the machine of a number after its step, in the stage after it
-  machine_next : (number : ℕ) (a : Actor) (order : Order) → slice_get s.machines number ≡ Some a → takes_of a.machine order ≡ true
-      → (w : World) × (words : List ℕ) × (es : List Entry)
-      × IsMachine c words w es number (took_of change c a order (slice_index s.words (table_index (plan_of c order a.machine))) a.machine)
-      (machine_after change c order (slice_index s.words (table_index (plan_of c order a.machine))) a.machine)
+  machine_next : (number : ℕ) (actor : Actor) (order : Order) → slice_get stage.machines number ≡ Some actor → takes_of actor.machine order ≡ true
+      → (world : World) × (words : List ℕ) × (es : List Entry)
+      × IsMachine config words world es number (took_of change config actor order (slice_index stage.words (table_index (plan_of config order actor.machine))) actor.machine)
+      (machine_after change config order (slice_index stage.words (table_index (plan_of config order actor.machine))) actor.machine)
   unfolding kind
-  machine_next number a order here takes =
+  machine_next number actor order here takes =
       let event : Event Order = record { number = number; order = order } in
-      let next = goes_event change law c g s h event goes in
-      let there : slice_get (act (kind change c) s event).machines number ≡ Some (took_of change c a order (slice_index s.words (table_index (plan_of c order a.machine))) a.machine) =
-      ap (λ t. slice_get t.machines number) (act-event (kind change c) s event a (record { here = here; takes = takes })) ∙ slice_get-set_same s.machines number a _ here in (
-        world_of c (act (kind change c) s event) next.follows.block next.follows.ghost (after g (h ++ told c s event)),
-        (act (kind change c) s event).words,
-        of_thread (h ++ told c s event) (number + 1),
+      let next = goes_event change law config graph stage entries event goes in
+      let there : slice_get (act (kind change config) stage event).machines number ≡ Some (took_of change config actor order (slice_index stage.words (table_index (plan_of config order actor.machine))) actor.machine) =
+      ap (λ t. slice_get t.machines number) (act-event (kind change config) stage event actor (record { here = here; takes = takes })) ∙ slice_get-set_same stage.machines number actor _ here in (
+        world_of config (act (kind change config) stage event) next.follows.block next.follows.ghost (after graph (entries ++ told config stage event)),
+        (act (kind change config) stage event).words,
+        of_thread (entries ++ told config stage event) (number + 1),
         next.follows.machines number _ there,
       )
 
   -- a mutator is outside while an image counts
-  mutator_outside : (number : ℕ) (a : Actor) (m : Mutating) → IsMutator s number a m → (image : Counting) → held_image c s ≡ Some image → is_within (standing_at m.spot) ≡ false
-  mutator_outside number a m here image held =
-      let thread = thread_of number a m here in
-      let below : number < control_number c = (let less = subst (λ k. k < c.mutators) thread.number_is thread.mine.seated.below in omega (arith, less)) in
-      ap (λ machine. is_within (standing_of machine)) (sym here.is) ∙ outside_held c s goes.shaken image held number a below here.here
+  mutator_outside : (number : ℕ) (actor : Actor) (mutator : Mutating) → IsMutator stage number actor mutator → (image : Counting) → held_image config stage ≡ Some image → is_within (standing_at mutator.spot) ≡ false
+  mutator_outside number actor mutator here image held =
+      let thread = thread_of number actor mutator here in
+      let below : number < control_number config = (let less = subst (λ k. k < config.mutators) thread.number_is thread.mine.seated.below in omega (arith, less)) in
+      ap (λ machine. is_within (standing_of machine)) (sym here.is) ∙ outside_held config stage goes.shaken image held number actor below here.here
 
   -- a word that a mutator finds is fit
-  fit_mutator : (number : ℕ) (a : Actor) (m : Mutating) (order : Order) → slice_get s.machines number ≡ Some a → a.machine ≡ mutating m → takes_at m.spot m.made order ≡ true
-      → IsFit c m order (slice_index s.words (table_index (placed c (touch_of c m order))))
-  fit_mutator number a m order here is takes = (ready, part order takes, ends order takes)
+  fit_mutator : (number : ℕ) (actor : Actor) (mutator : Mutating) (order : Order) → slice_get stage.machines number ≡ Some actor → actor.machine ≡ mutating mutator → takes_at mutator.spot mutator.made order ≡ true
+      → IsFit config mutator order (slice_index stage.words (table_index (placed config (touch_of config mutator order))))
+  fit_mutator number actor mutator order here is takes = (ready, part order takes, ends order takes)
     where
-      ready : IsReady c (next_of c m order (slice_index s.words (table_index (placed c (touch_of c m order)))))
+      ready : IsReady config (next_of config mutator order (slice_index stage.words (table_index (placed config (touch_of config mutator order)))))
       ready =
-          let next = machine_next number a order here (ap (λ machine. takes_of machine order) is ∙ takes) in
-          let thread = subst (λ machine. IsMachine c next.1 next.0 next.2 number (took_of change c a order (slice_index s.words (table_index (plan_of c order a.machine))) a.machine)
-          (machine_after change c order (slice_index s.words (table_index (plan_of c order machine))) machine)) is next.3 in
+          let next = machine_next number actor order here (ap (λ machine. takes_of machine order) is ∙ takes) in
+          let thread = subst (λ machine. IsMachine config next.1 next.0 next.2 number (took_of change config actor order (slice_index stage.words (table_index (plan_of config order actor.machine))) actor.machine)
+          (machine_after change config order (slice_index stage.words (table_index (plan_of config order machine))) machine)) is next.3 in
           thread.mine.ready
 
-      part : (o : Order) → takes_at m.spot m.made o ≡ true → PartFit c m.seat m.kept m.spot (slice_index s.words (table_index (placed c (touch_of c m o))))
-      part o takes_it = ⊎_elim
-          (λ (within : is_within (standing_at m.spot) ≡ true).
-          let thread = thread_of number a m (record { here = here; is = is }) in
-          let called : o ≡ Nothing = in_call m.spot m.made o (within_call m.spot within) takes_it in
-          subst (λ x. PartFit c m.seat m.kept m.spot (slice_index s.words (table_index (placed c (touch_of c m x))))) (sym called)
-          (subst (λ got. PartFit c m.seat m.kept m.spot got) (sym (settled_found c s.words (touch_of c m Nothing) (held_image c s)
-          (order_word c m.seat m.made m.kept Nothing m.spot thread.mine.seated.below thread.mine.ready (subst (λ x. takes_at m.spot m.made x ≡ true) called takes_it))
-          (λ image held. absurd (false≢true (sym (mutator_outside number a m (record { here = here; is = is }) image held) ∙ within)))))
-          (part_fits c the_world goes.follows.shared m.seat m.made m.kept a.command thread.fixed m.spot thread.mine)))
-          (λ (out : is_within (standing_at m.spot) ≡ false). part_outside c m.seat m.kept m.spot _ out)
-          (cases_Bool (is_within (standing_at m.spot)))
+      part : (other_order : Order) → takes_at mutator.spot mutator.made other_order ≡ true → PartFit config mutator.seat mutator.kept mutator.spot (slice_index stage.words (table_index (placed config (touch_of config mutator other_order))))
+      part other_order takes_it = ⊎_elim
+          (λ (within : is_within (standing_at mutator.spot) ≡ true).
+          let thread = thread_of number actor mutator (record { here = here; is = is }) in
+          let called : other_order ≡ Nothing = in_call mutator.spot mutator.made other_order (within_call mutator.spot within) takes_it in
+          subst (λ x. PartFit config mutator.seat mutator.kept mutator.spot (slice_index stage.words (table_index (placed config (touch_of config mutator x))))) (sym called)
+          (subst (λ got. PartFit config mutator.seat mutator.kept mutator.spot got) (sym (settled_found config stage.words (touch_of config mutator Nothing) (held_image config stage)
+          (order_word config mutator.seat mutator.made mutator.kept Nothing mutator.spot thread.mine.seated.below thread.mine.ready (subst (λ x. takes_at mutator.spot mutator.made x ≡ true) called takes_it))
+          (λ image held. absurd (false≢true (sym (mutator_outside number actor mutator (record { here = here; is = is }) image held) ∙ within)))))
+          (part_fits config the_world goes.follows.shared mutator.seat mutator.made mutator.kept actor.command thread.fixed mutator.spot thread.mine)))
+          (λ (out : is_within (standing_at mutator.spot) ≡ false). part_outside config mutator.seat mutator.kept mutator.spot _ out)
+          (cases_Bool (is_within (standing_at mutator.spot)))
 
-      ends : (o : Order) → takes_at m.spot m.made o ≡ true → EndsFit o (slice_index s.words (table_index (placed c (touch_of c m o))))
+      ends : (other_order : Order) → takes_at mutator.spot mutator.made other_order ≡ true → EndsFit other_order (slice_index stage.words (table_index (placed config (touch_of config mutator other_order))))
       ends Nothing takes_it = tt
       ends (Begin command) takes_it = tt
       ends (Hint address) takes_it = tt
-      ends End takes_it = subst (λ t. slice_index s.words (table_index (placed c t)) ≢ 0) (sym (ends_at c m.seat m.made m.kept m.spot takes_it))
-          (subst (λ got. got ≢ 0) (sym (found-placed c s.words (touch Left (subtracts 1)) refl))
-          (left_some c is_left s number a goes.counted here (ap (λ machine. is_left (record { machine = machine; command = a.command; calls = a.calls })) is ∙ ends_left m.spot m.made takes_it)))
+      ends End takes_it = subst (λ t. slice_index stage.words (table_index (placed config t)) ≢ 0) (sym (ends_at config mutator.seat mutator.made mutator.kept mutator.spot takes_it))
+          (subst (λ got. got ≢ 0) (sym (found-placed config stage.words (touch Left (subtracts 1)) refl))
+          (left_some config is_left stage number actor goes.counted here (ap (λ machine. is_left (record { machine = machine; command = actor.command; calls = actor.calls })) is ∙ ends_left mutator.spot mutator.made takes_it)))
 
   -- a machine finds a fit word
-  finds_fit : (number : ℕ) (a : Actor) → slice_get s.machines number ≡ Some a → FindsFit c s a
-  finds_fit number a here = by_machine a.machine refl
+  finds_fit : (number : ℕ) (actor : Actor) → slice_get stage.machines number ≡ Some actor → FindsFit config stage actor
+  finds_fit number actor here = by_machine actor.machine refl
     where
-      named : {machine : Machine} → a.machine ≡ machine → Some a ≡ Some (record { machine = machine; command = a.command; calls = a.calls })
-      named is = ap (λ machine. Some (record { machine = machine; command = a.command; calls = a.calls })) is
+      named : {machine : Machine} → actor.machine ≡ machine → Some actor ≡ Some (record { machine = machine; command = actor.command; calls = actor.calls })
+      named is = ap (λ machine. Some (record { machine = machine; command = actor.command; calls = actor.calls })) is
 
-      by_machine : (machine : Machine) → a.machine ≡ machine → FindsFit c s a
+      by_machine : (machine : Machine) → actor.machine ≡ machine → FindsFit config stage actor
       by_machine (mutating m) is =
-          let thread = thread_of number a m (record { here = here; is = is }) in
+          let thread = thread_of number actor m (record { here = here; is = is }) in
           record {
             inside = λ order takes.
-                subst (λ machine. table_index (plan_of c order machine) < table_words c) (sym is)
-                (subst (λ k. k < table_words c) (sym (table_index-access_at (word_at c (touch_of c m order).word) (touch_of c m order).form))
-                (word_inside c (touch_of c m order).word (is_word_true c (touch_of c m order).word
-                (order_word c m.seat m.made m.kept order m.spot thread.mine.seated.below thread.mine.ready (ap (λ machine. takes_of machine order) (sym is) ∙ takes)))));
+                subst (λ machine. table_index (plan_of config order machine) < table_words config) (sym is)
+                (subst (λ k. k < table_words config) (sym (table_index-access_at (word_at config (touch_of config m order).word) (touch_of config m order).form))
+                (word_inside config (touch_of config m order).word (is_word_true config (touch_of config m order).word
+                (order_word config m.seat m.made m.kept order m.spot thread.mine.seated.below thread.mine.ready (ap (λ machine. takes_of machine order) (sym is) ∙ takes)))));
             fit = λ order takes.
-                subst (λ machine. IsFitFor c order (slice_index s.words (table_index (plan_of c order machine))) machine) (sym is)
-                (fit_mutator number a m order here is (ap (λ machine. takes_of machine order) (sym is) ∙ takes));
+                subst (λ machine. IsFitFor config order (slice_index stage.words (table_index (plan_of config order machine))) machine) (sym is)
+                (fit_mutator number actor m order here is (ap (λ machine. takes_of machine order) (sym is) ∙ takes));
           }
       by_machine (helping m) is = record {
-        inside = λ order takes. subst (λ machine. table_index (plan_of c order machine) < table_words c) (sym is)
-            (helper_inside change law c g s h goes.follows goes.shaken number order m a.command a.calls (here ∙ named is) (ap (λ machine. takes_of machine order) (sym is) ∙ takes));
-        fit = λ order takes. subst (λ machine. IsFitFor c order (slice_index s.words (table_index (plan_of c order machine))) machine) (sym is)
-            (helper_fit change law c g s h goes.follows goes.shaken number order m a.command a.calls (here ∙ named is) (ap (λ machine. takes_of machine order) (sym is) ∙ takes));
+        inside = λ order takes. subst (λ machine. table_index (plan_of config order machine) < table_words config) (sym is)
+            (helper_inside change law config graph stage entries goes.follows goes.shaken number order m actor.command actor.calls (here ∙ named is) (ap (λ machine. takes_of machine order) (sym is) ∙ takes));
+        fit = λ order takes. subst (λ machine. IsFitFor config order (slice_index stage.words (table_index (plan_of config order machine))) machine) (sym is)
+            (helper_fit change law config graph stage entries goes.follows goes.shaken number order m actor.command actor.calls (here ∙ named is) (ap (λ machine. takes_of machine order) (sym is) ∙ takes));
       }
       by_machine (controlling k) is = record {
-        inside = λ order takes. subst (λ machine. table_index (plan_of c order machine) < table_words c) (sym is)
-            (control_inside change law c g s h goes.follows goes.shaken number order k a.command a.calls (here ∙ named is) (ap (λ machine. takes_of machine order) (sym is) ∙ takes));
-        fit = λ order takes. subst (λ machine. IsFitFor c order (slice_index s.words (table_index (plan_of c order machine))) machine) (sym is)
-            (control_fit change law c g s h goes.follows goes.shaken number order k a.command a.calls (here ∙ named is) (ap (λ machine. takes_of machine order) (sym is) ∙ takes));
+        inside = λ order takes. subst (λ machine. table_index (plan_of config order machine) < table_words config) (sym is)
+            (control_inside change law config graph stage entries goes.follows goes.shaken number order k actor.command actor.calls (here ∙ named is) (ap (λ machine. takes_of machine order) (sym is) ∙ takes));
+        fit = λ order takes. subst (λ machine. IsFitFor config order (slice_index stage.words (table_index (plan_of config order machine))) machine) (sym is)
+            (control_fit change law config graph stage entries goes.follows goes.shaken number order k actor.command actor.calls (here ∙ named is) (ap (λ machine. takes_of machine order) (sym is) ∙ takes));
       }
 
   -- of its machines
-  of_heap : IsOfHeap c s
+  of_heap : IsOfHeap config stage
   of_heap = record {
     words = goes.follows.words;
     machines = goes.follows.seats;
-    roles = λ number a there. number_of c s.words the_world (of_thread h (number + 1)) number a a.machine (known number a there);
+    roles = λ number a there. number_of config stage.words the_world (of_thread entries (number + 1)) number a a.machine (known number a there);
     mutators = λ number below.
-        let there = machine_there c s.words the_world h s.machines goes.follows.seats number (omega (arith, below)) in
-        let role = mutator_of c number there.0.machine (number_of c s.words the_world (of_thread h (number + 1)) number there.0 there.0.machine (known number there.0 there.1)) below in
+        let there = machine_there config stage.words the_world entries stage.machines goes.follows.seats number (omega (arith, below)) in
+        let role = mutator_of config number there.0.machine (number_of config stage.words the_world (of_thread entries (number + 1)) number there.0 there.0.machine (known number there.0 there.1)) below in
         record { actor = there.0; mutator = role.0; here = record { here = there.1; is = role.1 } };
-    numbers = λ number a m here. let thread = thread_of number a m here in (thread.number_is, subst (λ k. k < c.mutators) thread.number_is thread.mine.seated.below);
+    numbers = λ number a m here. let thread = thread_of number a m here in (thread.number_is, subst (λ k. k < config.mutators) thread.number_is thread.mine.seated.below);
   }
 
   -- of all: it is sound
-  sound : AreCrowded c.regions c.region_words g (scripts_begun c s) h → IsSound c g s h
+  sound : AreCrowded config.regions config.region_words graph (scripts_begun config stage) entries → IsSound config graph stage entries
   sound crowded = record {
     of_heap = of_heap;
-    stands = stands c g s h goes;
+    stands = stands config graph stage entries goes;
     legal = goes.follows.legal;
     crowded = crowded;
     entries = goes.follows.entries;
     no_more = goes.follows.no_more;
     no_more_pins = goes.follows.no_more_pins;
-    pinned = λ t i below small. pin_held c the_world goes.follows.shared (the_world.memory (Pin t i)) (the_world.graph.pin (t + 1) i) (goes.follows.shared.pinned t i below small);
+    pinned = λ t i below small. pin_held config the_world goes.follows.shared (the_world.memory (Pin t i)) (the_world.graph.pin (t + 1) i) (goes.follows.shared.pinned t i below small);
     threads = λ number a m here.
         let thread = thread_of number a m here in
-        let seen = subst (λ k. IsSeen (view c s.words (Answer number)) (the_world.memory (Answer k)) thread.fixed) (sym thread.number_is) thread.seen in
+        let seen = subst (λ k. IsSeen (view config stage.words (Answer number)) (the_world.memory (Answer k)) thread.fixed) (sym thread.number_is) thread.seen in
         record {
           fixed = thread.fixed;
           entries_are = thread.entries_are;
-          between_calls = λ rest. unsettled_at_rest c the_world m.seat m.made m.kept a.command thread.fixed m.spot rest thread.mine.facts;
-          before_it = λ before. unsettled_before c the_world m.seat m.made m.kept a.command thread.fixed (view c s.words (Answer number)) seen goes.follows.shared m.spot before thread.mine.facts;
-          after_it = λ behind. settled_after c the_world m.seat m.made m.kept a.command thread.fixed (view c s.words (Answer number)) seen goes.follows.shared m.spot behind thread.mine.facts;
-          gives = λ reply is. gives_settled c the_world m.seat m.kept a.command thread.fixed m.spot m.made reply thread.mine.facts is;
-          took = λ reply is. took_settled c the_world m.seat m.made m.kept a.command thread.fixed m.spot reply is thread.mine.facts;
+          between_calls = λ rest. unsettled_at_rest config the_world m.seat m.made m.kept a.command thread.fixed m.spot rest thread.mine.facts;
+          before_it = λ before. unsettled_before config the_world m.seat m.made m.kept a.command thread.fixed (view config stage.words (Answer number)) seen goes.follows.shared m.spot before thread.mine.facts;
+          after_it = λ behind. settled_after config the_world m.seat m.made m.kept a.command thread.fixed (view config stage.words (Answer number)) seen goes.follows.shared m.spot behind thread.mine.facts;
+          gives = λ reply is. gives_settled config the_world m.seat m.kept a.command thread.fixed m.spot m.made reply thread.mine.facts is;
+          took = λ reply is. took_settled config the_world m.seat m.made m.kept a.command thread.fixed m.spot reply is thread.mine.facts;
         };
     fit = finds_fit;
   }
 
   -- of a machine that is about to look for a free region
-  lacks_room : (number : ℕ) (a : Actor) (words : ℕ) → slice_get s.machines number ≡ Some a → looks_for a.machine ≡ Some words → HasLess (settled c s) number words
-  lacks_room number a words here looks = lacks the_world number words (taking_of a.machine) looks (in_seat c s.words the_world (of_thread h (number + 1)) number a a.machine (known number a here)).takes
+  lacks_room : (number : ℕ) (actor : Actor) (words : ℕ) → slice_get stage.machines number ≡ Some actor → looks_for actor.machine ≡ Some words → HasLess (settled config stage) number words
+  lacks_room number actor words here looks = lacks the_world number words (taking_of actor.machine) looks (in_seat config stage.words the_world (of_thread entries (number + 1)) number actor actor.machine (known number actor here)).takes
 
   -- what the control has read of the image is as the table has it
-  aims_of : (number : ℕ) (a : Actor) (k : Controlling) → slice_get s.machines number ≡ Some a → a.machine ≡ controlling k → (is_ready c k.spot ≡ true) × IsAim c s.words k.spot k.image
-  aims_of number a k here is =
-      let facts = subst (λ machine. IsMachine c s.words the_world (of_thread h (number + 1)) number a machine) is (known number a here) in
+  aims_of : (number : ℕ) (actor : Actor) (control : Controlling) → slice_get stage.machines number ≡ Some actor → actor.machine ≡ controlling control → (is_ready config control.spot ≡ true) × IsAim config stage.words control.spot control.image
+  aims_of number actor control here is =
+      let facts = subst (λ machine. IsMachine config stage.words the_world (of_thread entries (number + 1)) number actor machine) is (known number actor here) in
       (facts.ready, facts.aims)
 
 -- In a pause no machine but the control is in the heap.
-pub outside_in_pause : (c : Config) (s : Stage Actor) → IsKept c s → IsInPause c s → (number : ℕ) (a : Actor) → number < control_number c → slice_get s.machines number ≡ Some a → is_within (standing_of a.machine) ≡ false
-outside_in_pause c s shaken pause number a below here =
+pub outside_in_pause : (config : Config) (stage : Stage Actor) → IsKept config stage → IsInPause config stage → (number : ℕ) (actor : Actor) → number < control_number config → slice_get stage.machines number ≡ Some actor → is_within (standing_of actor.machine) ≡ false
+outside_in_pause config stage shaken pause number actor below here =
     let same : shaken.control ≡ pause.actor = same_Some shaken.control pause.actor (sym shaken.there ∙ pause.here) in
-    pause_empty c standing s shaken (ap is_pausing (ap standing same ∙ ap standing_of pause.is) ∙ pause.pausing) number a below here
+    pause_empty config standing stage shaken (ap is_pausing (ap standing same ∙ ap standing_of pause.is) ∙ pause.pausing) number actor below here
 
 -- No mutator and no helper is, and each leaves the image alone.
-pause_is_empty : (change : Change) → PausesByParts change → (c : Config) (g : Graph) (s : Stage Actor) (h : List Entry) → Goes c g s h → IsInPause c s → IsEmpty c s
-pause_is_empty change law c g s h goes pause = record {
+pause_is_empty : (change : Change) → PausesByParts change → (config : Config) (graph : Graph) (stage : Stage Actor) (entries : List Entry) → Goes config graph stage entries → IsInPause config stage → IsEmpty config stage
+pause_is_empty change law config graph stage entries goes pause = record {
   nobody = out;
   no_helper = help_out;
-  no_access = λ number a m order here.
-      let x : Helping = helping_by c order m in
-      help_leaves_image c x.seat x.spot (ap is_within (help_hinted_stands c (hint_in order) m) ∙ help_out number a m here);
-  only_polls = λ number a m order here takes. outside_touch c m.seat m.made m.kept order m.spot (out number a m here) takes;
+  no_access = λ number actor m order here.
+      let x : Helping = helping_by config order m in
+      help_leaves_image config x.seat x.spot (ap is_within (help_hinted_stands config (hint_in order) m) ∙ help_out number actor m here);
+  only_polls = λ number actor m order here takes. outside_touch config m.seat m.made m.kept order m.spot (out number actor m here) takes;
 }
   where
-    out : (number : ℕ) (a : Actor) (m : Mutating) → IsMutator s number a m → is_within (standing_at m.spot) ≡ false
-    out number a m here =
-        let thread = thread_of change law c g s h goes number a m here in
-        let below : number < control_number c = (let less = subst (λ k. k < c.mutators) thread.number_is thread.mine.seated.below in omega (arith, less)) in
-        ap (λ machine. is_within (standing_of machine)) (sym here.is) ∙ outside_in_pause c s goes.shaken pause number a below here.here
+    out : (number : ℕ) (actor : Actor) (m : Mutating) → IsMutator stage number actor m → is_within (standing_at m.spot) ≡ false
+    out number actor m here =
+        let thread = thread_of change law config graph stage entries goes number actor m here in
+        let below : number < control_number config = (let less = subst (λ k. k < config.mutators) thread.number_is thread.mine.seated.below in omega (arith, less)) in
+        ap (λ machine. is_within (standing_of machine)) (sym here.is) ∙ outside_in_pause config stage goes.shaken pause number actor below here.here
 
-    help_out : (number : ℕ) (a : Actor) (m : Helping) → IsHelper s number a m → is_within (help_standing m.spot) ≡ false
-    help_out number a m here =
-        let facts = subst (λ machine. IsMachine c s.words (world_of c s goes.follows.block goes.follows.ghost (after g h)) (of_thread h (number + 1)) number a machine) here.is (goes.follows.machines number a here.here) in
-        ap (λ machine. is_within (standing_of machine)) (sym here.is) ∙ outside_in_pause c s goes.shaken pause number a facts.below here.here
+    help_out : (number : ℕ) (actor : Actor) (m : Helping) → IsHelper stage number actor m → is_within (help_standing m.spot) ≡ false
+    help_out number actor m here =
+        let facts = subst (λ machine. IsMachine config stage.words (world_of config stage goes.follows.block goes.follows.ghost (after graph entries)) (of_thread entries (number + 1)) number actor machine) here.is (goes.follows.machines number actor here.here) in
+        ap (λ machine. is_within (standing_of machine)) (sym here.is) ∙ outside_in_pause config stage goes.shaken pause number actor facts.below here.here
 
-module _ (change : Change) (law : PausesByParts change) (c : Config) (s : Stage Actor) (g : Graph) (begins : Begins c s g) where
+module _ (change : Change) (law : PausesByParts change) (config : Config) (stage : Stage Actor) (graph : Graph) (begins : Begins config stage graph) where
   -- in each stage that events lead to all goes as it should
-  goes_all : (events : List (Event Order)) → Goes c g (go (kind change c) s events) (history change c s events)
-  goes_all events = goes_run change law c g s [] events (goes_begins c s g begins)
+  goes_all : (events : List (Event Order)) → Goes config graph (go (kind change config) stage events) (history change config stage events)
+  goes_all events = goes_run change law config graph stage [] events (goes_begins config stage graph begins)
 
   -- and it is sound
-  pub every_run : (events : List (Event Order)) → IsSound c g (go (kind change c) s events) (history change c s events)
-  every_run events = sound change law c g (go (kind change c) s events) (history change c s events) (goes_all events) (run_crowded change law c s g begins events)
+  pub every_run : (events : List (Event Order)) → IsSound config graph (go (kind change config) stage events) (history change config stage events)
+  every_run events = sound change law config graph (go (kind change config) stage events) (history change config stage events) (goes_all events) (run_crowded change law config stage graph begins events)
 
   -- in a pause no mutator and no helper is in the heap
-  pub run_pauses : (events : List (Event Order)) → IsInPause c (go (kind change c) s events) → IsEmpty c (go (kind change c) s events)
-  run_pauses events = pause_is_empty change law c g (go (kind change c) s events) (history change c s events) (goes_all events)
+  pub run_pauses : (events : List (Event Order)) → IsInPause config (go (kind change config) stage events) → IsEmpty config (go (kind change config) stage events)
+  run_pauses events = pause_is_empty change law config graph (go (kind change config) stage events) (history change config stage events) (goes_all events)
 
   -- a machine that is reached makes an access of the table
-  pub reached_inside : (number : ℕ) (a : Actor) (order : Order) → HasReached (kind change c) s number a → takes_of a.machine order ≡ true → table_index (plan_of c order a.machine) < table_words c
-  reached_inside number a order has takes =
-      (reached_has (kind change c) (λ t. slice_get t.machines number ≡ Some a → table_index (plan_of c order a.machine) < table_words c) s has.stage
-      (λ events here. ((every_run events).fit number a here).inside order takes) has.reached) has.here
+  pub reached_inside : (number : ℕ) (actor : Actor) (order : Order) → HasReached (kind change config) stage number actor → takes_of actor.machine order ≡ true → table_index (plan_of config order actor.machine) < table_words config
+  reached_inside number actor order has takes =
+      (reached_has (kind change config) (λ t. slice_get t.machines number ≡ Some actor → table_index (plan_of config order actor.machine) < table_words config) stage has.stage
+      (λ events here. ((every_run events).fit number actor here).inside order takes) has.reached) has.here
 
   -- a word that a machine finds in some run is fit
-  pub found_fit : (number : ℕ) (a : Actor) (order : Order) (told_it : ℕ) → Finds (kind change c) s number a order told_it → IsFitFor c order told_it a.machine
+  pub found_fit : (number : ℕ) (actor : Actor) (order : Order) (told_it : ℕ) → Finds (kind change config) stage number actor order told_it → IsFitFor config order told_it actor.machine
   unfolding kind
-  found_fit number a order told_it f =
-      (reached_has (kind change c) (λ t. slice_get t.machines number ≡ Some a → told_it ≡ slice_index t.words (table_index (plan_of c order a.machine)) → IsFitFor c order told_it a.machine) s f.stage
-      (λ events here found. subst (λ n. IsFitFor c order n a.machine) (sym found) (((every_run events).fit number a here).fit order f.takes))
+  found_fit number actor order told_it f =
+      (reached_has (kind change config) (λ t. slice_get t.machines number ≡ Some actor → told_it ≡ slice_index t.words (table_index (plan_of config order actor.machine)) → IsFitFor config order told_it actor.machine) stage f.stage
+      (λ events here found. subst (λ n. IsFitFor config order n actor.machine) (sym found) (((every_run events).fit number actor here).fit order f.takes))
       f.reached) f.here f.found
 
   -- what the control has read of the image is as the table has it
-  pub run_aims : (events : List (Event Order)) (number : ℕ) (a : Actor) (k : Controlling)
-      → slice_get (go (kind change c) s events).machines number ≡ Some a → a.machine ≡ controlling k → (is_ready c k.spot ≡ true) × IsAim c (go (kind change c) s events).words k.spot k.image
-  run_aims events = aims_of change law c g (go (kind change c) s events) (history change c s events) (goes_all events)
+  pub run_aims : (events : List (Event Order)) (number : ℕ) (actor : Actor) (control : Controlling)
+      → slice_get (go (kind change config) stage events).machines number ≡ Some actor → actor.machine ≡ controlling control → (is_ready config control.spot ≡ true) × IsAim config (go (kind change config) stage events).words control.spot control.image
+  run_aims events = aims_of change law config graph (go (kind change config) stage events) (history change config stage events) (goes_all events)
 
   -- a pin word changes only where its own mutator stores into it
-  pub run_pins : (events : List (Event Order)) (e : Event Order) → OnlyPinningPins change c (go (kind change c) s events) e
-  run_pins events e = only_pinning change law c g (go (kind change c) s events) (history change c s events) e (goes_all events)
+  pub run_pins : (events : List (Event Order)) (event : Event Order) → OnlyPinningPins change config (go (kind change config) stage events) event
+  run_pins events event = only_pinning change law config graph (go (kind change config) stage events) (history change config stage events) event (goes_all events)
 
   -- a machine that is about to look for a free region lacks room
-  pub run_lacks_room : (events : List (Event Order)) (number : ℕ) (a : Actor) (words : ℕ)
-      → slice_get (go (kind change c) s events).machines number ≡ Some a → looks_for a.machine ≡ Some words → HasLess (settled c (go (kind change c) s events)) number words
-  run_lacks_room events = lacks_room change law c g (go (kind change c) s events) (history change c s events) (goes_all events)
+  pub run_lacks_room : (events : List (Event Order)) (number : ℕ) (actor : Actor) (words : ℕ)
+      → slice_get (go (kind change config) stage events).machines number ≡ Some actor → looks_for actor.machine ≡ Some words → HasLess (settled config (go (kind change config) stage events)) number words
+  run_lacks_room events = lacks_room change law config graph (go (kind change config) stage events) (history change config stage events) (goes_all events)
 
   -- a heap at rest
-  pub run_rests : (events : List (Event Order)) → IsAtRest c (go (kind change c) s events) → Represents c (settled c (go (kind change c) s events)) (after g (history change c s events)) (λ t. nothing)
-  run_rests events = at_rest c g (go (kind change c) s events) (history change c s events) (goes_all events)
+  pub run_rests : (events : List (Event Order)) → IsAtRest config (go (kind change config) stage events) → Represents config (settled config (go (kind change config) stage events)) (after graph (history change config stage events)) (λ t. nothing)
+  run_rests events = at_rest config graph (go (kind change config) stage events) (history change config stage events) (goes_all events)
 
 -- where a run leads is sound
-pub run_sound : (change : Change) → PausesByParts change → (c : Config) (run : Run c) → IsSound c run.graph (ending change c run) (history_in change c run)
-run_sound change law c run = every_run change law c run.start run.graph run.begins run.events
+pub run_sound : (change : Change) → PausesByParts change → (config : Config) (run : Run config) → IsSound config run.graph (ending change config run) (history_in change config run)
+run_sound change law config run = every_run change law config run.start run.graph run.begins run.events
 
 -- from the opening on too
-pub every_list : (change : Change) → PausesByParts change → (c : Config) (events : List (Event Order)) → IsSound c (first_graph c) (reached change c events) (past change c events)
-every_list change law c events = run_sound change law c (opening_run c events)
+pub every_list : (change : Change) → PausesByParts change → (config : Config) (events : List (Event Order)) → IsSound config (first_graph config) (reached change config events) (past change config events)
+every_list change law config events = run_sound change law config (opening_run config events)

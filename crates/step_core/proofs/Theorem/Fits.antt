@@ -40,113 +40,113 @@ use Rattle.step_core.proofs.Helpers.Stable.{help_word, help_fits, help_fits_outs
 use Rattle.step_core.proofs.Theorem.Hinted.{replaced, there, follows_replaced, kept_replaced, helper_takes_place, control_takes_place}
 
 -- Under no order.
-module _ (change : Change) (law : PausesByParts change) (c : Config) (g : Graph) (s : Stage Actor) (h : List Entry) (follows : Follows c g s h) (shaken : IsKept c s)
+module _ (change : Change) (law : PausesByParts change) (config : Config) (graph : Graph) (stage : Stage Actor) (entries : List Entry) (follows : Follows config graph stage entries) (shaken : IsKept config stage)
     (number : ℕ) (command : Command) (calls : List Entry) where
   abbrev the_world : World
-  the_world = world_of c s follows.block follows.ghost (after g h)
+  the_world = world_of config stage follows.block follows.ghost (after graph entries)
 
   abbrev actor_of : Machine → Actor
   actor_of machine = record { machine = machine; command = command; calls = calls }
 
-  helper_is : (m : Helping) → slice_get s.machines number ≡ Some (actor_of (helping m)) → IsHelper c the_world number m
-  helper_is m here = follows.machines number (actor_of (helping m)) here
+  helper_is : (helper : Helping) → slice_get stage.machines number ≡ Some (actor_of (helping helper)) → IsHelper config the_world number helper
+  helper_is helper here = follows.machines number (actor_of (helping helper)) here
 
-  helper_by_itself : (m : Helping) → slice_get s.machines number ≡ Some (actor_of (helping m)) → table_index (placed c (help_touch c m)) < table_words c
-  helper_by_itself m here =
-      subst (λ k. k < table_words c) (sym (table_index-access_at (word_at c (help_touch c m).word) (help_touch c m).form))
-      (word_inside c (help_touch c m).word (help_word c the_world number m follows.shared (helper_is m here)))
+  helper_by_itself : (helper : Helping) → slice_get stage.machines number ≡ Some (actor_of (helping helper)) → table_index (placed config (help_touch config helper)) < table_words config
+  helper_by_itself helper here =
+      subst (λ k. k < table_words config) (sym (table_index-access_at (word_at config (help_touch config helper).word) (help_touch config helper).form))
+      (word_inside config (help_touch config helper).word (help_word config the_world number helper follows.shared (helper_is helper here)))
 
-  fit_by_itself : (m : Helping) → slice_get s.machines number ≡ Some (actor_of (helping m)) → help.IsFit c m (slice_index s.words (table_index (placed c (help_touch c m))))
-  fit_by_itself m here = ⊎_elim
-      (λ (within : is_within (help_standing m.spot) ≡ true).
-      subst (λ got. help.IsFit c m got) (sym (settled_found c s.words (help_touch c m) (held_image c s) (is_word_from c (help_touch c m).word (help_word c the_world number m follows.shared (helper_is m here)))
-      (λ image held. absurd (false≢true (sym (outside_held c s shaken image held number (actor_of (helping m)) (helper_is m here).below here) ∙ within)))))
-      (help_fits c the_world number m follows.shared (helper_is m here)))
-      (λ (out : is_within (help_standing m.spot) ≡ false). help_fits_outside c m.seat m.spot _ out)
-      (cases_Bool (is_within (help_standing m.spot)))
+  fit_by_itself : (helper : Helping) → slice_get stage.machines number ≡ Some (actor_of (helping helper)) → help.IsFit config helper (slice_index stage.words (table_index (placed config (help_touch config helper))))
+  fit_by_itself helper here = ⊎_elim
+      (λ (within : is_within (help_standing helper.spot) ≡ true).
+      subst (λ got. help.IsFit config helper got) (sym (settled_found config stage.words (help_touch config helper) (held_image config stage) (is_word_from config (help_touch config helper).word (help_word config the_world number helper follows.shared (helper_is helper here)))
+      (λ image held. absurd (false≢true (sym (outside_held config stage shaken image held number (actor_of (helping helper)) (helper_is helper here).below here) ∙ within)))))
+      (help_fits config the_world number helper follows.shared (helper_is helper here)))
+      (λ (out : is_within (help_standing helper.spot) ≡ false). help_fits_outside config helper.seat helper.spot _ out)
+      (cases_Bool (is_within (help_standing helper.spot)))
 
-  control_is : (k : Controlling) → slice_get s.machines number ≡ Some (actor_of (controlling k)) → IsControl c s.words the_world number k
-  control_is k here = follows.machines number (actor_of (controlling k)) here
+  control_is : (control : Controlling) → slice_get stage.machines number ≡ Some (actor_of (controlling control)) → IsControl config stage.words the_world number control
+  control_is control here = follows.machines number (actor_of (controlling control)) here
 
-  control_by_itself : (k : Controlling) → slice_get s.machines number ≡ Some (actor_of (controlling k)) → table_index (control_access c k) < table_words c
-  control_by_itself k here = accesses_inside c k.spot (word_stored k.spot k.image) (control_is k here).ready
+  control_by_itself : (control : Controlling) → slice_get stage.machines number ≡ Some (actor_of (controlling control)) → table_index (control_access config control) < table_words config
+  control_by_itself control here = accesses_inside config control.spot (word_stored control.spot control.image) (control_is control here).ready
 
   -- the control at a spot
   module _ (seen phase cset hints : ℕ) (image : List ℕ) where
     abbrev control_at : ControlSpot → Controlling
     control_at spot = record { spot = spot; seen = seen; phase = phase; cset = cset; hints = hints; image = image }
 
-    fit_whole : (spot : ControlSpot) → slice_get s.machines number ≡ Some (actor_of (controlling (control_at spot))) → IsWholeImage c phase spot image (slice_index s.words (table_index (control_access c (control_at spot))))
-    fit_whole (LoadWord index extent) here = λ all. whole_stands change law c g s h number seen phase cset hints image command calls follows shaken index extent here all
+    fit_whole : (spot : ControlSpot) → slice_get stage.machines number ≡ Some (actor_of (controlling (control_at spot))) → IsWholeImage config phase spot image (slice_index stage.words (table_index (control_access config (control_at spot))))
+    fit_whole (LoadWord index extent) here = λ all. whole_stands change law config graph stage entries number seen phase cset hints image command calls follows shaken index extent here all
     fit_whole _ here = tt
 
-    fit_unit : (spot : ControlSpot) → slice_get s.machines number ≡ Some (actor_of (controlling (control_at spot))) → UnitGoesOn c spot (slice_index s.words (table_index (control_access c (control_at spot))))
-    fit_unit (Working at) here = work_fit change law c g s h number seen phase cset hints image command calls follows shaken at here
+    fit_unit : (spot : ControlSpot) → slice_get stage.machines number ≡ Some (actor_of (controlling (control_at spot))) → UnitGoesOn config spot (slice_index stage.words (table_index (control_access config (control_at spot))))
+    fit_unit (Working at) here = work_fit change law config graph stage entries number seen phase cset hints image command calls follows shaken at here
     fit_unit _ here = tt
 
-  control_fit_by_itself : (k : Controlling) → slice_get s.machines number ≡ Some (actor_of (controlling k))
-      → IsWholeImage c k.phase k.spot k.image (slice_index s.words (table_index (control_access c k))) × UnitGoesOn c k.spot (slice_index s.words (table_index (control_access c k)))
-  control_fit_by_itself k here = (fit_whole k.seen k.phase k.cset k.hints k.image k.spot here, fit_unit k.seen k.phase k.cset k.hints k.image k.spot here)
+  control_fit_by_itself : (control : Controlling) → slice_get stage.machines number ≡ Some (actor_of (controlling control))
+      → IsWholeImage config control.phase control.spot control.image (slice_index stage.words (table_index (control_access config control))) × UnitGoesOn config control.spot (slice_index stage.words (table_index (control_access config control)))
+  control_fit_by_itself control here = (fit_whole control.seen control.phase control.cset control.hints control.image control.spot here, fit_unit control.seen control.phase control.cset control.hints control.image control.spot here)
 
 -- who takes a hint loads no image
-whole_hinted : (c : Config) (phase : ℕ) (spot : ControlSpot) (image : List ℕ) (got : ℕ) → controls.takes_hint spot ≡ true → IsWholeImage c phase spot image got
-whole_hinted c phase (Working at) image got takes = tt
-whole_hinted c phase _ image got takes = absurd (cc (takes))
+whole_hinted : (config : Config) (phase : ℕ) (spot : ControlSpot) (image : List ℕ) (got : ℕ) → controls.takes_hint spot ≡ true → IsWholeImage config phase spot image got
+whole_hinted config phase (Working at) image got takes = tt
+whole_hinted config phase _ image got takes = absurd (cc (takes))
 
 -- Under each order: with a hint it is so in the stage in which the machine goes on with the hint.
-module _ (change : Change) (law : PausesByParts change) (c : Config) (g : Graph) (s : Stage Actor) (h : List Entry) (follows : Follows c g s h) (shaken : IsKept c s) (number : ℕ) where
+module _ (change : Change) (law : PausesByParts change) (config : Config) (graph : Graph) (stage : Stage Actor) (entries : List Entry) (follows : Follows config graph stage entries) (shaken : IsKept config stage) (number : ℕ) where
   abbrev named : Machine → Command → List Entry → Actor
   named machine command calls = record { machine = machine; command = command; calls = calls }
 
-  pub helper_inside : (order : Order) (m : Helping) (command : Command) (calls : List Entry) → slice_get s.machines number ≡ Some (named (helping m) command calls) → takes_of (helping m) order ≡ true
-      → table_index (plan_of c order (helping m)) < table_words c
-  helper_inside Nothing m command calls here takes = helper_by_itself change law c g s h follows shaken number command calls m here
-  helper_inside (Hint address) m command calls here takes =
-      let place = helper_takes_place c number (Hint address) m command calls in
-      let next : Helping = helping_by c (Hint address) m in
-      helper_by_itself change law c g (replaced c s number (named (helping m) command calls) (named (helping next) command calls) here place) h
-      (follows_replaced c s number (named (helping m) command calls) (named (helping next) command calls) here place g h follows)
-      (kept_replaced c s number (named (helping m) command calls) (named (helping next) command calls) here place shaken) number command calls next
-      (there c s number (named (helping m) command calls) (named (helping next) command calls) here place)
-  helper_inside (Begin begun) m command calls here takes = absurd (cc (takes))
-  helper_inside End m command calls here takes = absurd (cc (takes))
+  pub helper_inside : (order : Order) (helper : Helping) (command : Command) (calls : List Entry) → slice_get stage.machines number ≡ Some (named (helping helper) command calls) → takes_of (helping helper) order ≡ true
+      → table_index (plan_of config order (helping helper)) < table_words config
+  helper_inside Nothing helper command calls here takes = helper_by_itself change law config graph stage entries follows shaken number command calls helper here
+  helper_inside (Hint address) helper command calls here takes =
+      let place = helper_takes_place config number (Hint address) helper command calls in
+      let next : Helping = helping_by config (Hint address) helper in
+      helper_by_itself change law config graph (replaced config stage number (named (helping helper) command calls) (named (helping next) command calls) here place) entries
+      (follows_replaced config stage number (named (helping helper) command calls) (named (helping next) command calls) here place graph entries follows)
+      (kept_replaced config stage number (named (helping helper) command calls) (named (helping next) command calls) here place shaken) number command calls next
+      (there config stage number (named (helping helper) command calls) (named (helping next) command calls) here place)
+  helper_inside (Begin begun) helper command calls here takes = absurd (cc (takes))
+  helper_inside End helper command calls here takes = absurd (cc (takes))
 
-  pub helper_fit : (order : Order) (m : Helping) (command : Command) (calls : List Entry) → slice_get s.machines number ≡ Some (named (helping m) command calls) → takes_of (helping m) order ≡ true
-      → IsFitFor c order (slice_index s.words (table_index (plan_of c order (helping m)))) (helping m)
-  helper_fit Nothing m command calls here takes = fit_by_itself change law c g s h follows shaken number command calls m here
-  helper_fit (Hint address) m command calls here takes =
-      let place = helper_takes_place c number (Hint address) m command calls in
-      let next : Helping = helping_by c (Hint address) m in
-      fit_by_itself change law c g (replaced c s number (named (helping m) command calls) (named (helping next) command calls) here place) h
-      (follows_replaced c s number (named (helping m) command calls) (named (helping next) command calls) here place g h follows)
-      (kept_replaced c s number (named (helping m) command calls) (named (helping next) command calls) here place shaken) number command calls next
-      (there c s number (named (helping m) command calls) (named (helping next) command calls) here place)
-  helper_fit (Begin begun) m command calls here takes = absurd (cc (takes))
-  helper_fit End m command calls here takes = absurd (cc (takes))
+  pub helper_fit : (order : Order) (helper : Helping) (command : Command) (calls : List Entry) → slice_get stage.machines number ≡ Some (named (helping helper) command calls) → takes_of (helping helper) order ≡ true
+      → IsFitFor config order (slice_index stage.words (table_index (plan_of config order (helping helper)))) (helping helper)
+  helper_fit Nothing helper command calls here takes = fit_by_itself change law config graph stage entries follows shaken number command calls helper here
+  helper_fit (Hint address) helper command calls here takes =
+      let place = helper_takes_place config number (Hint address) helper command calls in
+      let next : Helping = helping_by config (Hint address) helper in
+      fit_by_itself change law config graph (replaced config stage number (named (helping helper) command calls) (named (helping next) command calls) here place) entries
+      (follows_replaced config stage number (named (helping helper) command calls) (named (helping next) command calls) here place graph entries follows)
+      (kept_replaced config stage number (named (helping helper) command calls) (named (helping next) command calls) here place shaken) number command calls next
+      (there config stage number (named (helping helper) command calls) (named (helping next) command calls) here place)
+  helper_fit (Begin begun) helper command calls here takes = absurd (cc (takes))
+  helper_fit End helper command calls here takes = absurd (cc (takes))
 
-  pub control_inside : (order : Order) (k : Controlling) (command : Command) (calls : List Entry) → slice_get s.machines number ≡ Some (named (controlling k) command calls) → takes_of (controlling k) order ≡ true
-      → table_index (plan_of c order (controlling k)) < table_words c
-  control_inside Nothing k command calls here takes = control_by_itself change law c g s h follows shaken number command calls k here
-  control_inside (Hint address) k command calls here takes =
-      let place = control_takes_place c number (Hint address) k command calls in
-      let next : Controlling = controlling_by c (Hint address) k in
-      control_by_itself change law c g (replaced c s number (named (controlling k) command calls) (named (controlling next) command calls) here place) h
-      (follows_replaced c s number (named (controlling k) command calls) (named (controlling next) command calls) here place g h follows)
-      (kept_replaced c s number (named (controlling k) command calls) (named (controlling next) command calls) here place shaken) number command calls next
-      (there c s number (named (controlling k) command calls) (named (controlling next) command calls) here place)
-  control_inside (Begin begun) k command calls here takes = absurd (cc (takes))
-  control_inside End k command calls here takes = absurd (cc (takes))
+  pub control_inside : (order : Order) (control : Controlling) (command : Command) (calls : List Entry) → slice_get stage.machines number ≡ Some (named (controlling control) command calls) → takes_of (controlling control) order ≡ true
+      → table_index (plan_of config order (controlling control)) < table_words config
+  control_inside Nothing control command calls here takes = control_by_itself change law config graph stage entries follows shaken number command calls control here
+  control_inside (Hint address) control command calls here takes =
+      let place = control_takes_place config number (Hint address) control command calls in
+      let next : Controlling = controlling_by config (Hint address) control in
+      control_by_itself change law config graph (replaced config stage number (named (controlling control) command calls) (named (controlling next) command calls) here place) entries
+      (follows_replaced config stage number (named (controlling control) command calls) (named (controlling next) command calls) here place graph entries follows)
+      (kept_replaced config stage number (named (controlling control) command calls) (named (controlling next) command calls) here place shaken) number command calls next
+      (there config stage number (named (controlling control) command calls) (named (controlling next) command calls) here place)
+  control_inside (Begin begun) control command calls here takes = absurd (cc (takes))
+  control_inside End control command calls here takes = absurd (cc (takes))
 
-  pub control_fit : (order : Order) (k : Controlling) (command : Command) (calls : List Entry) → slice_get s.machines number ≡ Some (named (controlling k) command calls) → takes_of (controlling k) order ≡ true
-      → IsFitFor c order (slice_index s.words (table_index (plan_of c order (controlling k)))) (controlling k)
-  control_fit Nothing k command calls here takes = control_fit_by_itself change law c g s h follows shaken number command calls k here
-  control_fit (Hint address) k command calls here takes =
-      let place = control_takes_place c number (Hint address) k command calls in
-      let next : Controlling = controlling_by c (Hint address) k in
-      let fit = control_fit_by_itself change law c g (replaced c s number (named (controlling k) command calls) (named (controlling next) command calls) here place) h
-      (follows_replaced c s number (named (controlling k) command calls) (named (controlling next) command calls) here place g h follows)
-      (kept_replaced c s number (named (controlling k) command calls) (named (controlling next) command calls) here place shaken) number command calls next
-      (there c s number (named (controlling k) command calls) (named (controlling next) command calls) here place) in
-      (whole_hinted c k.phase k.spot k.image _ (and_parts _ _ takes).0, fit.1)
-  control_fit (Begin begun) k command calls here takes = absurd (cc (takes))
-  control_fit End k command calls here takes = absurd (cc (takes))
+  pub control_fit : (order : Order) (control : Controlling) (command : Command) (calls : List Entry) → slice_get stage.machines number ≡ Some (named (controlling control) command calls) → takes_of (controlling control) order ≡ true
+      → IsFitFor config order (slice_index stage.words (table_index (plan_of config order (controlling control)))) (controlling control)
+  control_fit Nothing control command calls here takes = control_fit_by_itself change law config graph stage entries follows shaken number command calls control here
+  control_fit (Hint address) control command calls here takes =
+      let place = control_takes_place config number (Hint address) control command calls in
+      let next : Controlling = controlling_by config (Hint address) control in
+      let fit = control_fit_by_itself change law config graph (replaced config stage number (named (controlling control) command calls) (named (controlling next) command calls) here place) entries
+      (follows_replaced config stage number (named (controlling control) command calls) (named (controlling next) command calls) here place graph entries follows)
+      (kept_replaced config stage number (named (controlling control) command calls) (named (controlling next) command calls) here place shaken) number command calls next
+      (there config stage number (named (controlling control) command calls) (named (controlling next) command calls) here place) in
+      (whole_hinted config control.phase control.spot control.image _ (and_parts _ _ takes).0, fit.1)
+  control_fit (Begin begun) control command calls here takes = absurd (cc (takes))
+  control_fit End control command calls here takes = absurd (cc (takes))

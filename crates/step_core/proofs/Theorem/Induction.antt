@@ -38,95 +38,95 @@ use Rattle.step_core.proofs.Machines.Hinting.{help_hinted_gone, control_hinted_g
 use Rattle.step_core.proofs.Theorem.Hinted.{TakesPlace, replaced, there, follows_replaced, kept_replaced, counted_replaced, moved_replaced, helper_takes_place, control_takes_place}
 
 -- an event of a machine, by its role
-follows_order : (change : Change) → PausesByParts change → (c : Config) (g : Graph) (s : Stage Actor) (past : List Entry) (number : ℕ) (order : Order) (command : Command) (calls : List Entry) (machine : Machine)
+follows_order : (change : Change) → PausesByParts change → (config : Config) (graph : Graph) (s : Stage Actor) (past : List Entry) (number : ℕ) (order : Order) (command : Command) (calls : List Entry) (machine : Machine)
     → slice_get s.machines number ≡ Some (record { machine = machine; command = command; calls = calls })
-    → takes_of machine order ≡ true → Follows c g s past → IsKept c s
-    → Follows c g (moved (kind change c) s number (record { machine = machine; command = command; calls = calls }) order)
-    (past ++ told_by c s (record { machine = machine; command = command; calls = calls }) order machine)
-follows_order change law c g s past number order command calls (mutating m) here takes follows shaken = follows_mutator change c g s past number order m command calls follows shaken here takes
-follows_order change law c g s past number Nothing command calls (helping h) here takes follows shaken =
-    follows_helper change c g s past number h command calls follows shaken here (is_off (help.is_gone h.spot) takes)
-follows_order change law c g s past number (Begin begun) command calls (helping h) here takes follows shaken = absurd (cc (takes))
-follows_order change law c g s past number End command calls (helping h) here takes follows shaken = absurd (cc (takes))
-follows_order change law c g s past number Nothing command calls (controlling k) here takes follows shaken =
-    by_spot change law c g s past number k.seen k.phase k.cset k.hints k.image command calls follows shaken k.spot (is_off (is_gone k.spot) takes) here
-follows_order change law c g s past number (Hint address) command calls (helping h) here takes follows shaken =
-    let next : Helping = helping_by c (Hint address) h in
-    let place = helper_takes_place c number (Hint address) h command calls in
-    let stage : Stage Actor = replaced c s number (actor_of (helping h)) (actor_of (helping next)) here place in
-    subst (λ t. Follows c g t (past ++ [])) (moved_replaced c s number (actor_of (helping h)) (actor_of (helping next)) here place change (Hint address) refl (λ got. refl))
-    (follows_helper change c g stage past number next command calls
-    (follows_replaced c s number (actor_of (helping h)) (actor_of (helping next)) here place g past follows) (kept_replaced c s number (actor_of (helping h)) (actor_of (helping next)) here place shaken)
-    (there c s number (actor_of (helping h)) (actor_of (helping next)) here place)
-    (help_hinted_gone c (Some address) h ∙ is_off (help.is_gone h.spot) (and_parts _ _ takes).1))
+    → takes_of machine order ≡ true → Follows config graph s past → IsKept config s
+    → Follows config graph (moved (kind change config) s number (record { machine = machine; command = command; calls = calls }) order)
+    (past ++ told_by config s (record { machine = machine; command = command; calls = calls }) order machine)
+follows_order change law config graph s past number order command calls (mutating m) here takes follows shaken = follows_mutator change config graph s past number order m command calls follows shaken here takes
+follows_order change law config graph s past number Nothing command calls (helping h) here takes follows shaken =
+    follows_helper change config graph s past number h command calls follows shaken here (is_off (help.is_gone h.spot) takes)
+follows_order change law config graph s past number (Begin begun) command calls (helping h) here takes follows shaken = absurd (cc (takes))
+follows_order change law config graph s past number End command calls (helping h) here takes follows shaken = absurd (cc (takes))
+follows_order change law config graph s past number Nothing command calls (controlling k) here takes follows shaken =
+    by_spot change law config graph s past number k.seen k.phase k.cset k.hints k.image command calls follows shaken k.spot (is_off (is_gone k.spot) takes) here
+follows_order change law config graph s past number (Hint address) command calls (helping h) here takes follows shaken =
+    let next : Helping = helping_by config (Hint address) h in
+    let place = helper_takes_place config number (Hint address) h command calls in
+    let stage : Stage Actor = replaced config s number (actor_of (helping h)) (actor_of (helping next)) here place in
+    subst (λ t. Follows config graph t (past ++ [])) (moved_replaced config s number (actor_of (helping h)) (actor_of (helping next)) here place change (Hint address) refl (λ got. refl))
+    (follows_helper change config graph stage past number next command calls
+    (follows_replaced config s number (actor_of (helping h)) (actor_of (helping next)) here place graph past follows) (kept_replaced config s number (actor_of (helping h)) (actor_of (helping next)) here place shaken)
+    (there config s number (actor_of (helping h)) (actor_of (helping next)) here place)
+    (help_hinted_gone config (Some address) h ∙ is_off (help.is_gone h.spot) (and_parts _ _ takes).1))
   where
     actor_of : Machine → Actor
     actor_of machine = record { machine = machine; command = command; calls = calls }
-follows_order change law c g s past number (Hint address) command calls (controlling k) here takes follows shaken =
-    let next : Controlling = controlling_by c (Hint address) k in
-    let place = control_takes_place c number (Hint address) k command calls in
-    let stage : Stage Actor = replaced c s number (actor_of (controlling k)) (actor_of (controlling next)) here place in
-    subst (λ t. Follows c g t (past ++ told_storing c s k.spot k.image)) (moved_replaced c s number (actor_of (controlling k)) (actor_of (controlling next)) here place change (Hint address) refl (λ got. refl))
-    (subst (λ es. Follows c g (moved (kind change c) stage number (actor_of (controlling next)) Nothing) (past ++ es)) (told_hinted stage k.spot (and_parts _ _ takes).0)
-    (by_spot change law c g stage past number next.seen next.phase next.cset next.hints next.image command calls
-    (follows_replaced c s number (actor_of (controlling k)) (actor_of (controlling next)) here place g past follows) (kept_replaced c s number (actor_of (controlling k)) (actor_of (controlling next)) here place shaken)
-    next.spot (control_hinted_gone c (Some address) k ∙ is_off (is_gone k.spot) (and_parts _ _ takes).1)
-    (there c s number (actor_of (controlling k)) (actor_of (controlling next)) here place)))
+follows_order change law config graph s past number (Hint address) command calls (controlling k) here takes follows shaken =
+    let next : Controlling = controlling_by config (Hint address) k in
+    let place = control_takes_place config number (Hint address) k command calls in
+    let stage : Stage Actor = replaced config s number (actor_of (controlling k)) (actor_of (controlling next)) here place in
+    subst (λ t. Follows config graph t (past ++ told_storing config s k.spot k.image)) (moved_replaced config s number (actor_of (controlling k)) (actor_of (controlling next)) here place change (Hint address) refl (λ got. refl))
+    (subst (λ es. Follows config graph (moved (kind change config) stage number (actor_of (controlling next)) Nothing) (past ++ es)) (told_hinted stage k.spot (and_parts _ _ takes).0)
+    (by_spot change law config graph stage past number next.seen next.phase next.cset next.hints next.image command calls
+    (follows_replaced config s number (actor_of (controlling k)) (actor_of (controlling next)) here place graph past follows) (kept_replaced config s number (actor_of (controlling k)) (actor_of (controlling next)) here place shaken)
+    next.spot (control_hinted_gone config (Some address) k ∙ is_off (is_gone k.spot) (and_parts _ _ takes).1)
+    (there config s number (actor_of (controlling k)) (actor_of (controlling next)) here place)))
   where
     actor_of : Machine → Actor
     actor_of machine = record { machine = machine; command = command; calls = calls }
 
     -- it stores no word of an image, with the hint and without
-    told_hinted : (t : Stage Actor) (spot : ControlSpot) → controls.takes_hint spot ≡ true → told_storing c t (controls.hinted_by c (Some address) spot) k.image ≡ told_storing c s spot k.image
+    told_hinted : (t : Stage Actor) (spot : ControlSpot) → controls.takes_hint spot ≡ true → told_storing config t (controls.hinted_by config (Some address) spot) k.image ≡ told_storing config s spot k.image
     told_hinted t (Working at) takes_it = refl
     told_hinted t _ takes_it = absurd (cc (takes_it))
-follows_order change law c g s past number (Begin begun) command calls (controlling k) here takes follows shaken = absurd (cc (takes))
-follows_order change law c g s past number End command calls (controlling k) here takes follows shaken = absurd (cc (takes))
+follows_order change law config graph s past number (Begin begun) command calls (controlling k) here takes follows shaken = absurd (cc (takes))
+follows_order change law config graph s past number End command calls (controlling k) here takes follows shaken = absurd (cc (takes))
 
 -- Of a stage: it follows the history, the handshake is kept in it, and Left counts the mutators that have not ended.
-pub record Goes (c : Config) (g : Graph) (s : Stage Actor) (past : List Entry) : Type 0 where
-  pub follows : Follows c g s past
-  pub shaken : IsKept c s
-  pub counted : AreLeftCounted c is_left s
+pub record Goes (config : Config) (graph : Graph) (stage : Stage Actor) (past : List Entry) : Type 0 where
+  pub follows : Follows config graph stage past
+  pub shaken : IsKept config stage
+  pub counted : AreLeftCounted config is_left stage
 
 -- so it goes where a machine is replaced by one that takes its place
-pub goes_replaced : (c : Config) (g : Graph) (s : Stage Actor) (past : List Entry) (number : ℕ) (before next : Actor) (here : slice_get s.machines number ≡ Some before) (takes : TakesPlace c number before next)
-    → Goes c g s past → Goes c g (replaced c s number before next here takes) past
-goes_replaced c g s past number before next here takes goes = record {
-  follows = follows_replaced c s number before next here takes g past goes.follows;
-  shaken = kept_replaced c s number before next here takes goes.shaken;
-  counted = counted_replaced c s number before next here takes goes.counted;
+pub goes_replaced : (config : Config) (graph : Graph) (stage : Stage Actor) (past : List Entry) (number : ℕ) (before next : Actor) (here : slice_get stage.machines number ≡ Some before) (takes : TakesPlace config number before next)
+    → Goes config graph stage past → Goes config graph (replaced config stage number before next here takes) past
+goes_replaced config graph stage past number before next here takes goes = record {
+  follows = follows_replaced config stage number before next here takes graph past goes.follows;
+  shaken = kept_replaced config stage number before next here takes goes.shaken;
+  counted = counted_replaced config stage number before next here takes goes.counted;
 }
 
 -- an event, of a machine that is there or not
-pub goes_event : (change : Change) → PausesByParts change → (c : Config) (g : Graph) (s : Stage Actor) (past : List Entry) (e : Event Order) → Goes c g s past → Goes c g (act (kind change c) s e) (past ++ told c s e)
+pub goes_event : (change : Change) → PausesByParts change → (config : Config) (graph : Graph) (stage : Stage Actor) (past : List Entry) (event : Event Order) → Goes config graph stage past → Goes config graph (act (kind change config) stage event) (past ++ told config stage event)
 unfolding act told kind
-goes_event change law c g s past e goes = record {
-  follows = by_machine (slice_get s.machines e.number) refl;
-  shaken = shaken_step c (kind change c) standing s e goes.shaken (event_obeys change c s e (λ a is. number_of c s.words _ _ e.number a a.machine (known a is)) (λ a is. can_go c s.words _ _ e.number a a.machine (known a is)));
-  counted = counted_step c (kind change c) is_left s e goes.counted (event_counts change c s e (λ a is. can_go c s.words _ _ e.number a a.machine (known a is)));
+goes_event change law config graph stage past event goes = record {
+  follows = by_machine (slice_get stage.machines event.number) refl;
+  shaken = shaken_step config (kind change config) standing stage event goes.shaken (event_obeys change config stage event (λ actor is. number_of config stage.words _ _ event.number actor actor.machine (known actor is)) (λ actor is. can_go config stage.words _ _ event.number actor actor.machine (known actor is)));
+  counted = counted_step config (kind change config) is_left stage event goes.counted (event_counts change config stage event (λ actor is. can_go config stage.words _ _ event.number actor actor.machine (known actor is)));
 }
   where
-    known : (a : Actor) → slice_get s.machines e.number ≡ Some a
-        → IsMachine c s.words (world_of c s goes.follows.block goes.follows.ghost (after g past)) (of_thread past (e.number + 1)) e.number a a.machine
-    known = goes.follows.machines e.number
+    known : (actor : Actor) → slice_get stage.machines event.number ≡ Some actor
+        → IsMachine config stage.words (world_of config stage goes.follows.block goes.follows.ghost (after graph past)) (of_thread past (event.number + 1)) event.number actor actor.machine
+    known = goes.follows.machines event.number
 
-    same : Follows c g s (past ++ [])
-    same = subst (λ es. Follows c g s es) (sym (append-nil past)) goes.follows
+    same : Follows config graph stage (past ++ [])
+    same = subst (λ es. Follows config graph stage es) (sym (append-nil past)) goes.follows
 
-    by_order : (a : Actor) (b : Bool) → slice_get s.machines e.number ≡ Some a → takes_of a.machine e.order ≡ b
-        → Follows c g (if b then moved (kind change c) s e.number a e.order else s) (past ++ (if b then told_by c s a e.order a.machine else []))
-    by_order a true here takes = follows_order change law c g s past e.number e.order a.command a.calls a.machine here takes goes.follows goes.shaken
-    by_order a false here takes = same
+    by_order : (actor : Actor) (holds : Bool) → slice_get stage.machines event.number ≡ Some actor → takes_of actor.machine event.order ≡ holds
+        → Follows config graph (if holds then moved (kind change config) stage event.number actor event.order else stage) (past ++ (if holds then told_by config stage actor event.order actor.machine else []))
+    by_order actor true here takes = follows_order change law config graph stage past event.number event.order actor.command actor.calls actor.machine here takes goes.follows goes.shaken
+    by_order actor false here takes = same
 
-    by_machine : (o : Option Actor) → slice_get s.machines e.number ≡ o → Follows c g (act_of (kind change c) s e o) (past ++ told_of_machine c s e o)
+    by_machine : (found : Option Actor) → slice_get stage.machines event.number ≡ found → Follows config graph (act_of (kind change config) stage event found) (past ++ told_of_machine config stage event found)
     by_machine None here = same
-    by_machine (Some a) here = by_order a (takes_of a.machine e.order) here refl
+    by_machine (Some actor) here = by_order actor (takes_of actor.machine event.order) here refl
 
 -- a run
-pub goes_run : (change : Change) → PausesByParts change → (c : Config) (g : Graph) (s : Stage Actor) (past : List Entry) (es : List (Event Order)) → Goes c g s past → Goes c g (go (kind change c) s es) (past ++ history change c s es)
+pub goes_run : (change : Change) → PausesByParts change → (config : Config) (graph : Graph) (stage : Stage Actor) (past : List Entry) (es : List (Event Order)) → Goes config graph stage past → Goes config graph (go (kind change config) stage es) (past ++ history change config stage es)
 unfolding go history
-goes_run change law c g s past [] goes = subst (λ h. Goes c g s h) (sym (append-nil past)) goes
-goes_run change law c g s past (e ∷ es) goes =
-    subst (λ h. Goes c g (go (kind change c) (act (kind change c) s e) es) h) (append_assoc past (told c s e) (history change c (act (kind change c) s e) es))
-    (goes_run change law c g (act (kind change c) s e) (past ++ told c s e) es (goes_event change law c g s past e goes))
+goes_run change law config graph stage past [] goes = subst (λ h. Goes config graph stage h) (sym (append-nil past)) goes
+goes_run change law config graph stage past (e ∷ es) goes =
+    subst (λ h. Goes config graph (go (kind change config) (act (kind change config) stage e) es) h) (append_assoc past (told config stage e) (history change config (act (kind change config) stage e) es))
+    (goes_run change law config graph (act (kind change config) stage e) (past ++ told config stage e) es (goes_event change law config graph stage past e goes))

@@ -13,16 +13,16 @@ use Rattle.step_core.proofs.Machines.Requests.{has_asked}
 use Rattle.step_core.proofs.Machines.Seats.{in_seat, served}
 use Rattle.step_core.proofs.Theorem.Induction.{Goes}
 
-module _ (c : Config) (g : Graph) (s : Stage Actor) (h : List Entry) (goes : Goes c g s h) where
+module _ (config : Config) (graph : Graph) (stage : Stage Actor) (entries : List Entry) (goes : Goes config graph stage entries) where
   abbrev pub the_world : World
-  the_world = world_of c s goes.follows.block goes.follows.ghost (after g h)
+  the_world = world_of config stage goes.follows.block goes.follows.ghost (after graph entries)
 
   -- of a mutator
-  pub thread_of : (number : ℕ) (a : Actor) (m : Mutating) → IsMutator s number a m → IsThread c s.words the_world (of_thread h (number + 1)) number a m
-  thread_of number a m here = subst (λ machine. IsMachine c s.words the_world (of_thread h (number + 1)) number a machine) here.is (goes.follows.machines number a here.here)
+  pub thread_of : (number : ℕ) (actor : Actor) (mutator : Mutating) → IsMutator stage number actor mutator → IsThread config stage.words the_world (of_thread entries (number + 1)) number actor mutator
+  thread_of number actor mutator here = subst (λ machine. IsMachine config stage.words the_world (of_thread entries (number + 1)) number actor machine) here.is (goes.follows.machines number actor here.here)
 
   -- words and machines stand for the graph
-  abbrev pub stands : StandsFor c s (after g h)
+  abbrev pub stands : StandsFor config stage (after graph entries)
   stands = record {
     block = goes.follows.block;
     ghost = goes.follows.ghost;
@@ -30,7 +30,7 @@ module _ (c : Config) (g : Graph) (s : Stage Actor) (h : List Entry) (goes : Goe
     rooms = goes.follows.shared.owned.rooms.seated;
     promised_to = goes.follows.promised_to;
     mutators = λ number a m here. let mine = (thread_of number a m here).mine in record { made = mine.seated.counted; roots = mine.roots; rooms = mine.rooms };
-    asked = λ number a m here going. let thread = thread_of number a m here in has_asked c the_world m.seat m.made m.kept a.command thread.fixed m.spot going thread.mine;
-    seats = λ number a here. in_seat c s.words the_world (of_thread h (number + 1)) number a a.machine (goes.follows.machines number a here);
-    served = λ number a m here. let thread = thread_of number a m here in served c the_world m a.command thread.fixed thread.mine;
+    asked = λ number a m here going. let thread = thread_of number a m here in has_asked config the_world m.seat m.made m.kept a.command thread.fixed m.spot going thread.mine;
+    seats = λ number a here. in_seat config stage.words the_world (of_thread entries (number + 1)) number a a.machine (goes.follows.machines number a here);
+    served = λ number a m here. let thread = thread_of number a m here in served config the_world m a.command thread.fixed thread.mine;
   }

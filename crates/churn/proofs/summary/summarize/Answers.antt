@@ -6,5 +6,5 @@ use Rattle.churn.proofs.summary.summarize.Goals as goal
 
 pub returns-clause-turns : goal.returns-clause-turns
 returns-clause-turns c =
-    subst (λ (s : Summary). SumsUpRuns c.args.seed c.args.count c.args.replies.now c.args.graph.now.rows s) (sym c.counted.ensures)
+    subst (λ (summary : Summary). SumsUpRuns c.args.seed c.args.count c.args.replies.now c.args.graph.now.rows summary) (sym c.counted.ensures)
     (sums_up c.args.seed c.args.count c.args.replies.now c.args.graph.now.rows)

@@ -11,8 +11,8 @@ use Rattle.control.proofs.Collecting.{of-same, whole-ended, short-ended}
 use Rattle.control.proofs.collect.end_cycle.Goals as goal
 
 -- what is short is not whole
-not_whole : (result : Finished) (whole : (result ≡ Finished.Whole) → ⊥) (c : Config) (m : Word → ℕ) → ((is_whole c m ≡ true) → result ≡ Finished.Whole) → is_whole c m ≡ false
-not_whole result other c m tells = ⊎_elim (λ (is : is_whole c m ≡ true). absurd (other (tells is))) (λ (none : is_whole c m ≡ false). none) (cases_Bool (is_whole c m))
+not_whole : (result : Finished) (whole : (result ≡ Finished.Whole) → ⊥) (config : Config) (memory : Word → ℕ) → ((is_whole config memory ≡ true) → result ≡ Finished.Whole) → is_whole config memory ≡ false
+not_whole result other config memory tells = ⊎_elim (λ (is : is_whole config memory ≡ true). absurd (other (tells is))) (λ (none : is_whole config memory ≡ false). none) (cases_Bool (is_whole config memory))
 
 pub full-requires : goal.full-requires
 full-requires c =
@@ -28,7 +28,7 @@ returns-in-Whole-clause-words c =
 pub returns-in-Short-clause-words : goal.returns-in-Short-clause-words
 returns-in-Short-clause-words c =
     c.full.ensures.words
-    ∙ ap (λ (d : Config). full d (memory_of c.finish.new.image)) c.finish.ensures.config
+    ∙ ap (λ (config : Config). full config (memory_of c.finish.new.image)) c.finish.ensures.config
     ∙ ap (full (config_of c.args.image.now)) c.finish.ensures.words
     ∙ short-ended (config_of c.args.image.now) (memory_of c.args.image.now)
     (not_whole c.finish.result (λ is. (let differ = sym is ∙ c.in-Short.is in cc)) (config_of c.args.image.now) (memory_of c.args.image.now) c.finish.ensures.whole.1)

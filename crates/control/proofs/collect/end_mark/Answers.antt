@@ -12,7 +12,7 @@ use Rattle.control.proofs.collect.end_mark.Goals as goal
 begins : (old new : Image) → config_of new ≡ config_of old → memory_of new ≡ final_marked (config_of old) (memory_of old) → CanBegin (config_of old) (final_marked (config_of old) (memory_of old))
     → CanBegin (config_of new) (memory_of new)
 begins old new config words can =
-    subst (λ (d : Config). CanBegin d (memory_of new)) (sym config) (subst (λ (m : Word → ℕ). CanBegin (config_of old) m) (sym words) can)
+    subst (λ (config : Config). CanBegin config (memory_of new)) (sym config) (subst (λ (memory : Word → ℕ). CanBegin (config_of old) memory) (sym words) can)
 
 pub choose-set-requires : goal.choose-set-requires
 choose-set-requires c = begins c.args.image.now c.final_mark.new.image c.final_mark.ensures.config c.final_mark.ensures.words c.requires.can
@@ -24,5 +24,5 @@ pub returns-clause-words : goal.returns-clause-words
 returns-clause-words c =
     c.begin_evac.ensures.words
     ∙ ap (evac_begun (config_of c.final_mark.new.image) (memory_of c.final_mark.new.image)) c.choose-set.ensures.value
-    ∙ ap (λ (d : Config). evac_begun d (memory_of c.final_mark.new.image) (chosen d (memory_of c.final_mark.new.image))) c.final_mark.ensures.config
-    ∙ ap (λ (m : Word → ℕ). evac_begun (config_of c.args.image.now) m (chosen (config_of c.args.image.now) m)) c.final_mark.ensures.words
+    ∙ ap (λ (config : Config). evac_begun config (memory_of c.final_mark.new.image) (chosen config (memory_of c.final_mark.new.image))) c.final_mark.ensures.config
+    ∙ ap (λ (memory : Word → ℕ). evac_begun (config_of c.args.image.now) memory (chosen (config_of c.args.image.now) memory)) c.final_mark.ensures.words

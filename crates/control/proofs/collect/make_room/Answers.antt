@@ -45,7 +45,7 @@ pub returns-in-1-clause-words : goal.returns-in-1-clause-words
 returns-in-1-clause-words c =
     let on = sym c.phase.ensures ∙ c.in-1.is in
     c.end_cycle.ensures.words
-    ∙ ap (λ (d : Config). ended d (memory_of c.end_mark.new.image)) c.end_mark.ensures.config
+    ∙ ap (λ (config : Config). ended config (memory_of c.end_mark.new.image)) c.end_mark.ensures.config
     ∙ ap (ended (config_of c.args.image.now)) (c.end_mark.ensures.words ∙ marking-past (config_of c.args.image.now) (memory_of c.args.image.now) on)
     ∙ ended-made (config_of c.args.image.now) (memory_of c.args.image.now) (λ idle. omega (arith, on, idle))
 

@@ -9,5 +9,5 @@ abbrev pub invariant-loop-index : goal.invariant-loop-index
 invariant-loop-index l = record {
   config : config_of l.image ≡ config_of l.initial.image;
   clear : IsClear l.image;
-  loaded : (k : ℕ) → k < l.index → get_or (image_in l.image) k 0 ≡ get_or l.words (image_start (config_of l.initial.image) + k) 0;
+  loaded : (index : ℕ) → index < l.index → get_or (image_in l.image) index 0 ≡ get_or l.words (image_start (config_of l.initial.image) + index) 0;
 }

@@ -66,10 +66,10 @@ module _ (old mid : Image) (extent now : Extent) (phase index word : ℕ) (less 
       image_then = image_made collect_image d extent phase index word (image_in old) long less own last starts (image_in new) made_then
 
       pub phase_then : memory_of new Phase ≡ next_phase collect_image d (LoadWord index extent) before phase word
-      phase_then = ap (λ (m : Word → ℕ). m Phase) memory_then ∙ phase_made collect_image d extent phase index word (image_in old) long less own last starts (image_in new) made_then
+      phase_then = ap (λ (memory : Word → ℕ). memory Phase) memory_then ∙ phase_made collect_image d extent phase index word (image_in old) long less own last starts (image_in new) made_then
 
       pub cset_then : (cset : ℕ) → memory_of new Cset ≡ next_set collect_image d (LoadWord index extent) before cset phase word
-      cset_then cset = ap (λ (m : Word → ℕ). m Cset) memory_then ∙ cset_made collect_image d extent phase index word (image_in old) long less own last starts (image_in new) made_then cset
+      cset_then cset = ap (λ (memory : Word → ℕ). memory Cset) memory_then ∙ cset_made collect_image d extent phase index word (image_in old) long less own last starts (image_in new) made_then cset
 
       pub seen_then : (seen : ℕ) → seen_after seen (memory_of new) ≡ next_seen collect_image d (LoadWord index extent) before seen phase word
       seen_then seen = ap (seen_after seen) memory_then ∙ seen_made collect_image d extent phase index word (image_in old) long less own last starts (image_in new) made_then seen

@@ -10,7 +10,7 @@ use Rattle.control.proofs.Images.{length-image_in}
 use Rattle.control.proofs.Starting.{has_more}
 use Rattle.control.proofs.starts.clear_starts.Goals as goal
 
-or_none : (b : Bool) → (b || false) ≡ b
+or_none : (holds : Bool) → (holds || false) ≡ holds
 or_none true = refl
 or_none false = refl
 
@@ -20,15 +20,15 @@ module _ (starts xs ys : List ℕ) (number : ℕ) (some : number < length starts
   abbrev start : ℕ
   start = slice_index starts number
 
-  one_more : (k : ℕ) → slice_index (set ys start 0) k ≡ (if has (take (number + 1) starts) k then 0 else slice_index xs k)
-  one_more k = ⊎_elim
-      (λ (same : k ≡ start).
+  one_more : (index : ℕ) → slice_index (set ys start 0) index ≡ (if has (take (number + 1) starts) index then 0 else slice_index xs index)
+  one_more index = ⊎_elim
+      (λ (same : index ≡ start).
       subst (λ j. slice_index (set ys start 0) j ≡ 0) (sym same) (get_or-set_same ys start 0 0 inside)
-      ∙ sym (cond-true (has (take (number + 1) starts) k) 0 (slice_index xs k) (has_more starts number k some ∙ or_right (has (take number starts) k) (nat_eq k start) (eq-eqb k start same))))
-      (λ (other : k ≢ start).
-      get_or-set_other ys start k 0 0 other ∙ cleared k
-      ∙ ap (λ b. if b then 0 else slice_index xs k) (sym (has_more starts number k some ∙ ap (λ b. has (take number starts) k || b) (ne_eqb k start other) ∙ or_none (has (take number starts) k))))
-      (cases_eq k start)
+      ∙ sym (cond-true (has (take (number + 1) starts) index) 0 (slice_index xs index) (has_more starts number index some ∙ or_right (has (take number starts) index) (nat_eq index start) (eq-eqb index start same))))
+      (λ (other : index ≢ start).
+      get_or-set_other ys start index 0 0 other ∙ cleared index
+      ∙ ap (λ b. if b then 0 else slice_index xs index) (sym (has_more starts number index some ∙ ap (λ b. has (take number starts) index || b) (ne_eqb index start other) ∙ or_none (has (take number starts) index))))
+      (cases_eq index start)
 
 pub put_word-requires-clause-index : goal.put_word-requires-clause-index
 put_word-requires-clause-index c =

@@ -10,5 +10,5 @@ abbrev pub invariant-loop-number : goal.invariant-loop-number
 invariant-loop-number l = record {
   config : config_of l.image ≡ config_of l.initial.image;
   clear : IsClear l.image;
-  cleared : (k : ℕ) → slice_index (image_in l.image) k ≡ (if has (take l.number l.starts) k then 0 else slice_index (image_in l.initial.image) k);
+  cleared : (index : ℕ) → slice_index (image_in l.image) index ≡ (if has (take l.number l.starts) index then 0 else slice_index (image_in l.initial.image) index);
 }

@@ -12,10 +12,10 @@ use Rattle.control.proofs.Starting.{first_of_heap}
 use Rattle.control.proofs.starts.start_of.Goals as goal
 
 -- where a buffer has free words, the first of them is a word of the heap
-first_is_word : (k : Config) (word : ℕ) → (word ≢ 0 → IsInside k word) → next_in word < end_in word → IsWord k (Heap (next_in word))
-first_is_word k word inside some =
-    let is : IsInside k word = inside (λ none. let end : end_in word ≡ 0 = ap end_in none in omega (arith, some, end)) in
-    regions_tile.in_heap k (buffer_region k word) (next_in word) is.region (record { from = is.from_base; before = (let to = is.to_end in omega (arith, some, to)) })
+first_is_word : (config : Config) (word : ℕ) → (word ≢ 0 → IsInside config word) → next_in word < end_in word → IsWord config (Heap (next_in word))
+first_is_word config word inside some =
+    let is : IsInside config word = inside (λ none. let end : end_in word ≡ 0 = ap end_in none in omega (arith, some, end)) in
+    regions_tile.in_heap config (buffer_region config word) (next_in word) is.region (record { from = is.from_base; before = (let to = is.to_end in omega (arith, some, to)) })
 
 pub heap_at-requires : goal.heap_at-requires
 heap_at-requires c =

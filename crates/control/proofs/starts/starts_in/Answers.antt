@@ -24,9 +24,9 @@ start_of-requires c =
     let memory = memory_of c.args.image.now in
     let seat = c.loop-seat.seat in
     let same_config = c.config-config.ensures in
-    let below : seat < seat_count config.mutators config.helpers = omega (arith, c.loop-seat-test.true, c.seats-seat-end.ensures, ap (λ (d : Config). seat_count d.mutators d.helpers) same_config) in
+    let below : seat < seat_count config.mutators config.helpers = omega (arith, c.loop-seat-test.true, c.seats-seat-end.ensures, ap (λ (config : Config). seat_count config.mutators config.helpers) same_config) in
     let word : c.word.result ≡ memory (Current seat) = c.word.ensures.named (Current seat) below (sym (c.cur_at.ensures ∙ ap (λ d. word_at d (Current seat)) same_config)) in
-    λ some. subst (λ (d : Config). IsInside d c.word.result) (sym same_config) (subst (IsInside config) (sym word) (c.requires seat below (λ none. some (word ∙ none))))
+    λ some. subst (λ (config : Config). IsInside config c.word.result) (sym same_config) (subst (IsInside config) (sym word) (c.requires seat below (λ none. some (word ∙ none))))
 
 pub loop-seat-preserved : goal.loop-seat-preserved
 loop-seat-preserved c =
@@ -35,7 +35,7 @@ loop-seat-preserved c =
     let seat = c.loop-seat.seat in
     let starts = c.loop-seat.starts in
     let same_config = c.config-config.ensures in
-    let below : seat < seat_count config.mutators config.helpers = omega (arith, c.loop-seat-test.true, c.seats-seat-end.ensures, ap (λ (d : Config). seat_count d.mutators d.helpers) same_config) in
+    let below : seat < seat_count config.mutators config.helpers = omega (arith, c.loop-seat-test.true, c.seats-seat-end.ensures, ap (λ (config : Config). seat_count config.mutators config.helpers) same_config) in
     let mutators = config.in_range.most_mutators in
     let helpers = config.in_range.most_helpers in
     let word : c.word.result ≡ memory (Current seat) = c.word.ensures.named (Current seat) below (sym (c.cur_at.ensures ∙ ap (λ d. word_at d (Current seat)) same_config)) in
@@ -53,7 +53,7 @@ loop-seat-preserved c =
 
 pub returns-clause-are : goal.returns-clause-are
 returns-clause-are c =
-    let seats = ap (λ (d : Config). seat_count d.mutators d.helpers) c.config-config.ensures in
+    let seats = ap (λ (config : Config). seat_count config.mutators config.helpers) c.config-config.ensures in
     record {
       long = c.loop-seat.invariant.long;
       of_seat = λ seat below. c.loop-seat.invariant.of_seat seat (omega (arith, below, c.loop-seat-test.false, c.seats-seat-end.ensures, seats));

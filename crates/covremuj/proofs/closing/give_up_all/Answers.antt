@@ -20,7 +20,7 @@ loop-at-preserved c =
     let long = l.auto.handles in (
       emptied_more l.handles l.at c.take.new.self (omega (arith, below, long)) c.take.ensures.empty l.invariant.0,
       before ++ seat_in held,
-      subst (λ (o : Option Seat). AreGathered (before ++ seat_in o) c.with_next-gathering.result) (given_is_held c.take.result held c.take.ensures.taken) (c.with_next-gathering.ensures before l.invariant.2),
+      subst (λ (found : Option Seat). AreGathered (before ++ seat_in found) c.with_next-gathering.result) (given_is_held c.take.result held c.take.ensures.taken) (c.with_next-gathering.ensures before l.invariant.2),
       append_assoc before (seat_in held) (seats_in (seats_held (slice_set l.handles l.at c.take.new.self)))
           ∙ ap (λ (ys : List Seat). before ++ ys) (sym (taken_next l.handles l.at d c.take.new.self (omega (arith, below, long)) c.take.ensures.empty l.invariant.0)) ∙ l.invariant.3,
     )

@@ -31,7 +31,7 @@ hold-requires-clause-count c =
     let here : AreFollowedHere (seats_in held) c.in-Some-renewed.following = subst (λ (os : List (Option Seat)). AreFollowedHere (seats_in os) c.in-Some-renewed.following) same c.in-Some-renewed.ensures.goes_on in
     let first = first_counts held (subst (AnswersAsked Ended held) why c.refuses-why.ensures.answer) in
     c.renewed.ensures.count ∙ sym (length-map hs (λ (h : Handle). h.held)) ∙ ap (λ (os : List (Option Seat)). length os) same
-    ∙ sym first.2 ∙ ap (λ (k : Config). seat_count k.mutators k.helpers) (here.config 0 first.0 first.1) ∙ sym here.followed.goes_on.fresh.count
+    ∙ sym first.2 ∙ ap (λ (config : Config). seat_count config.mutators config.helpers) (here.config 0 first.0 first.1) ∙ sym here.followed.goes_on.fresh.count
 
 pub returns-in-Some-renewed-clause-answer : goal.returns-in-Some-renewed-clause-answer
 returns-in-Some-renewed-clause-answer c =

@@ -22,7 +22,7 @@ with_seat-closing-requires c =
     let long = l.auto.handles in
     let path : before ++ (seat_in held ++ rest) ≡ seats_in (seats_held c.args.handles.now) =
     ap (λ (ys : List Seat). before ++ ys) (sym (taken_next l.handles l.at d c.take.new.self (omega (arith, below, long)) c.take.ensures.empty l.invariant.0)) ∙ l.invariant.3 in
-    subst (λ (o : Option Seat). IsOfThatHeap l.closing o) (sym (given_is_held c.take.result held c.take.ensures.taken))
+    subst (λ (found : Option Seat). IsOfThatHeap l.closing found) (sym (given_is_held c.take.result held c.take.ensures.taken))
     (fits_next l.closing before rest (seats_in (seats_held c.args.handles.now)) held path c.requires.one_heap l.invariant.2)
 
 pub loop-at-preserved : goal.loop-at-preserved
@@ -40,8 +40,8 @@ loop-at-preserved c =
     let numbers = (make_up_ended (seats_held c.args.handles.now) c.requires.all c.requires.one_heap).number in (
       emptied_more l.handles l.at c.take.new.self (omega (arith, below, long)) c.take.ensures.empty l.invariant.0,
       before ++ seat_in held,
-      subst (λ (o : Option Seat). AreGivenIn (before ++ seat_in o) c.with_seat-closing.result) is
-          (c.with_seat-closing.ensures before l.invariant.2 (subst (λ (o : Option Seat). AreAbsent before o) (sym is) (absent_next before rest (seats_in (seats_held c.args.handles.now)) held path numbers))),
+      subst (λ (found : Option Seat). AreGivenIn (before ++ seat_in found) c.with_seat-closing.result) is
+          (c.with_seat-closing.ensures before l.invariant.2 (subst (λ (found : Option Seat). AreAbsent before found) (sym is) (absent_next before rest (seats_in (seats_held c.args.handles.now)) held path numbers))),
       append_assoc before (seat_in held) rest ∙ path,
     )
 

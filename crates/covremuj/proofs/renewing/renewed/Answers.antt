@@ -24,7 +24,7 @@ returns-clause-goes_on c =
       sizes = sizes_closing closing;
       start = start_closing closing;
       config = to_be.all.config;
-      begun = λ k s there. ap (λ (h : Heap). start_of_heap h) (to_be.all.heap k s there);
+      begun = λ k s there. ap (λ (heap : Heap). start_of_heap heap) (to_be.all.heap k s there);
       followed = followed;
     })
     (c.renew.ensures (seats_in (seats_held c.args.handles.now)) to_be)

@@ -14,7 +14,7 @@ use Rattle.cset_choice.proofs.EvacuationBegun.{set_stored, begun, not_begun}
 use Rattle.cset_choice.proofs.begin.begin_evac.Goals as goal
 
 abbrev answers : Config → List Word
-answers g = map Answer (range_with_len 0 g.mutators)
+answers config = map Answer (range_with_len 0 config.mutators)
 
 pub returns-then-set-eq0-clause-words : goal.returns-then-set-eq0-clause-words
 returns-then-set-eq0-clause-words c =
@@ -28,8 +28,8 @@ clear_all_roots-requires c =
     let stored_is : memory_of one ≡ with_set memory (chosen config memory) =
     stored config c.config.result memory (memory_of one) Cset c.cset_at.result c.args.set (sym c.config.ensures) tt c.cset_at.ensures c.set_word.ensures.named
     ∙ set_stored memory c.args.set ∙ ap (with_set memory) c.requires.set in
-    subst (λ (k : Config). CanClearInTurn k (memory_of one) (root_places k.mutators)) (sym c.set_word.ensures.config)
-    (subst (λ (n : Word → ℕ). CanClearInTurn config n (root_places config.mutators)) (sym stored_is)
+    subst (λ (config : Config). CanClearInTurn config (memory_of one) (root_places config.mutators)) (sym c.set_word.ensures.config)
+    (subst (λ (memory : Word → ℕ). CanClearInTurn config memory (root_places config.mutators)) (sym stored_is)
     (can_front config (root_places config.mutators) (answers config) (with_set memory (chosen config memory)) (can_clear_in_turn config memory c.requires.can)))
 
 pub clear_answers-requires : goal.clear_answers-requires
@@ -43,10 +43,10 @@ clear_answers-requires c =
     ∙ set_stored memory c.args.set ∙ ap (with_set memory) c.requires.set in
     let cleared_is : memory_of two ≡ cleared_in_turn config (with_set memory (chosen config memory)) (root_places config.mutators) =
     c.clear_all_roots.ensures.words
-    ∙ ap (λ (k : Config). cleared_in_turn k (memory_of one) (root_places k.mutators)) c.set_word.ensures.config
-    ∙ ap (λ (n : Word → ℕ). cleared_in_turn config n (root_places config.mutators)) stored_is in
-    subst (λ (k : Config). CanClearInTurn k (memory_of two) (answers k)) (sym (c.clear_all_roots.ensures.config ∙ c.set_word.ensures.config))
-    (subst (λ (n : Word → ℕ). CanClearInTurn config n (answers config)) (sym cleared_is)
+    ∙ ap (λ (config : Config). cleared_in_turn config (memory_of one) (root_places config.mutators)) c.set_word.ensures.config
+    ∙ ap (λ (memory : Word → ℕ). cleared_in_turn config memory (root_places config.mutators)) stored_is in
+    subst (λ (config : Config). CanClearInTurn config (memory_of two) (answers config)) (sym (c.clear_all_roots.ensures.config ∙ c.set_word.ensures.config))
+    (subst (λ (memory : Word → ℕ). CanClearInTurn config memory (answers config)) (sym cleared_is)
     (can_back config (root_places config.mutators) (answers config) (with_set memory (chosen config memory)) (can_clear_in_turn config memory c.requires.can)))
 
 pub returns-clause-words : goal.returns-clause-words
@@ -61,12 +61,12 @@ returns-clause-words c =
     stored config c.config.result memory (memory_of one) Cset c.cset_at.result set (sym c.config.ensures) tt c.cset_at.ensures c.set_word.ensures.named ∙ set_stored memory set in
     let roots : memory_of two ≡ cleared_in_turn config (with_set memory set) (root_places config.mutators) =
     c.clear_all_roots.ensures.words
-    ∙ ap (λ (k : Config). cleared_in_turn k (memory_of one) (root_places k.mutators)) c.set_word.ensures.config
-    ∙ ap (λ (n : Word → ℕ). cleared_in_turn config n (root_places config.mutators)) stored_is in
+    ∙ ap (λ (config : Config). cleared_in_turn config (memory_of one) (root_places config.mutators)) c.set_word.ensures.config
+    ∙ ap (λ (memory : Word → ℕ). cleared_in_turn config memory (root_places config.mutators)) stored_is in
     let all : memory_of three ≡ cleared_in_turn config (with_set memory set) (root_places config.mutators ++ answers config) =
     c.clear_answers.ensures.words
-    ∙ ap (λ (k : Config). cleared_in_turn k (memory_of two) (answers k)) (c.clear_all_roots.ensures.config ∙ c.set_word.ensures.config)
-    ∙ ap (λ (n : Word → ℕ). cleared_in_turn config n (answers config)) roots
+    ∙ ap (λ (config : Config). cleared_in_turn config (memory_of two) (answers config)) (c.clear_all_roots.ensures.config ∙ c.set_word.ensures.config)
+    ∙ ap (λ (memory : Word → ℕ). cleared_in_turn config memory (answers config)) roots
     ∙ sym (turn_both config (root_places config.mutators) (answers config) (with_set memory set)) in
     c.start.ensures.words ∙ ap evac_started all ∙ begun config memory set c.if-set-eq0.false
 

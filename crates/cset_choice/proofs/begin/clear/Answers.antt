@@ -23,6 +23,6 @@ returns-clause-words c = λ place is at.
     let next = c.move_out-copy.new.image in
     let moved : memory_of next ≡ moved_out config memory (memory place) = c.move_out-copy.ensures.words ∙ ap (moved_out config memory) value in
     let copy : c.move_out-copy.result ≡ now_in (moved_out config memory (memory place)) (memory place) =
-    c.move_out-copy.ensures.copy ∙ ap (λ (n : Word → ℕ). now_in n c.word-address.result) moved ∙ ap (now_in (moved_out config memory (memory place))) value in
+    c.move_out-copy.ensures.copy ∙ ap (λ (memory : Word → ℕ). now_in memory c.word-address.result) moved ∙ ap (now_in (moved_out config memory (memory place))) value in
     let one = stored (config_of next) config (memory_of next) (memory_of c.set_word.new.self) place c.args.at c.move_out-copy.result c.move_out-copy.ensures.config is (sym at) c.set_word.ensures.named in
     one ∙ ap (λ n. write n place c.move_out-copy.result) moved ∙ ap (write (moved_out config memory (memory place)) place) copy ∙ cleared config memory place collected

@@ -16,9 +16,9 @@ clear_roots-requires-clause-can c =
     let memory : Word → ℕ = memory_of c.args.image.now in
     let mutator = c.loop-mutator.mutator in
     let is = c.loop-mutator.invariant in
-    let below : mutator < config.mutators = omega (arith, c.loop-mutator-test.true, c.mutators-mutator-end.ensures, ap (λ (k : Config). k.mutators) c.config-config.ensures) in
-    subst (λ (k : Config). CanClearInTurn k (memory_of c.loop-mutator.image) (map (Root mutator) (range_with_len 0 16))) (sym is.config)
-    (subst (λ (n : Word → ℕ). CanClearInTurn config n (map (Root mutator) (range_with_len 0 16))) (sym is.words) (rows_can config memory config.mutators mutator below c.requires))
+    let below : mutator < config.mutators = omega (arith, c.loop-mutator-test.true, c.mutators-mutator-end.ensures, ap (λ (config : Config). config.mutators) c.config-config.ensures) in
+    subst (λ (config : Config). CanClearInTurn config (memory_of c.loop-mutator.image) (map (Root mutator) (range_with_len 0 16))) (sym is.config)
+    (subst (λ (memory : Word → ℕ). CanClearInTurn config memory (map (Root mutator) (range_with_len 0 16))) (sym is.words) (rows_can config memory config.mutators mutator below c.requires))
 
 pub loop-mutator-preserved : goal.loop-mutator-preserved
 loop-mutator-preserved c =
@@ -30,7 +30,7 @@ loop-mutator-preserved c =
     record {
       config = c.clear_roots.ensures.config ∙ is.config;
       words = c.clear_roots.ensures.words
-          ∙ ap (λ (k : Config). cleared_in_turn k (memory_of c.loop-mutator.image) places) is.config
-          ∙ ap (λ (n : Word → ℕ). cleared_in_turn config n places) is.words
+          ∙ ap (λ (config : Config). cleared_in_turn config (memory_of c.loop-mutator.image) places) is.config
+          ∙ ap (λ (memory : Word → ℕ). cleared_in_turn config memory places) is.words
           ∙ rows_next config memory mutator;
     }

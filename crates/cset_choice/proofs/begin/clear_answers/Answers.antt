@@ -15,17 +15,17 @@ clear-requires-clause-can c =
     let config = config_of c.args.image.now in
     let memory : Word → ℕ = memory_of c.args.image.now in
     let mutator = c.loop-mutator.mutator in
-    let below : mutator < config.mutators = omega (arith, c.loop-mutator-test.true, c.mutators-mutator-end.ensures, ap (λ (k : Config). k.mutators) c.config-config.ensures) in
+    let below : mutator < config.mutators = omega (arith, c.loop-mutator-test.true, c.mutators-mutator-end.ensures, ap (λ (config : Config). config.mutators) c.config-config.ensures) in
     let now = c.loop-mutator.image in
     let is = c.loop-mutator.invariant in
-    let word : IsWord (config_of now) (Answer mutator) = subst (λ (k : Config). IsWord k (Answer mutator)) (sym is.config) below in
-    let at : c.answer_at.result ≡ word_at (config_of now) (Answer mutator) = c.answer_at.ensures ∙ ap (λ (k : Config). word_at k (Answer mutator)) (c.config-config.ensures ∙ sym is.config) in
+    let word : IsWord (config_of now) (Answer mutator) = subst (λ (config : Config). IsWord config (Answer mutator)) (sym is.config) below in
+    let at : c.answer_at.result ≡ word_at (config_of now) (Answer mutator) = c.answer_at.ensures ∙ ap (λ (config : Config). word_at config (Answer mutator)) (c.config-config.ensures ∙ sym is.config) in
     let value : slice_index (words_of now) c.answer_at.result ≡ memory_of now (Answer mutator) =
     ap (slice_index (words_of now)) at ∙ sym (view_word (config_of now) (words_of now) (Answer mutator) word) in
     let here : CanClear config (row config memory Answer mutator) (memory_of now (Answer mutator)) =
     subst (λ (n : Word → ℕ). CanClear config (row config memory Answer mutator) (n (Answer mutator))) (sym is.words) (row_can config memory Answer config.mutators mutator below c.requires) in
-    subst (λ (k : Config). CanClear k (memory_of now) (slice_index (words_of now) c.answer_at.result)) (sym is.config)
-    (subst (λ (n : Word → ℕ). CanClear config n (slice_index (words_of now) c.answer_at.result)) (sym is.words)
+    subst (λ (config : Config). CanClear config (memory_of now) (slice_index (words_of now) c.answer_at.result)) (sym is.config)
+    (subst (λ (memory : Word → ℕ). CanClear config memory (slice_index (words_of now) c.answer_at.result)) (sym is.words)
     (subst (CanClear config (row config memory Answer mutator)) (sym value) here))
 
 pub loop-mutator-preserved : goal.loop-mutator-preserved
@@ -33,15 +33,15 @@ loop-mutator-preserved c =
     let config = config_of c.args.image.now in
     let memory : Word → ℕ = memory_of c.args.image.now in
     let mutator = c.loop-mutator.mutator in
-    let below : mutator < config.mutators = omega (arith, c.loop-mutator-test.true, c.mutators-mutator-end.ensures, ap (λ (k : Config). k.mutators) c.config-config.ensures) in
+    let below : mutator < config.mutators = omega (arith, c.loop-mutator-test.true, c.mutators-mutator-end.ensures, ap (λ (config : Config). config.mutators) c.config-config.ensures) in
     let now = c.loop-mutator.image in
     let is = c.loop-mutator.invariant in
-    let word : IsWord (config_of now) (Answer mutator) = subst (λ (k : Config). IsWord k (Answer mutator)) (sym is.config) below in
-    let at : c.answer_at.result ≡ word_at (config_of now) (Answer mutator) = c.answer_at.ensures ∙ ap (λ (k : Config). word_at k (Answer mutator)) (c.config-config.ensures ∙ sym is.config) in
+    let word : IsWord (config_of now) (Answer mutator) = subst (λ (config : Config). IsWord config (Answer mutator)) (sym is.config) below in
+    let at : c.answer_at.result ≡ word_at (config_of now) (Answer mutator) = c.answer_at.ensures ∙ ap (λ (config : Config). word_at config (Answer mutator)) (c.config-config.ensures ∙ sym is.config) in
     record {
       config = c.clear.ensures.config ∙ is.config;
       words = c.clear.ensures.words (Answer mutator) word (sym at)
-          ∙ ap (λ (k : Config). cleared_at k (memory_of now) (Answer mutator)) is.config
-          ∙ ap (λ (n : Word → ℕ). cleared_at config n (Answer mutator)) is.words
+          ∙ ap (λ (config : Config). cleared_at config (memory_of now) (Answer mutator)) is.config
+          ∙ ap (λ (memory : Word → ℕ). cleared_at config memory (Answer mutator)) is.words
           ∙ row_next config memory Answer mutator;
     }

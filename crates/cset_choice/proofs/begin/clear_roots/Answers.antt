@@ -18,14 +18,14 @@ clear-requires-clause-can c =
     let i = c.loop-index.index in
     let now = c.loop-index.image in
     let is = c.loop-index.invariant in
-    let word : IsWord (config_of now) (Root mutator i) = subst (λ (k : Config). IsWord k (Root mutator i)) (sym is.config) (c.requires.mutator, c.loop-index-test.true) in
-    let at : c.root_at.result ≡ word_at (config_of now) (Root mutator i) = c.root_at.ensures ∙ ap (λ (k : Config). word_at k (Root mutator i)) (c.config-config.ensures ∙ sym is.config) in
+    let word : IsWord (config_of now) (Root mutator i) = subst (λ (config : Config). IsWord config (Root mutator i)) (sym is.config) (c.requires.mutator, c.loop-index-test.true) in
+    let at : c.root_at.result ≡ word_at (config_of now) (Root mutator i) = c.root_at.ensures ∙ ap (λ (config : Config). word_at config (Root mutator i)) (c.config-config.ensures ∙ sym is.config) in
     let value : slice_index (words_of now) c.root_at.result ≡ memory_of now (Root mutator i) =
     ap (slice_index (words_of now)) at ∙ sym (view_word (config_of now) (words_of now) (Root mutator i) word) in
     let here : CanClear config (row config memory (Root mutator) i) (memory_of now (Root mutator i)) =
     subst (λ (n : Word → ℕ). CanClear config (row config memory (Root mutator) i) (n (Root mutator i))) (sym is.words) (row_can config memory (Root mutator) 16 i c.loop-index-test.true c.requires.can) in
-    subst (λ (k : Config). CanClear k (memory_of now) (slice_index (words_of now) c.root_at.result)) (sym is.config)
-    (subst (λ (n : Word → ℕ). CanClear config n (slice_index (words_of now) c.root_at.result)) (sym is.words)
+    subst (λ (config : Config). CanClear config (memory_of now) (slice_index (words_of now) c.root_at.result)) (sym is.config)
+    (subst (λ (memory : Word → ℕ). CanClear config memory (slice_index (words_of now) c.root_at.result)) (sym is.words)
     (subst (CanClear config (row config memory (Root mutator) i)) (sym value) here))
 
 pub loop-index-preserved : goal.loop-index-preserved
@@ -36,12 +36,12 @@ loop-index-preserved c =
     let i = c.loop-index.index in
     let now = c.loop-index.image in
     let is = c.loop-index.invariant in
-    let word : IsWord (config_of now) (Root mutator i) = subst (λ (k : Config). IsWord k (Root mutator i)) (sym is.config) (c.requires.mutator, c.loop-index-test.true) in
-    let at : c.root_at.result ≡ word_at (config_of now) (Root mutator i) = c.root_at.ensures ∙ ap (λ (k : Config). word_at k (Root mutator i)) (c.config-config.ensures ∙ sym is.config) in
+    let word : IsWord (config_of now) (Root mutator i) = subst (λ (config : Config). IsWord config (Root mutator i)) (sym is.config) (c.requires.mutator, c.loop-index-test.true) in
+    let at : c.root_at.result ≡ word_at (config_of now) (Root mutator i) = c.root_at.ensures ∙ ap (λ (config : Config). word_at config (Root mutator i)) (c.config-config.ensures ∙ sym is.config) in
     record {
       config = c.clear.ensures.config ∙ is.config;
       words = c.clear.ensures.words (Root mutator i) word (sym at)
-          ∙ ap (λ (k : Config). cleared_at k (memory_of now) (Root mutator i)) is.config
-          ∙ ap (λ (n : Word → ℕ). cleared_at config n (Root mutator i)) is.words
+          ∙ ap (λ (config : Config). cleared_at config (memory_of now) (Root mutator i)) is.config
+          ∙ ap (λ (memory : Word → ℕ). cleared_at config memory (Root mutator i)) is.words
           ∙ row_next config memory (Root mutator) i;
     }

@@ -19,7 +19,7 @@ word-header-requires c =
     let memory : Word → ℕ = memory_of c.args.image.now in
     let address = c.args.address in
     placed_inside config c.config.result (Heap address) c.heap_at.result (sym c.config.ensures)
-    (subst (λ (k : Config). IsWord k (Heap address)) (sym c.config.ensures) (collected_of_heap config memory address c.requires.can.set c.requires.collected)) c.heap_at.ensures
+    (subst (λ (config : Config). IsWord config (Heap address)) (sym c.config.ensures) (collected_of_heap config memory address c.requires.can.set c.requires.collected)) c.heap_at.ensures
 
 pub returns-clause-words : goal.returns-clause-words
 returns-clause-words c =
@@ -27,7 +27,7 @@ returns-clause-words c =
     let memory : Word → ℕ = memory_of c.args.image.now in
     let address = c.args.address in
     let header : c.word-header.result ≡ memory (Heap address) =
-    c.word-header.ensures.named (Heap address) (collected_of_heap config memory address c.requires.can.set c.requires.collected) (ap (λ (k : Config). word_at k (Heap address)) (sym c.config.ensures) ∙ sym c.heap_at.ensures) in
+    c.word-header.ensures.named (Heap address) (collected_of_heap config memory address c.requires.can.set c.requires.collected) (ap (λ (config : Config). word_at config (Heap address)) (sym c.config.ensures) ∙ sym c.heap_at.ensures) in
     let plain : is_forwarded (memory (Heap address)) ≡ false = ap is_forwarded (sym header) ∙ sym c.forwarded.ensures ∙ c.if-forwarded.false in
     c.copy_out.ensures.words ∙ moved_now config memory address plain
 
@@ -36,10 +36,10 @@ returns-clause-copy c =
     let config = config_of c.args.image.now in
     let memory : Word → ℕ = memory_of c.args.image.now in
     let address = c.args.address in
-    copy_is_now config memory address c.unwrap.result (sym c.copy_out.ensures.copy ∙ c.unwrap.ensures) ∙ ap (λ (n : Word → ℕ). now_in n address) (sym c.copy_out.ensures.words)
+    copy_is_now config memory address c.unwrap.result (sym c.copy_out.ensures.copy ∙ c.unwrap.ensures) ∙ ap (λ (memory : Word → ℕ). now_in memory address) (sym c.copy_out.ensures.words)
 
 pub heap_at-requires : goal.heap_at-requires
-heap_at-requires c = subst (λ (k : Config). IsWord k (Heap c.args.address)) (sym c.config.ensures) (collected_of_heap (config_of c.args.image.now) (memory_of c.args.image.now) c.args.address c.requires.can.set c.requires.collected)
+heap_at-requires c = subst (λ (config : Config). IsWord config (Heap c.args.address)) (sym c.config.ensures) (collected_of_heap (config_of c.args.image.now) (memory_of c.args.image.now) c.args.address c.requires.can.set c.requires.collected)
 
 pub copy_out-requires : goal.copy_out-requires
 copy_out-requires c =
@@ -57,7 +57,7 @@ unwrap-requires c =
     let address = c.args.address in
     let header : c.word-header.result ≡ memory (Heap address) =
     read config _ memory (Heap address) _ _ c.config.ensures (collected_of_heap config memory address c.requires.can.set c.requires.collected) c.heap_at.ensures c.word-header.ensures.named in
-    subst (λ (o : Option ℕ). IsSome o) (sym c.copy_out.ensures.copy)
+    subst (λ (found : Option ℕ). IsSome found) (sym c.copy_out.ensures.copy)
     (some_copy config memory (copy_room config memory address) (c.requires.can.room c.requires.collected (ap is_forwarded (sym header) ∙ sym c.forwarded.ensures ∙ c.if-forwarded.false)))
 
 pub returns-then-forwarded : goal.returns-then-forwarded

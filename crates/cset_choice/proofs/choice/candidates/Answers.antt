@@ -26,7 +26,7 @@ loop-region-preserved c =
     let memory : Word → ℕ = memory_of c.args.image.now in
     let region = c.loop-region.region in
     let most = config.in_range.most_regions in
-    let few : region < 64 = omega (arith, c.loop-region-test.true, c.regions-region-end.ensures, ap (λ (k : Config). k.regions) c.config.ensures, most) in
+    let few : region < 64 = omega (arith, c.loop-region-test.true, c.regions-region-end.ensures, ap (λ (config : Config). config.regions) c.config.ensures, most) in
     let counted = c.live_of_candidate-counted.result in
     let told = c.live_of_candidate-counted.ensures in
     let words : ℕ = c.unwrap_or-words.result in
@@ -41,7 +41,7 @@ pub returns-clause-live : goal.returns-clause-live
 returns-clause-live c =
     let config = config_of c.args.image.now in
     let all : c.loop-region.region ≡ config.regions =
-    omega (arith, c.loop-region-test.false, c.loop-region.auto.region-end, c.regions-region-end.ensures, ap (λ (k : Config). k.regions) c.config.ensures) in
+    omega (arith, c.loop-region-test.false, c.loop-region.auto.region-end, c.regions-region-end.ensures, ap (λ (config : Config). config.regions) c.config.ensures) in
     let live = c.loop-region.invariant.live in
     record { long = live.long; small = live.small; is = λ r below told. live.is r (omega (arith, below, all)) told }
 
@@ -50,5 +50,5 @@ returns-clause-set c =
     let config = config_of c.args.image.now in
     let memory : Word → ℕ = memory_of c.args.image.now in
     let all : c.loop-region.region ≡ config.regions =
-    omega (arith, c.loop-region-test.false, c.loop-region.auto.region-end, c.regions-region-end.ensures, ap (λ (k : Config). k.regions) c.config.ensures) in
+    omega (arith, c.loop-region-test.false, c.loop-region.auto.region-end, c.regions-region-end.ensures, ap (λ (config : Config). config.regions) c.config.ensures) in
     c.loop-region.invariant.set ∙ ap (bits_of (is_candidate config memory) 0) all

@@ -17,7 +17,7 @@ use Rattle.cset_choice.proofs.choice.choose.Goals as goal
 
 -- whether a region is to be chosen
 abbrev taken : Config → (Word → ℕ) → ℕ → Bool
-taken g m = is_in_front g.regions (copy_limit g m) (live_words g m) (is_candidate g m)
+taken config memory = is_in_front config.regions (copy_limit config memory) (live_words config memory) (is_candidate config memory)
 
 pub loop-region-init : goal.loop-region-init
 loop-region-init c = bits_none_yet (taken (config_of c.args.image.now) (memory_of c.args.image.now))
@@ -33,12 +33,12 @@ loop-region-preserved c =
     let memory : Word → ℕ = memory_of c.args.image.now in
     let region = c.loop-region.region in
     let live = c.candidates-counted.result.live in
-    let below : region < config.regions = omega (arith, c.loop-region-test.true, c.regions-region-end.ensures, ap (λ (k : Config). k.regions) c.config-config.ensures) in
+    let below : region < config.regions = omega (arith, c.loop-region-test.true, c.regions-region-end.ensures, ap (λ (config : Config). config.regions) c.config-config.ensures) in
     let set : ℕ = bits_of (is_candidate config memory) 0 config.regions in
     let told : c.is_taken.result ≡ taken config memory region =
     c.is_taken.ensures
     ∙ ap (λ s. (bit_at s region == 1) && nat_le (up_to live s c.config-config.result.regions region) c.copy_limit-limit.result) c.candidates-counted.ensures.set
-    ∙ ap (λ (k : Config). (bit_at set region == 1) && nat_le (up_to live set k.regions region) c.copy_limit-limit.result) c.config-config.ensures
+    ∙ ap (λ (config : Config). (bit_at set region == 1) && nat_le (up_to live set config.regions region) c.copy_limit-limit.result) c.config-config.ensures
     ∙ ap (λ n. (bit_at set region == 1) && nat_le (up_to live set config.regions region) n) c.copy_limit-limit.ensures
     ∙ fits_is config memory live c.candidates-counted.ensures.live region (copy_limit config memory) below in
     bits_next (taken config memory) region c.loop-region.set c.with_if-set.result c.is_taken.result c.loop-region.invariant told c.with_if-set.ensures
@@ -48,7 +48,7 @@ returns-clause-choice c =
     let config = config_of c.args.image.now in
     let memory : Word → ℕ = memory_of c.args.image.now in
     let all : c.loop-region.region ≡ config.regions =
-    omega (arith, c.loop-region-test.false, c.loop-region.auto.region-end, c.regions-region-end.ensures, ap (λ (k : Config). k.regions) c.config-config.ensures) in
+    omega (arith, c.loop-region-test.false, c.loop-region.auto.region-end, c.regions-region-end.ensures, ap (λ (config : Config). config.regions) c.config-config.ensures) in
     let value : c.loop-region.set ≡ chosen config memory = c.loop-region.invariant ∙ ap (bits_of (taken config memory) 0) all in
     subst (IsChoice config memory) (sym value) (front_is_longest config.regions (copy_limit config memory) (live_words config memory) (is_candidate config memory))
 
@@ -57,6 +57,6 @@ returns-clause-live c =
     let config = config_of c.args.image.now in
     let memory : Word → ℕ = memory_of c.args.image.now in
     let all : c.loop-region.region ≡ config.regions =
-    omega (arith, c.loop-region-test.false, c.loop-region.auto.region-end, c.regions-region-end.ensures, ap (λ (k : Config). k.regions) c.config-config.ensures) in
+    omega (arith, c.loop-region-test.false, c.loop-region.auto.region-end, c.regions-region-end.ensures, ap (λ (config : Config). config.regions) c.config-config.ensures) in
     let value : c.loop-region.set ≡ chosen config memory = c.loop-region.invariant ∙ ap (bits_of (taken config memory) 0) all in
     subst (ReachableAreLive config memory) (sym value) (chosen_are_live config memory)

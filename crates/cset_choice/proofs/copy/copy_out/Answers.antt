@@ -15,21 +15,21 @@ use Rattle.cset_choice.proofs.CopyStores.{found_room}
 use Rattle.cset_choice.proofs.copy.copy_out.Goals as goal
 
 -- the room that was found is that of the object's words
-same_room : (g : Config) (m : Word → ℕ) (a shape words : ℕ) (found room : Option ℕ) → shape ≡ m (Heap (a + 1)) → words ≡ object_words shape
-    → found ≡ lowest_room g.region_words (tops_outside g.region_words (m Cset) (λ r. m (Top r))) words g.regions → found ≡ room → copy_room g m a ≡ room
-same_room g m a shape words found room read long is same =
-    ap (λ n. lowest_room g.region_words (tops_outside g.region_words (m Cset) (λ r. m (Top r))) n g.regions) (sym (long ∙ ap object_words read)) ∙ sym is ∙ same
+same_room : (config : Config) (memory : Word → ℕ) (address shape words : ℕ) (found room : Option ℕ) → shape ≡ memory (Heap (address + 1)) → words ≡ object_words shape
+    → found ≡ lowest_room config.region_words (tops_outside config.region_words (memory Cset) (λ r. memory (Top r))) words config.regions → found ≡ room → copy_room config memory address ≡ room
+same_room config memory address shape words found room read long is same =
+    ap (λ n. lowest_room config.region_words (tops_outside config.region_words (memory Cset) (λ r. memory (Top r))) n config.regions) (sym (long ∙ ap object_words read)) ∙ sym is ∙ same
 
-module _ (g : Config) (m : Word → ℕ) (a : ℕ) (can : CanCopyOut g m a) where
-  pub shape_is : IsWord g (Heap (a + 1))
-  shape_is = word_of_heap g a (words_at m a) 1 (object_in_heap g a (words_at m a) can.above can.of_region can.lies) (omega arith)
+module _ (config : Config) (memory : Word → ℕ) (address : ℕ) (can : CanCopyOut config memory address) where
+  pub shape_is : IsWord config (Heap (address + 1))
+  shape_is = word_of_heap config address (words_at memory address) 1 (object_in_heap config address (words_at memory address) can.above can.of_region can.lies) (omega arith)
 
 pub copy_to-requires-clause-region : goal.copy_to-requires-clause-region
 copy_to-requires-clause-region c =
     let config = config_of c.args.image.now in
     let memory : Word → ℕ = memory_of c.args.image.now in
     let address = c.args.address in
-    let read = c.word.ensures.named (Heap (address + 1)) (shape_is config memory address c.requires) (ap (λ (k : Config). word_at k (Heap (address + 1))) (sym c.config.ensures) ∙ sym c.heap_at.ensures) in
+    let read = c.word.ensures.named (Heap (address + 1)) (shape_is config memory address c.requires) (ap (λ (config : Config). word_at config (Heap (address + 1))) (sym c.config.ensures) ∙ sym c.heap_at.ensures) in
     (found_room config memory address c.in-Some.region (same_room config memory address c.word.result c.words_of-words.result c.room_outside.result (Some c.in-Some.region) read c.words_of-words.ensures c.room_outside.ensures c.in-Some.is)).0
 
 pub copy_to-requires-clause-outside : goal.copy_to-requires-clause-outside
@@ -37,7 +37,7 @@ copy_to-requires-clause-outside c =
     let config = config_of c.args.image.now in
     let memory : Word → ℕ = memory_of c.args.image.now in
     let address = c.args.address in
-    let read = c.word.ensures.named (Heap (address + 1)) (shape_is config memory address c.requires) (ap (λ (k : Config). word_at k (Heap (address + 1))) (sym c.config.ensures) ∙ sym c.heap_at.ensures) in
+    let read = c.word.ensures.named (Heap (address + 1)) (shape_is config memory address c.requires) (ap (λ (config : Config). word_at config (Heap (address + 1))) (sym c.config.ensures) ∙ sym c.heap_at.ensures) in
     (found_room config memory address c.in-Some.region (same_room config memory address c.word.result c.words_of-words.result c.room_outside.result (Some c.in-Some.region) read c.words_of-words.ensures c.room_outside.ensures c.in-Some.is)).1
 
 pub copy_to-requires-clause-room : goal.copy_to-requires-clause-room
@@ -45,7 +45,7 @@ copy_to-requires-clause-room c =
     let config = config_of c.args.image.now in
     let memory : Word → ℕ = memory_of c.args.image.now in
     let address = c.args.address in
-    let read = c.word.ensures.named (Heap (address + 1)) (shape_is config memory address c.requires) (ap (λ (k : Config). word_at k (Heap (address + 1))) (sym c.config.ensures) ∙ sym c.heap_at.ensures) in
+    let read = c.word.ensures.named (Heap (address + 1)) (shape_is config memory address c.requires) (ap (λ (config : Config). word_at config (Heap (address + 1))) (sym c.config.ensures) ∙ sym c.heap_at.ensures) in
     (found_room config memory address c.in-Some.region (same_room config memory address c.word.result c.words_of-words.result c.room_outside.result (Some c.in-Some.region) read c.words_of-words.ensures c.room_outside.ensures c.in-Some.is)).2
 
 pub returns-in-Some-clause-words : goal.returns-in-Some-clause-words
@@ -53,7 +53,7 @@ returns-in-Some-clause-words c =
     let config = config_of c.args.image.now in
     let memory : Word → ℕ = memory_of c.args.image.now in
     let address = c.args.address in
-    let read = c.word.ensures.named (Heap (address + 1)) (shape_is config memory address c.requires) (ap (λ (k : Config). word_at k (Heap (address + 1))) (sym c.config.ensures) ∙ sym c.heap_at.ensures) in
+    let read = c.word.ensures.named (Heap (address + 1)) (shape_is config memory address c.requires) (ap (λ (config : Config). word_at config (Heap (address + 1))) (sym c.config.ensures) ∙ sym c.heap_at.ensures) in
     c.copy_to.ensures.words
     ∙ sym (copied_as config memory address c.in-Some.region (same_room config memory address c.word.result c.words_of-words.result c.room_outside.result (Some c.in-Some.region) read c.words_of-words.ensures c.room_outside.ensures c.in-Some.is))
 
@@ -62,7 +62,7 @@ returns-in-Some-clause-copy c =
     let config = config_of c.args.image.now in
     let memory : Word → ℕ = memory_of c.args.image.now in
     let address = c.args.address in
-    let read = c.word.ensures.named (Heap (address + 1)) (shape_is config memory address c.requires) (ap (λ (k : Config). word_at k (Heap (address + 1))) (sym c.config.ensures) ∙ sym c.heap_at.ensures) in
+    let read = c.word.ensures.named (Heap (address + 1)) (shape_is config memory address c.requires) (ap (λ (config : Config). word_at config (Heap (address + 1))) (sym c.config.ensures) ∙ sym c.heap_at.ensures) in
     ap Some c.copy_to.ensures.address
     ∙ sym (ap (copy_in config memory) (same_room config memory address c.word.result c.words_of-words.result c.room_outside.result (Some c.in-Some.region) read c.words_of-words.ensures c.room_outside.ensures c.in-Some.is))
 
@@ -71,7 +71,7 @@ returns-in-None-clause-words c =
     let config = config_of c.args.image.now in
     let memory : Word → ℕ = memory_of c.args.image.now in
     let address = c.args.address in
-    let read = c.word.ensures.named (Heap (address + 1)) (shape_is config memory address c.requires) (ap (λ (k : Config). word_at k (Heap (address + 1))) (sym c.config.ensures) ∙ sym c.heap_at.ensures) in
+    let read = c.word.ensures.named (Heap (address + 1)) (shape_is config memory address c.requires) (ap (λ (config : Config). word_at config (Heap (address + 1))) (sym c.config.ensures) ∙ sym c.heap_at.ensures) in
     sym (ap (copied_in config memory address) (same_room config memory address c.word.result c.words_of-words.result c.room_outside.result None read c.words_of-words.ensures c.room_outside.ensures c.in-None.is))
 
 pub returns-in-None-clause-copy : goal.returns-in-None-clause-copy
@@ -79,7 +79,7 @@ returns-in-None-clause-copy c =
     let config = config_of c.args.image.now in
     let memory : Word → ℕ = memory_of c.args.image.now in
     let address = c.args.address in
-    let read = c.word.ensures.named (Heap (address + 1)) (shape_is config memory address c.requires) (ap (λ (k : Config). word_at k (Heap (address + 1))) (sym c.config.ensures) ∙ sym c.heap_at.ensures) in
+    let read = c.word.ensures.named (Heap (address + 1)) (shape_is config memory address c.requires) (ap (λ (config : Config). word_at config (Heap (address + 1))) (sym c.config.ensures) ∙ sym c.heap_at.ensures) in
     sym (ap (copy_in config memory) (same_room config memory address c.word.result c.words_of-words.result c.room_outside.result None read c.words_of-words.ensures c.room_outside.ensures c.in-None.is))
 
 pub returns-in-Some-clause-holds : goal.returns-in-Some-clause-holds

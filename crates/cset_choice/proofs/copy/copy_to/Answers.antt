@@ -23,7 +23,7 @@ copy_words-requires-clause-from c =
     let object = object_in_heap config address (words_at memory address) c.requires.can.above c.requires.can.of_region c.requires.can.lies in
     let words : c.words_of-words.result ≡ words_at memory address =
     c.words_of-words.ensures ∙ ap object_words (c.word.ensures.named (Heap (address + 1)) (word_of_heap config address (words_at memory address) 1 object (omega arith))
-    (ap (λ (k : Config). word_at k (Heap (address + 1))) (sym c.config-config.ensures) ∙ sym c.heap_at.ensures)) in
+    (ap (λ (config : Config). word_at config (Heap (address + 1))) (sym c.config-config.ensures) ∙ sym c.heap_at.ensures)) in
     subst (AreInHeap config address) (sym words) object
 
 pub copy_words-requires-clause-to : goal.copy_words-requires-clause-to
@@ -35,8 +35,8 @@ copy_words-requires-clause-to c =
     let object = object_in_heap config address (words_at memory address) c.requires.can.above c.requires.can.of_region c.requires.can.lies in
     let words : c.words_of-words.result ≡ words_at memory address =
     c.words_of-words.ensures ∙ ap object_words (c.word.ensures.named (Heap (address + 1)) (word_of_heap config address (words_at memory address) 1 object (omega arith))
-    (ap (λ (k : Config). word_at k (Heap (address + 1))) (sym c.config-config.ensures) ∙ sym c.heap_at.ensures)) in
-    let base : c.base.result ≡ base_of config region = c.base.ensures ∙ ap (λ (k : Config). base_of k region) c.config-config.ensures in
+    (ap (λ (config : Config). word_at config (Heap (address + 1))) (sym c.config-config.ensures) ∙ sym c.heap_at.ensures)) in
+    let base : c.base.result ≡ base_of config region = c.base.ensures ∙ ap (λ (config : Config). base_of config region) c.config-config.ensures in
     let at : top_address config memory region ≡ c.base.result + c.top-top.result = omega (arith, base, c.top-top.ensures) in
     subst (λ x. AreInHeap config x c.words_of-words.result) at
     (subst (AreInHeap config (top_address config memory region)) (sym words) (room_in_heap config region (memory (Top region)) (words_at memory address) c.requires.region c.requires.room))
@@ -50,8 +50,8 @@ copy_words-requires-clause-apart c =
     let object = object_in_heap config address (words_at memory address) c.requires.can.above c.requires.can.of_region c.requires.can.lies in
     let words : c.words_of-words.result ≡ words_at memory address =
     c.words_of-words.ensures ∙ ap object_words (c.word.ensures.named (Heap (address + 1)) (word_of_heap config address (words_at memory address) 1 object (omega arith))
-    (ap (λ (k : Config). word_at k (Heap (address + 1))) (sym c.config-config.ensures) ∙ sym c.heap_at.ensures)) in
-    let base : c.base.result ≡ base_of config region = c.base.ensures ∙ ap (λ (k : Config). base_of k region) c.config-config.ensures in
+    (ap (λ (config : Config). word_at config (Heap (address + 1))) (sym c.config-config.ensures) ∙ sym c.heap_at.ensures)) in
+    let base : c.base.result ≡ base_of config region = c.base.ensures ∙ ap (λ (config : Config). base_of config region) c.config-config.ensures in
     let at : top_address config memory region ≡ c.base.result + c.top-top.result = omega (arith, base, c.top-top.ensures) in
     subst (λ x. (address + c.words_of-words.result ≤ x) ⊎ (x + c.words_of-words.result ≤ address)) at
     (subst (λ n. (address + n ≤ top_address config memory region) ⊎ (top_address config memory region + n ≤ address)) (sym words) (copies_apart config memory address region c.requires.can c.requires.outside c.requires.room))
@@ -68,15 +68,15 @@ returns-clause-words c =
     let object = object_in_heap old address (words_at memory address) c.requires.can.above c.requires.can.of_region c.requires.can.lies in
     let words : c.words_of-words.result ≡ words_at memory address =
     c.words_of-words.ensures ∙ ap object_words (c.word.ensures.named (Heap (address + 1)) (word_of_heap old address (words_at memory address) 1 object (omega arith))
-    (ap (λ (k : Config). word_at k (Heap (address + 1))) (sym same) ∙ sym c.heap_at.ensures)) in
-    let free : c.word-free.result ≡ memory Free = c.word-free.ensures.named Free tt (ap (λ (k : Config). word_at k Free) (sym same) ∙ sym c.free_at.ensures) in
-    let base : c.base.result ≡ base_of old region = c.base.ensures ∙ ap (λ (k : Config). base_of k region) same in
+    (ap (λ (config : Config). word_at config (Heap (address + 1))) (sym same) ∙ sym c.heap_at.ensures)) in
+    let free : c.word-free.result ≡ memory Free = c.word-free.ensures.named Free tt (ap (λ (config : Config). word_at config Free) (sym same) ∙ sym c.free_at.ensures) in
+    let base : c.base.result ≡ base_of old region = c.base.ensures ∙ ap (λ (config : Config). base_of config region) same in
     let to : ℕ = c.base.result + c.top-top.result in
     let at : to ≡ top_address old memory region = omega (arith, base, c.top-top.ensures) in
     -- where it is written
     let copy = room_in_heap old region (memory (Top region)) (words_at memory address) c.requires.region c.requires.room in
-    let copy_is : IsWord g (Heap to) = subst (λ (k : Config). IsWord k (Heap to)) (sym same) (omega (arith, copy.from, at), omega (arith, copy.to, at)) in
-    let old_is : IsWord g (Heap address) = subst (λ (k : Config). IsWord k (Heap address)) (sym same) (omega (arith, object.from), omega (arith, object.to)) in
+    let copy_is : IsWord g (Heap to) = subst (λ (config : Config). IsWord config (Heap to)) (sym same) (omega (arith, copy.from, at), omega (arith, copy.to, at)) in
+    let old_is : IsWord g (Heap address) = subst (λ (config : Config). IsWord config (Heap address)) (sym same) (omega (arith, object.from), omega (arith, object.to)) in
     let config_copied : config_of c.copy_words.new.image ≡ g = c.copy_words.ensures.config ∙ sym same in
     let config_header : config_of c.set_word.new.self ≡ g = c.set_word.ensures.config ∙ config_copied in
     let config_top : config_of c.set_word-2.new.self ≡ g = c.set_word-2.ensures.config ∙ config_header in
@@ -84,7 +84,7 @@ returns-clause-words c =
     let top : ℕ = c.top-top.result + c.words_of-words.result in
     let bits : ℕ = bit_and c.word-free.result c.all_but.result in
     let stored_header = stored (config_of c.copy_words.new.image) g _ _ (Heap to) c.heap_at-2.result 1 config_copied copy_is c.heap_at-2.ensures c.set_word.ensures.named in
-    let stored_top = stored (config_of c.set_word.new.self) g _ _ (Top region) c.top_at.result top config_header (subst (λ (k : Config). region < k.regions) (sym same) c.requires.region) c.top_at.ensures c.set_word-2.ensures.named in
+    let stored_top = stored (config_of c.set_word.new.self) g _ _ (Top region) c.top_at.result top config_header (subst (λ (config : Config). region < config.regions) (sym same) c.requires.region) c.top_at.ensures c.set_word-2.ensures.named in
     let stored_free = stored (config_of c.set_word-2.new.self) g _ _ Free c.free_at-2.result bits config_top tt c.free_at-2.ensures c.set_word-3.ensures.named in
     let stored_forward = stored (config_of c.set_word-3.new.self) g _ _ (Heap address) c.heap_at-3.result c.header_to.result config_free old_is c.heap_at-3.ensures c.set_word-4.ensures.named in
     stored_forward ∙ ap (λ n. write n (Heap address) c.header_to.result)
@@ -130,7 +130,7 @@ word-free-requires c =
 
 pub base-requires : goal.base-requires
 base-requires c =
-    subst (λ (j : Config). c.args.region < j.regions) (sym c.config-config.ensures) c.requires.region
+    subst (λ (config : Config). c.args.region < config.regions) (sym c.config-config.ensures) c.requires.region
 
 pub overflow_add-copy : goal.overflow_add-copy
 overflow_add-copy c =
@@ -138,7 +138,7 @@ overflow_add-copy c =
     let memory : Word → ℕ = memory_of c.args.image.now in
     let region = c.args.region in
     let at : base_of config region + memory (Top region) ≡ c.base.result + c.top-top.result =
-    omega (arith, c.base.ensures ∙ ap (λ (j : Config). base_of j region) c.config-config.ensures, c.top-top.ensures) in
+    omega (arith, c.base.ensures ∙ ap (λ (config : Config). base_of config region) c.config-config.ensures, c.top-top.ensures) in
     let target = subst (λ (x : ℕ). AreInHeap config x (words_at memory c.args.address)) at (room_in_heap config region (memory (Top region)) (words_at memory c.args.address) c.requires.region c.requires.room) in
     omega (arith, low_in _ _ _ target)
 
@@ -148,7 +148,7 @@ heap_at-requires-2 c =
     let memory : Word → ℕ = memory_of c.args.image.now in
     let region = c.args.region in
     let at : base_of config region + memory (Top region) ≡ c.base.result + c.top-top.result =
-    omega (arith, c.base.ensures ∙ ap (λ (j : Config). base_of j region) c.config-config.ensures, c.top-top.ensures) in
+    omega (arith, c.base.ensures ∙ ap (λ (config : Config). base_of config region) c.config-config.ensures, c.top-top.ensures) in
     let target = subst (λ (x : ℕ). AreInHeap config x (words_at memory c.args.address)) at (room_in_heap config region (memory (Top region)) (words_at memory c.args.address) c.requires.region c.requires.room) in
     first_in config c.config-config.result _ (words_at memory c.args.address) c.config-config.ensures target (omega arith)
 
@@ -158,13 +158,13 @@ set_word-requires c =
     let memory : Word → ℕ = memory_of c.args.image.now in
     let region = c.args.region in
     let at : base_of config region + memory (Top region) ≡ c.base.result + c.top-top.result =
-    omega (arith, c.base.ensures ∙ ap (λ (j : Config). base_of j region) c.config-config.ensures, c.top-top.ensures) in
+    omega (arith, c.base.ensures ∙ ap (λ (config : Config). base_of config region) c.config-config.ensures, c.top-top.ensures) in
     let target = subst (λ (x : ℕ). AreInHeap config x (words_at memory c.args.address)) at (room_in_heap config region (memory (Top region)) (words_at memory c.args.address) c.requires.region c.requires.room) in
     placed_inside (config_of c.copy_words.new.image) c.config-config.result (Heap (c.base.result + c.top-top.result)) _ (c.copy_words.ensures.config ∙ sym c.config-config.ensures) (first_in config c.config-config.result _ (words_at memory c.args.address) c.config-config.ensures target (omega arith)) c.heap_at-2.ensures
 
 pub top_at-requires : goal.top_at-requires
 top_at-requires c =
-    subst (λ (j : Config). c.args.region < j.regions) (sym c.config-config.ensures) c.requires.region
+    subst (λ (config : Config). c.args.region < config.regions) (sym c.config-config.ensures) c.requires.region
 
 pub overflow_add-top : goal.overflow_add-top
 overflow_add-top c =
@@ -172,7 +172,7 @@ overflow_add-top c =
 
 pub set_word-requires-2 : goal.set_word-requires-2
 set_word-requires-2 c =
-    placed_inside (config_of c.set_word.new.self) c.config-config.result (Top c.args.region) _ (c.set_word.ensures.config ∙ c.copy_words.ensures.config ∙ sym c.config-config.ensures) (subst (λ (j : Config). c.args.region < j.regions) (sym c.config-config.ensures) c.requires.region) c.top_at.ensures
+    placed_inside (config_of c.set_word.new.self) c.config-config.result (Top c.args.region) _ (c.set_word.ensures.config ∙ c.copy_words.ensures.config ∙ sym c.config-config.ensures) (subst (λ (config : Config). c.args.region < config.regions) (sym c.config-config.ensures) c.requires.region) c.top_at.ensures
 
 pub all_but-requires : goal.all_but-requires
 all_but-requires c =
@@ -196,7 +196,7 @@ header_to-requires c =
     let memory : Word → ℕ = memory_of c.args.image.now in
     let region = c.args.region in
     let at : base_of config region + memory (Top region) ≡ c.base.result + c.top-top.result =
-    omega (arith, c.base.ensures ∙ ap (λ (j : Config). base_of j region) c.config-config.ensures, c.top-top.ensures) in
+    omega (arith, c.base.ensures ∙ ap (λ (config : Config). base_of config region) c.config-config.ensures, c.top-top.ensures) in
     let target = subst (λ (x : ℕ). AreInHeap config x (words_at memory c.args.address)) at (room_in_heap config region (memory (Top region)) (words_at memory c.args.address) c.requires.region c.requires.room) in
     omega (arith, low_in _ _ _ target)
 
@@ -218,6 +218,6 @@ returns-clause-address c =
     let memory : Word → ℕ = memory_of c.args.image.now in
     let region = c.args.region in
     let at : base_of config region + memory (Top region) ≡ c.base.result + c.top-top.result =
-    omega (arith, c.base.ensures ∙ ap (λ (j : Config). base_of j region) c.config-config.ensures, c.top-top.ensures) in
+    omega (arith, c.base.ensures ∙ ap (λ (config : Config). base_of config region) c.config-config.ensures, c.top-top.ensures) in
     let target = subst (λ (x : ℕ). AreInHeap config x (words_at memory c.args.address)) at (room_in_heap config region (memory (Top region)) (words_at memory c.args.address) c.requires.region c.requires.room) in
     sym at

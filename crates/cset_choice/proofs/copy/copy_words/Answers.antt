@@ -26,12 +26,12 @@ loop-index-preserved c =
     let source : IsWord config (Heap (from + i)) = word_of_heap config from c.args.words i c.requires.from c.loop-index-test.true in
     let target : IsWord config (Heap (to + i)) = word_of_heap config to c.args.words i c.requires.to c.loop-index-test.true in
     let read : c.word-word.result ≡ memory (Heap (from + i)) =
-    c.word-word.ensures.named (Heap (from + i)) (subst (λ (k : Config). IsWord k (Heap (from + i))) (sym is.config) source)
-    (ap (λ (k : Config). word_at k (Heap (from + i))) (is.config ∙ sym same) ∙ sym c.heap_at.ensures)
-    ∙ ap (λ (n : Word → ℕ). n (Heap (from + i))) is.words
+    c.word-word.ensures.named (Heap (from + i)) (subst (λ (config : Config). IsWord config (Heap (from + i))) (sym is.config) source)
+    (ap (λ (config : Config). word_at config (Heap (from + i))) (is.config ∙ sym same) ∙ sym c.heap_at.ensures)
+    ∙ ap (λ (memory : Word → ℕ). memory (Heap (from + i))) is.words
     ∙ still_there from to i c.args.words memory c.loop-index-test.true c.requires.apart in
     let one = stored (config_of now) c.config-config.result (memory_of now) (memory_of c.set_word.new.self) (Heap (to + i)) c.heap_at-in-loop-index.result c.word-word.result
-    (is.config ∙ sym same) (subst (λ (k : Config). IsWord k (Heap (to + i))) (sym same) target) c.heap_at-in-loop-index.ensures c.set_word.ensures.named in
+    (is.config ∙ sym same) (subst (λ (config : Config). IsWord config (Heap (to + i))) (sym same) target) c.heap_at-in-loop-index.ensures c.set_word.ensures.named in
     record {
       config = c.set_word.ensures.config ∙ is.config;
       words = one

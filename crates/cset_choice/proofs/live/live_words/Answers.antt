@@ -21,7 +21,7 @@ loop-address-init c =
     let base : ℕ = base_of config c.args.region in
     let lives : ℕ → ℕ = λ k. marked_words config memory (base + k) in
     let is = c.next_black-address.ensures in
-    let first : c.base-first.result ≡ base = c.base-first.ensures ∙ ap (λ (k : Config). base_of k c.args.region) c.config.ensures in
+    let first : c.base-first.result ≡ base = c.base-first.ensures ∙ ap (λ (config : Config). base_of config c.args.region) c.config.ensures in
     let n : ℕ = c.next_black-address.result - base in
     let plain : 0 + n ≡ n = omega arith in
     record {
@@ -38,8 +38,8 @@ pub marked_words-words-requires-clause-inside : goal.marked_words-words-requires
 marked_words-words-requires-clause-inside c =
     let config = config_of c.args.image.now in
     let base : ℕ = base_of config c.args.region in
-    let first : c.base-first.result ≡ base = c.base-first.ensures ∙ ap (λ (k : Config). base_of k c.args.region) c.config.ensures in
-    let words : c.region_words.result ≡ config.region_words = c.region_words.ensures ∙ ap (λ (k : Config). k.region_words) c.config-2.ensures in
+    let first : c.base-first.result ≡ base = c.base-first.ensures ∙ ap (λ (config : Config). base_of config c.args.region) c.config.ensures in
+    let words : c.region_words.result ≡ config.region_words = c.region_words.ensures ∙ ap (λ (config : Config). config.region_words) c.config-2.ensures in
     let was = c.loop-address.invariant in
     let inside = room_in_heap config c.args.region (c.loop-address.address - base) 1 c.requires.region (omega (arith, c.loop-address-test.true, first, words, was.first)) in
     (omega (arith, inside.from, was.first), omega (arith, inside.to, was.first))
@@ -74,8 +74,8 @@ returns-clause-value c =
     let config = config_of c.args.image.now in
     let memory : Word → ℕ = memory_of c.args.image.now in
     let base : ℕ = base_of config c.args.region in
-    let first : c.base-first.result ≡ base = c.base-first.ensures ∙ ap (λ (k : Config). base_of k c.args.region) c.config.ensures in
-    let words : c.region_words.result ≡ config.region_words = c.region_words.ensures ∙ ap (λ (k : Config). k.region_words) c.config-2.ensures in
+    let first : c.base-first.result ≡ base = c.base-first.ensures ∙ ap (λ (config : Config). base_of config c.args.region) c.config.ensures in
+    let words : c.region_words.result ≡ config.region_words = c.region_words.ensures ∙ ap (λ (config : Config). config.region_words) c.config-2.ensures in
     let all : c.loop-address.address - base ≡ config.region_words = omega (arith, c.loop-address-test.false, c.loop-address.invariant.last, first, words) in
     c.loop-address.invariant.value ∙ ap (sum_below (λ k. marked_words config memory (base + k))) all
 
@@ -84,8 +84,8 @@ returns-clause-marked c =
     let config = config_of c.args.image.now in
     let memory : Word → ℕ = memory_of c.args.image.now in
     let base : ℕ = base_of config c.args.region in
-    let first : c.base-first.result ≡ base = c.base-first.ensures ∙ ap (λ (k : Config). base_of k c.args.region) c.config.ensures in
-    let words : c.region_words.result ≡ config.region_words = c.region_words.ensures ∙ ap (λ (k : Config). k.region_words) c.config-2.ensures in
+    let first : c.base-first.result ≡ base = c.base-first.ensures ∙ ap (λ (config : Config). base_of config c.args.region) c.config.ensures in
+    let words : c.region_words.result ≡ config.region_words = c.region_words.ensures ∙ ap (λ (config : Config). config.region_words) c.config-2.ensures in
     let all : c.loop-address.address - base ≡ config.region_words = omega (arith, c.loop-address-test.false, c.loop-address.invariant.last, first, words) in
     let value : c.loop-address.words ≡ live_words config memory c.args.region = c.loop-address.invariant.value ∙ ap (sum_below (λ k. marked_words config memory (base + k))) all in
     subst (IsMarkedIn config memory c.args.region) (sym value) (live_is_marked config memory c.args.region)

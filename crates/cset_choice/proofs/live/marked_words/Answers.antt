@@ -14,7 +14,7 @@ pub heap_at-requires : goal.heap_at-requires
 heap_at-requires c =
     let config = config_of c.args.image.now in
     let memory : Word → ℕ = memory_of c.args.image.now in
-    subst (λ (k : Config). IsWord k (Heap (c.args.address + 1))) (sym c.config.ensures)
+    subst (λ (config : Config). IsWord config (Heap (c.args.address + 1))) (sym c.config.ensures)
     (shape_in_heap config memory c.args.address c.requires.apart c.requires.inside c.requires.black)
 
 pub returns-clause-value : goal.returns-clause-value

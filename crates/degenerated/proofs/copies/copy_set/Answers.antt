@@ -25,59 +25,59 @@ loop-index-init c =
     }
 
 -- what comes after so many addresses, of the words at that time
-module _ (g d : Config) (m now : Word → ℕ) (i : ℕ) (same : d ≡ g) (below : i < g.regions * g.region_words) (first : ℕ) (base : first ≡ g.region_words)
-    (words : copied_from g m g.region_words (g.regions * g.region_words) ≡ copied_from g now (g.region_words + i) (g.regions * g.region_words - i))
-    (room : is_room_from g m g.region_words (g.regions * g.region_words) ≡ is_room_from g now (g.region_words + i) (g.regions * g.region_words - i))
-    (can : CanCopyFrom g now (g.region_words + i) (g.regions * g.region_words - i)) where
+module _ (config other_config : Config) (memory now : Word → ℕ) (region : ℕ) (same : other_config ≡ config) (below : region < config.regions * config.region_words) (first : ℕ) (base : first ≡ config.region_words)
+    (words : copied_from config memory config.region_words (config.regions * config.region_words) ≡ copied_from config now (config.region_words + region) (config.regions * config.region_words - region))
+    (room : is_room_from config memory config.region_words (config.regions * config.region_words) ≡ is_room_from config now (config.region_words + region) (config.regions * config.region_words - region))
+    (can : CanCopyFrom config now (config.region_words + region) (config.regions * config.region_words - region)) where
   abbrev a : ℕ
-  a = g.region_words + i
+  a = config.region_words + region
 
   abbrev rest : ℕ
-  rest = g.regions * g.region_words - (i + 1)
+  rest = config.regions * config.region_words - (region + 1)
 
-  more : g.regions * g.region_words - i ≡ suc rest
+  more : config.regions * config.region_words - region ≡ suc rest
   more = omega (arith, below)
 
-  can_more : CanCopyFrom g now a (suc rest)
-  can_more = subst (CanCopyFrom g now a) more can
+  can_more : CanCopyFrom config now a (suc rest)
+  can_more = subst (CanCopyFrom config now a) more can
 
-  next : a + 1 ≡ g.region_words + (i + 1)
+  next : a + 1 ≡ config.region_words + (region + 1)
   next = omega arith
 
-  pub can_now : is_left d now (first + i) ≡ true → CanCopyOut d now (first + i)
+  pub can_now : is_left other_config now (first + region) ≡ true → CanCopyOut other_config now (first + region)
   can_now =
-      subst (λ (k : Config). is_left k now (first + i) ≡ true → CanCopyOut k now (first + i)) (sym same)
-      (subst (λ b. is_left g now (b + i) ≡ true → CanCopyOut g now (b + i)) (sym base) (can_here g now a rest can_more))
+      subst (λ (config : Config). is_left config now (first + region) ≡ true → CanCopyOut config now (first + region)) (sym same)
+      (subst (λ b. is_left config now (b + region) ≡ true → CanCopyOut config now (b + region)) (sym base) (can_here config now a rest can_more))
 
-  module _ (after : Word → ℕ) (told : Bool) (taken : after ≡ turn_taken d now (first + i)) (found : told ≡ has_turn_room d now (first + i)) where
-    taken_here : after ≡ turn_taken g now a
-    taken_here = taken ∙ ap (λ (k : Config). turn_taken k now (first + i)) same ∙ ap (λ b. turn_taken g now (b + i)) base
+  module _ (after : Word → ℕ) (told : Bool) (taken : after ≡ turn_taken other_config now (first + region)) (found : told ≡ has_turn_room other_config now (first + region)) where
+    taken_here : after ≡ turn_taken config now a
+    taken_here = taken ∙ ap (λ (config : Config). turn_taken config now (first + region)) same ∙ ap (λ b. turn_taken config now (b + region)) base
 
-    found_here : told ≡ has_turn_room g now a
-    found_here = found ∙ ap (λ (k : Config). has_turn_room k now (first + i)) same ∙ ap (λ b. has_turn_room g now (b + i)) base
+    found_here : told ≡ has_turn_room config now a
+    found_here = found ∙ ap (λ (config : Config). has_turn_room config now (first + region)) same ∙ ap (λ b. has_turn_room config now (b + region)) base
 
     module _ (is : told ≡ true) where
-      pub words_next : copied_from g m g.region_words (g.regions * g.region_words) ≡ copied_from g after (g.region_words + (i + 1)) rest
+      pub words_next : copied_from config memory config.region_words (config.regions * config.region_words) ≡ copied_from config after (config.region_words + (region + 1)) rest
       words_next =
-          words ∙ ap (copied_from g now a) more ∙ goes_on g now a rest (sym found_here ∙ is)
-          ∙ ap (λ k. copied_from g k (a + 1) rest) (sym taken_here) ∙ ap (λ x. copied_from g after x rest) next
+          words ∙ ap (copied_from config now a) more ∙ goes_on config now a rest (sym found_here ∙ is)
+          ∙ ap (λ k. copied_from config k (a + 1) rest) (sym taken_here) ∙ ap (λ x. copied_from config after x rest) next
 
-      pub room_next : is_room_from g m g.region_words (g.regions * g.region_words) ≡ is_room_from g after (g.region_words + (i + 1)) rest
+      pub room_next : is_room_from config memory config.region_words (config.regions * config.region_words) ≡ is_room_from config after (config.region_words + (region + 1)) rest
       room_next =
-          room ∙ ap (is_room_from g now a) more ∙ room_goes_on g now a rest (sym found_here ∙ is)
-          ∙ ap (λ k. is_room_from g k (a + 1) rest) (sym taken_here) ∙ ap (λ x. is_room_from g after x rest) next
+          room ∙ ap (is_room_from config now a) more ∙ room_goes_on config now a rest (sym found_here ∙ is)
+          ∙ ap (λ k. is_room_from config k (a + 1) rest) (sym taken_here) ∙ ap (λ x. is_room_from config after x rest) next
 
-      pub can_next : CanCopyFrom g after (g.region_words + (i + 1)) rest
+      pub can_next : CanCopyFrom config after (config.region_words + (region + 1)) rest
       can_next =
-          subst (λ x. CanCopyFrom g after x rest) next
-          (subst (λ k. CanCopyFrom g k (a + 1) rest) (sym taken_here) (can_go_on g now a rest (sym found_here ∙ is) can_more))
+          subst (λ x. CanCopyFrom config after x rest) next
+          (subst (λ k. CanCopyFrom config k (a + 1) rest) (sym taken_here) (can_go_on config now a rest (sym found_here ∙ is) can_more))
 
     module _ (is : told ≡ false) where
-      pub words_end : after ≡ copied_from g m g.region_words (g.regions * g.region_words)
-      words_end = taken_here ∙ sym (ends_here g now a rest (sym found_here ∙ is)) ∙ sym (ap (copied_from g now a) more) ∙ sym words
+      pub words_end : after ≡ copied_from config memory config.region_words (config.regions * config.region_words)
+      words_end = taken_here ∙ sym (ends_here config now a rest (sym found_here ∙ is)) ∙ sym (ap (copied_from config now a) more) ∙ sym words
 
-      pub room_end : false ≡ is_room_from g m g.region_words (g.regions * g.region_words)
-      room_end = sym (room ∙ ap (is_room_from g now a) more ∙ no_room_here g now a rest (sym found_here ∙ is))
+      pub room_end : false ≡ is_room_from config memory config.region_words (config.regions * config.region_words)
+      room_end = sym (room ∙ ap (is_room_from config now a) more ∙ no_room_here config now a rest (sym found_here ∙ is))
 
 pub copy_if_left-requires-clause-can : goal.copy_if_left-requires-clause-can
 copy_if_left-requires-clause-can c =
@@ -85,9 +85,9 @@ copy_if_left-requires-clause-can c =
     let is = c.loop-index.invariant in
     let same : c.config-config.result ≡ config = c.config-config.ensures in
     let below : c.loop-index.index < config.regions * config.region_words =
-    omega (arith, c.loop-index-test.true, c.heap_size-index-end.ensures.value, ap (λ (k : Config). k.regions * k.region_words) same) in
+    omega (arith, c.loop-index-test.true, c.heap_size-index-end.ensures.value, ap (λ (config : Config). config.regions * config.region_words) same) in
     can_now config (config_of c.loop-index.image) (memory_of c.args.image.now) (memory_of c.loop-index.image) c.loop-index.index is.config below c.region_words-first.result
-    (c.region_words-first.ensures ∙ ap (λ (k : Config). k.region_words) same) is.words is.room is.can
+    (c.region_words-first.ensures ∙ ap (λ (config : Config). config.region_words) same) is.words is.room is.can
 
 pub returns-then-not-copy_if_left-clause-words : goal.returns-then-not-copy_if_left-clause-words
 returns-then-not-copy_if_left-clause-words c =
@@ -95,9 +95,9 @@ returns-then-not-copy_if_left-clause-words c =
     let is = c.loop-index.invariant in
     let same : c.config-config.result ≡ config = c.config-config.ensures in
     let below : c.loop-index.index < config.regions * config.region_words =
-    omega (arith, c.loop-index-test.true, c.heap_size-index-end.ensures.value, ap (λ (k : Config). k.regions * k.region_words) same) in
+    omega (arith, c.loop-index-test.true, c.heap_size-index-end.ensures.value, ap (λ (config : Config). config.regions * config.region_words) same) in
     words_end config (config_of c.loop-index.image) (memory_of c.args.image.now) (memory_of c.loop-index.image) c.loop-index.index is.config below c.region_words-first.result
-    (c.region_words-first.ensures ∙ ap (λ (k : Config). k.region_words) same) is.words is.room is.can
+    (c.region_words-first.ensures ∙ ap (λ (config : Config). config.region_words) same) is.words is.room is.can
     (memory_of c.copy_if_left.new.image) c.copy_if_left.result c.copy_if_left.ensures.words c.copy_if_left.ensures.room c.if-not-copy_if_left.true
 
 pub returns-then-not-copy_if_left-clause-room : goal.returns-then-not-copy_if_left-clause-room
@@ -106,9 +106,9 @@ returns-then-not-copy_if_left-clause-room c =
     let is = c.loop-index.invariant in
     let same : c.config-config.result ≡ config = c.config-config.ensures in
     let below : c.loop-index.index < config.regions * config.region_words =
-    omega (arith, c.loop-index-test.true, c.heap_size-index-end.ensures.value, ap (λ (k : Config). k.regions * k.region_words) same) in
+    omega (arith, c.loop-index-test.true, c.heap_size-index-end.ensures.value, ap (λ (config : Config). config.regions * config.region_words) same) in
     room_end config (config_of c.loop-index.image) (memory_of c.args.image.now) (memory_of c.loop-index.image) c.loop-index.index is.config below c.region_words-first.result
-    (c.region_words-first.ensures ∙ ap (λ (k : Config). k.region_words) same) is.words is.room is.can
+    (c.region_words-first.ensures ∙ ap (λ (config : Config). config.region_words) same) is.words is.room is.can
     (memory_of c.copy_if_left.new.image) c.copy_if_left.result c.copy_if_left.ensures.words c.copy_if_left.ensures.room c.if-not-copy_if_left.true
 
 pub loop-index-preserved : goal.loop-index-preserved
@@ -121,9 +121,9 @@ loop-index-preserved c =
     let is = c.loop-index.invariant in
     let same : c.config-config.result ≡ g = c.config-config.ensures in
     let below : i < g.regions * g.region_words =
-    omega (arith, c.loop-index-test.true, c.heap_size-index-end.ensures.value, ap (λ (k : Config). k.regions * k.region_words) same) in
+    omega (arith, c.loop-index-test.true, c.heap_size-index-end.ensures.value, ap (λ (config : Config). config.regions * config.region_words) same) in
     let first = c.region_words-first.result in
-    let base : first ≡ g.region_words = c.region_words-first.ensures ∙ ap (λ (k : Config). k.region_words) same in
+    let base : first ≡ g.region_words = c.region_words-first.ensures ∙ ap (λ (config : Config). config.region_words) same in
     let after : Word → ℕ = memory_of c.copy_if_left.new.image in
     let told = c.copy_if_left.result in
     let turn = c.copy_if_left.ensures in
@@ -140,7 +140,7 @@ returns-clause-words c =
     let config = config_of c.args.image.now in
     let now : Word → ℕ = memory_of c.loop-index.image in
     let none : config.regions * config.region_words - c.loop-index.index ≡ 0 =
-    omega (arith, c.loop-index-test.false, c.heap_size-index-end.ensures.value, ap (λ (k : Config). k.regions * k.region_words) c.config-config.ensures) in
+    omega (arith, c.loop-index-test.false, c.heap_size-index-end.ensures.value, ap (λ (config : Config). config.regions * config.region_words) c.config-config.ensures) in
     sym (c.loop-index.invariant.words ∙ ap (copied_from config now (config.region_words + c.loop-index.index)) none ∙ copied_none config now (config.region_words + c.loop-index.index) 0)
 
 pub returns-clause-room : goal.returns-clause-room
@@ -148,5 +148,5 @@ returns-clause-room c =
     let config = config_of c.args.image.now in
     let now : Word → ℕ = memory_of c.loop-index.image in
     let none : config.regions * config.region_words - c.loop-index.index ≡ 0 =
-    omega (arith, c.loop-index-test.false, c.heap_size-index-end.ensures.value, ap (λ (k : Config). k.regions * k.region_words) c.config-config.ensures) in
+    omega (arith, c.loop-index-test.false, c.heap_size-index-end.ensures.value, ap (λ (config : Config). config.regions * config.region_words) c.config-config.ensures) in
     sym (c.loop-index.invariant.room ∙ ap (is_room_from config now (config.region_words + c.loop-index.index)) none ∙ room_for_none config now (config.region_words + c.loop-index.index))

@@ -13,11 +13,11 @@ use Rattle.degenerated.proofs.Finishing.{stops_short, goes_through, all_served, 
 use Rattle.degenerated.proofs.cycle.end.Goals as goal
 
 -- the words when who waits is served
-to_end : (g d e : Config) (m one two three : Word → ℕ) → d ≡ g → e ≡ d → one ≡ all_copied g m → two ≡ all_updated d one → three ≡ set_freed e two → three ≡ cycle_finished g m
-to_end g d e m one two three same_d same_e to_one to_two to_three =
+to_end : (g d e : Config) (memory one two three : Word → ℕ) → d ≡ g → e ≡ d → one ≡ all_copied g memory → two ≡ all_updated d one → three ≡ set_freed e two → three ≡ cycle_finished g memory
+to_end g d e memory one two three same_d same_e to_one to_two to_three =
     to_three
-    ∙ ap (λ (k : Config). set_freed k two) (same_e ∙ same_d)
-    ∙ ap (set_freed g) (to_two ∙ ap (λ (k : Config). all_updated k one) same_d ∙ ap (all_updated g) to_one)
+    ∙ ap (λ (config : Config). set_freed config two) (same_e ∙ same_d)
+    ∙ ap (set_freed g) (to_two ∙ ap (λ (config : Config). all_updated config one) same_d ∙ ap (all_updated g) to_one)
 
 pub returns-then-not-copy_rest-clause-words : goal.returns-then-not-copy_rest-clause-words
 returns-then-not-copy_rest-clause-words c =
@@ -34,8 +34,8 @@ end_cycle-requires c =
     let room : is_room_for_all config memory ≡ true = sym c.copy_rest.ensures.room ∙ c.if-not-copy_rest.false in
     let same_config : config_of two ≡ config = c.update_all.ensures.config ∙ c.copy_rest.ensures.config in
     let words : memory_of two ≡ all_updated config (all_copied config memory) =
-    c.update_all.ensures.words ∙ ap (λ (k : Config). all_updated k (memory_of one)) c.copy_rest.ensures.config ∙ ap (all_updated config) c.copy_rest.ensures.words in
-    subst (λ (k : Config). CanFree k (memory_of two)) (sym same_config) (subst (CanFree config) (sym words) (c.requires.frees room))
+    c.update_all.ensures.words ∙ ap (λ (config : Config). all_updated config (memory_of one)) c.copy_rest.ensures.config ∙ ap (all_updated config) c.copy_rest.ensures.words in
+    subst (λ (config : Config). CanFree config (memory_of two)) (sym same_config) (subst (CanFree config) (sym words) (c.requires.frees room))
 
 pub give_turns-requires : goal.give_turns-requires
 give_turns-requires c =
@@ -48,7 +48,7 @@ give_turns-requires c =
     c.copy_rest.ensures.words c.update_all.ensures.words c.end_cycle.ensures.words in
     let same_config : config_of three ≡ config = c.end_cycle.ensures.config ∙ c.update_all.ensures.config ∙ c.copy_rest.ensures.config in
     let room : is_room_for_all config memory ≡ true = sym c.copy_rest.ensures.room ∙ c.if-not-copy_rest.false in
-    subst (λ (k : Config). AreWithin k (memory_of three)) (sym same_config)
+    subst (λ (config : Config). AreWithin config (memory_of three)) (sym same_config)
     (subst (AreWithin config) (sym words) (within_still config (all_copied config memory) (c.requires.updates room).within))
 
 pub returns-then-give_turns-clause-words : goal.returns-then-give_turns-clause-words
@@ -62,7 +62,7 @@ returns-then-give_turns-clause-words c =
     c.copy_rest.ensures.words c.update_all.ensures.words c.end_cycle.ensures.words in
     let same_config : config_of three ≡ config = c.end_cycle.ensures.config ∙ c.update_all.ensures.config ∙ c.copy_rest.ensures.config in
     let room : is_room_for_all config memory ≡ true = sym c.copy_rest.ensures.room ∙ c.if-not-copy_rest.false in
-    c.give_turns.ensures.words ∙ ap (λ (k : Config). served k (memory_of three) k.mutators) same_config ∙ ap (λ (n : Word → ℕ). served config n config.mutators) words ∙ goes_through config memory room
+    c.give_turns.ensures.words ∙ ap (λ (config : Config). served config (memory_of three) config.mutators) same_config ∙ ap (λ (memory : Word → ℕ). served config memory config.mutators) words ∙ goes_through config memory room
 
 pub returns-then-give_turns-clause-whole : goal.returns-then-give_turns-clause-whole
 returns-then-give_turns-clause-whole c =
@@ -77,7 +77,7 @@ returns-then-give_turns-clause-whole c =
     let room : is_room_for_all config memory ≡ true = sym c.copy_rest.ensures.room ∙ c.if-not-copy_rest.false in
     let none : (t : ℕ) → IsLeft config (cycle_finished config memory) t → ⊥ = λ t left.
     c.give_turns.ensures.served c.if-give_turns.true t
-    (subst (λ (k : Config). IsLeft k (memory_of three) t) (sym same_config) (subst (λ (n : Word → ℕ). IsLeft config n t) (sym words) left)) in
+    (subst (λ (config : Config). IsLeft config (memory_of three) t) (sym same_config) (subst (λ (memory : Word → ℕ). IsLeft config memory t) (sym words) left)) in
     let whole : (is_room_for_all config memory && nobody_waits config (finished_from config memory)) ≡ true = whole_is config memory room ∙ all_served config (cycle_finished config memory) none in
     (λ same. whole, λ told. refl)
 
@@ -92,7 +92,7 @@ returns-else-give_turns-clause-words c =
     c.copy_rest.ensures.words c.update_all.ensures.words c.end_cycle.ensures.words in
     let same_config : config_of three ≡ config = c.end_cycle.ensures.config ∙ c.update_all.ensures.config ∙ c.copy_rest.ensures.config in
     let room : is_room_for_all config memory ≡ true = sym c.copy_rest.ensures.room ∙ c.if-not-copy_rest.false in
-    c.give_turns.ensures.words ∙ ap (λ (k : Config). served k (memory_of three) k.mutators) same_config ∙ ap (λ (n : Word → ℕ). served config n config.mutators) words ∙ goes_through config memory room
+    c.give_turns.ensures.words ∙ ap (λ (config : Config). served config (memory_of three) config.mutators) same_config ∙ ap (λ (memory : Word → ℕ). served config memory config.mutators) words ∙ goes_through config memory room
 
 pub returns-else-give_turns-clause-whole : goal.returns-else-give_turns-clause-whole
 returns-else-give_turns-clause-whole c =
@@ -107,6 +107,6 @@ returns-else-give_turns-clause-whole c =
     let room : is_room_for_all config memory ≡ true = sym c.copy_rest.ensures.room ∙ c.if-not-copy_rest.false in
     let told = c.give_turns.ensures.left c.if-give_turns.false in
     let left : IsLeft config (cycle_finished config memory) told.0 =
-    subst (λ (n : Word → ℕ). IsLeft config n told.0) words (subst (λ (k : Config). IsLeft k (memory_of three) told.0) same_config told.1) in
+    subst (λ (memory : Word → ℕ). IsLeft config memory told.0) words (subst (λ (config : Config). IsLeft config (memory_of three) told.0) same_config told.1) in
     let short : (is_room_for_all config memory && nobody_waits config (finished_from config memory)) ≡ false = whole_is config memory room ∙ not_all_served config (cycle_finished config memory) told.0 left in
     (λ same. search, λ whole. absurd (true≢false (sym whole ∙ short)))

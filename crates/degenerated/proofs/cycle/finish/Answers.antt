@@ -14,38 +14,38 @@ use Rattle.degenerated.proofs.cycle.finish.Goals as goal
 
 -- what is asked of words, and told of them, once buffers were let go
 abbrev Copies : Config → (Word → ℕ) → Type 0
-Copies k n = n Phase ≡ 2 → CanCopyFrom k n k.region_words (k.regions * k.region_words)
+Copies config memory = memory Phase ≡ 2 → CanCopyFrom config memory config.region_words (config.regions * config.region_words)
 
 abbrev Updates : Config → (Word → ℕ) → Type 0
-Updates k n = is_room_for_all k n ≡ true → CanUpdateAll k (all_copied k n)
+Updates config memory = is_room_for_all config memory ≡ true → CanUpdateAll config (all_copied config memory)
 
 abbrev Frees : Config → (Word → ℕ) → Type 0
-Frees k n = is_room_for_all k n ≡ true → CanFree k (all_updated k (all_copied k n))
+Frees config memory = is_room_for_all config memory ≡ true → CanFree config (all_updated config (all_copied config memory))
 
 abbrev Tells : Finished → Config → (Word → ℕ) → Type 0
-Tells result k n = (result ≡ Whole) ↔ ((is_room_for_all k n && nobody_waits k (finished_from k n)) ≡ true)
+Tells result config memory = (result ≡ Whole) ↔ ((is_room_for_all config memory && nobody_waits config (finished_from config memory)) ≡ true)
 
 pub let_go-requires : goal.let_go-requires
 let_go-requires c = c.requires.buffers
 
 pub end-requires-clause-copies : goal.end-requires-clause-copies
 end-requires-clause-copies c =
-    subst (λ (k : Config). Copies k (memory_of c.let_go.new.self)) (sym c.let_go.ensures.config)
+    subst (λ (config : Config). Copies config (memory_of c.let_go.new.self)) (sym c.let_go.ensures.config)
     (subst (Copies (config_of c.args.image.now)) (sym c.let_go.ensures.words) c.requires.copies)
 
 pub end-requires-clause-updates : goal.end-requires-clause-updates
 end-requires-clause-updates c =
-    subst (λ (k : Config). Updates k (memory_of c.let_go.new.self)) (sym c.let_go.ensures.config)
+    subst (λ (config : Config). Updates config (memory_of c.let_go.new.self)) (sym c.let_go.ensures.config)
     (subst (Updates (config_of c.args.image.now)) (sym c.let_go.ensures.words) c.requires.updates)
 
 pub end-requires-clause-frees : goal.end-requires-clause-frees
 end-requires-clause-frees c =
-    subst (λ (k : Config). Frees k (memory_of c.let_go.new.self)) (sym c.let_go.ensures.config)
+    subst (λ (config : Config). Frees config (memory_of c.let_go.new.self)) (sym c.let_go.ensures.config)
     (subst (Frees (config_of c.args.image.now)) (sym c.let_go.ensures.words) c.requires.frees)
 
 pub returns-clause-words : goal.returns-clause-words
 returns-clause-words c =
-    c.end.ensures.words ∙ ap (λ (k : Config). finished_from k (memory_of c.let_go.new.self)) c.let_go.ensures.config
+    c.end.ensures.words ∙ ap (λ (config : Config). finished_from config (memory_of c.let_go.new.self)) c.let_go.ensures.config
     ∙ ap (finished_from (config_of c.args.image.now)) c.let_go.ensures.words
 
 pub returns-clause-holds : goal.returns-clause-holds
@@ -57,4 +57,4 @@ returns-clause-holds c =
 pub returns-clause-whole : goal.returns-clause-whole
 returns-clause-whole c =
     subst (Tells c.end.result (config_of c.args.image.now)) c.let_go.ensures.words
-    (subst (λ (k : Config). Tells c.end.result k (memory_of c.let_go.new.self)) c.let_go.ensures.config c.end.ensures.whole)
+    (subst (λ (config : Config). Tells c.end.result config (memory_of c.let_go.new.self)) c.let_go.ensures.config c.end.ensures.whole)

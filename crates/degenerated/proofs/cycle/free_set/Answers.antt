@@ -14,14 +14,14 @@ pub loop-region-init : goal.loop-region-init
 loop-region-init c = record { config = refl; words = none_left (config_of c.args.image.now) (memory_of c.args.image.now) }
 
 -- which regions are chosen, and pinned, is told by words that stay
-stays_still : (g d : Config) (m now : Word → ℕ) (r k : ℕ) → d ≡ g → now ≡ left_below g m k → is_to_stay d now r ≡ is_to_stay g m r
-stays_still g d m now r k same words = ap (λ (j : Config). is_to_stay j now r) same ∙ ap (λ (n : Word → ℕ). is_to_stay g n r) words
+stays_still : (config other_config : Config) (memory now : Word → ℕ) (r k : ℕ) → other_config ≡ config → now ≡ left_below config memory k → is_to_stay other_config now r ≡ is_to_stay config memory r
+stays_still config other_config memory now r k same words = ap (λ (config : Config). is_to_stay config now r) same ∙ ap (λ (memory : Word → ℕ). is_to_stay config memory r) words
 
-frees_still : (g d : Config) (m now : Word → ℕ) (r k : ℕ) → d ≡ g → now ≡ left_below g m k → is_to_free d now r ≡ is_to_free g m r
-frees_still g d m now r k same words = ap (λ (j : Config). is_to_free j now r) same ∙ ap (λ (n : Word → ℕ). is_to_free g n r) words
+frees_still : (config other_config : Config) (memory now : Word → ℕ) (r k : ℕ) → other_config ≡ config → now ≡ left_below config memory k → is_to_free other_config now r ≡ is_to_free config memory r
+frees_still config other_config memory now r k same words = ap (λ (config : Config). is_to_free config now r) same ∙ ap (λ (memory : Word → ℕ). is_to_free config memory r) words
 
-chosen_still : (g : Config) (m now : Word → ℕ) (r k : ℕ) → now ≡ left_below g m k → is_chosen now r ≡ is_chosen m r
-chosen_still g m now r k words = ap (λ (n : Word → ℕ). is_chosen n r) words
+chosen_still : (config : Config) (memory now : Word → ℕ) (r k : ℕ) → now ≡ left_below config memory k → is_chosen now r ≡ is_chosen memory r
+chosen_still config memory now r k words = ap (λ (memory : Word → ℕ). is_chosen memory r) words
 
 pub free_or_fill-requires-clause-can : goal.free_or_fill-requires-clause-can
 free_or_fill-requires-clause-can c = λ stays.
@@ -30,10 +30,10 @@ free_or_fill-requires-clause-can c = λ stays.
     let now = c.loop-region.image in
     let region = c.loop-region.region in
     let is = c.loop-region.invariant in
-    let below : region < config.regions = omega (arith, c.loop-region-test.true, c.regions-region-end.ensures, ap (λ (k : Config). k.regions) c.config-config.ensures) in
+    let below : region < config.regions = omega (arith, c.loop-region-test.true, c.regions-region-end.ensures, ap (λ (config : Config). config.regions) c.config-config.ensures) in
     let stay : is_to_stay config memory region ≡ true = sym (stays_still config (config_of now) memory (memory_of now) region region is.config is.words) ∙ stays in
-    subst (λ (k : Config). CanFill k (memory_of now) region) (sym is.config)
-    (subst (λ (n : Word → ℕ). CanFill config n region) (sym is.words) (can_fill_now config memory region (c.requires.fills region below stay)))
+    subst (λ (config : Config). CanFill config (memory_of now) region) (sym is.config)
+    (subst (λ (memory : Word → ℕ). CanFill config memory region) (sym is.words) (can_fill_now config memory region (c.requires.fills region below stay)))
 
 pub loop-region-preserved : goal.loop-region-preserved
 loop-region-preserved c =
@@ -43,7 +43,7 @@ loop-region-preserved c =
     let region = c.loop-region.region in
     let is = c.loop-region.invariant in
     let turn = c.free_or_fill.ensures in
-    let below : region < config.regions = omega (arith, c.loop-region-test.true, c.regions-region-end.ensures, ap (λ (k : Config). k.regions) c.config-config.ensures) in
+    let below : region < config.regions = omega (arith, c.loop-region-test.true, c.regions-region-end.ensures, ap (λ (config : Config). config.regions) c.config-config.ensures) in
     let stay = stays_still config (config_of now) memory (memory_of now) region region is.config is.words in
     let free = frees_still config (config_of now) memory (memory_of now) region region is.config is.words in
     record {
@@ -54,8 +54,8 @@ loop-region-preserved c =
           let stays : is_to_stay config memory region ≡ true = ap (λ b. b && is_pinned config memory region) chosen ∙ pinned in
           let kept : is_to_free config memory region ≡ false = ap (λ b. b && not (is_pinned config memory region)) chosen ∙ ap not pinned in
           turn.fills (stay ∙ stays)
-          ∙ ap (λ (k : Config). filled_in k (λ q. q == region) (has_moved (memory_of now)) (memory_of now)) is.config
-          ∙ ap (λ (n : Word → ℕ). filled_in config (λ q. q == region) (has_moved n) n) is.words
+          ∙ ap (λ (config : Config). filled_in config (λ q. q == region) (has_moved (memory_of now)) (memory_of now)) is.config
+          ∙ ap (λ (memory : Word → ℕ). filled_in config (λ q. q == region) (has_moved memory) memory) is.words
           ∙ filled_region config memory region (c.requires.fills region below stays) stays kept)
           (λ (unpinned : is_pinned config memory region ≡ false).
           let frees : is_to_free config memory region ≡ true = ap (λ b. b && not (is_pinned config memory region)) chosen ∙ ap not unpinned in
@@ -73,5 +73,5 @@ returns-clause-words c =
     let config = config_of c.args.image.now in
     let memory : Word → ℕ = memory_of c.args.image.now in
     let all : c.loop-region.region ≡ config.regions =
-    omega (arith, c.loop-region-test.false, c.loop-region.auto.region-end, c.regions-region-end.ensures, ap (λ (k : Config). k.regions) c.config-config.ensures) in
+    omega (arith, c.loop-region-test.false, c.loop-region.auto.region-end, c.regions-region-end.ensures, ap (λ (config : Config). config.regions) c.config-config.ensures) in
     c.loop-region.invariant.words ∙ ap (left_below config memory) all ∙ all_left config (words_of c.args.image.now)

@@ -6,17 +6,17 @@ use Rattle.image_graph.proofs.NamedStores.{placed_inside}
 use Rattle.degenerated.proofs.fields.is_kept.Goals as goal
 
 pub heap_at-requires : goal.heap_at-requires
-heap_at-requires c = subst (λ (j : Config). IsWord j (Heap c.args.object)) (sym c.config-config.ensures) c.requires
+heap_at-requires c = subst (λ (config : Config). IsWord config (Heap c.args.object)) (sym c.config-config.ensures) c.requires
 
 pub word-requires : goal.word-requires
 word-requires c = placed_inside (config_of c.args.image.now) c.config-config.result (Heap c.args.object) _ (sym c.config-config.ensures)
-    (subst (λ (j : Config). IsWord j (Heap c.args.object)) (sym c.config-config.ensures) c.requires) c.heap_at.ensures
+    (subst (λ (config : Config). IsWord config (Heap c.args.object)) (sym c.config-config.ensures) c.requires) c.heap_at.ensures
 
 pub is_black-requires : goal.is_black-requires
 is_black-requires c = c.requires
 
 pub region_of-region-requires : goal.region_of-region-requires
-region_of-region-requires c = subst (λ (j : Config). IsWord j (Heap c.args.object)) (sym c.config-config.ensures) c.requires
+region_of-region-requires c = subst (λ (config : Config). IsWord config (Heap c.args.object)) (sym c.config-config.ensures) c.requires
 
 pub tams_at-requires : goal.tams_at-requires
 tams_at-requires c = c.region_of-region.ensures.below

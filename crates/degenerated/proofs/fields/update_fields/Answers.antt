@@ -18,7 +18,7 @@ update_if_staying-requires-clause-can c =
     let config = config_of c.args.image.now in
     let memory : Word → ℕ = memory_of c.args.image.now in
     let is = c.loop-region.invariant in
-    subst (λ (k : Config). CanUpdateAll k (memory_of c.loop-region.image)) (sym is.config)
+    subst (λ (config : Config). CanUpdateAll config (memory_of c.loop-region.image)) (sym is.config)
     (subst (CanUpdateAll config) (sym is.words) (can_still config (kept_now c.args.image.now) memory c.requires (is_of_first config c.loop-region.region)))
 
 pub loop-region-preserved : goal.loop-region-preserved
@@ -34,7 +34,7 @@ loop-region-preserved c =
       places = c.update_if_staying.ensures.places ∙ is.places;
       words = c.update_if_staying.ensures.words
           ∙ ap (λ (f : ℕ → ℕ). fields_updated (config_of now) f (is_of (config_of now) region) (memory_of now)) (kept_same c.args.image.now now is.config is.places)
-          ∙ ap (λ (k : Config). fields_updated k lead (is_of k region) (memory_of now)) is.config
+          ∙ ap (λ (config : Config). fields_updated config lead (is_of config region) (memory_of now)) is.config
           ∙ ap (fields_updated config lead (is_of config region)) is.words
           ∙ then_updated config lead memory c.requires (is_of_first config region) (is_of config region) (is_of_first config (region + 1)) (λ x field before. regions_apart config region x before) (λ x field. one_region_more config region x);
     }
@@ -43,5 +43,5 @@ pub returns-clause-words : goal.returns-clause-words
 returns-clause-words c =
     let config = config_of c.args.image.now in
     let all : c.loop-region.region ≡ config.regions =
-    omega (arith, c.loop-region-test.false, c.loop-region.auto.region-end, c.regions-region-end.ensures, ap (λ (k : Config). k.regions) c.config-config.ensures) in
+    omega (arith, c.loop-region-test.false, c.loop-region.auto.region-end, c.regions-region-end.ensures, ap (λ (config : Config). config.regions) c.config-config.ensures) in
     c.loop-region.invariant.words ∙ ap (λ n. fields_updated config (kept_now c.args.image.now) (is_of_first config n) (memory_of c.args.image.now)) all

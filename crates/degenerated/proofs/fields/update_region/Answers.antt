@@ -14,43 +14,43 @@ use Rattle.degenerated.proofs.fields.update_region.Goals as goal
 use Rattle.degenerated.proofs.fields.update_region.Goals.{then-ends_at, else-ends_at}
 
 -- what was found of an object is so of the words at first
-module _ (lead : ℕ → ℕ) (g d : Config) (m now : Word → ℕ) (can : CanUpdateAll g m) (r i : ℕ) (below : r < g.regions) (staying : stays g m r ≡ true) (some : i < m (Top r))
-    (same : d ≡ g) (words : now ≡ fields_updated g lead (is_below g r i) m) (first : ℕ) (base : first ≡ base_of g r) where
+module _ (lead : ℕ → ℕ) (config other_config : Config) (memory now : Word → ℕ) (can : CanUpdateAll config memory) (region i : ℕ) (below : region < config.regions) (staying : stays config memory region ≡ true) (some : i < memory (Top region))
+    (same : other_config ≡ config) (words : now ≡ fields_updated config lead (is_below config region i) memory) (first : ℕ) (base : first ≡ base_of config region) where
   abbrev p : ℕ → Bool
-  p = is_below g r i
+  p = is_below config region i
 
   abbrev n : Word → ℕ
-  n = fields_updated g lead p m
+  n = fields_updated config lead p memory
 
-  module _ (object : ℕ) (at : object ≡ base_of g r + start_of (λ a. m (Heap a)) (base_of g r) (i - 1)) where
-    pub first_is : CanRead d now object
+  module _ (object : ℕ) (at : object ≡ base_of config region + start_of (λ a. memory (Heap a)) (base_of config region) (i - 1)) where
+    pub first_is : CanRead other_config now object
     first_is =
-        subst (λ (k : Config). CanRead k now object) (sym same)
-        (subst (λ (k : Word → ℕ). CanRead g k object) (sym words) (subst (CanRead g n) (sym at) (last_in_heap g lead m can p r below staying i some)))
+        subst (λ (config : Config). CanRead config now object) (sym same)
+        (subst (λ (memory : Word → ℕ). CanRead config memory object) (sym words) (subst (CanRead config n) (sym at) (last_in_heap config lead memory can p region below staying i some)))
 
     pub begun_here : (told : Bool) → told ≡ (object + stride_at (λ a. now (Heap a)) object == first + i) → told ≡ true
-        → first + i ≡ base_of g r + start_of (λ a. m (Heap a)) (base_of g r) i
+        → first + i ≡ base_of config region + start_of (λ a. memory (Heap a)) (base_of config region) i
     begun_here told is passes =
-        here g lead m can p r below staying i some object first at base (ap (λ (k : Word → ℕ). object + stride_at (λ a. k (Heap a)) object == first + i) (sym words) ∙ sym is ∙ passes)
+        here config lead memory can p region below staying i some object first at base (ap (λ (memory : Word → ℕ). object + stride_at (λ a. memory (Heap a)) object == first + i) (sym words) ∙ sym is ∙ passes)
 
     pub goes_on_here : (told : Bool) → told ≡ (object + stride_at (λ a. now (Heap a)) object == first + i) → told ≡ false
-        → object ≡ base_of g r + start_of (λ a. m (Heap a)) (base_of g r) i
+        → object ≡ base_of config region + start_of (λ a. memory (Heap a)) (base_of config region) i
     goes_on_here told is fails =
-        still g lead m can p r below staying i some object first at base (ap (λ (k : Word → ℕ). object + stride_at (λ a. k (Heap a)) object == first + i) (sym words) ∙ sym is ∙ fails)
+        still config lead memory can p region below staying i some object first at base (ap (λ (memory : Word → ℕ). object + stride_at (λ a. memory (Heap a)) object == first + i) (sym words) ∙ sym is ∙ fails)
 
-  pub can_now : CanUpdateAll d now
-  can_now = subst (λ (k : Config). CanUpdateAll k now) (sym same) (subst (CanUpdateAll g) (sym words) (can_still g lead m can p))
+  pub can_now : CanUpdateAll other_config now
+  can_now = subst (λ (config : Config). CanUpdateAll config now) (sym same) (subst (CanUpdateAll config) (sym words) (can_still config lead memory can p))
 
-  lies : is_staying g m (first + i) ≡ true
-  lies = ap (λ b. is_staying g m (b + i)) base ∙ staying_told g m r i below staying (can.within r below) some
+  lies : is_staying config memory (first + i) ≡ true
+  lies = ap (λ b. is_staying config memory (b + i)) base ∙ staying_told config memory region i below staying (can.within region below) some
 
-  pub staying_now : is_staying d now (first + i) ≡ true
-  staying_now = ap (λ (k : Config). is_staying k now (first + i)) same ∙ ap (λ (k : Word → ℕ). is_staying g k (first + i)) words ∙ lies
+  pub staying_now : is_staying other_config now (first + i) ≡ true
+  staying_now = ap (λ (config : Config). is_staying config now (first + i)) same ∙ ap (λ (memory : Word → ℕ). is_staying config memory (first + i)) words ∙ lies
 
-  pub object_now : (object : ℕ) → object ≡ base_of g r + start_of (λ a. m (Heap a)) (base_of g r) i → object ≡ object_of d now (first + i)
+  pub object_now : (object : ℕ) → object ≡ base_of config region + start_of (λ a. memory (Heap a)) (base_of config region) i → object ≡ object_of other_config now (first + i)
   object_now object at =
-      at ∙ sym (ap (λ (k : Config). object_of k now (first + i)) same ∙ ap (λ (k : Word → ℕ). object_of g k (first + i)) words
-      ∙ same_object g lead m can p (first + i) lies ∙ ap (λ b. object_of g m (b + i)) base ∙ object_in g m r i (omega (arith, can.within r below, some)))
+      at ∙ sym (ap (λ (config : Config). object_of config now (first + i)) same ∙ ap (λ (memory : Word → ℕ). object_of config memory (first + i)) words
+      ∙ same_object config lead memory can p (first + i) lies ∙ ap (λ b. object_of config memory (b + i)) base ∙ object_in config memory region i (omega (arith, can.within region below, some)))
 
 pub loop-offset-init : goal.loop-offset-init
 loop-offset-init c =
@@ -61,7 +61,7 @@ loop-offset-init c =
       config = refl;
       places = refl;
       words = no_fields config memory (kept_now c.args.image.now) (is_below config region 0) (λ x field. none_below config region x);
-      object = c.base-first.ensures ∙ ap (λ (k : Config). base_of k region) c.config.ensures
+      object = c.base-first.ensures ∙ ap (λ (config : Config). base_of config region) c.config.ensures
           ∙ (let none = start_first (λ a. memory (Heap a)) (base_of config region) in let first : base_of config region ≡ base_of config region + start_of (λ a. memory (Heap a)) (base_of config region) 0 = omega (arith, none) in first);
     }
 
@@ -72,7 +72,7 @@ ends_at-requires-clause-header c =
     let is = c.loop-offset.invariant in
     (first_is (kept_now c.args.image.now) config (config_of c.loop-offset.image) memory (memory_of c.loop-offset.image) c.requires.can c.args.region c.loop-offset.offset c.requires.region c.requires.stays
     (omega (arith, c.loop-offset-test.true, c.top-top.ensures)) is.config is.words c.base-first.result
-    (c.base-first.ensures ∙ ap (λ (k : Config). base_of k c.args.region) c.config.ensures) c.loop-offset.object is.object).0
+    (c.base-first.ensures ∙ ap (λ (config : Config). base_of config c.args.region) c.config.ensures) c.loop-offset.object is.object).0
 
 pub ends_at-requires-clause-shape : goal.ends_at-requires-clause-shape
 ends_at-requires-clause-shape c =
@@ -81,7 +81,7 @@ ends_at-requires-clause-shape c =
     let is = c.loop-offset.invariant in
     (first_is (kept_now c.args.image.now) config (config_of c.loop-offset.image) memory (memory_of c.loop-offset.image) c.requires.can c.args.region c.loop-offset.offset c.requires.region c.requires.stays
     (omega (arith, c.loop-offset-test.true, c.top-top.ensures)) is.config is.words c.base-first.result
-    (c.base-first.ensures ∙ ap (λ (k : Config). base_of k c.args.region) c.config.ensures) c.loop-offset.object is.object).1
+    (c.base-first.ensures ∙ ap (λ (config : Config). base_of config c.args.region) c.config.ensures) c.loop-offset.object is.object).1
 
 pub update_word-requires-clause-can : goal.update_word-requires-clause-can
 update_word-requires-clause-can c =
@@ -90,7 +90,7 @@ update_word-requires-clause-can c =
     let is = c.loop-offset.invariant in
     can_now (kept_now c.args.image.now) config (config_of c.loop-offset.image) memory (memory_of c.loop-offset.image) c.requires.can c.args.region c.loop-offset.offset c.requires.region c.requires.stays
     (omega (arith, c.loop-offset-test.true, c.top-top.ensures)) is.config is.words c.base-first.result
-    (c.base-first.ensures ∙ ap (λ (k : Config). base_of k c.args.region) c.config.ensures)
+    (c.base-first.ensures ∙ ap (λ (config : Config). base_of config c.args.region) c.config.ensures)
 
 pub update_word-requires-clause-stays : goal.update_word-requires-clause-stays
 update_word-requires-clause-stays c =
@@ -99,7 +99,7 @@ update_word-requires-clause-stays c =
     let is = c.loop-offset.invariant in
     staying_now (kept_now c.args.image.now) config (config_of c.loop-offset.image) memory (memory_of c.loop-offset.image) c.requires.can c.args.region c.loop-offset.offset c.requires.region c.requires.stays
     (omega (arith, c.loop-offset-test.true, c.top-top.ensures)) is.config is.words c.base-first.result
-    (c.base-first.ensures ∙ ap (λ (k : Config). base_of k c.args.region) c.config.ensures)
+    (c.base-first.ensures ∙ ap (λ (config : Config). base_of config c.args.region) c.config.ensures)
 
 pub update_word-requires-clause-object : goal.update_word-requires-clause-object
 update_word-requires-clause-object c =
@@ -110,7 +110,7 @@ update_word-requires-clause-object c =
     let now = c.loop-offset.image in
     let is = c.loop-offset.invariant in
     let some : offset < memory (Top region) = omega (arith, c.loop-offset-test.true, c.top-top.ensures) in
-    let base = c.base-first.ensures ∙ ap (λ (k : Config). base_of k region) c.config.ensures in
+    let base = c.base-first.ensures ∙ ap (λ (config : Config). base_of config region) c.config.ensures in
     object_now (kept_now c.args.image.now) config (config_of now) memory (memory_of now) c.requires.can region offset c.requires.region c.requires.stays some is.config is.words c.base-first.result base c.if-ends_at.object
     (elim c.if-ends_at.branch [
       | then-ends_at w ↦ w.object-is ∙ begun_here (kept_now c.args.image.now) config (config_of now) memory (memory_of now) c.requires.can region offset c.requires.region c.requires.stays some is.config is.words c.base-first.result base
@@ -128,7 +128,7 @@ loop-offset-preserved c =
     let now = c.loop-offset.image in
     let is = c.loop-offset.invariant in
     let some : offset < memory (Top region) = omega (arith, c.loop-offset-test.true, c.top-top.ensures) in
-    let base : c.base-first.result ≡ base_of config region = c.base-first.ensures ∙ ap (λ (k : Config). base_of k region) c.config.ensures in
+    let base : c.base-first.result ≡ base_of config region = c.base-first.ensures ∙ ap (λ (config : Config). base_of config region) c.config.ensures in
     let object : c.if-ends_at.object ≡ base_of config region + start_of (λ a. memory (Heap a)) (base_of config region) offset = elim c.if-ends_at.branch [
       | then-ends_at w ↦ w.object-is ∙ begun_here (kept_now c.args.image.now) config (config_of now) memory (memory_of now) c.requires.can region offset c.requires.region c.requires.stays some is.config is.words c.base-first.result base
           c.loop-offset.object is.object c.ends_at.result c.ends_at.ensures w.if-ends_at.true
@@ -142,7 +142,7 @@ loop-offset-preserved c =
       places = c.update_word.ensures.places ∙ is.places;
       words = c.update_word.ensures.words
           ∙ ap (λ (f : ℕ → ℕ). fields_updated (config_of now) f (is_at (c.base-first.result + offset)) (memory_of now)) (kept_same c.args.image.now now is.config is.places)
-          ∙ ap (λ (k : Config). fields_updated k lead (is_at (c.base-first.result + offset)) (memory_of now)) is.config
+          ∙ ap (λ (config : Config). fields_updated config lead (is_at (c.base-first.result + offset)) (memory_of now)) is.config
           ∙ ap (fields_updated config lead (is_at (c.base-first.result + offset))) is.words
           ∙ ap (λ b. fields_updated config lead (is_at (b + offset)) (fields_updated config lead (is_below config region offset) memory)) base
           ∙ then_updated config lead memory c.requires.can (is_below config region offset) (is_at (base_of config region + offset)) (is_below config region (offset + 1)) (λ x field before. addresses_apart config region offset x before) (λ x field. one_address_more config region offset x);

@@ -40,20 +40,20 @@ returns-then-not-is_kept-clause-words c =
 pub heap_at-at-requires : goal.heap_at-at-requires
 heap_at-at-requires c =
     let config = config_of c.args.image.now in
-    subst (λ (k : Config). IsWord k (Heap c.args.address)) (sym c.config.ensures) (address_inside config (memory_of c.args.image.now) c.args.address c.requires.stays)
+    subst (λ (config : Config). IsWord config (Heap c.args.address)) (sym c.config.ensures) (address_inside config (memory_of c.args.image.now) c.args.address c.requires.stays)
 
 pub word-requires : goal.word-requires
 word-requires c =
     let config = config_of c.args.image.now in
     placed_inside config c.config.result (Heap c.args.address) c.heap_at-at.result (sym c.config.ensures)
-    (subst (λ (k : Config). IsWord k (Heap c.args.address)) (sym c.config.ensures) (address_inside config (memory_of c.args.image.now) c.args.address c.requires.stays))
+    (subst (λ (config : Config). IsWord config (Heap c.args.address)) (sym c.config.ensures) (address_inside config (memory_of c.args.image.now) c.args.address c.requires.stays))
     c.heap_at-at.ensures
 
 pub set_word-requires : goal.set_word-requires
 set_word-requires c =
     let config = config_of c.args.image.now in
     placed_inside config c.config.result (Heap c.args.address) c.heap_at-at.result (sym c.config.ensures)
-    (subst (λ (k : Config). IsWord k (Heap c.args.address)) (sym c.config.ensures) (address_inside config (memory_of c.args.image.now) c.args.address c.requires.stays))
+    (subst (λ (config : Config). IsWord config (Heap c.args.address)) (sym c.config.ensures) (address_inside config (memory_of c.args.image.now) c.args.address c.requires.stays))
     c.heap_at-at.ensures
 
 pub returns-clause-words : goal.returns-clause-words
@@ -62,7 +62,7 @@ returns-clause-words c =
     let memory : Word → ℕ = memory_of c.args.image.now in
     let address = c.args.address in
     let word : IsWord config (Heap address) = address_inside config memory address c.requires.stays in
-    let at : c.heap_at-at.result ≡ word_at config (Heap address) = c.heap_at-at.ensures ∙ ap (λ (k : Config). word_at k (Heap address)) c.config.ensures in
+    let at : c.heap_at-at.result ≡ word_at config (Heap address) = c.heap_at-at.ensures ∙ ap (λ (config : Config). word_at config (Heap address)) c.config.ensures in
     let read : c.word.result ≡ memory (Heap address) = c.word.ensures.named (Heap address) word (sym at) in
     let now : ℕ → ℕ = kept_now c.args.image.now in
     let value : c.updated-word.result ≡ updated_by config now memory (memory (Heap address)) = c.updated-word.ensures ∙ ap (updated_by config now memory) read in

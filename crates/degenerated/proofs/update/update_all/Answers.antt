@@ -21,8 +21,8 @@ update_all_roots-requires c =
     let begun = c.keep_heap.new.self in
     let one = c.update_fields.new.image in
     let same : memory_of one Cset ≡ memory_of c.args.image.now Cset =
-    ap (λ (n : Word → ℕ). n Cset) c.update_fields.ensures.words ∙ ap (λ (n : Word → ℕ). n Cset) (memory_same c.args.image.now begun c.keep_heap.ensures.unchanged) in
-    subst (λ (k : Config). memory_of one Cset < 2 ^ k.regions) (sym (c.update_fields.ensures.config ∙ c.keep_heap.ensures.unchanged.config))
+    ap (λ (memory : Word → ℕ). memory Cset) c.update_fields.ensures.words ∙ ap (λ (memory : Word → ℕ). memory Cset) (memory_same c.args.image.now begun c.keep_heap.ensures.unchanged) in
+    subst (λ (config : Config). memory_of one Cset < 2 ^ config.regions) (sym (c.update_fields.ensures.config ∙ c.keep_heap.ensures.unchanged.config))
     (subst (λ x. x < 2 ^ config.regions) (sym same) c.requires.set)
 
 pub update_answers-requires : goal.update_answers-requires
@@ -31,10 +31,10 @@ update_answers-requires c =
     let begun = c.keep_heap.new.self in
     let one = c.update_fields.new.image in
     let two = c.update_all_roots.new.image in
-    let same : memory_of two Cset ≡ memory_of one Cset = ap (λ (n : Word → ℕ). n Cset) c.update_all_roots.ensures.words in
+    let same : memory_of two Cset ≡ memory_of one Cset = ap (λ (memory : Word → ℕ). memory Cset) c.update_all_roots.ensures.words in
     let first : memory_of one Cset ≡ memory_of c.args.image.now Cset =
-    ap (λ (n : Word → ℕ). n Cset) c.update_fields.ensures.words ∙ ap (λ (n : Word → ℕ). n Cset) (memory_same c.args.image.now begun c.keep_heap.ensures.unchanged) in
-    subst (λ (k : Config). memory_of two Cset < 2 ^ k.regions) (sym (c.update_all_roots.ensures.config ∙ c.update_fields.ensures.config ∙ c.keep_heap.ensures.unchanged.config))
+    ap (λ (memory : Word → ℕ). memory Cset) c.update_fields.ensures.words ∙ ap (λ (memory : Word → ℕ). memory Cset) (memory_same c.args.image.now begun c.keep_heap.ensures.unchanged) in
+    subst (λ (config : Config). memory_of two Cset < 2 ^ config.regions) (sym (c.update_all_roots.ensures.config ∙ c.update_fields.ensures.config ∙ c.keep_heap.ensures.unchanged.config))
     (subst (λ x. x < 2 ^ config.regions) (sym (same ∙ first)) c.requires.set)
 
 pub returns-clause-words : goal.returns-clause-words
@@ -54,16 +54,16 @@ returns-clause-words c =
     let to_one : memory_of one ≡ fields_updated config lead (is_of_first config config.regions) memory =
     c.update_fields.ensures.words
     ∙ ap (λ (f : ℕ → ℕ). fields_updated (config_of begun) f (is_of_first (config_of begun) (config_of begun).regions) (memory_of begun)) kept
-    ∙ ap (λ (k : Config). fields_updated k lead (is_of_first k k.regions) (memory_of begun)) c.keep_heap.ensures.unchanged.config
+    ∙ ap (λ (config : Config). fields_updated config lead (is_of_first config config.regions) (memory_of begun)) c.keep_heap.ensures.unchanged.config
     ∙ ap (fields_updated config lead (is_of_first config config.regions)) (memory_same old begun c.keep_heap.ensures.unchanged) in
     let to_two : memory_of two ≡ roots_updated config lead config.mutators (fields_updated config lead (is_of_first config config.regions) memory) =
     c.update_all_roots.ensures.words
     ∙ ap (λ (f : ℕ → ℕ). roots_updated (config_of one) f (config_of one).mutators (memory_of one)) kept_one
-    ∙ ap (λ (k : Config). roots_updated k lead k.mutators (memory_of one)) config_one
+    ∙ ap (λ (config : Config). roots_updated config lead config.mutators (memory_of one)) config_one
     ∙ ap (roots_updated config lead config.mutators) to_one in
     c.update_answers.ensures.words
     ∙ ap (λ (f : ℕ → ℕ). answers_updated (config_of two) f (config_of two).mutators (memory_of two)) kept_two
-    ∙ ap (λ (k : Config). answers_updated k lead k.mutators (memory_of two)) config_two
+    ∙ ap (λ (config : Config). answers_updated config lead config.mutators (memory_of two)) config_two
     ∙ ap (answers_updated config lead config.mutators) to_two
     ∙ all config (words_of old) old.all_words
 
@@ -71,5 +71,5 @@ pub returns-clause-holds : goal.returns-clause-holds
 returns-clause-holds c = λ block owner p graph holds sized none.
     let config = config_of c.args.image.now in
     let memory : Word → ℕ = memory_of c.args.image.now in
-    subst (λ (n : Word → ℕ). HoldsUpdated config n block owner p graph) (sym (returns-clause-words c))
+    subst (λ (memory : Word → ℕ). HoldsUpdated config memory block owner p graph) (sym (returns-clause-words c))
     (record { holds = updated_holds config memory block owner p graph holds sized none; sized = updated_sized config memory block owner p graph holds sized none })

@@ -13,8 +13,8 @@ loop-mutator-init c = record { config = refl; places = refl; words = no_roots (c
 pub update_roots-requires-clause-set : goal.update_roots-requires-clause-set
 update_roots-requires-clause-set c =
     let is = c.loop-mutator.invariant in
-    subst (λ (k : Config). memory_of c.loop-mutator.image Cset < 2 ^ k.regions) (sym is.config)
-    (subst (λ (n : Word → ℕ). n Cset < 2 ^ (config_of c.args.image.now).regions) (sym is.words) c.requires)
+    subst (λ (config : Config). memory_of c.loop-mutator.image Cset < 2 ^ config.regions) (sym is.config)
+    (subst (λ (memory : Word → ℕ). memory Cset < 2 ^ (config_of c.args.image.now).regions) (sym is.words) c.requires)
 
 pub loop-mutator-preserved : goal.loop-mutator-preserved
 loop-mutator-preserved c =
@@ -29,7 +29,7 @@ loop-mutator-preserved c =
       places = c.update_roots.ensures.places ∙ is.places;
       words = c.update_roots.ensures.words
           ∙ ap (λ (f : ℕ → ℕ). row_updated (config_of now) f mutator 16 (memory_of now)) (kept_same c.args.image.now now is.config is.places)
-          ∙ ap (λ (k : Config). row_updated k lead mutator 16 (memory_of now)) is.config
+          ∙ ap (λ (config : Config). row_updated config lead mutator 16 (memory_of now)) is.config
           ∙ ap (row_updated config lead mutator 16) is.words
           ∙ roots_next config lead memory mutator;
     }
@@ -38,5 +38,5 @@ pub returns-clause-words : goal.returns-clause-words
 returns-clause-words c =
     let config = config_of c.args.image.now in
     let all : c.loop-mutator.mutator ≡ config.mutators =
-    omega (arith, c.loop-mutator-test.false, c.loop-mutator.auto.mutator-end, c.mutators-mutator-end.ensures, ap (λ (k : Config). k.mutators) c.config-config.ensures) in
+    omega (arith, c.loop-mutator-test.false, c.loop-mutator.auto.mutator-end, c.mutators-mutator-end.ensures, ap (λ (config : Config). config.mutators) c.config-config.ensures) in
     c.loop-mutator.invariant.words ∙ ap (λ n. roots_updated config (kept_now c.args.image.now) n (memory_of c.args.image.now)) all

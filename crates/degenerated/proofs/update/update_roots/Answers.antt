@@ -13,8 +13,8 @@ loop-index-init c = record { config = refl; places = refl; words = none_of_row (
 pub update_place-requires-clause-set : goal.update_place-requires-clause-set
 update_place-requires-clause-set c =
     let is = c.loop-index.invariant in
-    subst (λ (k : Config). memory_of c.loop-index.image Cset < 2 ^ k.regions) (sym is.config)
-    (subst (λ (n : Word → ℕ). n Cset < 2 ^ (config_of c.args.image.now).regions) (sym is.words) c.requires.set)
+    subst (λ (config : Config). memory_of c.loop-index.image Cset < 2 ^ config.regions) (sym is.config)
+    (subst (λ (memory : Word → ℕ). memory Cset < 2 ^ (config_of c.args.image.now).regions) (sym is.words) c.requires.set)
 
 pub loop-index-preserved : goal.loop-index-preserved
 loop-index-preserved c =
@@ -25,15 +25,15 @@ loop-index-preserved c =
     let lead : ℕ → ℕ = kept_now c.args.image.now in
     let now = c.loop-index.image in
     let is = c.loop-index.invariant in
-    let word : IsWord (config_of now) (Root mutator i) = subst (λ (k : Config). IsWord k (Root mutator i)) (sym is.config) (c.requires.mutator, c.loop-index-test.true) in
-    let at : c.root_at.result ≡ word_at (config_of now) (Root mutator i) = c.root_at.ensures ∙ ap (λ (k : Config). word_at k (Root mutator i)) (c.config-config.ensures ∙ sym is.config) in
+    let word : IsWord (config_of now) (Root mutator i) = subst (λ (config : Config). IsWord config (Root mutator i)) (sym is.config) (c.requires.mutator, c.loop-index-test.true) in
+    let at : c.root_at.result ≡ word_at (config_of now) (Root mutator i) = c.root_at.ensures ∙ ap (λ (config : Config). word_at config (Root mutator i)) (c.config-config.ensures ∙ sym is.config) in
     record {
       config = c.update_place.ensures.config ∙ is.config;
       places = c.update_place.ensures.places ∙ is.places;
       words = c.update_place.ensures.words (Root mutator i) word (sym at)
           ∙ ap (λ (f : ℕ → ℕ). write (memory_of now) (Root mutator i) (updated_by (config_of now) f (memory_of now) (memory_of now (Root mutator i)))) (kept_same c.args.image.now now is.config is.places)
-          ∙ ap (λ (k : Config). write (memory_of now) (Root mutator i) (updated_by k lead (memory_of now) (memory_of now (Root mutator i)))) is.config
-          ∙ ap (λ (n : Word → ℕ). write n (Root mutator i) (updated_by config lead n (n (Root mutator i)))) is.words
+          ∙ ap (λ (config : Config). write (memory_of now) (Root mutator i) (updated_by config lead (memory_of now) (memory_of now (Root mutator i)))) is.config
+          ∙ ap (λ (memory : Word → ℕ). write memory (Root mutator i) (updated_by config lead memory (memory (Root mutator i)))) is.words
           ∙ ap (λ v. write (row_updated config lead mutator i memory) (Root mutator i) (updated_by config lead memory v)) (row_still config lead memory mutator i)
           ∙ row_next config lead memory mutator i;
     }

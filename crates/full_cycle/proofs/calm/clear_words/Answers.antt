@@ -10,13 +10,13 @@ pub loop-at-init : goal.loop-at-init
 loop-at-init c = record { config = refl; words = none_changed c.args.from (λ (word : ℕ). 0) (words_of c.args.image.now) }
 
 pub set_word-requires : goal.set_word-requires
-set_word-requires c = subst (λ (j : Config). c.loop-at.at < table_words j) (sym c.loop-at.invariant.config) (omega (arith, c.loop-at-test.true, c.requires.inside))
+set_word-requires c = subst (λ (config : Config). c.loop-at.at < table_words config) (sym c.loop-at.invariant.config) (omega (arith, c.loop-at-test.true, c.requires.inside))
 
 pub loop-at-preserved : goal.loop-at-preserved
 loop-at-preserved c =
     let i = c.loop-at.at in
     let now = c.loop-at.image in
-    let inside : i < table_words (config_of now) = subst (λ (j : Config). i < table_words j) (sym c.loop-at.invariant.config) (omega (arith, c.loop-at-test.true, c.requires.inside)) in
+    let inside : i < table_words (config_of now) = subst (λ (config : Config). i < table_words config) (sym c.loop-at.invariant.config) (omega (arith, c.loop-at-test.true, c.requires.inside)) in
     record {
       config = c.set_word.ensures.config ∙ c.loop-at.invariant.config;
       words = subst (IsChanged c.args.from (i + 1) (λ (word : ℕ). 0) (words_of c.args.image.now)) (sym c.set_word.ensures.words)

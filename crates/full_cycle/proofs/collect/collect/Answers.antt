@@ -22,7 +22,7 @@ pack_held-requires-clause-held c =
     let old = c.args.image.now in
     let one = c.find_held.new.image in
     let same = c.find_held.ensures.unchanged in
-    c.find_held.ensures.held ∙ sym (ap (λ (k : Config). held_in k (memory_of one)) same.config ∙ ap (λ (n : Word → ℕ). held_in (config_of old) n) (memory_same old one same))
+    c.find_held.ensures.held ∙ sym (ap (λ (config : Config). held_in config (memory_of one)) same.config ∙ ap (λ (memory : Word → ℕ). held_in (config_of old) memory) (memory_same old one same))
 
 pub fill_unkept-requires-clause-can : goal.fill_unkept-requires-clause-can
 fill_unkept-requires-clause-can c =
@@ -78,5 +78,5 @@ returns-clause-words c =
     c.renew_roots.ensures.words c.clear_collection.ensures.words c.free_empty.ensures.words in
     c.refuse.ensures.words
     ∙ ap refused (c.give_turns.ensures.words
-    ∙ ap (λ (k : Config). served k (memory_of six) k.mutators) config
-    ∙ ap (λ (n : Word → ℕ). served (config_of old) n (config_of old).mutators) words)
+    ∙ ap (λ (config : Config). served config (memory_of six) config.mutators) config
+    ∙ ap (λ (memory : Word → ℕ). served (config_of old) memory (config_of old).mutators) words)

@@ -24,12 +24,12 @@ collect-requires c =
     let config = config_of c.args.image.now in
     let memory : Word → ℕ = memory_of c.args.image.now in
     let lets : LettingGoHolds config memory (let_go config memory) = subst (LettingGoHolds config memory) c.let_go.ensures.words c.let_go.ensures.holds in
-    subst (λ (k : Config). HoldsWalked k (memory_of c.let_go.new.self)) (sym c.let_go.ensures.config)
+    subst (λ (config : Config). HoldsWalked config (memory_of c.let_go.new.self)) (sym c.let_go.ensures.config)
     (subst (HoldsWalked config) (sym c.let_go.ensures.words) (let_go_walked config memory lets c.requires))
 
 pub returns-clause-words : goal.returns-clause-words
 returns-clause-words c =
-    c.collect.ensures.words ∙ ap (λ (k : Config). full_from k (memory_of c.let_go.new.self)) c.let_go.ensures.config
+    c.collect.ensures.words ∙ ap (λ (config : Config). full_from config (memory_of c.let_go.new.self)) c.let_go.ensures.config
     ∙ ap (full_from (config_of c.args.image.now)) c.let_go.ensures.words
 
 pub returns-clause-holds : goal.returns-clause-holds

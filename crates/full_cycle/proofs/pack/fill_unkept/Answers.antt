@@ -26,18 +26,18 @@ fill_if_pinned-requires-clause-can c = λ pinned.
     let now = c.loop-region.image in
     let region = c.loop-region.region in
     let is = c.loop-region.invariant in
-    let below : region < config.regions = omega (arith, c.loop-region-test.true, c.regions-region-end.ensures, ap (λ (k : Config). k.regions) c.config-config.ensures) in
+    let below : region < config.regions = omega (arith, c.loop-region-test.true, c.regions-region-end.ensures, ap (λ (config : Config). config.regions) c.config-config.ensures) in
     let still : is_pinned config (unkept_filled config memory (found_of old) region) region ≡ true =
-    sym (ap (λ (n : Word → ℕ). is_pinned config n region) is.words) ∙ sym (ap (λ (k : Config). is_pinned k (memory_of now) region) is.config) ∙ pinned in
-    subst (λ (k : Config). CanFill k (memory_of now) region) (sym is.config)
-    (subst (λ (n : Word → ℕ). CanFill config n region) (sym is.words) (can_still config memory (found_of old) region (c.requires.can region below) still))
+    sym (ap (λ (memory : Word → ℕ). is_pinned config memory region) is.words) ∙ sym (ap (λ (config : Config). is_pinned config (memory_of now) region) is.config) ∙ pinned in
+    subst (λ (config : Config). CanFill config (memory_of now) region) (sym is.config)
+    (subst (λ (memory : Word → ℕ). CanFill config memory region) (sym is.words) (can_still config memory (found_of old) region (c.requires.can region below) still))
 
 pub fill_if_pinned-requires-clause-found : goal.fill_if_pinned-requires-clause-found
 fill_if_pinned-requires-clause-found c =
     let old = c.args.image.now in
     let now = c.loop-region.image in
     let is = c.loop-region.invariant in
-    subst (λ (k : Config). IsMarked k.region_words (marks_of now) (found_of now)) (sym is.config)
+    subst (λ (config : Config). IsMarked config.region_words (marks_of now) (found_of now)) (sym is.config)
     (subst (λ (marks : List Bool). IsMarked (config_of old).region_words marks (found_of now)) (sym is.marks)
     (subst (λ (found : List ℕ). IsMarked (config_of old).region_words (marks_of old) found) (sym is.found) c.requires.found))
 
@@ -50,15 +50,15 @@ loop-region-preserved c =
     let region = c.loop-region.region in
     let is = c.loop-region.invariant in
     let turn = c.fill_if_pinned.ensures in
-    let below : region < config.regions = omega (arith, c.loop-region-test.true, c.regions-region-end.ensures, ap (λ (k : Config). k.regions) c.config-config.ensures) in
+    let below : region < config.regions = omega (arith, c.loop-region-test.true, c.regions-region-end.ensures, ap (λ (config : Config). config.regions) c.config-config.ensures) in
     record {
       config = turn.config ∙ is.config;
       places = turn.places ∙ is.places;
       found = turn.found ∙ is.found;
       marks = turn.marks ∙ is.marks;
       words = turn.words
-          ∙ ap (λ (k : Config). filled_in k (λ q. (q == region) && is_pinned k (memory_of now) q) (is_left_over (memory_of now) (found_of now) NotFound) (memory_of now)) is.config
-          ∙ ap (λ (n : Word → ℕ). filled_in config (λ q. (q == region) && is_pinned config n q) (is_left_over n (found_of now) NotFound) n) is.words
+          ∙ ap (λ (config : Config). filled_in config (λ q. (q == region) && is_pinned config (memory_of now) q) (is_left_over (memory_of now) (found_of now) NotFound) (memory_of now)) is.config
+          ∙ ap (λ (memory : Word → ℕ). filled_in config (λ q. (q == region) && is_pinned config memory q) (is_left_over memory (found_of now) NotFound) memory) is.words
           ∙ one_filled config memory (found_of old) region (c.requires.can region below) (found_of now) is.found;
     }
 
@@ -66,5 +66,5 @@ pub returns-clause-words : goal.returns-clause-words
 returns-clause-words c =
     let old = c.args.image.now in
     let all : c.loop-region.region ≡ (config_of old).regions =
-    omega (arith, c.loop-region-test.false, c.loop-region.auto.region-end, c.regions-region-end.ensures, ap (λ (k : Config). k.regions) c.config-config.ensures) in
+    omega (arith, c.loop-region-test.false, c.loop-region.auto.region-end, c.regions-region-end.ensures, ap (λ (config : Config). config.regions) c.config-config.ensures) in
     c.loop-region.invariant.words ∙ ap (unkept_filled (config_of old) (memory_of old) (found_of old)) all

@@ -10,7 +10,7 @@ returns-clause-waits c = λ _.
     let mutator = c.args.mutator in
     let old = c.args.image.now in
     let one = c.set_word.new.self in
-    let inside : mutator < c.config-config.result.mutators = subst (λ (k : Config). mutator < k.mutators) (sym c.config-config.ensures) c.requires in
+    let inside : mutator < c.config-config.result.mutators = subst (λ (config : Config). mutator < config.mutators) (sym c.config-config.ensures) c.requires in
     stored (config_of one) c.config-config.result (memory_of one) (memory_of c.set_word-2.new.self) (Wait mutator) c.wait_at-2.result 0
     (c.set_word.ensures.config ∙ sym c.config-config.ensures) inside c.wait_at-2.ensures c.set_word-2.ensures.named
     ∙ ap (λ m. write m (Wait mutator) 0)

@@ -15,7 +15,7 @@ loop-at-init c = record {
 }
 
 pub word-requires : goal.word-requires
-word-requires c = subst (λ (j : Config). c.loop-at.at < table_words j) (sym c.loop-at.invariant.config) (omega (arith, c.loop-at-test.true, c.requires.inside))
+word-requires c = subst (λ (config : Config). c.loop-at.at < table_words config) (sym c.loop-at.invariant.config) (omega (arith, c.loop-at-test.true, c.requires.inside))
 
 pub renewed-place-requires : goal.renewed-place-requires
 renewed-place-requires c = λ some.
@@ -26,12 +26,12 @@ renewed-place-requires c = λ some.
     let is = c.loop-at.invariant in
     let word : c.word.result ≡ get_or before i 0 = c.word.ensures.value ∙ not_yet c.args.from i (renewed_by config.region_words places) before (words_of c.loop-at.image) is.words in
     let here = c.requires.table i c.loop-at.auto.at c.loop-at-test.true (subst (λ (n : ℕ). 1 < n) word some) in
-    subst (λ (j : Config). IsInTable j.region_words (places_of c.loop-at.image) c.word.result) (sym is.config)
+    subst (λ (config : Config). IsInTable config.region_words (places_of c.loop-at.image) c.word.result) (sym is.config)
     (subst (λ (p : List ℕ). IsInTable config.region_words p c.word.result) (sym is.places)
     (subst (IsInTable config.region_words places) (sym word) here))
 
 pub set_word-requires : goal.set_word-requires
-set_word-requires c = subst (λ (j : Config). c.loop-at.at < table_words j) (sym c.loop-at.invariant.config) (omega (arith, c.loop-at-test.true, c.requires.inside))
+set_word-requires c = subst (λ (config : Config). c.loop-at.at < table_words config) (sym c.loop-at.invariant.config) (omega (arith, c.loop-at-test.true, c.requires.inside))
 
 pub loop-at-preserved : goal.loop-at-preserved
 loop-at-preserved c =
@@ -42,11 +42,11 @@ loop-at-preserved c =
     let i = c.loop-at.at in
     let now = c.loop-at.image in
     let is = c.loop-at.invariant in
-    let inside : i < table_words (config_of now) = subst (λ (j : Config). i < table_words j) (sym is.config) (omega (arith, c.loop-at-test.true, c.requires.inside)) in
+    let inside : i < table_words (config_of now) = subst (λ (config : Config). i < table_words config) (sym is.config) (omega (arith, c.loop-at-test.true, c.requires.inside)) in
     let word : c.word.result ≡ get_or before i 0 = c.word.ensures.value ∙ not_yet c.args.from i f before (words_of now) is.words in
     let place : c.renewed-place.result ≡ f (get_or before i 0) =
     c.renewed-place.ensures
-    ∙ ap (λ (j : Config). renewed_by j.region_words (places_of now) c.word.result) is.config
+    ∙ ap (λ (config : Config). renewed_by config.region_words (places_of now) c.word.result) is.config
     ∙ ap (λ (p : List ℕ). renewed_by config.region_words p c.word.result) is.places
     ∙ ap f word in
     record {

@@ -9,7 +9,7 @@ pub find_copy-requires-clause-leads : goal.find_copy-requires-clause-leads
 find_copy-requires-clause-leads c =
     let mutator = c.args.mutator in
     let value : c.word-answer.result ≡ memory_of c.args.image.now (Answer mutator) =
-    c.word-answer.ensures.named (Answer mutator) c.requires.mutator (ap (λ (k : Config). word_at k (Answer mutator)) (sym c.config-config.ensures) ∙ sym c.answer_at.ensures) in
+    c.word-answer.ensures.named (Answer mutator) c.requires.mutator (ap (λ (config : Config). word_at config (Answer mutator)) (sym c.config-config.ensures) ∙ sym c.answer_at.ensures) in
     subst (LeadsToHeld (config_of c.args.image.now) (memory_of c.args.image.now)) (sym value)
     (c.requires.can.answers mutator c.requires.mutator (subst (λ k. 1 < k) value c.if-answer-le1.false))
 
@@ -17,5 +17,5 @@ pub returns-clause-none : goal.returns-clause-none
 returns-clause-none c = λ small.
     let mutator = c.args.mutator in
     let value : c.word-answer.result ≡ memory_of c.args.image.now (Answer mutator) =
-    c.word-answer.ensures.named (Answer mutator) c.requires.mutator (ap (λ (k : Config). word_at k (Answer mutator)) (sym c.config-config.ensures) ∙ sym c.answer_at.ensures) in
+    c.word-answer.ensures.named (Answer mutator) c.requires.mutator (ap (λ (config : Config). word_at config (Answer mutator)) (sym c.config-config.ensures) ∙ sym c.answer_at.ensures) in
     absurd (omega (arith, value, small, c.if-answer-le1.false))

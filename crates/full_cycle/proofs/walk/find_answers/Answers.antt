@@ -24,7 +24,7 @@ loop-mutator-preserved c =
       noted = ⊎_elim
           (λ (some : 1 < memory (Answer mutator)).
           c.find_answer.ensures.noted (omega (arith, some, answer))
-          ∙ ap (λ (k : Word → ℕ). with_address (found_of now) (current_address k (k (Answer mutator)))) m_is
+          ∙ ap (λ (memory : Word → ℕ). with_address (found_of now) (current_address memory (memory (Answer mutator)))) m_is
           ∙ ap (λ xs. with_address xs (current_address memory (memory (Answer mutator)))) c.loop-mutator.invariant.noted
           ∙ answer_more memory mutator (found_of old) some)
           (λ (none : memory (Answer mutator) ≤ 1).

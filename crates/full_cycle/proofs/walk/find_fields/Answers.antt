@@ -21,7 +21,7 @@ pub word-requires : goal.word-requires
 word-requires c =
     placed_inside (config_of c.args.image.now) (config_of c.args.image.now) (Heap (c.args.address + 1)) c.heap_at.result (λ i. config_of c.args.image.now)
     (field_word (config_of c.args.image.now) (memory_of c.args.image.now) c.requires.can c.args.address 1 c.requires.kept (omega arith))
-    (c.heap_at.ensures ∙ ap (λ (k : Config). word_at k (Heap (c.args.address + 1))) c.config-config.ensures)
+    (c.heap_at.ensures ∙ ap (λ (config : Config). word_at config (Heap (c.args.address + 1))) c.config-config.ensures)
 
 pub heap_at-requires-in-loop-index : goal.heap_at-requires-in-loop-index
 heap_at-requires-in-loop-index c =
@@ -32,7 +32,7 @@ heap_at-requires-in-loop-index c =
     let memory : Word → ℕ = memory_of old in
     let shape : c.word.result ≡ memory (Heap (address + 1)) =
     c.word.ensures.named (Heap (address + 1)) (field_word config memory c.requires.can address 1 c.requires.kept (omega arith))
-    (ap (λ (k : Config). word_at k (Heap (address + 1))) (sym c.config-config.ensures) ∙ sym c.heap_at.ensures) in
+    (ap (λ (config : Config). word_at config (Heap (address + 1))) (sym c.config-config.ensures) ∙ sym c.heap_at.ensures) in
     let refs : c.refs_of-refs.result ≡ refs_in (memory (Heap (address + 1))) = c.refs_of-refs.ensures ∙ ap refs_in shape in
     let few : i < refs_in (memory (Heap (address + 1))) = omega (arith, refs, c.loop-index-test.true) in
     let index : address + (3 + i) ≡ address + 3 + i = omega arith in
@@ -48,13 +48,13 @@ word-word-requires c =
     let memory : Word → ℕ = memory_of old in
     let shape : c.word.result ≡ memory (Heap (address + 1)) =
     c.word.ensures.named (Heap (address + 1)) (field_word config memory c.requires.can address 1 c.requires.kept (omega arith))
-    (ap (λ (k : Config). word_at k (Heap (address + 1))) (sym c.config-config.ensures) ∙ sym c.heap_at.ensures) in
+    (ap (λ (config : Config). word_at config (Heap (address + 1))) (sym c.config-config.ensures) ∙ sym c.heap_at.ensures) in
     let refs : c.refs_of-refs.result ≡ refs_in (memory (Heap (address + 1))) = c.refs_of-refs.ensures ∙ ap refs_in shape in
     let few : i < refs_in (memory (Heap (address + 1))) = omega (arith, refs, c.loop-index-test.true) in
     let index : address + (3 + i) ≡ address + 3 + i = omega arith in
     let is : IsWord config (Heap (address + 3 + i)) = subst (λ x. IsWord config (Heap x)) index (field_word config memory c.requires.can address (3 + i) c.requires.kept (omega (arith, few))) in
     placed_inside (config_of c.loop-index.image) config (Heap (address + 3 + i)) c.heap_at-in-loop-index.result c.loop-index.invariant.unchanged.config is
-    (c.heap_at-in-loop-index.ensures ∙ ap (λ (k : Config). word_at k (Heap (address + 3 + i))) c.config-config.ensures)
+    (c.heap_at-in-loop-index.ensures ∙ ap (λ (config : Config). word_at config (Heap (address + 3 + i))) c.config-config.ensures)
 
 pub find_copy-requires-clause-leads : goal.find_copy-requires-clause-leads
 find_copy-requires-clause-leads c =
@@ -65,7 +65,7 @@ find_copy-requires-clause-leads c =
     let memory : Word → ℕ = memory_of old in
     let shape : c.word.result ≡ memory (Heap (address + 1)) =
     c.word.ensures.named (Heap (address + 1)) (field_word config memory c.requires.can address 1 c.requires.kept (omega arith))
-    (ap (λ (k : Config). word_at k (Heap (address + 1))) (sym c.config-config.ensures) ∙ sym c.heap_at.ensures) in
+    (ap (λ (config : Config). word_at config (Heap (address + 1))) (sym c.config-config.ensures) ∙ sym c.heap_at.ensures) in
     let refs : c.refs_of-refs.result ≡ refs_in (memory (Heap (address + 1))) = c.refs_of-refs.ensures ∙ ap refs_in shape in
     let few : i < refs_in (memory (Heap (address + 1))) = omega (arith, refs, c.loop-index-test.true) in
     let index : address + (3 + i) ≡ address + 3 + i = omega arith in
@@ -74,7 +74,7 @@ find_copy-requires-clause-leads c =
     let same = c.loop-index.invariant.unchanged in
     let value : c.word-word.result ≡ memory_of now (Heap (address + 3 + i)) =
     c.word-word.ensures.named (Heap (address + 3 + i)) (subst (λ k. IsWord k (Heap (address + 3 + i))) (sym same.config) is)
-    (ap (λ (k : Config). word_at k (Heap (address + 3 + i))) (same.config ∙ sym c.config-config.ensures) ∙ sym c.heap_at-in-loop-index.ensures) in
+    (ap (λ (config : Config). word_at config (Heap (address + 3 + i))) (same.config ∙ sym c.config-config.ensures) ∙ sym c.heap_at-in-loop-index.ensures) in
     subst (LeadsToHeld (config_of now) (memory_of now)) (sym value)
     (carried (λ k n. LeadsToHeld k n (n (Heap (address + 3 + i)))) old now same (c.requires.can.fields address i c.requires.kept few))
 
@@ -87,7 +87,7 @@ loop-index-preserved c =
     let memory : Word → ℕ = memory_of old in
     let shape : c.word.result ≡ memory (Heap (address + 1)) =
     c.word.ensures.named (Heap (address + 1)) (field_word config memory c.requires.can address 1 c.requires.kept (omega arith))
-    (ap (λ (k : Config). word_at k (Heap (address + 1))) (sym c.config-config.ensures) ∙ sym c.heap_at.ensures) in
+    (ap (λ (config : Config). word_at config (Heap (address + 1))) (sym c.config-config.ensures) ∙ sym c.heap_at.ensures) in
     let refs : c.refs_of-refs.result ≡ refs_in (memory (Heap (address + 1))) = c.refs_of-refs.ensures ∙ ap refs_in shape in
     let few : i < refs_in (memory (Heap (address + 1))) = omega (arith, refs, c.loop-index-test.true) in
     let index : address + (3 + i) ≡ address + 3 + i = omega arith in
@@ -96,7 +96,7 @@ loop-index-preserved c =
     let same = c.loop-index.invariant.unchanged in
     let value : c.word-word.result ≡ memory_of now (Heap (address + 3 + i)) =
     c.word-word.ensures.named (Heap (address + 3 + i)) (subst (λ k. IsWord k (Heap (address + 3 + i))) (sym same.config) is)
-    (ap (λ (k : Config). word_at k (Heap (address + 3 + i))) (same.config ∙ sym c.config-config.ensures) ∙ sym c.heap_at-in-loop-index.ensures) in
+    (ap (λ (config : Config). word_at config (Heap (address + 3 + i))) (same.config ∙ sym c.config-config.ensures) ∙ sym c.heap_at-in-loop-index.ensures) in
     let found : c.word-word.result ≡ memory (Heap (address + 3 + i)) = value ∙ ap (λ k. k (Heap (address + 3 + i))) (memory_same old now same) in
     record {
       unchanged = both old now c.find_copy.new.image same c.find_copy.ensures.unchanged;
@@ -112,7 +112,7 @@ returns-clause-noted c =
     let memory : Word → ℕ = memory_of old in
     let shape : c.word.result ≡ memory (Heap (address + 1)) =
     c.word.ensures.named (Heap (address + 1)) (field_word config memory c.requires.can address 1 c.requires.kept (omega arith))
-    (ap (λ (k : Config). word_at k (Heap (address + 1))) (sym c.config-config.ensures) ∙ sym c.heap_at.ensures) in
+    (ap (λ (config : Config). word_at config (Heap (address + 1))) (sym c.config-config.ensures) ∙ sym c.heap_at.ensures) in
     let refs : c.refs_of-refs.result ≡ refs_in (memory (Heap (address + 1))) = c.refs_of-refs.ensures ∙ ap refs_in shape in
     let all : c.loop-index.index ≡ refs_in (memory (Heap (address + 1))) = omega (arith, refs, c.loop-index-test.false, c.loop-index.auto.index-end) in
     c.loop-index.invariant.noted

@@ -28,20 +28,20 @@ loop-address-init c =
     let to_four = both old three four to_three c.find_all_pins.ensures.unchanged in
     let roots : found_of two ≡ with_addresses [] (copies_of memory (roots_below memory config.mutators)) =
     c.find_all_roots.ensures.noted
-    ∙ ap (λ (k : Word → ℕ). with_addresses (found_of one) (copies_of k (roots_below k (config_of one).mutators))) (memory_same old one to_one)
-    ∙ ap (λ (k : Config). with_addresses (found_of one) (copies_of memory (roots_below memory k.mutators))) to_one.config
+    ∙ ap (λ (memory : Word → ℕ). with_addresses (found_of one) (copies_of memory (roots_below memory (config_of one).mutators))) (memory_same old one to_one)
+    ∙ ap (λ (config : Config). with_addresses (found_of one) (copies_of memory (roots_below memory config.mutators))) to_one.config
     ∙ ap (λ xs. with_addresses xs (copies_of memory (roots_below memory config.mutators))) c.forget_found.ensures.none in
     let answers : found_of three ≡ with_addresses (with_addresses [] (copies_of memory (roots_below memory config.mutators))) (copies_of memory (answers_below memory config.mutators)) =
     c.find_answers.ensures.noted
-    ∙ ap (λ (k : Word → ℕ). with_addresses (found_of two) (copies_of k (answers_below k (config_of two).mutators))) (memory_same old two to_two)
-    ∙ ap (λ (k : Config). with_addresses (found_of two) (copies_of memory (answers_below memory k.mutators))) to_two.config
+    ∙ ap (λ (memory : Word → ℕ). with_addresses (found_of two) (copies_of memory (answers_below memory (config_of two).mutators))) (memory_same old two to_two)
+    ∙ ap (λ (config : Config). with_addresses (found_of two) (copies_of memory (answers_below memory config.mutators))) to_two.config
     ∙ ap (λ xs. with_addresses xs (copies_of memory (answers_below memory config.mutators))) roots in
     record {
       unchanged = to_four;
       found = c.find_all_pins.ensures.found;
       turns = c.find_all_pins.ensures.noted
-          ∙ ap (λ (k : Word → ℕ). with_addresses (found_of three) (copies_of k (pins_below k (config_of three).mutators))) (memory_same old three to_three)
-          ∙ ap (λ (k : Config). with_addresses (found_of three) (copies_of memory (pins_below memory k.mutators))) to_three.config
+          ∙ ap (λ (memory : Word → ℕ). with_addresses (found_of three) (copies_of memory (pins_below memory (config_of three).mutators))) (memory_same old three to_three)
+          ∙ ap (λ (config : Config). with_addresses (found_of three) (copies_of memory (pins_below memory config.mutators))) to_three.config
           ∙ ap (λ xs. with_addresses xs (copies_of memory (pins_below memory config.mutators))) answers
           ∙ no_turn config memory;
       few = omega arith;
@@ -79,7 +79,7 @@ loop-address-preserved c =
       unchanged = both old now c.find_fields.new.image same c.find_fields.ensures.unchanged;
       found = c.find_fields.ensures.found;
       turns = c.find_fields.ensures.noted
-          ∙ ap (λ (k : Word → ℕ). with_addresses (found_of now) (copies_of k (field_words k address))) (memory_same old now same)
+          ∙ ap (λ (memory : Word → ℕ). with_addresses (found_of now) (copies_of memory (field_words memory address))) (memory_same old now same)
           ∙ ap (λ xs. with_addresses xs (copies_of memory (field_words memory address))) c.loop-address.invariant.turns
           ∙ next_turn (config_of old) memory turn address at;
       few = omega (arith, within, few, now.all_marks, ap heap_size same.config);

@@ -19,8 +19,8 @@ find_copy-requires-clause-leads c =
     let same = c.loop-slot.invariant.unchanged in
     let few : slot < 4 = c.loop-slot-test.true in
     let value : c.word-word.result ≡ memory_of now (Pin mutator slot) =
-    c.word-word.ensures.named (Pin mutator slot) (omega (arith, c.requires.mutator, ap (λ (k : Config). k.mutators) same.config), few)
-    (ap (λ (k : Config). word_at k (Pin mutator slot)) (same.config ∙ sym c.config-config.ensures) ∙ sym c.pin_at.ensures) in
+    c.word-word.ensures.named (Pin mutator slot) (omega (arith, c.requires.mutator, ap (λ (config : Config). config.mutators) same.config), few)
+    (ap (λ (config : Config). word_at config (Pin mutator slot)) (same.config ∙ sym c.config-config.ensures) ∙ sym c.pin_at.ensures) in
     subst (LeadsToHeld (config_of now) (memory_of now)) (sym value)
     (carried (λ k m. LeadsToHeld k m (m (Pin mutator slot))) old now same (c.requires.can.pins mutator slot c.requires.mutator few))
 
@@ -33,8 +33,8 @@ loop-slot-preserved c =
     let same = c.loop-slot.invariant.unchanged in
     let few : slot < 4 = c.loop-slot-test.true in
     let value : c.word-word.result ≡ memory_of now (Pin mutator slot) =
-    c.word-word.ensures.named (Pin mutator slot) (omega (arith, c.requires.mutator, ap (λ (k : Config). k.mutators) same.config), few)
-    (ap (λ (k : Config). word_at k (Pin mutator slot)) (same.config ∙ sym c.config-config.ensures) ∙ sym c.pin_at.ensures) in
+    c.word-word.ensures.named (Pin mutator slot) (omega (arith, c.requires.mutator, ap (λ (config : Config). config.mutators) same.config), few)
+    (ap (λ (config : Config). word_at config (Pin mutator slot)) (same.config ∙ sym c.config-config.ensures) ∙ sym c.pin_at.ensures) in
     let is : c.word-word.result ≡ memory_of old (Pin mutator slot) = value ∙ ap (λ m. m (Pin mutator slot)) (memory_same old now same) in
     record {
       unchanged = both old now c.find_copy.new.image same c.find_copy.ensures.unchanged;

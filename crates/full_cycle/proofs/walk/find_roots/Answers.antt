@@ -19,8 +19,8 @@ find_copy-requires-clause-leads c =
     let same = c.loop-index.invariant.unchanged in
     let few : i < 16 = c.loop-index-test.true in
     let value : c.word-word.result ≡ memory_of now (Root mutator i) =
-    c.word-word.ensures.named (Root mutator i) (omega (arith, c.requires.mutator, ap (λ (k : Config). k.mutators) same.config), few)
-    (ap (λ (k : Config). word_at k (Root mutator i)) (same.config ∙ sym c.config-config.ensures) ∙ sym c.root_at.ensures) in
+    c.word-word.ensures.named (Root mutator i) (omega (arith, c.requires.mutator, ap (λ (config : Config). config.mutators) same.config), few)
+    (ap (λ (config : Config). word_at config (Root mutator i)) (same.config ∙ sym c.config-config.ensures) ∙ sym c.root_at.ensures) in
     subst (LeadsToHeld (config_of now) (memory_of now)) (sym value)
     (carried (λ k m. LeadsToHeld k m (m (Root mutator i))) old now same (c.requires.can.roots mutator i c.requires.mutator few))
 
@@ -33,8 +33,8 @@ loop-index-preserved c =
     let same = c.loop-index.invariant.unchanged in
     let few : i < 16 = c.loop-index-test.true in
     let value : c.word-word.result ≡ memory_of now (Root mutator i) =
-    c.word-word.ensures.named (Root mutator i) (omega (arith, c.requires.mutator, ap (λ (k : Config). k.mutators) same.config), few)
-    (ap (λ (k : Config). word_at k (Root mutator i)) (same.config ∙ sym c.config-config.ensures) ∙ sym c.root_at.ensures) in
+    c.word-word.ensures.named (Root mutator i) (omega (arith, c.requires.mutator, ap (λ (config : Config). config.mutators) same.config), few)
+    (ap (λ (config : Config). word_at config (Root mutator i)) (same.config ∙ sym c.config-config.ensures) ∙ sym c.root_at.ensures) in
     let is : c.word-word.result ≡ memory_of old (Root mutator i) = value ∙ ap (λ m. m (Root mutator i)) (memory_same old now same) in
     record {
       unchanged = both old now c.find_copy.new.image same c.find_copy.ensures.unchanged;

@@ -26,7 +26,7 @@ pub loop-row-init : goal.loop-row-init
 loop-row-init c =
     let config = config_of c.args.image.now in
     let text = c.args.text.now in
-    let words : c.region_words-region_words.result ≡ config.region_words = c.region_words-region_words.ensures ∙ ap (λ (h : Config). h.region_words) c.config-config.ensures in
+    let words : c.region_words-region_words.result ≡ config.region_words = c.region_words-region_words.ensures ∙ ap (λ (config : Config). config.region_words) c.config-config.ensures in
     let least : 1 * config.region_words ≤ (config.regions + 1) * config.region_words = mul-le 1 config.region_words (config.regions + 1) config.region_words (omega arith) (omega arith) in
     record {
       end = words ∙ sym (located.first_end config text c.requires.whole);
@@ -46,7 +46,7 @@ words_of_row-words-requires-clause-short c = omega (arith, located.few_words (co
 pub place_behind-address-requires-clause-fits : goal.place_behind-address-requires-clause-fits
 place_behind-address-requires-clause-fits c =
     let config = config_of c.args.image.now in
-    let words : c.region_words-region_words.result ≡ config.region_words = c.region_words-region_words.ensures ∙ ap (λ (h : Config). h.region_words) c.config-config.ensures in
+    let words : c.region_words-region_words.result ≡ config.region_words = c.region_words-region_words.ensures ∙ ap (λ (config : Config). config.region_words) c.config-config.ensures in
     omega (arith, words, config.in_range.most_words, end_small config, c.loop-row.invariant.within, located.few_words config c.args.text.now c.requires.whole c.loop-row.row, c.words_of_row-words.ensures)
 
 pub overflow_add-end : goal.overflow_add-end
@@ -55,16 +55,16 @@ overflow_add-end c =
     let text = c.args.text.now in
     let row = c.loop-row.row in
     let inside : row < length text.rows = omega (arith, c.loop-row-test.true, c.rows-row-end.ensures) in
-    let words : c.region_words-region_words.result ≡ config.region_words = c.region_words-region_words.ensures ∙ ap (λ (h : Config). h.region_words) c.config-config.ensures in
+    let words : c.region_words-region_words.result ≡ config.region_words = c.region_words-region_words.ensures ∙ ap (λ (config : Config). config.region_words) c.config-config.ensures in
     let place = located.next_place config text c.requires.whole c.region_words-region_words.result c.loop-row.end c.words_of_row-words.result c.place_behind-address.result row words c.loop-row.invariant.end c.words_of_row-words.ensures
     c.place_behind-address.ensures in
     omega (arith, place, c.words_of_row-words.ensures, located.in_heap config text c.requires.whole c.requires.fits row inside, end_small config)
 
 -- where the name stands
-name_word_inside : (g h : Config) (t : Text) (whole : IsPlaceable g t) → Fits g t → h ≡ g → (k address : ℕ) → k < length t.rows → address ≡ address_of g t k → IsWord h (Heap (address + 2))
-name_word_inside g h t whole fits same k address inside at =
-    let is : IsWord g (Heap (address_of g t k + 2)) = located.is_word g t whole fits k 2 inside (omega (arith, located.some_words g t whole k)) in
-    subst (λ (i : Config). IsWord i (Heap (address + 2))) (sym same) (subst (λ (a : ℕ). IsWord g (Heap (a + 2))) (sym at) is)
+name_word_inside : (config other_config : Config) (text : Text) (whole : IsPlaceable config text) → Fits config text → other_config ≡ config → (index address : ℕ) → index < length text.rows → address ≡ address_of config text index → IsWord other_config (Heap (address + 2))
+name_word_inside config other_config text whole fits same index address inside at =
+    let is : IsWord config (Heap (address_of config text index + 2)) = located.is_word config text whole fits index 2 inside (omega (arith, located.some_words config text whole index)) in
+    subst (λ (config : Config). IsWord config (Heap (address + 2))) (sym same) (subst (λ (a : ℕ). IsWord config (Heap (a + 2))) (sym at) is)
 
 pub heap_at-requires : goal.heap_at-requires
 heap_at-requires c =
@@ -72,7 +72,7 @@ heap_at-requires c =
     let text = c.args.text.now in
     let row = c.loop-row.row in
     let inside : row < length text.rows = omega (arith, c.loop-row-test.true, c.rows-row-end.ensures) in
-    let words : c.region_words-region_words.result ≡ config.region_words = c.region_words-region_words.ensures ∙ ap (λ (h : Config). h.region_words) c.config-config.ensures in
+    let words : c.region_words-region_words.result ≡ config.region_words = c.region_words-region_words.ensures ∙ ap (λ (config : Config). config.region_words) c.config-config.ensures in
     let place = located.next_place config text c.requires.whole c.region_words-region_words.result c.loop-row.end c.words_of_row-words.result c.place_behind-address.result row words c.loop-row.invariant.end c.words_of_row-words.ensures
     c.place_behind-address.ensures in
     name_word_inside config c.config-config.result text c.requires.whole c.requires.fits c.config-config.ensures row c.place_behind-address.result inside place
@@ -83,7 +83,7 @@ set_word-requires c =
     let text = c.args.text.now in
     let row = c.loop-row.row in
     let inside : row < length text.rows = omega (arith, c.loop-row-test.true, c.rows-row-end.ensures) in
-    let words : c.region_words-region_words.result ≡ config.region_words = c.region_words-region_words.ensures ∙ ap (λ (h : Config). h.region_words) c.config-config.ensures in
+    let words : c.region_words-region_words.result ≡ config.region_words = c.region_words-region_words.ensures ∙ ap (λ (config : Config). config.region_words) c.config-config.ensures in
     let place = located.next_place config text c.requires.whole c.region_words-region_words.result c.loop-row.end c.words_of_row-words.result c.place_behind-address.result row words c.loop-row.invariant.end c.words_of_row-words.ensures
     c.place_behind-address.ensures in
     placed_inside (config_of c.loop-row.image) c.config-config.result (Heap (c.place_behind-address.result + 2)) c.heap_at.result (c.loop-row.invariant.config ∙ sym c.config-config.ensures)
@@ -95,7 +95,7 @@ overflow_add-address c =
     let text = c.args.text.now in
     let row = c.loop-row.row in
     let inside : row < length text.rows = omega (arith, c.loop-row-test.true, c.rows-row-end.ensures) in
-    let words : c.region_words-region_words.result ≡ config.region_words = c.region_words-region_words.ensures ∙ ap (λ (h : Config). h.region_words) c.config-config.ensures in
+    let words : c.region_words-region_words.result ≡ config.region_words = c.region_words-region_words.ensures ∙ ap (λ (config : Config). config.region_words) c.config-config.ensures in
     let place = located.next_place config text c.requires.whole c.region_words-region_words.result c.loop-row.end c.words_of_row-words.result c.place_behind-address.result row words c.loop-row.invariant.end c.words_of_row-words.ensures
     c.place_behind-address.ensures in
     omega (arith, place, located.in_heap config text c.requires.whole c.requires.fits row inside, located.some_words config text c.requires.whole row, end_small config)
@@ -126,7 +126,7 @@ loop-row-preserved c =
     let text = c.args.text.now in
     let row = c.loop-row.row in
     let inside : row < length text.rows = omega (arith, c.loop-row-test.true, c.rows-row-end.ensures) in
-    let words : c.region_words-region_words.result ≡ config.region_words = c.region_words-region_words.ensures ∙ ap (λ (h : Config). h.region_words) c.config-config.ensures in
+    let words : c.region_words-region_words.result ≡ config.region_words = c.region_words-region_words.ensures ∙ ap (λ (config : Config). config.region_words) c.config-config.ensures in
     let place = located.next_place config text c.requires.whole c.region_words-region_words.result c.loop-row.end c.words_of_row-words.result c.place_behind-address.result row words c.loop-row.invariant.end c.words_of_row-words.ensures
     c.place_behind-address.ensures in
     let below : row < length (names_of text) = omega (arith, inside, names_count text) in
@@ -136,7 +136,7 @@ loop-row-preserved c =
     let count = next_is config.mutators (names_of text) c.requires.names row below c.loop-row.counts c.loop-row.invariant.counts c.name_at-name.result name c.requires.whole.in_order c.count_one-count.result c.count_one-count.ensures.hub c.count_one-count.ensures.count in
     let named : c.name_at-name.result ≡ (row_of text row).name = c.name_at-name.ensures in
     let code : c.name_word.result ≡ code_anew text row =
-    c.name_word.ensures ∙ ap (name_code c.name_at-name.result.thread) count ∙ ap (λ (m : Name). name_code m.thread (earlier_names (names_of text) m + 1)) named in
+    c.name_word.ensures ∙ ap (name_code c.name_at-name.result.thread) count ∙ ap (λ (name : Name). name_code name.thread (earlier_names (names_of text) name + 1)) named in
     let one : memory_of c.set_word.new.self ≡ write (memory_of c.loop-row.image) (Heap (c.place_behind-address.result + 2)) c.name_word.result =
     stored (config_of c.loop-row.image) c.config-config.result (memory_of c.loop-row.image) (memory_of c.set_word.new.self) (Heap (c.place_behind-address.result + 2)) c.heap_at.result c.name_word.result
     (c.loop-row.invariant.config ∙ sym c.config-config.ensures)
@@ -145,7 +145,7 @@ loop-row-preserved c =
       end = end;
       within = omega (arith, end, later, c.requires.fits);
       config = c.set_word.ensures.config ∙ c.loop-row.invariant.config;
-      words = one ∙ ap (λ (m : Word → ℕ). write m (Heap (c.place_behind-address.result + 2)) c.name_word.result) c.loop-row.invariant.words
+      words = one ∙ ap (λ (memory : Word → ℕ). write memory (Heap (c.place_behind-address.result + 2)) c.name_word.result) c.loop-row.invariant.words
           ∙ names_more config text row (memory_of c.args.image.now) c.place_behind-address.result c.name_word.result place code;
       counts = counted_next config.mutators (names_of text) c.requires.names row below c.loop-row.counts c.loop-row.invariant.counts c.name_at-name.result name c.count_one-count.new.counts
           c.count_one-count.ensures.hub_counts c.count_one-count.ensures.counts;

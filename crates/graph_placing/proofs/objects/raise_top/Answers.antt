@@ -18,7 +18,7 @@ region_of-region-requires c =
     let low = located.from_first config text c.requires.whole row in
     let high = located.in_heap config text c.requires.whole c.requires.fits row c.requires.row in
     let is : IsWord config (Heap a) = (omega (arith, at, low), omega (arith, at, high, located.some_words config text c.requires.whole row)) in
-    subst (λ (h : Config). IsWord h (Heap a)) (sym c.config-config.ensures) is
+    subst (λ (config : Config). IsWord config (Heap a)) (sym c.config-config.ensures) is
 
 -- the base of the region, by the configuration of the image
 pub overflow_sub-top : goal.overflow_sub-top
@@ -29,8 +29,8 @@ overflow_sub-top c =
     let a = get_or c.args.addresses.now row 0 in
     let at : a ≡ address_of config text row = c.requires.addresses.each row c.requires.row in
     let same : c.config-config.result ≡ config = c.config-config.ensures in
-    let region : c.region_of-region.result ≡ region_with config (address_of config text row) = c.region_of-region.ensures.value ∙ ap (λ (h : Config). region_with h a) same ∙ ap (region_with config) at in
-    let base : c.base.result ≡ base_of config (region_with config (address_of config text row)) = c.base.ensures ∙ ap (λ (h : Config). base_of h c.region_of-region.result) same ∙ ap (base_of config) region in
+    let region : c.region_of-region.result ≡ region_with config (address_of config text row) = c.region_of-region.ensures.value ∙ ap (λ (config : Config). region_with config a) same ∙ ap (region_with config) at in
+    let base : c.base.result ≡ base_of config (region_with config (address_of config text row)) = c.base.ensures ∙ ap (λ (config : Config). base_of config c.region_of-region.result) same ∙ ap (base_of config) region in
     omega (arith, base, at, (located.in_region config text c.requires.whole row).0)
 
 pub returns-clause-words : goal.returns-clause-words
@@ -42,8 +42,8 @@ returns-clause-words c =
     let a = get_or c.args.addresses.now row 0 in
     let at : a ≡ address_of config text row = c.requires.addresses.each row c.requires.row in
     let same : c.config-config.result ≡ config = c.config-config.ensures in
-    let region : c.region_of-region.result ≡ region_with config (address_of config text row) = c.region_of-region.ensures.value ∙ ap (λ (h : Config). region_with h a) same ∙ ap (region_with config) at in
-    let base : c.base.result ≡ base_of config (region_with config (address_of config text row)) = c.base.ensures ∙ ap (λ (h : Config). base_of h c.region_of-region.result) same ∙ ap (base_of config) region in
+    let region : c.region_of-region.result ≡ region_with config (address_of config text row) = c.region_of-region.ensures.value ∙ ap (λ (config : Config). region_with config a) same ∙ ap (region_with config) at in
+    let base : c.base.result ≡ base_of config (region_with config (address_of config text row)) = c.base.ensures ∙ ap (λ (config : Config). base_of config c.region_of-region.result) same ∙ ap (base_of config) region in
     let value : a + c.words_of_row.result - c.base.result ≡ address_of config text row + words_of_row text row - base_of config (region_with config (address_of config text row)) = omega (arith, at, base, c.words_of_row.ensures.value) in
     stored config c.config-config.result memory (memory_of c.set_word.new.self) (Top c.region_of-region.result) c.top_at.result (a + c.words_of_row.result - c.base.result) (sym same) c.region_of-region.ensures.below c.top_at.ensures c.set_word.ensures.named
     ∙ ap (λ (r : ℕ). write memory (Top r) (a + c.words_of_row.result - c.base.result)) region

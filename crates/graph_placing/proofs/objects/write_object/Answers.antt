@@ -14,9 +14,9 @@ use Rattle.graph_placing.proofs.Written.{copied_none, copied_more}
 use Rattle.graph_placing.proofs.objects.write_object.Goals as goal
 
 -- a word of the object is a word of the heap
-word_of_object : (c : Config) (t : Text) (addresses : List ℕ) (k i : ℕ) → IsPlaceable c t → Fits c t → AreAddresses c t addresses → k < length t.rows → i < words_of_row t k → IsWord c (Heap (get_or addresses k 0 + i))
-word_of_object c t addresses k i whole fits are below inside =
-    subst (λ (a : ℕ). IsWord c (Heap (a + i))) (sym (are.each k below)) (located.is_word c t whole fits k i below inside)
+word_of_object : (config : Config) (text : Text) (addresses : List ℕ) (index i : ℕ) → IsPlaceable config text → Fits config text → AreAddresses config text addresses → index < length text.rows → i < words_of_row text index → IsWord config (Heap (get_or addresses index 0 + i))
+word_of_object config text addresses index i whole fits are below inside =
+    subst (λ (a : ℕ). IsWord config (Heap (a + i))) (sym (are.each index below)) (located.is_word config text whole fits index i below inside)
 
 pub overflow_add-address : goal.overflow_add-address
 overflow_add-address c =
@@ -31,7 +31,7 @@ heap_at-requires c =
     let config = config_of c.args.image.now in
     let text = c.args.text.now in
     let inside : c.loop-index.index < words_of_row text c.args.row = omega (arith, c.loop-index-test.true, c.words_of_row-index-end.ensures.value) in
-    subst (λ (h : Config). IsWord h (Heap (get_or c.args.addresses.now c.args.row 0 + c.loop-index.index))) (sym c.config-config.ensures)
+    subst (λ (config : Config). IsWord config (Heap (get_or c.args.addresses.now c.args.row 0 + c.loop-index.index))) (sym c.config-config.ensures)
     (word_of_object config text c.args.addresses.now c.args.row c.loop-index.index c.requires.whole c.requires.fits c.requires.addresses c.requires.row inside)
 
 pub set_word-requires : goal.set_word-requires
@@ -41,7 +41,7 @@ set_word-requires c =
     let at = get_or c.args.addresses.now c.args.row 0 + c.loop-index.index in
     let inside : c.loop-index.index < words_of_row text c.args.row = omega (arith, c.loop-index-test.true, c.words_of_row-index-end.ensures.value) in
     placed_inside (config_of c.loop-index.image) c.config-config.result (Heap at) c.heap_at.result (c.loop-index.invariant.config ∙ sym c.config-config.ensures)
-    (subst (λ (h : Config). IsWord h (Heap at)) (sym c.config-config.ensures)
+    (subst (λ (config : Config). IsWord config (Heap at)) (sym c.config-config.ensures)
     (word_of_object config text c.args.addresses.now c.args.row c.loop-index.index c.requires.whole c.requires.fits c.requires.addresses c.requires.row inside)) c.heap_at.ensures
 
 pub loop-index-init : goal.loop-index-init
@@ -64,12 +64,12 @@ loop-index-preserved c =
     let one : memory_of c.set_word.new.self ≡ write (memory_of c.loop-index.image) (Heap (a + i)) c.object_word-word.result =
     stored (config_of c.loop-index.image) c.config-config.result (memory_of c.loop-index.image) (memory_of c.set_word.new.self) (Heap (a + i)) c.heap_at.result c.object_word-word.result
     (c.loop-index.invariant.config ∙ sym same)
-    (subst (λ (h : Config). IsWord h (Heap (a + i))) (sym same) (word_of_object config text c.args.addresses.now row i c.requires.whole c.requires.fits c.requires.addresses c.requires.row inside))
+    (subst (λ (config : Config). IsWord config (Heap (a + i))) (sym same) (word_of_object config text c.args.addresses.now row i c.requires.whole c.requires.fits c.requires.addresses c.requires.row inside))
     c.heap_at.ensures c.set_word.ensures.named in
-    let word : c.object_word-word.result ≡ get_or list i 0 = c.object_word-word.ensures ∙ ap (λ (h : Config). get_or (words_of_object (word_for h text) (row_of text row)) i 0) same in
+    let word : c.object_word-word.result ≡ get_or list i 0 = c.object_word-word.ensures ∙ ap (λ (config : Config). get_or (words_of_object (word_for config text) (row_of text row)) i 0) same in
     record {
       config = c.set_word.ensures.config ∙ c.loop-index.invariant.config;
-      words = one ∙ ap (λ (m : Word → ℕ). write m (Heap (a + i)) c.object_word-word.result) c.loop-index.invariant.words
+      words = one ∙ ap (λ (memory : Word → ℕ). write memory (Heap (a + i)) c.object_word-word.result) c.loop-index.invariant.words
           ∙ ap (λ (x : ℕ). write (copied (address_of config text row) i list (memory_of c.args.image.now)) (Heap (x + i)) c.object_word-word.result) at
           ∙ ap (write (copied (address_of config text row) i list (memory_of c.args.image.now)) (Heap (address_of config text row + i))) word
           ∙ copied_more (address_of config text row) i list (memory_of c.args.image.now);

@@ -21,11 +21,11 @@ loop-row-preserved c =
     let is = c.loop-row.invariant in
     let written : memory_of one ≡ copied (address_of config text row) (words_of_row text row) (words_of_object (word_for config text) (row_of text row)) (rows_placed config text row) =
     c.write_object.ensures.words
-    ∙ ap (λ (h : Config). copied (address_of h text row) (words_of_row text row) (words_of_object (word_for h text) (row_of text row)) (memory_of before)) is.config
+    ∙ ap (λ (config : Config). copied (address_of config text row) (words_of_row text row) (words_of_object (word_for config text) (row_of text row)) (memory_of before)) is.config
     ∙ ap (copied (address_of config text row) (words_of_row text row) (words_of_object (word_for config text) (row_of text row))) is.words in
     let next : suc row ≡ row + 1 = omega arith in
     record {
       config = c.raise_top.ensures.config ∙ c.write_object.ensures.config ∙ is.config;
-      words = c.raise_top.ensures.words ∙ ap (λ (h : Config). with_top h text row (memory_of one)) (c.write_object.ensures.config ∙ is.config) ∙ ap (with_top config text row) written ∙ rows_more config text row
+      words = c.raise_top.ensures.words ∙ ap (λ (config : Config). with_top config text row (memory_of one)) (c.write_object.ensures.config ∙ is.config) ∙ ap (with_top config text row) written ∙ rows_more config text row
           ∙ ap (rows_placed config text) next;
     }

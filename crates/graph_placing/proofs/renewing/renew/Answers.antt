@@ -21,7 +21,7 @@ use Rattle.graph_placing.proofs.renewing.renew.Goals as goal
 pub write_names-requires-clause-whole : goal.write_names-requires-clause-whole
 write_names-requires-clause-whole c =
     let same : config_of c.in-Heap.image ≡ c.args.config = rw c.in-Heap.is at c.in_ok-image.ensures.config in
-    subst (λ (g : Config). IsPlaceable g c.args.text.now) (sym same) c.requires.whole
+    subst (λ (config : Config). IsPlaceable config c.args.text.now) (sym same) c.requires.whole
 
 pub write_names-requires-clause-fits : goal.write_names-requires-clause-fits
 write_names-requires-clause-fits c =
@@ -33,17 +33,17 @@ write_names-requires-clause-fits c =
     absurd (let small = c.in_ok-image.ensures.too_small.1 (λ all. omega (arith, all, over)) in let heap = c.in-Heap.is in cc))
     (λ (all : Fits config text). all)
     (cases_lt (heap_end config) (end_behind config text (length text.rows))) in
-    subst (λ (h : Config). Fits h text) (sym same) fits
+    subst (λ (config : Config). Fits config text) (sym same) fits
 
 pub write_names-requires-clause-names : goal.write_names-requires-clause-names
 write_names-requires-clause-names c =
     let same : config_of c.in-Heap.image ≡ c.args.config = rw c.in-Heap.is at c.in_ok-image.ensures.config in
-    subst (λ (g : Config). AreOfThreads g.mutators (names_of c.args.text.now)) (sym same) c.requires.names
+    subst (λ (config : Config). AreOfThreads config.mutators (names_of c.args.text.now)) (sym same) c.requires.names
 
 pub write_names-requires-clause-none : goal.write_names-requires-clause-none
 write_names-requires-clause-none c =
     let same : config_of c.in-Heap.image ≡ c.args.config = rw c.in-Heap.is at c.in_ok-image.ensures.config in
-    c.deref_mut.ensures.value ∙ c.in_ok-counts.ensures ∙ ap (λ (g : Config). replicate g.mutators 0) (sym same)
+    c.deref_mut.ensures.value ∙ c.in_ok-counts.ensures ∙ ap (λ (config : Config). replicate config.mutators 0) (sym same)
 
 pub returns-clause-placed : goal.returns-clause-placed
 returns-clause-placed c =
@@ -52,7 +52,7 @@ returns-clause-placed c =
     let same : config_of c.in-Heap.image ≡ config = rw c.in-Heap.is at c.in_ok-image.ensures.config in
     let placed : IsPlaced config text (memory_of c.in-Heap.image) = rw c.in-Heap.is at c.in_ok-image.ensures.placed in
     let words : memory_of c.write_names.new.image ≡ names_written config text (length text.rows) (memory_of c.in-Heap.image) =
-    c.write_names.ensures.words ∙ ap (λ (h : Config). names_written h text (length text.rows) (memory_of c.in-Heap.image)) same in
+    c.write_names.ensures.words ∙ ap (λ (config : Config). names_written config text (length text.rows) (memory_of c.in-Heap.image)) same in
     subst (IsPlaced config (text_anew text)) (sym words) (placed_anew config text c.requires.whole (memory_of c.in-Heap.image) placed)
 
 pub returns-clause-counts : goal.returns-clause-counts
@@ -62,7 +62,7 @@ returns-clause-counts c =
     let back : take c.in_ok-counts.counts.len (new ++ drop (length new) c.in_ok-counts.counts.items) ≡ new =
     take_at new (drop (length new) c.in_ok-counts.counts.items) c.in_ok-counts.counts.len (c.write_names.auto.counts ∙ c.deref_mut.ensures.len) in
     subst (AreCountsOf (names_of c.args.text.now) c.args.config.mutators) (sym back)
-    (subst (λ (g : Config). AreCountsOf (names_of c.args.text.now) g.mutators new) same c.write_names.ensures.counts)
+    (subst (λ (config : Config). AreCountsOf (names_of c.args.text.now) config.mutators new) same c.write_names.ensures.counts)
 
 pub returns-clause-stands : goal.returns-clause-stands
 returns-clause-stands c =

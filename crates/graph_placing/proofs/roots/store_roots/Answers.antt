@@ -18,11 +18,11 @@ loop-mutator-preserved c =
     let is = c.loop-mutator.invariant in
     record {
       config = c.store_roots_of.ensures.config ∙ is.config;
-      words = c.store_roots_of.ensures.words ∙ ap (λ (h : Config). roots_stored h text mutator 16 (memory_of before)) is.config ∙ ap (roots_stored config text mutator 16) is.words ∙ all_more config text mutator (memory_of c.args.image.now);
+      words = c.store_roots_of.ensures.words ∙ ap (λ (config : Config). roots_stored config text mutator 16 (memory_of before)) is.config ∙ ap (roots_stored config text mutator 16) is.words ∙ all_more config text mutator (memory_of c.args.image.now);
     }
 
 pub returns-clause-words : goal.returns-clause-words
 returns-clause-words c =
     let config = config_of c.args.image.now in
-    let all : c.loop-mutator.mutator ≡ config.mutators = omega (arith, c.loop-mutator-test.false, c.loop-mutator.auto.mutator-end, c.mutators-mutator-end.ensures, ap (λ (h : Config). h.mutators) c.config.ensures) in
+    let all : c.loop-mutator.mutator ≡ config.mutators = omega (arith, c.loop-mutator-test.false, c.loop-mutator.auto.mutator-end, c.mutators-mutator-end.ensures, ap (λ (config : Config). config.mutators) c.config.ensures) in
     c.loop-mutator.invariant.words ∙ ap (λ (n : ℕ). all_roots_stored config c.args.text.now n (memory_of c.args.image.now)) all

@@ -22,11 +22,11 @@ loop-index-preserved c =
     let is : IsWord config (Root mutator i) = (c.requires.mutator, c.loop-index-test.true) in
     let one : memory_of c.set_word.new.self ≡ write (memory_of c.loop-index.image) (Root mutator i) c.word_for-word.result =
     stored (config_of c.loop-index.image) c.config-config.result (memory_of c.loop-index.image) (memory_of c.set_word.new.self) (Root mutator i) c.root_at.result c.word_for-word.result
-    (c.loop-index.invariant.config ∙ sym same) (subst (λ (h : Config). IsWord h (Root mutator i)) (sym same) is) c.root_at.ensures c.set_word.ensures.named in
-    let word : c.word_for-word.result ≡ word_for config text (root_of text (mutator + 1) i) = c.word_for-word.ensures ∙ ap (λ (h : Config). word_for h text c.root_at-root.result) same ∙ ap (word_for config text) c.root_at-root.ensures in
+    (c.loop-index.invariant.config ∙ sym same) (subst (λ (config : Config). IsWord config (Root mutator i)) (sym same) is) c.root_at.ensures c.set_word.ensures.named in
+    let word : c.word_for-word.result ≡ word_for config text (root_of text (mutator + 1) i) = c.word_for-word.ensures ∙ ap (λ (config : Config). word_for config text c.root_at-root.result) same ∙ ap (word_for config text) c.root_at-root.ensures in
     record {
       config = c.set_word.ensures.config ∙ c.loop-index.invariant.config;
-      words = one ∙ ap (λ (m : Word → ℕ). write m (Root mutator i) c.word_for-word.result) c.loop-index.invariant.words
+      words = one ∙ ap (λ (memory : Word → ℕ). write memory (Root mutator i) c.word_for-word.result) c.loop-index.invariant.words
           ∙ ap (write (roots_stored config text mutator i (memory_of c.args.image.now)) (Root mutator i)) word ∙ stored_more config text mutator i (memory_of c.args.image.now);
     }
 

@@ -37,4 +37,4 @@ returns c =
     c.copy_numbers.ensures
     ∙ ap (λ t. with_numbers t row.nums) (c.copy_references.ensures ∙ ap (λ t. with_references t row.refs) c.object.ensures)
     ∙ whole text c.name_at.result row.refs row.nums
-    ∙ ap (λ (n : Name). with_whole_row text (record { name = n; refs = row.refs; nums = row.nums })) c.name_at.ensures
+    ∙ ap (λ (name : Name). with_whole_row text (record { name = name; refs = row.refs; nums = row.nums })) c.name_at.ensures

@@ -34,7 +34,7 @@ loop-mutator-preserved c =
     let back : mutator + 1 - 1 ≡ mutator = omega arith in
     c.copy_roots_of.ensures
     ∙ ap (λ (k : ℕ). record c.loop-mutator.text { roots = set c.loop-mutator.text.roots k (get_or xs k []) }) back
-    ∙ ap (λ (t : Text). record t { roots = set t.roots mutator (get_or xs mutator []) }) c.loop-mutator.invariant
+    ∙ ap (λ (text : Text). record text { roots = set text.roots mutator (get_or xs mutator []) }) c.loop-mutator.invariant
     ∙ ap (λ (roots : List (List Reference)). record text { roots = roots }) (mixed_more xs ys mutator [] c.requires.threads low)
 
 pub returns : goal.returns

@@ -25,11 +25,11 @@ loop-index-preserved c =
     let made = set c.loop-index.text.roots m (set (get_or c.loop-index.text.roots m []) i to) in
     let whole = ap (λ (rows : List (List Reference)). set rows m (set (get_or c.loop-index.text.roots m []) i to)) was
     ∙ set-set text.roots m now (set (get_or c.loop-index.text.roots m []) i to)
-    ∙ ap (λ (r : List Reference). set text.roots m (set r i to)) row
-    ∙ ap (λ (r : Reference). set text.roots m (set now i r)) c.root_at.ensures
-    ∙ ap (λ (r : List Reference). set text.roots m r) (mixed_more xs ys i None (omega (arith, c.requires.sixteen)) (omega (arith, c.requires.sixteen))) in
+    ∙ ap (λ (references : List Reference). set text.roots m (set references i to)) row
+    ∙ ap (λ (reference : Reference). set text.roots m (set now i reference)) c.root_at.ensures
+    ∙ ap (λ (references : List Reference). set text.roots m references) (mixed_more xs ys i None (omega (arith, c.requires.sixteen)) (omega (arith, c.requires.sixteen))) in
     c.root.ensures
-    ∙ ap (λ (t : Text). record t { roots = made }) c.loop-index.invariant
+    ∙ ap (λ (text : Text). record text { roots = made }) c.loop-index.invariant
     ∙ ap (λ (roots : List (List Reference)). record text { roots = roots }) whole
 
 pub returns : goal.returns
@@ -38,5 +38,5 @@ returns c =
     let xs = roots_of c.args.graph.now c.args.thread in
     let ys = roots_of text c.args.thread in
     c.loop-index.invariant
-    ∙ ap (λ (r : List Reference). record text { roots = set text.roots (c.args.thread - 1) r })
+    ∙ ap (λ (references : List Reference). record text { roots = set text.roots (c.args.thread - 1) references })
     (mixed_all xs ys c.loop-index.index (omega (arith, c.requires.sixteen)) (omega (arith, c.requires.sixteen)))

@@ -8,6 +8,6 @@ pub returns-else-rows-eq0 : goal.returns-else-rows-eq0
 returns-else-rows-eq0 c =
     let rows = c.args.graph.now.rows in
     let size : c.rows-rows.result - 1 + 1 ≡ length rows = omega (arith, c.if-rows-eq0.false, c.rows-rows.ensures) in (
-      λ is. last_before rows c.args.name (c.rows-rows.result - 1) size (subst (λ (n : Name). IsBefore n c.args.name) c.name_at.ensures (c.is_before.ensures.0 is)),
-      (λ behind. c.is_before.ensures.1 (subst (λ (n : Name). IsBefore n c.args.name) (sym c.name_at.ensures) (before_last rows c.args.name (c.rows-rows.result - 1) size behind))),
+      λ is. last_before rows c.args.name (c.rows-rows.result - 1) size (subst (λ (name : Name). IsBefore name c.args.name) c.name_at.ensures (c.is_before.ensures.0 is)),
+      (λ behind. c.is_before.ensures.1 (subst (λ (name : Name). IsBefore name c.args.name) (sym c.name_at.ensures) (before_last rows c.args.name (c.rows-rows.result - 1) size behind))),
     )

@@ -89,14 +89,14 @@ returns-then-take_numbers c = by_result c.has_fields.result c.has_fields.ensures
     graph : c.take_numbers.new.graph ≡ with_whole_row c.args.graph.now (held_row row)
     graph =
         c.if-take_numbers.ensures.2
-        ∙ ap (λ (t : Text). with_numbers t row.nums) (c.in-Some-take_references.ensures.2 ∙ ap (λ (t : Text). with_references t (map held row.refs)) c.object.ensures)
+        ∙ ap (λ (text : Text). with_numbers text row.nums) (c.in-Some-take_references.ensures.2 ∙ ap (λ (text : Text). with_references text (map held row.refs)) c.object.ensures)
         ∙ added c.args.graph.now row.name row.refs row.nums
 
     last : row_of c.take_numbers.new.graph c.rows-row.result ≡ held_row row
-    last = ap (λ (t : Text). row_of t c.rows-row.result) graph ∙ ap (row_of (with_whole_row c.args.graph.now (held_row row))) c.rows-row.ensures ∙ added_row c.args.graph.now (held_row row)
+    last = ap (λ (text : Text). row_of text c.rows-row.result) graph ∙ ap (row_of (with_whole_row c.args.graph.now (held_row row))) c.rows-row.ensures ∙ added_row c.args.graph.now (held_row row)
 
-    by_result : (b : Bool) → (b ≡ true → HasHubFields (row_of c.take_numbers.new.graph c.rows-row.result)) → (HasHubFields (row_of c.take_numbers.new.graph c.rows-row.result) → b ≡ true)
-        → MatchBool b ((x : Row) × AreRowWords counts (parts_behind 32 c.args.words.now) x × IsBehindLast (names_of c.args.graph.now) x.name × (c.take_numbers.new.graph ≡ with_whole_row c.args.graph.now (held_row x)))
+    by_result : (holds : Bool) → (holds ≡ true → HasHubFields (row_of c.take_numbers.new.graph c.rows-row.result)) → (HasHubFields (row_of c.take_numbers.new.graph c.rows-row.result) → holds ≡ true)
+        → MatchBool holds ((x : Row) × AreRowWords counts (parts_behind 32 c.args.words.now) x × IsBehindLast (names_of c.args.graph.now) x.name × (c.take_numbers.new.graph ≡ with_whole_row c.args.graph.now (held_row x)))
         ((r : Row) → AreRowWords counts (parts_behind 32 c.args.words.now) r → IsBehindLast (names_of c.args.graph.now) r.name → ⊥)
     by_result true forth back = (
       row,

@@ -38,7 +38,7 @@ returns-clause-answered c =
     record {
       words = images.words_of image;
       size = image.all_words ∙ ap table_words same;
-      placed = subst (λ (k : Config). IsPlaced dump.config dump.graph (view k (images.words_of image))) same placed;
+      placed = subst (λ (config : Config). IsPlaced dump.config dump.graph (view config (images.words_of image))) same placed;
       whole = whole_from dump.config start g begins c.args.scripts.items c.requires.count events done.called done.idle;
       text = answer_from dump.config start g begins c.args.scripts.items c.requires.count c.args.schedule.now c.args.steps c.in-Some.replies c.in-Some.plain done c.in_ok-graph.graph c.in_ok-graph.ensures.threads
           (c.in_ok-graph.ensures.shows (run_of dump.config start g begins events) done.shows);

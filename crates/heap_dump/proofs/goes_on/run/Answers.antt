@@ -13,18 +13,18 @@ use Rattle.heap_dump.proofs.StageFrom.{can_run_from, ended, cut}
 use Rattle.heap_dump.proofs.goes_on.run.Goals as goal
 
 -- the heap that was opened shows the stage by other names for its sizes and counts
-shows_from : (p : Plain) (image : Image) (c : Config) (held counts : List ℕ) → images.config_of image ≡ c → held ≡ counts → Shows p (stage_from (images.config_of image) (images.words_of image) held) → Shows p (stage_from c (images.words_of image) counts)
-shows_from p image c held counts same are shows =
-    subst (λ (k : Config). Shows p (stage_from k (images.words_of image) counts)) same (subst (λ (xs : List ℕ). Shows p (stage_from (images.config_of image) (images.words_of image) xs)) are shows)
+shows_from : (plain : Plain) (image : Image) (config : Config) (held counts : List ℕ) → images.config_of image ≡ config → held ≡ counts → Shows plain (stage_from (images.config_of image) (images.words_of image) held) → Shows plain (stage_from config (images.words_of image) counts)
+shows_from plain image config held counts same are shows =
+    subst (λ (config : Config). Shows plain (stage_from config (images.words_of image) counts)) same (subst (λ (xs : List ℕ). Shows plain (stage_from (images.config_of image) (images.words_of image) xs)) are shows)
 
-begins_by : (image : Image) (c : Config) (held counts : List ℕ) (g : Graph) → images.config_of image ≡ c → held ≡ counts → CanBeginFrom c (images.memory_of image) counts g
-    → ((h : Graph) → CanBeginFrom (images.config_of image) (images.memory_of image) held h → Begins (images.config_of image) (stage_from (images.config_of image) (images.words_of image) held) h)
-    → Begins c (stage_from c (images.words_of image) counts) g
-begins_by image c held counts g same are can law =
-    let can_too : CanBeginFrom (images.config_of image) (images.memory_of image) held g =
-    subst (λ (k : Config). CanBeginFrom k (images.memory_of image) held g) (sym same) (subst (λ (xs : List ℕ). CanBeginFrom c (images.memory_of image) xs g) (sym are) can) in
-    subst (λ (k : Config). Begins k (stage_from k (images.words_of image) counts) g) same
-    (subst (λ (xs : List ℕ). Begins (images.config_of image) (stage_from (images.config_of image) (images.words_of image) xs) g) are (law g can_too))
+begins_by : (image : Image) (config : Config) (held counts : List ℕ) (graph : Graph) → images.config_of image ≡ config → held ≡ counts → CanBeginFrom config (images.memory_of image) counts graph
+    → ((other_graph : Graph) → CanBeginFrom (images.config_of image) (images.memory_of image) held other_graph → Begins (images.config_of image) (stage_from (images.config_of image) (images.words_of image) held) other_graph)
+    → Begins config (stage_from config (images.words_of image) counts) graph
+begins_by image config held counts graph same are can law =
+    let can_too : CanBeginFrom (images.config_of image) (images.memory_of image) held graph =
+    subst (λ (config : Config). CanBeginFrom config (images.memory_of image) held graph) (sym same) (subst (λ (xs : List ℕ). CanBeginFrom config (images.memory_of image) xs graph) (sym are) can) in
+    subst (λ (config : Config). Begins config (stage_from config (images.words_of image) counts) graph) same
+    (subst (λ (xs : List ℕ). Begins (images.config_of image) (stage_from (images.config_of image) (images.words_of image) xs) graph) are (law graph can_too))
 
 pub run-requires-clause-run : goal.run-requires-clause-run
 run-requires-clause-run c =
@@ -36,7 +36,7 @@ run-requires-clause-run c =
     (can_run_from dump.config (images.words_of image) dump.counts plain c.args.scripts.items (c.in_ok-plain.ensures.config ∙ c.requires.heap) shows c.in_ok-plain.ensures.orders c.requires.count c.requires.dump.form.counts c.requires.runnable)
 
 pub run-requires-clause-items : goal.run-requires-clause-items
-run-requires-clause-items c = subst (λ (k : Config). All (IsInSeats k) c.args.schedule.now) (sym (c.in_ok-plain.ensures.config ∙ c.requires.heap)) c.requires.items
+run-requires-clause-items c = subst (λ (config : Config). All (IsInSeats config) c.args.schedule.now) (sym (c.in_ok-plain.ensures.config ∙ c.requires.heap)) c.requires.items
 
 pub returns-in-Finished-clause-begins : goal.returns-in-Finished-clause-begins
 returns-in-Finished-clause-begins c =

@@ -12,8 +12,8 @@ abbrev seen_dump : Dump → Dumped
 seen_dump d = dumped d.config d.counts d.graph
 
 -- what follows of any dump follows of this one
-weaker : {E : Type 0} (P Q : Dumped → Type 0) → ((d : Dumped) → P d → Q d) → (r : Result Dump E) → IfOk r (λ d. P (seen_dump d)) → IfOk r (λ d. Q (seen_dump d))
-weaker P Q follows (Ok d) holds = follows (seen_dump d) holds
+weaker : {E : Type 0} (P Q : Dumped → Type 0) → ((dump : Dumped) → P dump → Q dump) → (r : Result Dump E) → IfOk r (λ dump. P (seen_dump dump)) → IfOk r (λ dump. Q (seen_dump dump))
+weaker P Q follows (Ok dump) holds = follows (seen_dump dump) holds
 weaker P Q follows (Err f) holds = tt
 
 pub of-requires : goal.of-requires

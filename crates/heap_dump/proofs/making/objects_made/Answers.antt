@@ -8,11 +8,11 @@ use Rattle.heap_dump.specs.ObjectsMade.{has_made}
 use Rattle.heap_dump.proofs.making.objects_made.Goals as goal
 use Rattle.heap_dump.proofs.making.objects_made.Goals.{then-has_made, else-has_made}
 
-more_yes : (p : Entry → Bool) (xs : List Entry) (i : ℕ) (x : Entry) → slice_get xs i ≡ Some x → p x ≡ true → count_by p (take (i + 1) xs) ≡ count_by p (take i xs) + 1
-more_yes p xs i x there is = count_by_more_yes p xs i x (slice_get_within xs i x there) (ap p (get_or_from_slice_get xs i x x there) ∙ is)
+more_yes : (p : Entry → Bool) (xs : List Entry) (index : ℕ) (entry : Entry) → slice_get xs index ≡ Some entry → p entry ≡ true → count_by p (take (index + 1) xs) ≡ count_by p (take index xs) + 1
+more_yes p xs index entry there is = count_by_more_yes p xs index entry (slice_get_within xs index entry there) (ap p (get_or_from_slice_get xs index entry entry there) ∙ is)
 
-more_no : (p : Entry → Bool) (xs : List Entry) (i : ℕ) (x : Entry) → slice_get xs i ≡ Some x → p x ≡ false → count_by p (take (i + 1) xs) ≡ count_by p (take i xs)
-more_no p xs i x there is = count_by_more_no p xs i x (slice_get_within xs i x there) (ap p (get_or_from_slice_get xs i x x there) ∙ is)
+more_no : (p : Entry → Bool) (xs : List Entry) (index : ℕ) (entry : Entry) → slice_get xs index ≡ Some entry → p entry ≡ false → count_by p (take (index + 1) xs) ≡ count_by p (take index xs)
+more_no p xs index entry there is = count_by_more_no p xs index entry (slice_get_within xs index entry there) (ap p (get_or_from_slice_get xs index entry entry there) ∙ is)
 
 pub loop-at-preserved : goal.loop-at-preserved
 loop-at-preserved c =

@@ -9,5 +9,5 @@ abbrev pub invariant-loop-index : goal.invariant-loop-index
 invariant-loop-index l = record {
   reached : RowsAreReached l.graph l.reached.marks.items l.reached.order.items;
   more : Grows l.initial.reached.marks.items l.initial.reached.order.items l.reached.marks.items l.reached.order.items;
-  done : (field : ℕ) (r : Reference) → field < l.index → slice_get (row_of l.graph l.row).refs field ≡ Some r → IsReachMarked l.graph l.reached.marks.items r;
+  done : (field : ℕ) (reference : Reference) → field < l.index → slice_get (row_of l.graph l.row).refs field ≡ Some reference → IsReachMarked l.graph l.reached.marks.items reference;
 }

@@ -14,7 +14,7 @@ halves-preserved-then-is_before c =
     let middle = c.halves.low + (c.halves.high - c.halves.low) / 2 in
     let same : c.name_at-found.result ≡ get_or (names_of graph) middle hub = c.name_at-found.ensures ∙ sym (name_in_row graph middle) in
     between_up (names_of graph) c.args.name c.halves.low c.halves.high middle c.requires c.halves.invariant (omega (arith, c.halves-test.true))
-    (subst (λ (n : Name). IsBefore n c.args.name) same (c.if-is_before.ensures.0 refl))
+    (subst (λ (name : Name). IsBefore name c.args.name) same (c.if-is_before.ensures.0 refl))
 
 pub halves-preserved : goal.halves-preserved
 halves-preserved c =

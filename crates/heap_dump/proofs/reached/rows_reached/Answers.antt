@@ -19,5 +19,5 @@ returns c =
     let b = rw c.if-not-branch-2.false at c.in_ok-reach_on.ensures.ok in
     let marks = c.reach_on.new.reached.marks.items in
     let order = c.reach_on.new.reached.order.items in
-    let roots : (m i : ℕ) → m < length graph.roots → i < 16 → IsReachMarked graph marks (root_of graph (m + 1) i) = λ m i low few. still_marked graph c.reach_roots.new.reached.marks.items marks (root_of graph (m + 1) i) b.1.kept (a.1 m i low few) in
+    let roots : (other_index index : ℕ) → other_index < length graph.roots → index < 16 → IsReachMarked graph marks (root_of graph (other_index + 1) index) = λ other_index index low few. still_marked graph c.reach_roots.new.reached.marks.items marks (root_of graph (other_index + 1) index) b.1.kept (a.1 other_index index low few) in
     marks_reached graph marks order c.requires.order a.2 b.0 roots b.2

@@ -11,9 +11,9 @@ use Rattle.heap_dump.proofs.Reread as reread
 use Rattle.heap_dump.proofs.reading_laws.written_dumps_are_read.Goals as goal
 
 -- the bytes are that dump, with what the lines say
-reading : (bytes : List ℕ) (d : Dumped) (lines : List TraceLine) (turns : List (List Item)) → IsDump d → AllByRecursion (IsLine run_version d.config.mutators) lines → AllByRecursion (IsScheduleLine d.config) turns
-    → bytes ≡ dump_text d ++ (mark_line ++ (flat_map line lines ++ flat_map schedule_line turns)) → length bytes ≤ most_bytes → Resumes bytes d (scripts_of d.config.mutators lines) (items_of turns)
-reading bytes d lines turns is lines_in turns_in spelled short = record {
+reading : (bytes : List ℕ) (dump : Dumped) (lines : List TraceLine) (turns : List (List Item)) → IsDump dump → AllByRecursion (IsLine run_version dump.config.mutators) lines → AllByRecursion (IsScheduleLine dump.config) turns
+    → bytes ≡ dump_text dump ++ (mark_line ++ (flat_map line lines ++ flat_map schedule_line turns)) → length bytes ≤ most_bytes → Resumes bytes dump (scripts_of dump.config.mutators lines) (items_of turns)
+reading bytes dump lines turns is lines_in turns_in spelled short = record {
   dump = is;
   lines = lines;
   in_range = lines_in;

@@ -39,8 +39,8 @@ returns c = by_result c.is_empty.result c.is_empty.ensures
     all : List (List ℕ)
     all = parts_behind 32 c.args.words.now
 
-    by_result : (b : Bool) → b ≡ eqb (length c.loop-index.rest.now) 0
-        → MatchBool b ((roots : List Reference) × AreRootsWords all [] roots × (c.loop-index.graph ≡ record c.args.graph.now { roots = set c.args.graph.now.roots (c.args.thread - 1) (map held roots) }))
+    by_result : (holds : Bool) → holds ≡ eqb (length c.loop-index.rest.now) 0
+        → MatchBool holds ((roots : List Reference) × AreRootsWords all [] roots × (c.loop-index.graph ≡ record c.args.graph.now { roots = set c.args.graph.now.roots (c.args.thread - 1) (map held roots) }))
         ((roots : List Reference) → AreRootsWords all [] roots → ⊥)
     by_result true e =
         let taken = subst (λ (ws : List (List ℕ)). TakenRoots all ws c.loop-index.index c.args.thread c.args.graph.now c.loop-index.graph) (no_parts 32 c.loop-index.rest.now e) c.loop-index.invariant in

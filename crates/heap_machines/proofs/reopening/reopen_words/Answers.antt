@@ -24,6 +24,6 @@ returns-clause-words c =
     let nobody : memory_of two ≡ write (memory_of one) Left c.mutators.result = stored (config_of one) d (memory_of one) (memory_of two) Left c.left_at.result c.mutators.result second tt c.left_at.ensures c.set_word-2.ensures.named in
     let goes : memory_of three ≡ write (memory_of two) End 0 = stored (config_of two) d (memory_of two) (memory_of three) End c.end_at.result 0 third tt c.end_at.ensures c.set_word-3.ensures.named in
     let same : d ≡ config_of image = c.config-config.ensures in
-    goes ∙ ap (λ (m : Word → ℕ). write m End 0) (nobody ∙ ap (λ (n : ℕ). write (memory_of one) Left n) c.mutators.ensures ∙ ap (λ (m : Word → ℕ). write m Left d.mutators) (paused ∙ ap (λ (m : Word → ℕ). write m Pause 0) outside))
-    ∙ ap (λ (k : Config). write (write (write (words_left_out (k.mutators + k.helpers) left) Pause 0) Left k.mutators) End 0) same
+    goes ∙ ap (λ (memory : Word → ℕ). write memory End 0) (nobody ∙ ap (λ (n : ℕ). write (memory_of one) Left n) c.mutators.ensures ∙ ap (λ (memory : Word → ℕ). write memory Left d.mutators) (paused ∙ ap (λ (memory : Word → ℕ). write memory Pause 0) outside))
+    ∙ ap (λ (config : Config). write (write (write (words_left_out (config.mutators + config.helpers) left) Pause 0) Left config.mutators) End 0) same
     ∙ all_stored (config_of image) (words_of image)

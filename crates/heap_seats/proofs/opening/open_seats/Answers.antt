@@ -22,14 +22,14 @@ pub seated-requires-clause-bundles : goal.seated-requires-clause-bundles
 seated-requires-clause-bundles c k b there =
     let opened = c.in_ok-heap.ensures in
     let heap = c.in_ok-heap.heap in
-    subst (λ (s : Stage Actor). IsFresh heap b (dealt_in c.args.config s k)) (sym opened.opening)
+    subst (λ (stage : Stage Actor). IsFresh heap b (dealt_in c.args.config stage k)) (sym opened.opening)
     (subst (λ workers. IsFresh heap b (dealt_to workers k (whole (Rattle.table_heap.specs.Core.heap_opening c.args.config).machines))) c.seats.ensures (opened.bundles k b there))
 
 pub seated-requires-clause-begins : goal.seated-requires-clause-begins
 seated-requires-clause-begins c =
     let config = c.args.config in
-    subst (λ (s : Stage Actor). ∥ BeginsRenewable config s ∥₁) (sym c.in_ok-heap.ensures.opening)
+    subst (λ (stage : Stage Actor). ∥ BeginsRenewable config stage ∥₁) (sym c.in_ok-heap.ensures.opening)
     ∣ record { graph = first_graph config; begins = opening_begins config; renewable = opening_renewable config.mutators } ∣₁
 
 pub returns : goal.returns
-returns c = subst (λ (s : Stage Actor). IfOk c.seated.result (λ seats. AreFreshSeats c.args.config s seats.items)) c.in_ok-heap.ensures.opening c.seated.ensures
+returns c = subst (λ (stage : Stage Actor). IfOk c.seated.result (λ seats. AreFreshSeats c.args.config stage seats.items)) c.in_ok-heap.ensures.opening c.seated.ensures

@@ -27,19 +27,19 @@ seated-requires-clause-bundles c k b there =
     let opened = c.in_ok-heap.ensures in
     let heap = c.in_ok-heap.heap in
     let image = c.args.image in
-    subst (λ (s : Stage Actor). IsFresh heap b (dealt_in c.config-config.result s k)) (sym opened.start)
+    subst (λ (stage : Stage Actor). IsFresh heap b (dealt_in c.config-config.result stage k)) (sym opened.start)
     (subst (λ workers. IsFresh heap b (dealt_to workers k (whole (stage_from (images.config_of image) (images.words_of image) c.args.counts.items).machines))) c.seats.ensures (opened.bundles k b there))
 
 pub seated-requires-clause-begins : goal.seated-requires-clause-begins
 seated-requires-clause-begins c =
     let opened = c.in_ok-heap.ensures in
     let image = c.args.image in
-    subst (λ (d : Config). ∥ BeginsRenewable d (start_of_heap c.in_ok-heap.heap) ∥₁) (sym c.config-config.ensures)
-    (subst (λ (s : Stage Actor). ∥ BeginsRenewable (images.config_of image) s ∥₁) (sym opened.start)
+    subst (λ (config : Config). ∥ BeginsRenewable config (start_of_heap c.in_ok-heap.heap) ∥₁) (sym c.config-config.ensures)
+    (subst (λ (stage : Stage Actor). ∥ BeginsRenewable (images.config_of image) stage ∥₁) (sym opened.start)
     (∥∥₁_map c.requires.begins (λ some. record { graph = some.0; begins = opened.begins some.0 some.1; renewable = some.2 })))
 
 pub returns : goal.returns
 returns c =
     let opened = c.in_ok-heap.ensures in
-    subst (λ (s : Stage Actor). IfOk c.seated.result (λ seats. AreFreshSeats (images.config_of c.args.image) s seats.items)) opened.start
-    (subst (λ (d : Config). IfOk c.seated.result (λ seats. AreFreshSeats d (start_of_heap c.in_ok-heap.heap) seats.items)) c.config-config.ensures c.seated.ensures)
+    subst (λ (stage : Stage Actor). IfOk c.seated.result (λ seats. AreFreshSeats (images.config_of c.args.image) stage seats.items)) opened.start
+    (subst (λ (config : Config). IfOk c.seated.result (λ seats. AreFreshSeats config (start_of_heap c.in_ok-heap.heap) seats.items)) c.config-config.ensures c.seated.ensures)

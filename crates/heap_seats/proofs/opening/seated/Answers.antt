@@ -14,7 +14,7 @@ loop-number-init c =
     subst (λ bundles. Opens config h bundles c.in-Ok-with_capacity.seats.items 0) (sym c.reverse.ensures.items)
     (subst (λ seats. Opens config h (reverse c.args.bundles.items) seats 0) (sym c.in-Ok-with_capacity.ensures.items)
     (opens_first config h c.args.bundles.items c.requires.count
-    (λ k b there. subst (λ (g : Heap). IsFresh g b (dealt_in config (start_of_heap g) k)) (sym c.in-Ok.ensures.ok) (c.requires.bundles k b there))))
+    (λ k b there. subst (λ (heap : Heap). IsFresh heap b (dealt_in config (start_of_heap heap) k)) (sym c.in-Ok.ensures.ok) (c.requires.bundles k b there))))
 
 pub unreachable-requires : goal.unreachable-requires
 unreachable-requires c =
@@ -26,7 +26,7 @@ open-requires-clause-fresh c =
     last_fresh c.args.config (arc_value c.in-Ok.heap) c.loop-number.bundles.items c.pop.new.self.items c.in-Some.bundle c.loop-number.seats.items c.loop-number.number c.loop-number.invariant c.in-Some.ensures.items
 
 pub open-requires-clause-begins : goal.open-requires-clause-begins
-open-requires-clause-begins c = subst (λ (h : Heap). ∥ BeginsRenewable c.args.config (start_of_heap h) ∥₁) (sym c.in-Ok.ensures.ok) c.requires.begins
+open-requires-clause-begins c = subst (λ (heap : Heap). ∥ BeginsRenewable c.args.config (start_of_heap heap) ∥₁) (sym c.in-Ok.ensures.ok) c.requires.begins
 
 pub loop-number-preserved : goal.loop-number-preserved
 loop-number-preserved c =
@@ -40,7 +40,7 @@ returns c =
     let l = c.loop-number in
     record {
       heap = arc_value c.in-Ok.heap;
-      begins = ap (λ (h : Heap). start_of_heap h) c.in-Ok.ensures.ok;
+      begins = ap (λ (heap : Heap). start_of_heap heap) c.in-Ok.ensures.ok;
       count = l.invariant.long ∙ omega (arith, c.loop-number-test.false, l.auto.number-end, c.seats-number-end.ensures);
       each = l.invariant.each;
     }

@@ -17,12 +17,12 @@ use Rattle.heap_seats.proofs.renewing.go_on.Goals as goal
 pub renewed_seats-renewed-requires-clause-whole : goal.renewed_seats-renewed-requires-clause-whole
 renewed_seats-renewed-requires-clause-whole c =
     let closed = c.args.closed in
-    subst (λ (d : Config). IsPlaceable d c.graph.new.text) (sym c.requires.sizes) (left_placeable (ends.config_of closed) (ends.stage_of closed) c.requires.begins c.graph.new.text c.graph.ensures.shows)
+    subst (λ (config : Config). IsPlaceable config c.graph.new.text) (sym c.requires.sizes) (left_placeable (ends.config_of closed) (ends.stage_of closed) c.requires.begins c.graph.new.text c.graph.ensures.shows)
 
 pub renewed_seats-renewed-requires-clause-names : goal.renewed_seats-renewed-requires-clause-names
 renewed_seats-renewed-requires-clause-names c =
     let closed = c.args.closed in
-    subst (λ (d : Config). AreOfThreads d.mutators (names_of c.graph.new.text)) (sym c.requires.sizes) (left_threads (ends.config_of closed) (ends.stage_of closed) c.requires.begins c.graph.new.text c.graph.ensures.shows)
+    subst (λ (config : Config). AreOfThreads config.mutators (names_of c.graph.new.text)) (sym c.requires.sizes) (left_threads (ends.config_of closed) (ends.stage_of closed) c.requires.begins c.graph.new.text c.graph.ensures.shows)
 
 pub returns-in-Ok : goal.returns-in-Ok
 returns-in-Ok c =
@@ -31,7 +31,7 @@ returns-in-Ok c =
     let text = c.graph.new.text in
     let seats = c.in-Ok.seats.items in
     begin_others config (ShowsGraph text config.mutators) (IsGraphLeft config left) renewals.Renewed seats (left_shown config left text c.graph.ensures.shows)
-    (subst (λ (d : Config). BeginSeats d (ShowsGraph text d.mutators) renewals.Renewed seats) c.requires.sizes c.in-Ok.ensures.renewed)
+    (subst (λ (config : Config). BeginSeats config (ShowsGraph text config.mutators) renewals.Renewed seats) c.requires.sizes c.in-Ok.ensures.renewed)
 
 pub returns-in-Ok-reopened_seats : goal.returns-in-Ok-reopened_seats
 returns-in-Ok-reopened_seats c =
@@ -44,7 +44,7 @@ returns-in-Ok-reopened_seats c =
     begin_others config (IsLeftKept config left why) (IsGraphLeft config left) why seats
     (λ g is_left. record {
       is_left = is_left;
-      keeps = subst (λ (d : Config). KeepsNames why d g) c.requires.sizes (c.in-Err.ensures.kept g (subst (λ (d : Config). ShowsGraph text d.mutators g) (sym c.requires.sizes) (left_shown config left text c.graph.ensures.shows g is_left)));
+      keeps = subst (λ (config : Config). KeepsNames why config g) c.requires.sizes (c.in-Err.ensures.kept g (subst (λ (config : Config). ShowsGraph text config.mutators g) (sym c.requires.sizes) (left_shown config left text c.graph.ensures.shows g is_left)));
     })
-    (subst (λ (s : Stage Actor). BeginSeats config (IsLeftKept config s why) why seats) c.graph.ensures.unchanged.stage
-    (subst (λ (d : Config). BeginSeats d (IsLeftKept d (ends.stage_of new) why) why seats) c.graph.ensures.unchanged.config (c.in-Ok-reopened_seats.ensures why)))
+    (subst (λ (stage : Stage Actor). BeginSeats config (IsLeftKept config stage why) why seats) c.graph.ensures.unchanged.stage
+    (subst (λ (config : Config). BeginSeats config (IsLeftKept config (ends.stage_of new) why) why seats) c.graph.ensures.unchanged.config (c.in-Ok-reopened_seats.ensures why)))

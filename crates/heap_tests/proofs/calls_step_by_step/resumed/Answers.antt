@@ -11,12 +11,12 @@ pub image_of-requires-clause-rest : goal.image_of-requires-clause-rest
 image_of-requires-clause-rest c = opened_rests c.args.config (machines_of c.in_ok-plain.plain) c.in_ok-plain.ensures.opening.machines_are c.requires.seats.0 c.requires.seats.1
 
 pub image_of-requires-clause-control : goal.image_of-requires-clause-control
-image_of-requires-clause-control c = subst (λ (k : Config). machine_at c.in_ok-plain.plain 1 ≡ fresh_control (first_free k.regions)) (sym c.in_ok-plain.ensures.config)
+image_of-requires-clause-control c = subst (λ (config : Config). machine_at c.in_ok-plain.plain 1 ≡ fresh_control (first_free config.regions)) (sym c.in_ok-plain.ensures.config)
     (opened_control c.args.config (machines_of c.in_ok-plain.plain) c.in_ok-plain.ensures.opening.machines_are c.requires.seats.0 c.requires.seats.1)
 
 pub goes_on-requires-clause-stands : goal.goes_on-requires-clause-stands
 goes_on-requires-clause-stands c =
     let image = c.in_ok-image.image in
     let made = opened_made c.args.config (machines_of c.in_ok-plain.plain) c.in_ok-plain.ensures.opening.machines_are c.requires.seats.0 c.requires.seats.1 in
-    subst (λ (k : Config). ∥ LeftGraph k (images.memory_of image) 0 ∥₁) (sym c.in_ok-image.ensures.config)
+    subst (λ (config : Config). ∥ LeftGraph config (images.memory_of image) 0 ∥₁) (sym c.in_ok-image.ensures.config)
     (subst (λ (n : ℕ). ∥ LeftGraph (config_of c.in_ok-plain.plain) (images.memory_of image) n ∥₁) made c.in_ok-image.ensures.stands)

@@ -5,5 +5,5 @@ use Rattle.heap_tests.proofs.pins.takes_all.Given as goal
 abbrev pub invariant-loop-at : goal.invariant-loop-at
 invariant-loop-at l = record {
   threads : threads_of l.graph ≡ 2;
-  made : (t : ℕ) → (graph_of l.graph).count t ≤ l.at;
+  made : (thread : ℕ) → (graph_of l.graph).count thread ≤ l.at;
 }

@@ -23,41 +23,41 @@ use Rattle.shen_core.specs.RenewedHeap.{StandsRenewable}
 use Rattle.heap_tests.proofs.renewal.opened.Goals as goal
 
 -- a machine is that of the opening
-first_at : (p : Plain) (k : ℕ) → Shows p (opening (config_of p)) → k < seat_count (config_of p).mutators (config_of p).helpers → machine_at p k ≡ opening_machine (config_of p) k
-first_at p k shows below =
-    let config = config_of p in
-    ap (λ ms. get_or ms k no_machine) (sym shows.machines_are ∙ first_machines config) ∙ get_or-map-range_with_len (opening_machine config) 0 (seat_count config.mutators config.helpers) k k no_machine below (omega arith)
+first_at : (plain : Plain) (seat : ℕ) → Shows plain (opening (config_of plain)) → seat < seat_count (config_of plain).mutators (config_of plain).helpers → machine_at plain seat ≡ opening_machine (config_of plain) seat
+first_at plain seat shows below =
+    let config = config_of plain in
+    ap (λ ms. get_or ms seat no_machine) (sym shows.machines_are ∙ first_machines config) ∙ get_or-map-range_with_len (opening_machine config) 0 (seat_count config.mutators config.helpers) seat seat no_machine below (omega arith)
 
 -- the control has no image
-control_calm : (c : Config) → image_read (opening_machine c (control_number c)) ≡ None
-control_calm c = by_test (nat_lt (control_number c) c.mutators) (nat_lt (control_number c) (c.mutators + c.helpers))
+control_calm : (config : Config) → image_read (opening_machine config (control_number config)) ≡ None
+control_calm config = by_test (nat_lt (control_number config) config.mutators) (nat_lt (control_number config) (config.mutators + config.helpers))
   where
-    by_test : (a b : Bool) → image_read (if a then mutating (fresh_mutator (control_number c)) else (if b then fresh_helper (control_number c) else fresh_control (first_free c.regions))) ≡ None
-    by_test true b = refl
+    by_test : (holds other_holds : Bool) → image_read (if holds then mutating (fresh_mutator (control_number config)) else (if other_holds then fresh_helper (control_number config) else fresh_control (first_free config.regions))) ≡ None
+    by_test true other_holds = refl
     by_test false true = refl
     by_test false false = refl
 
-rests : (p : Plain) → Shows p (opening (config_of p)) → AllRest p
-rests p shows =
-    let config = config_of p in
+rests : (plain : Plain) → Shows plain (opening (config_of plain)) → AllRest plain
+rests plain shows =
+    let config = config_of plain in
     record {
-      mutators = λ t below. ap is_resting (first_at p t shows (omega arith)) ∙ first_rests config t below;
-      control = ap image_read (first_at p (control_number config) shows (omega arith)) ∙ control_calm config;
+      mutators = λ t below. ap is_resting (first_at plain t shows (omega arith)) ∙ first_rests config t below;
+      control = ap image_read (first_at plain (control_number config) shows (omega arith)) ∙ control_calm config;
     }
 
-stands : (p : Plain) → Shows p (opening (config_of p)) → StandsRenewable p
+stands : (plain : Plain) → Shows plain (opening (config_of plain)) → StandsRenewable plain
 unfolding history
-stands p shows =
-    let config = config_of p in
+stands plain shows =
+    let config = config_of plain in
     record {
       run = record { start = opening config; graph = first_graph config; begins = opening_begins config; events = [] };
-      leads = subst (Shows p) (sym (go-none (kind pause_image config) (opening config))) shows;
+      leads = subst (Shows plain) (sym (go-none (kind pause_image config) (opening config))) shows;
       renewable = opening_renewable config.mutators;
     }
 
-of_opened : {E : Type 0} (c : Config) (P : Plain → Type 0) → ((p : Plain) → Shows p (opening (config_of p)) → P p) → (r : Result Plain E) → IfOk r (λ p. config_of p ≡ c) → IfOk r (λ p. Shows p (opening c)) → IfOk r P
-of_opened c P so (Ok p) config shows = so p (subst (λ (d : Config). Shows p (opening d)) (sym config) shows)
-of_opened c P so (Err e) config shows = tt
+of_opened : {E : Type 0} (other_config : Config) (P : Plain → Type 0) → ((plain : Plain) → Shows plain (opening (config_of plain)) → P plain) → (r : Result Plain E) → IfOk r (λ plain. config_of plain ≡ other_config) → IfOk r (λ plain. Shows plain (opening other_config)) → IfOk r P
+of_opened other_config P so (Ok plain) config shows = so plain (subst (λ (config : Config). Shows plain (opening config)) (sym config) shows)
+of_opened other_config P so (Err e) config shows = tt
 
 pub returns-clause-rest : goal.returns-clause-rest
 returns-clause-rest c = of_opened c.args.config AllRest rests c.open.result c.open.ensures.config c.open.ensures.opening

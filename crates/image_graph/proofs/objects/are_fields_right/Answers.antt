@@ -9,7 +9,7 @@ use Rattle.image_graph.proofs.objects.are_fields_right.Goals as goal
 
 pub heap_at-requires : goal.heap_at-requires
 heap_at-requires c =
-    subst (λ (j : Config). IsWord j (Heap (c.args.address + 3 + c.loop-index.index))) (sym c.config-config.ensures) (c.requires.inside c.loop-index.index c.loop-index-test.true)
+    subst (λ (config : Config). IsWord config (Heap (c.args.address + 3 + c.loop-index.index))) (sym c.config-config.ensures) (c.requires.inside c.loop-index.index c.loop-index-test.true)
 
 pub word-requires : goal.word-requires
 word-requires c =

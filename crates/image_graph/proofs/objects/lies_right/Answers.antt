@@ -22,7 +22,7 @@ heap_at-requires c = between c.config-config.result _ _ _ 1 c.region_words-first
 pub word-requires : goal.word-requires
 word-requires c =
     placed _ _ (Heap (c.args.address + 1)) _ c.config-config.ensures
-    (subst (λ (j : Config). IsWord j (Heap (c.args.address + 1))) c.config-config.ensures
+    (subst (λ (config : Config). IsWord config (Heap (c.args.address + 1))) c.config-config.ensures
     (between c.config-config.result _ _ _ 1 c.region_words-first.ensures c.heap_size.ensures.value c.if-address-first.false c.if-last-address-lt3.false (omega arith))) c.heap_at.ensures
 
 pub overflow_add-behind : goal.overflow_add-behind
@@ -40,16 +40,16 @@ top_at-requires c = c.region_of-region.ensures.below
 pub word-requires-2 : goal.word-requires-2
 word-requires-2 c =
     placed _ _ (Top c.region_of-region.result) _ c.config-config.ensures
-    (subst (λ (j : Config). c.region_of-region.result < j.regions) c.config-config.ensures c.region_of-region.ensures.below) c.top_at.ensures
+    (subst (λ (config : Config). c.region_of-region.result < config.regions) c.config-config.ensures c.region_of-region.ensures.below) c.top_at.ensures
 
 pub overflow_add-end : goal.overflow_add-end
 overflow_add-end c =
     let r = c.region_of-region.result in
     let config = config_of c.args.image.now in
-    let below : r < config.regions = subst (λ (j : Config). r < j.regions) c.config-config.ensures c.region_of-region.ensures.below in
+    let below : r < config.regions = subst (λ (config : Config). r < config.regions) c.config-config.ensures c.region_of-region.ensures.below in
     let top : c.word-2.result ≡ memory_of c.args.image.now (Top r) =
     read config _ (memory_of c.args.image.now) (Top r) _ _ c.config-config.ensures below c.top_at.ensures c.word-2.ensures.named in
-    let base : c.base.result ≡ base_of config r = c.base.ensures ∙ ap (λ (j : Config). base_of j r) c.config-config.ensures in
+    let base : c.base.result ≡ base_of config r = c.base.ensures ∙ ap (λ (config : Config). base_of config r) c.config-config.ensures in
     omega (arith, top, base, c.requires r below, low_region config r below)
 
 pub returns-then-behind-end-2 : goal.returns-then-behind-end-2
@@ -58,9 +58,9 @@ returns-then-behind-end-2 c =
     let memory : Word → ℕ = memory_of c.args.image.now in
     let address = c.args.address in
     let r = c.region_of-region.result in
-    let below : r < config.regions = subst (λ (j : Config). r < j.regions) c.config-config.ensures c.region_of-region.ensures.below in
+    let below : r < config.regions = subst (λ (config : Config). r < config.regions) c.config-config.ensures c.region_of-region.ensures.below in
     let top : c.word-2.result ≡ memory (Top r) = read config _ memory (Top r) _ _ c.config-config.ensures below c.top_at.ensures c.word-2.ensures.named in
-    let word : IsWord config (Heap (address + 1)) = subst (λ (j : Config). IsWord j (Heap (address + 1))) c.config-config.ensures
+    let word : IsWord config (Heap (address + 1)) = subst (λ (config : Config). IsWord config (Heap (address + 1))) c.config-config.ensures
     (between c.config-config.result _ _ _ 1 c.region_words-first.ensures c.heap_size.ensures.value c.if-address-first.false c.if-last-address-lt3.false (omega arith)) in
     let long : c.words_of.result ≡ laid_words memory address = c.words_of.ensures ∙ ap object_words (read config _ memory (Heap (address + 1)) _ _ c.config-config.ensures word c.heap_at.ensures c.word.ensures.named) in
     λ _. lies_by config c.config-config.result memory c.args.objects.now address _ _ _ r _ _ c.config-config.ensures c.region_words-first.ensures c.heap_size.ensures.value c.if-address-first.false
@@ -72,9 +72,9 @@ returns-else-behind-end-2 c =
     let memory : Word → ℕ = memory_of c.args.image.now in
     let address = c.args.address in
     let r = c.region_of-region.result in
-    let below : r < config.regions = subst (λ (j : Config). r < j.regions) c.config-config.ensures c.region_of-region.ensures.below in
+    let below : r < config.regions = subst (λ (config : Config). r < config.regions) c.config-config.ensures c.region_of-region.ensures.below in
     let top : c.word-2.result ≡ memory (Top r) = read config _ memory (Top r) _ _ c.config-config.ensures below c.top_at.ensures c.word-2.ensures.named in
-    let word : IsWord config (Heap (address + 1)) = subst (λ (j : Config). IsWord j (Heap (address + 1))) c.config-config.ensures
+    let word : IsWord config (Heap (address + 1)) = subst (λ (config : Config). IsWord config (Heap (address + 1))) c.config-config.ensures
     (between c.config-config.result _ _ _ 1 c.region_words-first.ensures c.heap_size.ensures.value c.if-address-first.false c.if-last-address-lt3.false (omega arith)) in
     let long : c.words_of.result ≡ laid_words memory address = c.words_of.ensures ∙ ap object_words (read config _ memory (Heap (address + 1)) _ _ c.config-config.ensures word c.heap_at.ensures c.word.ensures.named) in
     λ yes. lies_by config c.config-config.result memory c.args.objects.now address _ _ _ r _ _ c.config-config.ensures c.region_words-first.ensures c.heap_size.ensures.value c.if-address-first.false

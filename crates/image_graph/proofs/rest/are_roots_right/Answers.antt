@@ -8,7 +8,7 @@ use Rattle.image_graph.proofs.Reading.{read, placed}
 use Rattle.image_graph.proofs.rest.are_roots_right.Goals as goal
 
 pub root_at-requires : goal.root_at-requires
-root_at-requires c = (subst (λ (j : Config). c.args.mutator < j.mutators) (sym c.config-config.ensures) c.requires, c.loop-index-test.true)
+root_at-requires c = (subst (λ (config : Config). c.args.mutator < config.mutators) (sym c.config-config.ensures) c.requires, c.loop-index-test.true)
 
 pub word-requires : goal.word-requires
 word-requires c = placed _ _ (Root c.args.mutator c.loop-index.index) _ c.config-config.ensures (c.requires, c.loop-index-test.true) c.root_at.ensures

@@ -7,7 +7,7 @@ use Rattle.image_graph.proofs.Reading.{read, placed}
 use Rattle.image_graph.proofs.rest.are_slots_empty.Goals as goal
 
 pub pin_at-requires : goal.pin_at-requires
-pin_at-requires c = (subst (λ (j : Config). c.args.mutator < j.mutators) (sym c.config-config.ensures) c.requires, c.loop-slot-test.true)
+pin_at-requires c = (subst (λ (config : Config). c.args.mutator < config.mutators) (sym c.config-config.ensures) c.requires, c.loop-slot-test.true)
 
 pub word-requires : goal.word-requires
 word-requires c = placed _ _ (Pin c.args.mutator c.loop-slot.slot) _ c.config-config.ensures (c.requires, c.loop-slot-test.true) c.pin_at.ensures

@@ -25,4 +25,4 @@ pub made_before-requires-clause-walk : goal.made_before-requires-clause-walk
 made_before-requires-clause-walk c =
     let trace = c.args.trace.now in
     let items = subst (All (IsInSeats trace.config)) (sym c.in_ok-schedule.ensures) (items_in_seats c.requires.0 trace.version trace.config trace.scripts trace.schedule c.requires.1) in
-    c.open-walk.ensures.fits (config_of c.in-Ok-open.plain) (subst (λ (d : Config). All (IsInSeats d) c.in_ok-schedule.schedule) (sym c.in-Ok-open.ensures.config) items)
+    c.open-walk.ensures.fits (config_of c.in-Ok-open.plain) (subst (λ (config : Config). All (IsInSeats config) c.in_ok-schedule.schedule) (sym c.in-Ok-open.ensures.config) items)

@@ -23,23 +23,23 @@ returns-clause-words c =
     let set = has (with_addresses [] (held_words config memory)) in
     let to_two : memory_of two ≡ greyed config set (bit_words config) memory =
     c.grey_found.ensures.words
-    ∙ ap (λ (k : Config). greyed k (has (found_of one)) (bit_words k) (memory_of one)) same.config
+    ∙ ap (λ (config : Config). greyed config (has (found_of one)) (bit_words config) (memory_of one)) same.config
     ∙ ap (λ n. greyed config (has (found_of one)) (bit_words config) n) (memory_same old one same)
     ∙ ap (λ xs. greyed config (has xs) (bit_words config) memory) c.find_all_held.ensures.held in
     let config_two = c.grey_found.ensures.config ∙ same.config in
     let to_three : memory_of three ≡ noted config config.regions (greyed config set (bit_words config) memory) =
-    c.note_edges.ensures.words ∙ ap (λ (k : Config). noted k k.regions (memory_of two)) config_two ∙ ap (noted config config.regions) to_two in
+    c.note_edges.ensures.words ∙ ap (λ (config : Config). noted config config.regions (memory_of two)) config_two ∙ ap (noted config config.regions) to_two in
     let config_three = c.note_edges.ensures.config ∙ config_two in
     let to_four : memory_of four ≡ emptied config.mutators (noted config config.regions (greyed config set (bit_words config) memory)) =
-    c.empty_buffers.ensures.words ∙ ap (λ (k : Config). emptied k.mutators (memory_of three)) config_three ∙ ap (emptied config.mutators) to_three in
+    c.empty_buffers.ensures.words ∙ ap (λ (config : Config). emptied config.mutators (memory_of three)) config_three ∙ ap (emptied config.mutators) to_three in
     let config_four = c.empty_buffers.ensures.config ∙ config_three in
     let claim = stored (config_of four) config (memory_of four) (memory_of c.set_word.new.self) Claim c.claim_at.result 0 config_four tt
-    (c.claim_at.ensures ∙ ap (λ (k : Config). word_at k Claim) (c.config-config.ensures ∙ config_four)) c.set_word.ensures.named in
+    (c.claim_at.ensures ∙ ap (λ (config : Config). word_at config Claim) (c.config-config.ensures ∙ config_four)) c.set_word.ensures.named in
     let config_five = c.set_word.ensures.config ∙ config_four in
     let ask = stored (config_of c.set_word.new.self) config (memory_of c.set_word.new.self) (memory_of c.set_word-2.new.self) Ask c.ask_at.result 0 config_five tt
-    (c.ask_at.ensures ∙ ap (λ (k : Config). word_at k Ask) (c.config-config.ensures ∙ config_four)) c.set_word-2.ensures.named in
+    (c.ask_at.ensures ∙ ap (λ (config : Config). word_at config Ask) (c.config-config.ensures ∙ config_four)) c.set_word-2.ensures.named in
     let config_six = c.set_word-2.ensures.config ∙ config_five in
     let phase = stored (config_of c.set_word-2.new.self) config (memory_of c.set_word-2.new.self) (memory_of c.set_word-3.new.self) Phase c.phase_at.result 1 config_six tt
-    (c.phase_at.ensures ∙ ap (λ (k : Config). word_at k Phase) (c.config-config.ensures ∙ config_four)) c.set_word-3.ensures.named in
+    (c.phase_at.ensures ∙ ap (λ (config : Config). word_at config Phase) (c.config-config.ensures ∙ config_four)) c.set_word-3.ensures.named in
     phase ∙ ap (λ n. write n Phase 1) (ask ∙ ap (λ n. write n Ask 0) (claim ∙ ap (λ n. write n Claim 0) to_four))
     ∙ begun config (words_of old) (all_inside config memory c.requires)

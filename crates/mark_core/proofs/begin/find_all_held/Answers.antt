@@ -22,17 +22,17 @@ returns-clause-held c =
     let to_three = both old two three to_two c.find_answers.ensures.unchanged in
     let roots : found_of two ≡ with_addresses [] (roots_below memory config.mutators) =
     c.find_all_roots.ensures.noted
-    ∙ ap (λ (k : Word → ℕ). with_addresses (found_of one) (roots_below k (config_of one).mutators)) (memory_same old one to_one)
-    ∙ ap (λ (k : Config). with_addresses (found_of one) (roots_below memory k.mutators)) to_one.config
+    ∙ ap (λ (memory : Word → ℕ). with_addresses (found_of one) (roots_below memory (config_of one).mutators)) (memory_same old one to_one)
+    ∙ ap (λ (config : Config). with_addresses (found_of one) (roots_below memory config.mutators)) to_one.config
     ∙ ap (λ xs. with_addresses xs (roots_below memory config.mutators)) c.forget_found.ensures.none in
     let named : found_of three ≡ with_addresses [] (root_words config memory) =
     c.find_answers.ensures.noted
-    ∙ ap (λ (k : Word → ℕ). with_addresses (found_of two) (answers_below k (config_of two).mutators)) (memory_same old two to_two)
-    ∙ ap (λ (k : Config). with_addresses (found_of two) (answers_below memory k.mutators)) to_two.config
+    ∙ ap (λ (memory : Word → ℕ). with_addresses (found_of two) (answers_below memory (config_of two).mutators)) (memory_same old two to_two)
+    ∙ ap (λ (config : Config). with_addresses (found_of two) (answers_below memory config.mutators)) to_two.config
     ∙ ap (λ xs. with_addresses xs (answers_below memory config.mutators)) roots
     ∙ noted_both [] (roots_below memory config.mutators) (answers_below memory config.mutators) in
     c.find_all_pins.ensures.noted
-    ∙ ap (λ (k : Word → ℕ). with_addresses (found_of three) (pins_below k (config_of three).mutators)) (memory_same old three to_three)
-    ∙ ap (λ (k : Config). with_addresses (found_of three) (pins_below memory k.mutators)) to_three.config
+    ∙ ap (λ (memory : Word → ℕ). with_addresses (found_of three) (pins_below memory (config_of three).mutators)) (memory_same old three to_three)
+    ∙ ap (λ (config : Config). with_addresses (found_of three) (pins_below memory config.mutators)) to_three.config
     ∙ ap (λ xs. with_addresses xs (pins_below memory config.mutators)) named
     ∙ noted_both [] (root_words config memory) (pins_below memory config.mutators)

@@ -17,8 +17,8 @@ loop-slot-preserved c =
     let same = c.loop-slot.invariant.unchanged in
     let few : slot < 4 = c.loop-slot-test.true in
     let value : c.word-word.result ≡ memory_of now (Pin mutator slot) =
-    c.word-word.ensures.named (Pin mutator slot) (omega (arith, c.requires.mutator, ap (λ (k : Config). k.mutators) same.config), few)
-    (ap (λ (k : Config). word_at k (Pin mutator slot)) (same.config ∙ sym c.config-config.ensures) ∙ sym c.pin_at.ensures) in
+    c.word-word.ensures.named (Pin mutator slot) (omega (arith, c.requires.mutator, ap (λ (config : Config). config.mutators) same.config), few)
+    (ap (λ (config : Config). word_at config (Pin mutator slot)) (same.config ∙ sym c.config-config.ensures) ∙ sym c.pin_at.ensures) in
     record {
       unchanged = both old now c.find.new.self same c.find.ensures.unchanged;
       found = c.find.ensures.found;

@@ -17,8 +17,8 @@ loop-index-preserved c =
     let same = c.loop-index.invariant.unchanged in
     let few : i < 16 = c.loop-index-test.true in
     let value : c.word-word.result ≡ memory_of now (Root mutator i) =
-    c.word-word.ensures.named (Root mutator i) (omega (arith, c.requires.mutator, ap (λ (k : Config). k.mutators) same.config), few)
-    (ap (λ (k : Config). word_at k (Root mutator i)) (same.config ∙ sym c.config-config.ensures) ∙ sym c.root_at.ensures) in
+    c.word-word.ensures.named (Root mutator i) (omega (arith, c.requires.mutator, ap (λ (config : Config). config.mutators) same.config), few)
+    (ap (λ (config : Config). word_at config (Root mutator i)) (same.config ∙ sym c.config-config.ensures) ∙ sym c.root_at.ensures) in
     record {
       unchanged = both old now c.find.new.self same c.find.ensures.unchanged;
       found = c.find.ensures.found;

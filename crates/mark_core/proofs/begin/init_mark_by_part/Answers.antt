@@ -10,11 +10,11 @@ use Rattle.mark_core.proofs.begin.init_mark_by_part.Goals as goal
 
 pub begin-requires : goal.begin-requires
 begin-requires c =
-    subst (λ (k : Config). HasRootsInside k (memory_of c.settle.new.self)) (sym c.settle.ensures.config)
-    (subst (λ (m : Word → ℕ). HasRootsInside (config_of c.args.image.now) m) (sym c.settle.ensures.words)
+    subst (λ (config : Config). HasRootsInside config (memory_of c.settle.new.self)) (sym c.settle.ensures.config)
+    (subst (λ (memory : Word → ℕ). HasRootsInside (config_of c.args.image.now) memory) (sym c.settle.ensures.words)
     (settled_inside (config_of c.args.image.now) (memory_of c.args.image.now) c.requires.roots))
 
 pub returns-clause-words : goal.returns-clause-words
 returns-clause-words c =
-    c.begin.ensures.words ∙ ap (λ (k : Config). marking_begun k (memory_of c.settle.new.self)) c.settle.ensures.config
+    c.begin.ensures.words ∙ ap (λ (config : Config). marking_begun config (memory_of c.settle.new.self)) c.settle.ensures.config
     ∙ ap (marking_begun (config_of c.args.image.now)) c.settle.ensures.words

@@ -13,12 +13,12 @@ loop-region-preserved c =
     let old = c.args.image.now in
     let config = config_of old in
     let region = c.loop-region.region in
-    let below : region < config.regions = omega (arith, c.loop-region-test.true, c.regions-region-end.ensures, ap (λ (k : Config). k.regions) c.config-config.ensures) in
+    let below : region < config.regions = omega (arith, c.loop-region-test.true, c.regions-region-end.ensures, ap (λ (config : Config). config.regions) c.config-config.ensures) in
     let edge_is : c.edge-edge.result ≡ edge config (memory_of old) region =
-    c.edge-edge.ensures ∙ ap (λ (k : Config). edge k (memory_of c.loop-region.image) region) c.loop-region.invariant.config
-    ∙ ap (λ (n : Word → ℕ). edge config n region) c.loop-region.invariant.words ∙ edge_noted config region region (memory_of old) in
+    c.edge-edge.ensures ∙ ap (λ (config : Config). edge config (memory_of c.loop-region.image) region) c.loop-region.invariant.config
+    ∙ ap (λ (memory : Word → ℕ). edge config memory region) c.loop-region.invariant.words ∙ edge_noted config region region (memory_of old) in
     let one = stored (config_of c.loop-region.image) config (memory_of c.loop-region.image) (memory_of c.set_word.new.self) (Tams region) c.tams_at.result c.edge-edge.result
-    c.loop-region.invariant.config below (c.tams_at.ensures ∙ ap (λ (k : Config). word_at k (Tams region)) c.config-config.ensures) c.set_word.ensures.named in
+    c.loop-region.invariant.config below (c.tams_at.ensures ∙ ap (λ (config : Config). word_at config (Tams region)) c.config-config.ensures) c.set_word.ensures.named in
     record {
       config = c.set_word.ensures.config ∙ c.loop-region.invariant.config;
       words = one ∙ ap (λ m. write m (Tams region) c.edge-edge.result) c.loop-region.invariant.words
@@ -28,5 +28,5 @@ loop-region-preserved c =
 pub returns-clause-words : goal.returns-clause-words
 returns-clause-words c =
     let all : c.loop-region.region ≡ (config_of c.args.image.now).regions =
-    omega (arith, c.loop-region-test.false, c.loop-region.auto.region-end, c.regions-region-end.ensures, ap (λ (k : Config). k.regions) c.config-config.ensures) in
+    omega (arith, c.loop-region-test.false, c.loop-region.auto.region-end, c.regions-region-end.ensures, ap (λ (config : Config). config.regions) c.config-config.ensures) in
     c.loop-region.invariant.words ∙ ap (λ n. noted (config_of c.args.image.now) n (memory_of c.args.image.now)) all

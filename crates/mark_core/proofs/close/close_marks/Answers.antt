@@ -27,11 +27,11 @@ returns-clause-words c =
     let same = c.find_traced.ensures.unchanged in
     let to_two : memory_of two ≡ marked config (has (traced_in config memory)) (bit_words config) memory =
     c.mark_found.ensures.words
-    ∙ ap (λ (k : Config). marked k (has (found_of one)) (bit_words k) (memory_of one)) same.config
+    ∙ ap (λ (config : Config). marked config (has (found_of one)) (bit_words config) (memory_of one)) same.config
     ∙ ap (λ n. marked config (has (found_of one)) (bit_words config) n) (memory_same old one same)
     ∙ ap (λ xs. marked config (has xs) (bit_words config) memory) c.find_traced.ensures.traced in
     c.empty_buffers.ensures.words
-    ∙ ap (λ (k : Config). emptied k.mutators (memory_of two)) (c.mark_found.ensures.config ∙ same.config)
+    ∙ ap (λ (config : Config). emptied config.mutators (memory_of two)) (c.mark_found.ensures.config ∙ same.config)
     ∙ ap (emptied config.mutators) to_two
     ∙ closed_is config (words_of old) (can_trace_some config memory c.requires)
 

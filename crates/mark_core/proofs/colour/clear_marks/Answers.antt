@@ -34,9 +34,9 @@ loop-word-preserved c =
     let below : word < bit_words config = omega (arith, c.loop-word-test.true, c.mark_words-word-end.ensures.value, ap bit_words same) in
     let bits : 0 ≡ mark_bits config set word = sym (bits_none set (config.region_words + 64 * word) 64 (λ k few. refl)) in
     let to_one = stored (config_of now) config (memory_of now) (memory_of one) (Grey word) c.grey_at.result 0
-    is.config below (c.grey_at.ensures ∙ ap (λ (k : Config). word_at k (Grey word)) same) c.set_word.ensures.named in
+    is.config below (c.grey_at.ensures ∙ ap (λ (config : Config). word_at config (Grey word)) same) c.set_word.ensures.named in
     let to_two = stored (config_of one) config (memory_of one) (memory_of two) (Black word) c.black_at.result 0
-    (c.set_word.ensures.config ∙ is.config) below (c.black_at.ensures ∙ ap (λ (k : Config). word_at k (Black word)) same) c.set_word-in-loop-word.ensures.named in
+    (c.set_word.ensures.config ∙ is.config) below (c.black_at.ensures ∙ ap (λ (config : Config). word_at config (Black word)) same) c.set_word-in-loop-word.ensures.named in
     record {
       config = c.set_word-in-loop-word.ensures.config ∙ c.set_word.ensures.config ∙ is.config;
       same = c.set_word-in-loop-word.ensures.found ∙ c.set_word.ensures.found ∙ is.same;

@@ -44,10 +44,10 @@ loop-address-preserved c =
     let address : ℕ = c.in-Some.address in
     let turn : ℕ = c.loop-address.turn in
     let at : slice_get xs turn ≡ Some address = sym (ap (λ ys. slice_get ys turn) was.same) ∙ sym c.in-Some.ensures in
-    let heap : IsWord config (Heap address) = subst (λ (k : Config). IsWord k (Heap address)) was.config (found_inside now turn address was.found (sym c.in-Some.ensures)) in
-    let grey : c.grey_at-grey.result ≡ word_at (config_of now) (Grey 0) = c.grey_at-grey.ensures ∙ ap (λ (k : Config). word_at k (Grey 0)) (c.config.ensures ∙ c.clear_marks.ensures.config ∙ sym was.config) in
+    let heap : IsWord config (Heap address) = subst (λ (config : Config). IsWord config (Heap address)) was.config (found_inside now turn address was.found (sym c.in-Some.ensures)) in
+    let grey : c.grey_at-grey.result ≡ word_at (config_of now) (Grey 0) = c.grey_at-grey.ensures ∙ ap (λ (config : Config). word_at config (Grey 0)) (c.config.ensures ∙ c.clear_marks.ensures.config ∙ sym was.config) in
     let to_one : memory_of one ≡ grey_besides config address (greyed config (has (take turn xs)) (bit_words config) memory) =
-    c.set_mark.ensures.grey grey ∙ ap (λ (k : Config). grey_besides k address (memory_of now)) was.config ∙ ap (grey_besides config address) was.words in
+    c.set_mark.ensures.grey grey ∙ ap (λ (config : Config). grey_besides config address (memory_of now)) was.config ∙ ap (grey_besides config address) was.words in
     let within = slice_get_within (found_of now) turn address (sym c.in-Some.ensures) in
     let few = marks.few (config_of now).region_words (marks_of now) (found_of now) was.found in
     record {

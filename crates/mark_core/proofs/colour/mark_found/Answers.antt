@@ -27,7 +27,7 @@ set_mark-requires-clause-inside c = found_inside c.loop-address.image c.loop-add
 
 pub set_mark-requires-in-Some-clause-inside : goal.set_mark-requires-in-Some-clause-inside
 set_mark-requires-in-Some-clause-inside c =
-    subst (λ (k : Config). IsWord k (Heap c.in-Some.address)) (sym c.set_mark.ensures.config)
+    subst (λ (config : Config). IsWord config (Heap c.in-Some.address)) (sym c.set_mark.ensures.config)
     (found_inside c.loop-address.image c.loop-address.turn c.in-Some.address c.loop-address.invariant.found (sym c.in-Some.ensures))
 
 pub loop-address-smaller : goal.loop-address-smaller
@@ -50,13 +50,13 @@ loop-address-preserved c =
     let address : ℕ = c.in-Some.address in
     let turn : ℕ = c.loop-address.turn in
     let at : slice_get xs turn ≡ Some address = sym (ap (λ ys. slice_get ys turn) was.same) ∙ sym c.in-Some.ensures in
-    let heap : IsWord config (Heap address) = subst (λ (k : Config). IsWord k (Heap address)) was.config (found_inside now turn address was.found (sym c.in-Some.ensures)) in
+    let heap : IsWord config (Heap address) = subst (λ (config : Config). IsWord config (Heap address)) was.config (found_inside now turn address was.found (sym c.in-Some.ensures)) in
     let as_one : config_of one ≡ config = c.set_mark.ensures.config ∙ was.config in
-    let grey : c.grey_at-grey.result ≡ word_at (config_of now) (Grey 0) = c.grey_at-grey.ensures ∙ ap (λ (k : Config). word_at k (Grey 0)) (c.config-config.ensures ∙ sym was.config) in
-    let black : c.black_at-black.result ≡ word_at (config_of one) (Black 0) = c.black_at-black.ensures ∙ ap (λ (k : Config). word_at k (Black 0)) (c.config-config.ensures ∙ sym as_one) in
+    let grey : c.grey_at-grey.result ≡ word_at (config_of now) (Grey 0) = c.grey_at-grey.ensures ∙ ap (λ (config : Config). word_at config (Grey 0)) (c.config-config.ensures ∙ sym was.config) in
+    let black : c.black_at-black.result ≡ word_at (config_of one) (Black 0) = c.black_at-black.ensures ∙ ap (λ (config : Config). word_at config (Black 0)) (c.config-config.ensures ∙ sym as_one) in
     let to_one : memory_of one ≡ grey_besides config address (marked config (has (take turn xs)) (bit_words config) memory) =
-    c.set_mark.ensures.grey grey ∙ ap (λ (k : Config). grey_besides k address (memory_of now)) was.config ∙ ap (grey_besides config address) was.words in
-    let to_two : memory_of two ≡ black_besides config address (memory_of one) = c.set_mark-in-Some.ensures.black black ∙ ap (λ (k : Config). black_besides k address (memory_of one)) as_one in
+    c.set_mark.ensures.grey grey ∙ ap (λ (config : Config). grey_besides config address (memory_of now)) was.config ∙ ap (grey_besides config address) was.words in
+    let to_two : memory_of two ≡ black_besides config address (memory_of one) = c.set_mark-in-Some.ensures.black black ∙ ap (λ (config : Config). black_besides config address (memory_of one)) as_one in
     let within = slice_get_within (found_of now) turn address (sym c.in-Some.ensures) in
     let few = marks.few (config_of now).region_words (marks_of now) (found_of now) was.found in
     record {

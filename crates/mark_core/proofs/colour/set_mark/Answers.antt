@@ -13,10 +13,10 @@ returns-clause-grey c = λ start.
     let memory : Word → ℕ = memory_of c.args.image.now in
     let address : ℕ = c.args.address in
     let n : ℕ = mark_word config address in
-    let number : c.mark_word.result ≡ n = c.mark_word.ensures.value ∙ ap (λ (k : Config). mark_word k address) c.config-config.ensures in
+    let number : c.mark_word.result ≡ n = c.mark_word.ensures.value ∙ ap (λ (config : Config). mark_word config address) c.config-config.ensures in
     let at : word_at config (Grey n) ≡ c.args.row + c.mark_word.result = omega (arith, start, number) in
     let inside : n < bit_words config = word_inside config address c.requires.inside in
-    let mask : c.mark_mask.result ≡ mark_mask config address = c.mark_mask.ensures ∙ ap (λ (k : Config). mark_mask k address) c.config-config.ensures in
+    let mask : c.mark_mask.result ≡ mark_mask config address = c.mark_mask.ensures ∙ ap (λ (config : Config). mark_mask config address) c.config-config.ensures in
     c.set_word.ensures.named (Grey n) inside at
     ∙ ap (λ x. write memory (Grey n) (bit_or x c.mark_mask.result)) (c.word.ensures.named (Grey n) inside at)
     ∙ ap (λ x. write memory (Grey n) (bit_or (memory (Grey n)) x)) mask
@@ -27,10 +27,10 @@ returns-clause-black c = λ start.
     let memory : Word → ℕ = memory_of c.args.image.now in
     let address : ℕ = c.args.address in
     let n : ℕ = mark_word config address in
-    let number : c.mark_word.result ≡ n = c.mark_word.ensures.value ∙ ap (λ (k : Config). mark_word k address) c.config-config.ensures in
+    let number : c.mark_word.result ≡ n = c.mark_word.ensures.value ∙ ap (λ (config : Config). mark_word config address) c.config-config.ensures in
     let at : word_at config (Black n) ≡ c.args.row + c.mark_word.result = omega (arith, start, number) in
     let inside : n < bit_words config = word_inside config address c.requires.inside in
-    let mask : c.mark_mask.result ≡ mark_mask config address = c.mark_mask.ensures ∙ ap (λ (k : Config). mark_mask k address) c.config-config.ensures in
+    let mask : c.mark_mask.result ≡ mark_mask config address = c.mark_mask.ensures ∙ ap (λ (config : Config). mark_mask config address) c.config-config.ensures in
     c.set_word.ensures.named (Black n) inside at
     ∙ ap (λ x. write memory (Black n) (bit_or x c.mark_mask.result)) (c.word.ensures.named (Black n) inside at)
     ∙ ap (λ x. write memory (Black n) (bit_or (memory (Black n)) x)) mask

@@ -20,9 +20,9 @@ loop-region-preserved c =
     let region = c.loop-region.region in
     let now = c.loop-region.image in
     let is = c.loop-region.invariant in
-    let few : region < 64 = omega (arith, c.loop-region-test.true, c.regions-region-end.ensures, ap (λ (k : Config). k.regions) c.config-config.ensures, config.in_range.most_regions) in
+    let few : region < 64 = omega (arith, c.loop-region-test.true, c.regions-region-end.ensures, ap (λ (config : Config). config.regions) c.config-config.ensures, config.in_range.most_regions) in
     let still : is_dead (config_of now) (memory_of now) region ≡ out region =
-    ap (λ (k : Config). is_dead k (memory_of now) region) is.config ∙ ap (λ n. is_dead config n region) is.words ∙ dead_still out config region memory in
+    ap (λ (config : Config). is_dead config (memory_of now) region) is.config ∙ ap (λ n. is_dead config n region) is.words ∙ dead_still out config region memory in
     record {
       config = c.free_if_dead.ensures.config ∙ is.config;
       words = ⊎_elim
@@ -35,5 +35,5 @@ pub returns-clause-words : goal.returns-clause-words
 returns-clause-words c =
     let old = c.args.image.now in
     let all : c.loop-region.region ≡ (config_of old).regions =
-    omega (arith, c.loop-region-test.false, c.loop-region.auto.region-end, c.regions-region-end.ensures, ap (λ (k : Config). k.regions) c.config-config.ensures) in
+    omega (arith, c.loop-region-test.false, c.loop-region.auto.region-end, c.regions-region-end.ensures, ap (λ (config : Config). config.regions) c.config-config.ensures) in
     c.loop-region.invariant.words ∙ ap (λ n. freed_below (is_dead (config_of old) (memory_of old)) n (memory_of old)) all

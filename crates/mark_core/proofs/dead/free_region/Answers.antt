@@ -18,18 +18,18 @@ returns-clause-words c =
     let three = c.set_word-3.new.self in
     let four = c.set_word-4.new.self in
     let same : c.config-config.result ≡ config = c.config-config.ensures in
-    let free : c.word-free.result ≡ memory Free = c.word-free.ensures.named Free tt (ap (λ (k : Config). word_at k Free) (sym same) ∙ sym c.free_at.ensures) in
+    let free : c.word-free.result ≡ memory Free = c.word-free.ensures.named Free tt (ap (λ (config : Config). word_at config Free) (sym same) ∙ sym c.free_at.ensures) in
     let to_one = stored config config memory (memory_of one) Free c.free_at-2.result (bit_or c.word-free.result (1 * 2 ^ region % 2 ^ 64)) (λ i. config) tt
-    (c.free_at-2.ensures ∙ ap (λ (k : Config). word_at k Free) same) c.set_word.ensures.named in
+    (c.free_at-2.ensures ∙ ap (λ (config : Config). word_at config Free) same) c.set_word.ensures.named in
     let config_one = c.set_word.ensures.config in
     let to_two = stored (config_of one) config (memory_of one) (memory_of two) (Top region) c.top_at.result 0 config_one c.requires
-    (c.top_at.ensures ∙ ap (λ (k : Config). word_at k (Top region)) same) c.set_word-2.ensures.named in
+    (c.top_at.ensures ∙ ap (λ (config : Config). word_at config (Top region)) same) c.set_word-2.ensures.named in
     let config_two = c.set_word-2.ensures.config ∙ config_one in
     let to_three = stored (config_of two) config (memory_of two) (memory_of three) (Tams region) c.tams_at.result 0 config_two c.requires
-    (c.tams_at.ensures ∙ ap (λ (k : Config). word_at k (Tams region)) same) c.set_word-3.ensures.named in
+    (c.tams_at.ensures ∙ ap (λ (config : Config). word_at config (Tams region)) same) c.set_word-3.ensures.named in
     let config_three = c.set_word-3.ensures.config ∙ config_two in
     let to_four = stored (config_of three) config (memory_of three) (memory_of four) (Limit region) c.limit_at.result 0 config_three c.requires
-    (c.limit_at.ensures ∙ ap (λ (k : Config). word_at k (Limit region)) same) c.set_word-4.ensures.named in
+    (c.limit_at.ensures ∙ ap (λ (config : Config). word_at config (Limit region)) same) c.set_word-4.ensures.named in
     to_four ∙ ap (λ n. write n (Limit region) 0) (to_three ∙ ap (λ n. write n (Tams region) 0) (to_two ∙ ap (λ n. write n (Top region) 0)
     (to_one ∙ ap (λ x. write memory Free (bit_or x (1 * 2 ^ region % 2 ^ 64))) free)))
     ∙ freed_by_stores region memory

@@ -16,8 +16,8 @@ returns c =
     let next : ℕ = c.next_black.result in
     let end : ℕ = c.base-first.result + c.region_words.result in
     let is = c.next_black.ensures in
-    let first : c.base-first.result ≡ base_of config region = c.base-first.ensures ∙ ap (λ (k : Config). base_of k region) c.config.ensures in
-    let words : c.region_words.result ≡ config.region_words = c.region_words.ensures ∙ ap (λ (k : Config). k.region_words) c.config-2.ensures in
+    let first : c.base-first.result ≡ base_of config region = c.base-first.ensures ∙ ap (λ (config : Config). base_of config region) c.config.ensures in
+    let words : c.region_words.result ≡ config.region_words = c.region_words.ensures ∙ ap (λ (config : Config). config.region_words) c.config-2.ensures in
     ⊎_elim
     (λ (less : next < end).
     let k : ℕ = next - base_of config region in

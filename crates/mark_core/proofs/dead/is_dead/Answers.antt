@@ -15,7 +15,7 @@ returns-then-is_in c =
     let config = config_of c.args.image.now in
     let memory : Word → ℕ = memory_of c.args.image.now in
     let region = c.args.region in
-    let free : c.word.result ≡ memory Free = c.word.ensures.named Free tt (ap (λ (k : Config). word_at k Free) (sym c.config-config.ensures) ∙ sym c.free_at.ensures) in
+    let free : c.word.result ≡ memory Free = c.word.ensures.named Free tt (ap (λ (config : Config). word_at config Free) (sym c.config-config.ensures) ∙ sym c.free_at.ensures) in
     sym (false_from_ne_true (is_dead config memory region) (λ told.
     let dead = (dead_is_dead config memory region).0 told in
     elim c.then-is_in.branch [
@@ -39,9 +39,9 @@ returns c =
     let config = config_of c.args.image.now in
     let memory : Word → ℕ = memory_of c.args.image.now in
     let region = c.args.region in
-    let free : c.word.result ≡ memory Free = c.word.ensures.named Free tt (ap (λ (k : Config). word_at k Free) (sym c.config-config.ensures) ∙ sym c.free_at.ensures) in
+    let free : c.word.result ≡ memory Free = c.word.ensures.named Free tt (ap (λ (config : Config). word_at config Free) (sym c.config-config.ensures) ∙ sym c.free_at.ensures) in
     let tams : c.word-2.result ≡ memory (Tams region) =
-    c.word-2.ensures.named (Tams region) c.requires (ap (λ (k : Config). word_at k (Tams region)) (sym c.config-config.ensures) ∙ sym c.tams_at.ensures) in
+    c.word-2.ensures.named (Tams region) c.requires (ap (λ (config : Config). word_at config (Tams region)) (sym c.config-config.ensures) ∙ sym c.tams_at.ensures) in
     let outside : bit_at (memory Free) region ≢ 1 = λ is. true≢false (sym (c.is_in.ensures.1 (ap (λ x. bit_at x region) free ∙ is)) ∙ c.if-is_in.false) in
     let unset : bit_at (memory Free) region ≡ 0 = omega (arith, outside, bit_at-lt (memory Free) region) in
     let unseated : is_current config memory region ≡ false = false_from_ne_true (is_current config memory region) (λ is. c.is_current.ensures.no c.if-is_current.false (current_is config memory region is)) in

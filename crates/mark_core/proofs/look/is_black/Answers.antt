@@ -10,7 +10,7 @@ use Rattle.mark_core.proofs.Reading.{read}
 use Rattle.mark_core.proofs.look.is_black.Goals as goal
 
 pub mark_word-requires : goal.mark_word-requires
-mark_word-requires c = subst (λ (k : Config). IsWord k (Heap c.args.address)) (sym c.config-config.ensures) c.requires
+mark_word-requires c = subst (λ (config : Config). IsWord config (Heap c.args.address)) (sym c.config-config.ensures) c.requires
 
 pub black_at-requires : goal.black_at-requires
 black_at-requires c = c.mark_word.ensures.inside
@@ -19,7 +19,7 @@ pub word-word-requires : goal.word-word-requires
 word-word-requires c = placed_inside (config_of c.args.image.now) c.config-config.result (Black c.mark_word.result) _ (sym c.config-config.ensures) c.mark_word.ensures.inside c.black_at.ensures
 
 pub is_marked_in-requires : goal.is_marked_in-requires
-is_marked_in-requires c = subst (λ (k : Config). IsWord k (Heap c.args.address)) (sym c.config-config.ensures) c.requires
+is_marked_in-requires c = subst (λ (config : Config). IsWord config (Heap c.args.address)) (sym c.config-config.ensures) c.requires
 
 pub returns : goal.returns
 returns c =
@@ -27,10 +27,10 @@ returns c =
     let memory : Word → ℕ = memory_of c.args.image.now in
     let address = c.args.address in
     let n = c.mark_word.result in
-    let at : n ≡ mark_word config address = c.mark_word.ensures.value ∙ ap (λ (j : Config). mark_word j address) c.config-config.ensures in
+    let at : n ≡ mark_word config address = c.mark_word.ensures.value ∙ ap (λ (config : Config). mark_word config address) c.config-config.ensures in
     let word : c.word-word.result ≡ memory (Black n) =
-    read config _ memory (Black n) _ _ c.config-config.ensures (subst (λ (j : Config). n < bit_words j) c.config-config.ensures c.mark_word.ensures.inside) c.black_at.ensures c.word-word.ensures.named in
+    read config _ memory (Black n) _ _ c.config-config.ensures (subst (λ (config : Config). n < bit_words config) c.config-config.ensures c.mark_word.ensures.inside) c.black_at.ensures c.word-word.ensures.named in
     c.is_marked_in.ensures
-    ∙ ap (λ (j : Config). bit_at c.word-word.result (mark_bit j address) == 1) c.config-config.ensures
+    ∙ ap (λ (config : Config). bit_at c.word-word.result (mark_bit config address) == 1) c.config-config.ensures
     ∙ ap (λ (w : ℕ). bit_at w (mark_bit config address) == 1) (word ∙ ap (λ (q : ℕ). memory (Black q)) at)
-    ∙ ap (λ (b : Bool). b && (bit_at (memory (Black (mark_word config address))) (mark_bit config address) == 1)) (sym (le-leb config.region_words address c.requires.0))
+    ∙ ap (λ (holds : Bool). holds && (bit_at (memory (Black (mark_word config address))) (mark_bit config address) == 1)) (sym (le-leb config.region_words address c.requires.0))

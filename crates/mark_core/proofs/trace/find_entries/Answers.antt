@@ -20,12 +20,12 @@ find-requires-clause-inside c =
     let now = c.loop-entry.image in
     let same = c.loop-entry.invariant.unchanged in
     let count : c.word-count.result ≡ memory (Count mutator) =
-    c.word-count.ensures.named (Count mutator) c.requires.mutator (ap (λ (k : Config). word_at k (Count mutator)) (sym c.config-config.ensures) ∙ sym c.count_at.ensures) in
+    c.word-count.ensures.named (Count mutator) c.requires.mutator (ap (λ (config : Config). word_at config (Count mutator)) (sym c.config-config.ensures) ∙ sym c.count_at.ensures) in
     let below : entry < memory (Count mutator) = omega (arith, count, c.loop-entry-test.true) in
     let few : entry < 8 = omega (arith, below, c.requires.can.counts mutator c.requires.mutator) in
     let value : c.word-word.result ≡ memory_of now (Buffer mutator entry) =
-    c.word-word.ensures.named (Buffer mutator entry) (omega (arith, c.requires.mutator, ap (λ (k : Config). k.mutators) same.config), few)
-    (ap (λ (k : Config). word_at k (Buffer mutator entry)) (same.config ∙ sym c.config-config.ensures) ∙ sym c.buffer_at.ensures) in
+    c.word-word.ensures.named (Buffer mutator entry) (omega (arith, c.requires.mutator, ap (λ (config : Config). config.mutators) same.config), few)
+    (ap (λ (config : Config). word_at config (Buffer mutator entry)) (same.config ∙ sym c.config-config.ensures) ∙ sym c.buffer_at.ensures) in
     subst (IsNullOrInside (config_of now)) (sym value)
     (carried (λ k n. IsNullOrInside k (n (Buffer mutator entry))) old now same (entry_inside config memory c.requires.can mutator entry c.requires.mutator below))
 
@@ -38,11 +38,11 @@ loop-entry-preserved c =
     let now = c.loop-entry.image in
     let same = c.loop-entry.invariant.unchanged in
     let count : c.word-count.result ≡ memory (Count mutator) =
-    c.word-count.ensures.named (Count mutator) c.requires.mutator (ap (λ (k : Config). word_at k (Count mutator)) (sym c.config-config.ensures) ∙ sym c.count_at.ensures) in
+    c.word-count.ensures.named (Count mutator) c.requires.mutator (ap (λ (config : Config). word_at config (Count mutator)) (sym c.config-config.ensures) ∙ sym c.count_at.ensures) in
     let few : entry < 8 = omega (arith, count, c.loop-entry-test.true, c.requires.can.counts mutator c.requires.mutator) in
     let value : c.word-word.result ≡ memory_of now (Buffer mutator entry) =
-    c.word-word.ensures.named (Buffer mutator entry) (omega (arith, c.requires.mutator, ap (λ (k : Config). k.mutators) same.config), few)
-    (ap (λ (k : Config). word_at k (Buffer mutator entry)) (same.config ∙ sym c.config-config.ensures) ∙ sym c.buffer_at.ensures) in
+    c.word-word.ensures.named (Buffer mutator entry) (omega (arith, c.requires.mutator, ap (λ (config : Config). config.mutators) same.config), few)
+    (ap (λ (config : Config). word_at config (Buffer mutator entry)) (same.config ∙ sym c.config-config.ensures) ∙ sym c.buffer_at.ensures) in
     record {
       unchanged = both old now c.find.new.self same c.find.ensures.unchanged;
       found = c.find.ensures.found;
@@ -56,6 +56,6 @@ returns-clause-noted c =
     let old = c.args.image.now in
     let memory : Word → ℕ = memory_of old in
     let count : c.word-count.result ≡ memory (Count mutator) =
-    c.word-count.ensures.named (Count mutator) c.requires.mutator (ap (λ (k : Config). word_at k (Count mutator)) (sym c.config-config.ensures) ∙ sym c.count_at.ensures) in
+    c.word-count.ensures.named (Count mutator) c.requires.mutator (ap (λ (config : Config). word_at config (Count mutator)) (sym c.config-config.ensures) ∙ sym c.count_at.ensures) in
     let all : c.loop-entry.entry ≡ memory (Count mutator) = omega (arith, count, c.loop-entry-test.false, c.loop-entry.auto.entry-end) in
     c.loop-entry.invariant.noted ∙ ap (λ n. with_addresses (found_of old) (map (λ i. memory (Buffer mutator i)) (range_with_len 0 n))) all

@@ -20,7 +20,7 @@ find-requires-clause-inside c =
     let memory : Word → ℕ = memory_of old in
     let shape : c.word.result ≡ memory (Heap (address + 1)) =
     c.word.ensures.named (Heap (address + 1)) (part_inside config memory c.requires.can address 1 c.requires.traced (omega arith))
-    (ap (λ (k : Config). word_at k (Heap (address + 1))) (sym c.config-config.ensures) ∙ sym c.heap_at.ensures) in
+    (ap (λ (config : Config). word_at config (Heap (address + 1))) (sym c.config-config.ensures) ∙ sym c.heap_at.ensures) in
     let refs : c.refs_of-refs.result ≡ refs_in (memory (Heap (address + 1))) = c.refs_of-refs.ensures ∙ ap refs_in shape in
     let few : i < refs_in (memory (Heap (address + 1))) = omega (arith, refs, c.loop-index-test.true) in
     let index : address + (3 + i) ≡ address + 3 + i = omega arith in
@@ -29,7 +29,7 @@ find-requires-clause-inside c =
     let same = c.loop-index.invariant.unchanged in
     let value : c.word-word.result ≡ memory_of now (Heap (address + 3 + i)) =
     c.word-word.ensures.named (Heap (address + 3 + i)) (subst (λ k. IsWord k (Heap (address + 3 + i))) (sym same.config) is)
-    (ap (λ (k : Config). word_at k (Heap (address + 3 + i))) (same.config ∙ sym c.config-config.ensures) ∙ sym c.heap_at-in-loop-index.ensures) in
+    (ap (λ (config : Config). word_at config (Heap (address + 3 + i))) (same.config ∙ sym c.config-config.ensures) ∙ sym c.heap_at-in-loop-index.ensures) in
     subst (IsNullOrInside (config_of now)) (sym value)
     (carried (λ k n. IsNullOrInside k (n (Heap (address + 3 + i)))) old now same (field_inside config memory c.requires.can address i c.requires.traced c.requires.open few))
 
@@ -42,7 +42,7 @@ loop-index-preserved c =
     let memory : Word → ℕ = memory_of old in
     let shape : c.word.result ≡ memory (Heap (address + 1)) =
     c.word.ensures.named (Heap (address + 1)) (part_inside config memory c.requires.can address 1 c.requires.traced (omega arith))
-    (ap (λ (k : Config). word_at k (Heap (address + 1))) (sym c.config-config.ensures) ∙ sym c.heap_at.ensures) in
+    (ap (λ (config : Config). word_at config (Heap (address + 1))) (sym c.config-config.ensures) ∙ sym c.heap_at.ensures) in
     let refs : c.refs_of-refs.result ≡ refs_in (memory (Heap (address + 1))) = c.refs_of-refs.ensures ∙ ap refs_in shape in
     let few : i < refs_in (memory (Heap (address + 1))) = omega (arith, refs, c.loop-index-test.true) in
     let index : address + (3 + i) ≡ address + 3 + i = omega arith in
@@ -51,7 +51,7 @@ loop-index-preserved c =
     let same = c.loop-index.invariant.unchanged in
     let value : c.word-word.result ≡ memory_of now (Heap (address + 3 + i)) =
     c.word-word.ensures.named (Heap (address + 3 + i)) (subst (λ k. IsWord k (Heap (address + 3 + i))) (sym same.config) is)
-    (ap (λ (k : Config). word_at k (Heap (address + 3 + i))) (same.config ∙ sym c.config-config.ensures) ∙ sym c.heap_at-in-loop-index.ensures) in
+    (ap (λ (config : Config). word_at config (Heap (address + 3 + i))) (same.config ∙ sym c.config-config.ensures) ∙ sym c.heap_at-in-loop-index.ensures) in
     record {
       unchanged = both old now c.find.new.self same c.find.ensures.unchanged;
       found = c.find.ensures.found;
@@ -67,7 +67,7 @@ returns-clause-noted c =
     let memory : Word → ℕ = memory_of old in
     let shape : c.word.result ≡ memory (Heap (address + 1)) =
     c.word.ensures.named (Heap (address + 1)) (part_inside config memory c.requires.can address 1 c.requires.traced (omega arith))
-    (ap (λ (k : Config). word_at k (Heap (address + 1))) (sym c.config-config.ensures) ∙ sym c.heap_at.ensures) in
+    (ap (λ (config : Config). word_at config (Heap (address + 1))) (sym c.config-config.ensures) ∙ sym c.heap_at.ensures) in
     let refs : c.refs_of-refs.result ≡ refs_in (memory (Heap (address + 1))) = c.refs_of-refs.ensures ∙ ap refs_in shape in
     let all : c.loop-index.index ≡ refs_in (memory (Heap (address + 1))) = omega (arith, refs, c.loop-index-test.false, c.loop-index.auto.index-end) in
     c.loop-index.invariant.noted ∙ ap (λ n. with_addresses (found_of old) (map (λ i. memory (Heap (address + 3 + i))) (range_with_len 0 n))) all

@@ -16,7 +16,7 @@ loop-address-init c =
     let memory : Word → ℕ = memory_of old in
     let a : ℕ = c.next_grey-address.result in
     let is = c.next_grey-address.ensures in
-    let first : c.region_words-first.result ≡ config.region_words = c.region_words-first.ensures ∙ ap (λ (k : Config). k.region_words) c.config-config.ensures in
+    let first : c.region_words-first.result ≡ config.region_words = c.region_words-first.ensures ∙ ap (λ (config : Config). config.region_words) c.config-config.ensures in
     let above : config.region_words ≤ a = omega (arith, is.from, first) in
     let n : ℕ = a - config.region_words in
     let plain : 0 + n ≡ n = omega arith in
@@ -43,7 +43,7 @@ loop-address-preserved c =
     let is = c.next_grey-address-in-loop-address.ensures in
     let same = both old now after was.unchanged c.find.ensures.unchanged in
     let colour : (x : ℕ) → is_grey (config_of after) (memory_of after) x ≡ is_grey config memory x = λ x.
-    ap (λ (d : Config). is_grey d (memory_of after) x) same.config ∙ ap (λ n. is_grey config n x) (memory_same old after same) in
+    ap (λ (config : Config). is_grey config (memory_of after) x) same.config ∙ ap (λ n. is_grey config n x) (memory_same old after same) in
     let k : ℕ = address - config.region_words in
     let at : config.region_words + k ≡ address = omega (arith, was.first) in
     let n : ℕ = next - (address + 1) in

@@ -30,15 +30,15 @@ loop-address-init c =
     let to_two = both old one two to_one c.find_greys.ensures.unchanged in
     let greys : found_of two ≡ with_addresses [] (greys_below config memory (heap_size config)) =
     c.find_greys.ensures.noted
-    ∙ ap (λ (k : Word → ℕ). with_addresses (found_of one) (greys_below (config_of one) k (heap_size (config_of one)))) (memory_same old one to_one)
-    ∙ ap (λ (k : Config). with_addresses (found_of one) (greys_below k memory (heap_size k))) to_one.config
+    ∙ ap (λ (memory : Word → ℕ). with_addresses (found_of one) (greys_below (config_of one) memory (heap_size (config_of one)))) (memory_same old one to_one)
+    ∙ ap (λ (config : Config). with_addresses (found_of one) (greys_below config memory (heap_size config))) to_one.config
     ∙ ap (λ xs. with_addresses xs (greys_below config memory (heap_size config))) c.forget_found.ensures.none in
     record {
       unchanged = both old two three to_two c.find_all_entries.ensures.unchanged;
       found = c.find_all_entries.ensures.found;
       turns = c.find_all_entries.ensures.noted
-          ∙ ap (λ (k : Word → ℕ). with_addresses (found_of two) (entries_below k (config_of two).mutators)) (memory_same old two to_two)
-          ∙ ap (λ (k : Config). with_addresses (found_of two) (entries_below memory k.mutators)) to_two.config
+          ∙ ap (λ (memory : Word → ℕ). with_addresses (found_of two) (entries_below memory (config_of two).mutators)) (memory_same old two to_two)
+          ∙ ap (λ (config : Config). with_addresses (found_of two) (entries_below memory config.mutators)) to_two.config
           ∙ ap (λ xs. with_addresses xs (entries_below memory config.mutators)) greys
           ∙ noted_both [] (greys_below config memory (heap_size config)) (entries_below memory config.mutators)
           ∙ no_turn (open_fields config memory) (starts_in config memory);
@@ -81,8 +81,8 @@ loop-address-preserved c =
       unchanged = both old now c.trace_one.new.image same c.trace_one.ensures.unchanged;
       found = c.trace_one.ensures.found;
       turns = c.trace_one.ensures.noted
-          ∙ ap (λ (k : Word → ℕ). with_addresses (found_of now) (open_fields (config_of now) k address)) (memory_same old now same)
-          ∙ ap (λ (k : Config). with_addresses (found_of now) (open_fields k memory address)) same.config
+          ∙ ap (λ (memory : Word → ℕ). with_addresses (found_of now) (open_fields (config_of now) memory address)) (memory_same old now same)
+          ∙ ap (λ (config : Config). with_addresses (found_of now) (open_fields config memory address)) same.config
           ∙ ap (λ xs. with_addresses xs (open_fields config memory address)) c.loop-address.invariant.turns
           ∙ next_turn (open_fields config memory) (starts_in config memory) turn address at;
       few = omega (arith, within, few, now.all_marks, ap heap_size same.config);

@@ -24,7 +24,7 @@ list-listed-requires-clause-run g c =
 pub list-listed-requires-clause-items : goal.list-listed-requires-clause-items
 list-listed-requires-clause-items g c =
     let trace = c.args.trace in
-    subst (λ (d : Config). All (IsInSeats d) trace.schedule) (sym c.in-Ok-open.ensures.config) (items_in_seats c.requires.0 trace.version trace.config trace.scripts trace.schedule c.requires.1)
+    subst (λ (config : Config). All (IsInSeats config) trace.schedule) (sym c.in-Ok-open.ensures.config) (items_in_seats c.requires.0 trace.version trace.config trace.scripts trace.schedule c.requires.1)
 
 pub list_graph-requires : goal.list_graph-requires
 list_graph-requires g c =

@@ -7,6 +7,6 @@ abbrev pub invariant-loop-index : goal.invariant-loop-index
 invariant-loop-index l = record {
   words : length l.heap ≡ length l.fn.heap;
   moved : (i : ℕ) → i < l.index → slice_index l.heap (l.to + i) ≡ slid_word (from_table l.first l.places) (slice_index l.fn.heap) l.from i;
-  below : (k : ℕ) → k < l.to → slice_index l.heap k ≡ slice_index l.fn.heap k;
-  behind : (k : ℕ) → l.to + l.index ≤ k → slice_index l.heap k ≡ slice_index l.fn.heap k;
+  below : (address : ℕ) → address < l.to → slice_index l.heap address ≡ slice_index l.fn.heap address;
+  behind : (address : ℕ) → l.to + l.index ≤ address → slice_index l.heap address ≡ slice_index l.fn.heap address;
 }

@@ -11,6 +11,6 @@ invariant-loop-index l = record {
   end : l.end ≡ end_before l.region_words (is_shut l.shut) (kept_of l.region_words l.heap l.marks) (l.region_words + l.index);
   places : (a : ℕ) → a < l.region_words + l.index → 0 < kept_of l.region_words l.heap l.marks a
       → word_of l.region_words l.places a ≡ new_place l.region_words (is_shut l.shut) (kept_of l.region_words l.heap l.marks) a;
-  tops : (r : ℕ) → r < length l.tops → slice_index l.tops r
-      ≡ (if is_shut l.shut (r + 1) then slice_index l.fn.tops r else top_before l.region_words (is_shut l.shut) (kept_of l.region_words l.heap l.marks) r (l.region_words + l.index));
+  tops : (index : ℕ) → index < length l.tops → slice_index l.tops index
+      ≡ (if is_shut l.shut (index + 1) then slice_index l.fn.tops index else top_before l.region_words (is_shut l.shut) (kept_of l.region_words l.heap l.marks) index (l.region_words + l.index));
 }

@@ -12,7 +12,7 @@ pub loop-pinned-preserved : goal.loop-pinned-preserved
 loop-pinned-preserved c =
     let found = c.loop-pinned.names.items in
     let g = graph_of c.args.graph.now in
-    let told = c.contains.ensures.value ∙ ap (list_any (λ (m : Name). same_name m _)) c.deref.ensures.value in
+    let told = c.contains.ensures.value ∙ ap (list_any (λ (name : Name). same_name name _)) c.deref.ensures.value in
     elim c.if-not-contains.branch [
       | then-not-contains+in_ok-push+in-Some w ↦ record {
         names = ap (λ n. n.items) w.names-is ∙ w.in_ok-push.ensures.items ∙ name_added c.args.held.now c.loop-pinned.pinned-index _ found c.loop-pinned-test.true c.loop-pinned.invariant.names (sym told ∙ w.if-not-contains.true);

@@ -31,7 +31,7 @@ renew-requires-clause-whole c =
     let same : c.config-config.result ≡ config = c.config-config.ensures in
     let run = c.requires.renewable.run in
     let shows = c.in_ok-text.ensures.shows run c.requires.renewable.leads in
-    subst (λ (k : Config). IsPlaceable k text) (sym same) (placeable config text (graph_after pause_image config run) c.requires.renewable.renewable shows)
+    subst (λ (config : Config). IsPlaceable config text) (sym same) (placeable config text (graph_after pause_image config run) c.requires.renewable.renewable shows)
 
 pub renew-requires-clause-names : goal.renew-requires-clause-names
 renew-requires-clause-names c =
@@ -41,7 +41,7 @@ renew-requires-clause-names c =
     let same : c.config-config.result ≡ config = c.config-config.ensures in
     let run = c.requires.renewable.run in
     let shows = c.in_ok-text.ensures.shows run c.requires.renewable.leads in
-    subst (λ (k : Config). AreOfThreads k.mutators (names_of text)) (sym same) (of_threads config text (graph_after pause_image config run) c.requires.renewable.renewable shows)
+    subst (λ (config : Config). AreOfThreads config.mutators (names_of text)) (sym same) (of_threads config text (graph_after pause_image config run) c.requires.renewable.renewable shows)
 
 pub open_from-requires-clause-begins : goal.open_from-requires-clause-begins
 open_from-requires-clause-begins c =
@@ -55,7 +55,7 @@ open_from-requires-clause-begins c =
     ∣ (
       text_graph (text_anew text) counts,
       subst (λ (xs : List ℕ). CanBeginFrom (images.config_of image) (images.memory_of image) xs (text_graph (text_anew text) counts)) (sym c.deref.ensures.value)
-          (subst (λ (k : Config). CanBeginFrom k (images.memory_of image) counts (text_graph (text_anew text) counts)) (sym sizes) can),
+          (subst (λ (config : Config). CanBeginFrom config (images.memory_of image) counts (text_graph (text_anew text) counts)) (sym sizes) can),
     ) ∣₁
 
 pub returns-in-Heap-clause-renewed : goal.returns-in-Heap-clause-renewed
@@ -76,12 +76,12 @@ returns-in-Heap-clause-renewed c = λ now leads.
     let threads = of_threads config text (graph_after pause_image config run) c.requires.renewable.renewable shows in
     let are : AreCountsOf (names_of text) c.config-config.result.mutators counts = rw c.in-Heap.is at c.in_ok-image.ensures.counts in
     let new = c.in_ok-plain-in-Heap.plain in
-    begins_anew config text whole threads (graph_after pause_image config now) (c.in_ok-text.ensures.shows now leads) counts (subst (λ (k : Config). AreCountsOf (names_of text) k.mutators counts) same are) new image
+    begins_anew config text whole threads (graph_after pause_image config now) (c.in_ok-text.ensures.shows now leads) counts (subst (λ (config : Config). AreCountsOf (names_of text) config.mutators counts) same are) new image
     (c.in_ok-plain-in-Heap.ensures.config ∙ sizes ∙ same) (sizes ∙ same)
     (subst (λ (xs : List ℕ). Shows new (stage_from (images.config_of image) (images.words_of image) xs)) c.deref.ensures.value c.in_ok-plain-in-Heap.ensures.stage)
-    (subst (λ (xs : List ℕ). (h : Graph) → CanBeginFrom (images.config_of image) (images.memory_of image) xs h → Begins (images.config_of image) (stage_from (images.config_of image) (images.words_of image) xs) h) c.deref.ensures.value
+    (subst (λ (xs : List ℕ). (graph : Graph) → CanBeginFrom (images.config_of image) (images.memory_of image) xs graph → Begins (images.config_of image) (stage_from (images.config_of image) (images.words_of image) xs) graph) c.deref.ensures.value
     c.in_ok-plain-in-Heap.ensures.begins)
-    (subst (λ (k : Config). CanBeginFrom k (images.memory_of image) counts (text_graph (text_anew text) counts)) same can)
+    (subst (λ (config : Config). CanBeginFrom config (images.memory_of image) counts (text_graph (text_anew text) counts)) same can)
     (nothing_pinned text config.mutators (graph_after pause_image config now) (c.in_ok-text.ensures.shows now leads) c.in_ok-text.ensures.threads
     (not_pinned text (λ pinned. let is = c.in_ok-image.ensures.pinned.1 pinned in let heap = c.in-Heap.is in absurd (cc))))
 
@@ -95,4 +95,4 @@ pub returns-clause-too_small : goal.returns-clause-too_small
 returns-clause-too_small c = λ told now leads.
     let config = config_of c.args.plain.now in
     let text = c.in_ok-text.text in
-    (text, c.in_ok-text.ensures.shows now leads, subst (λ (k : Config). Fits k text → ⊥) c.config-config.ensures (c.in_ok-image.ensures.too_small.0 (ap (λ (r : Renewed). Ok r) c.in-TooSmall.is)).1)
+    (text, c.in_ok-text.ensures.shows now leads, subst (λ (config : Config). Fits config text → ⊥) c.config-config.ensures (c.in_ok-image.ensures.too_small.0 (ap (λ (r : Renewed). Ok r) c.in-TooSmall.is)).1)

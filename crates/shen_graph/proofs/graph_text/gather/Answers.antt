@@ -18,7 +18,7 @@ carry-nums-requires-clause-room c =
     let below : c.loop-i.i < length c.args.places.now.items = grind (arith, common_steps) in
     let here : Place = c.index-place.result.now in
     let same : here ≡ get_or c.args.places.now.items c.loop-i.i nowhere = get_or_read c.args.places.now.items c.loop-i.i here below (c.index-place.ensures ∙ inv.left c.loop-i.i here (omega arith)) nowhere in
-    rw same (omega (arith, inv.numbers, inv.number_room, c.requires.room_for_numbers, sum_by_more_le (λ (p : Place). span_length p.nums) c.args.places.now.items c.loop-i.i nowhere below))
+    rw same (omega (arith, inv.numbers, inv.number_room, c.requires.room_for_numbers, sum_by_more_le (λ (place : Place). span_length place.nums) c.args.places.now.items c.loop-i.i nowhere below))
 
 pub loop-i-preserved : goal.loop-i-preserved
 loop-i-preserved c =
@@ -32,8 +32,8 @@ loop-i-preserved c =
     let q : Place = record { name = here.name; refs = c.carry-refs.result; nums = c.carry-nums.result } in
     let more = take_more_set c.loop-i.places.items i q inside in
     let within = c.requires.within i nowhere below in
-    let refs_len : vec_len c.carry-refs.new.into ≡ vec_len c.loop-i.moved_references + span_length p.refs = c.carry-refs.ensures.len ∙ ap (λ (x : Place). vec_len c.loop-i.moved_references + span_length x.refs) same in
-    let nums_len : vec_len c.carry-nums.new.into ≡ vec_len c.loop-i.moved_numbers + span_length p.nums = c.carry-nums.ensures.len ∙ ap (λ (x : Place). vec_len c.loop-i.moved_numbers + span_length x.nums) same in
+    let refs_len : vec_len c.carry-refs.new.into ≡ vec_len c.loop-i.moved_references + span_length p.refs = c.carry-refs.ensures.len ∙ ap (λ (place : Place). vec_len c.loop-i.moved_references + span_length place.refs) same in
+    let nums_len : vec_len c.carry-nums.new.into ≡ vec_len c.loop-i.moved_numbers + span_length p.nums = c.carry-nums.ensures.len ∙ ap (λ (place : Place). vec_len c.loop-i.moved_numbers + span_length place.nums) same in
     let refs_to : c.carry-refs.result.to ≡ vec_len c.carry-refs.new.into = ap (λ (s : Span). s.to) c.carry-refs.ensures.span ∙ sym c.carry-refs.ensures.len in
     let nums_to : c.carry-nums.result.to ≡ vec_len c.carry-nums.new.into = ap (λ (s : Span). s.to) c.carry-nums.ensures.span ∙ sym c.carry-nums.ensures.len in
     let refs_from : c.carry-refs.result.from ≡ vec_len c.loop-i.moved_references = ap (λ (s : Span). s.from) c.carry-refs.ensures.span in
@@ -46,8 +46,8 @@ loop-i-preserved c =
           (rw (c.loop-i.moved_references.ok.0, c.loop-i.moved_numbers.ok.0) at inv.laid) inv.rows
           ∙ sym (map_more (row_at c.args.references.now c.args.numbers.now) c.args.places.now.items i nowhere below));
       laid = rw (more, ← refs_to, ← nums_to) (IsLaid-push (take i c.loop-i.places.items) (vec_len c.loop-i.moved_references) (vec_len c.loop-i.moved_numbers) q inv.laid refs_from nums_from (omega arith) (omega arith));
-      references = refs_len ∙ ap (λ k. k + span_length p.refs) inv.references ∙ sym (sum_by_more (λ (p : Place). span_length p.refs) c.args.places.now.items i nowhere below);
-      numbers = nums_len ∙ ap (λ k. k + span_length p.nums) inv.numbers ∙ sym (sum_by_more (λ (p : Place). span_length p.nums) c.args.places.now.items i nowhere below);
+      references = refs_len ∙ ap (λ k. k + span_length p.refs) inv.references ∙ sym (sum_by_more (λ (place : Place). span_length place.refs) c.args.places.now.items i nowhere below);
+      numbers = nums_len ∙ ap (λ k. k + span_length p.nums) inv.numbers ∙ sym (sum_by_more (λ (place : Place). span_length place.nums) c.args.places.now.items i nowhere below);
       length = inv.length;
       place_room = inv.place_room;
       reference_room = omega (arith, inv.reference_room, c.carry-refs.ensures.capacity);
@@ -106,7 +106,7 @@ carry-refs-requires-clause-room c =
     let below : c.loop-i.i < length c.args.places.now.items = omega (arith, inv.length) in
     let here : Place = c.index-place.result.now in
     let same : here ≡ get_or c.args.places.now.items c.loop-i.i nowhere = get_or_read c.args.places.now.items c.loop-i.i here below (c.index-place.ensures ∙ inv.left c.loop-i.i here (omega arith)) nowhere in
-    rw same (omega (arith, inv.references, inv.reference_room, c.requires.room_for_references, sum_by_more_le (λ (p : Place). span_length p.refs) c.args.places.now.items c.loop-i.i nowhere below))
+    rw same (omega (arith, inv.references, inv.reference_room, c.requires.room_for_references, sum_by_more_le (λ (place : Place). span_length place.refs) c.args.places.now.items c.loop-i.i nowhere below))
 
 pub carry-nums-requires-clause-within : goal.carry-nums-requires-clause-within
 carry-nums-requires-clause-within c =

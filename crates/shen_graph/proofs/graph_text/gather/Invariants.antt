@@ -6,7 +6,7 @@ use Rattle.shen_graph.proofs.graph_text.gather.Given as goal
 
 abbrev pub invariant-loop-i : goal.invariant-loop-i
 invariant-loop-i l = record {
-  left : (k : ℕ) (d : Place) → l.i ≤ k → get_or l.places.items k d ≡ get_or l.initial.places.items k d;
+  left : (k : ℕ) (place : Place) → l.i ≤ k → get_or l.places.items k place ≡ get_or l.initial.places.items k place;
   rows : map (row_at l.moved_references.items l.moved_numbers.items) (take l.i l.places.items) ≡ map (row_at l.references l.numbers) (take l.i l.initial.places.items);
   laid : IsLaid (take l.i l.places.items) (vec_len l.moved_references) (vec_len l.moved_numbers);
   references : vec_len l.moved_references ≡ sum_by (λ p. span_length p.refs) (take l.i l.initial.places.items);

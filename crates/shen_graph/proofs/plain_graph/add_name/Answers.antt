@@ -6,12 +6,12 @@ use Rattle.shen_graph.proofs.plain_graph.add_name.Goals as goal
 
 pub returns-else-not-contains : goal.returns-else-not-contains
 returns-else-not-contains c =
-    let there : list_any (λ (m : Name). same_name m c.in-Some.name) c.args.found.now.items ≡ true =
-    ap (list_any (λ (m : Name). same_name m c.in-Some.name)) (sym c.deref.ensures.value) ∙ sym c.contains.ensures.value ∙ c.if-not-contains.false in
+    let there : list_any (λ (name : Name). same_name name c.in-Some.name) c.args.found.now.items ≡ true =
+    ap (list_any (λ (name : Name). same_name name c.in-Some.name)) (sym c.deref.ensures.value) ∙ sym c.contains.ensures.value ∙ c.if-not-contains.false in
     rw (c.in-Some.is, there) refl
 
 pub returns-in_ok-push : goal.returns-in_ok-push
 returns-in_ok-push c =
-    let new : list_any (λ (m : Name). same_name m c.in-Some.name) c.args.found.now.items ≡ false =
-    ap (list_any (λ (m : Name). same_name m c.in-Some.name)) (sym c.deref.ensures.value) ∙ sym c.contains.ensures.value ∙ c.if-not-contains.true in
+    let new : list_any (λ (name : Name). same_name name c.in-Some.name) c.args.found.now.items ≡ false =
+    ap (list_any (λ (name : Name). same_name name c.in-Some.name)) (sym c.deref.ensures.value) ∙ sym c.contains.ensures.value ∙ c.if-not-contains.true in
     rw (c.in-Some.is, new) c.in_ok-push.ensures.items

@@ -30,7 +30,7 @@ into_image-requires c =
     let inside = here_within items (control_number c.args.config) (ap is_some c.requires.here) in
     let found = c.index_mut.ensures.value ∙ sym (machine_of-index items (c.seats-number.result - 1) c.index_mut.result.now (omega (arith, number, inside))) ∙ ap (machine_of items) number ∙ c.requires.here in
     let same : c.requires.machine ≡ c.in-Some.control = same_Some c.requires.machine c.in-Some.control (sym found ∙ sym c.take.ensures.value ∙ c.in-Some.is) in
-    record { control = subst (λ (m : Machine). is_some (control_in (shown m)) ≡ true) same c.requires.role }
+    record { control = subst (λ (machine : Machine). is_some (control_in (shown machine)) ≡ true) same c.requires.role }
 
 pub returns : goal.returns
 returns c =

@@ -13,7 +13,7 @@ loop-at-init c = record { config = refl; long = c.args.image.now.all_words ∙ c
 pub set_word-requires : goal.set_word-requires
 set_word-requires c =
     let all : c.table_words-at-end.result ≡ table_words (config_of c.args.image.now) = c.table_words-at-end.ensures ∙ ap table_words c.config.ensures in
-    subst (λ (k : Config). c.loop-at.at < table_words k) (sym c.loop-at.invariant.config) (omega (arith, c.loop-at-test.true, all))
+    subst (λ (config : Config). c.loop-at.at < table_words config) (sym c.loop-at.invariant.config) (omega (arith, c.loop-at-test.true, all))
 
 pub loop-at-preserved : goal.loop-at-preserved
 loop-at-preserved c =
@@ -23,7 +23,7 @@ loop-at-preserved c =
     record {
       config = c.set_word.ensures.config ∙ l.invariant.config;
       long = ap length c.set_word.ensures.words ∙ length-set (words_of l.image) l.at c.word.result ∙ l.invariant.long;
-      read = subst (λ (ws : List ℕ). (k : ℕ) → k < l.at + 1 → get_or ws k 0 ≡ get_or (slots_items c.args.rows.now.words) k 0) (sym c.set_word.ensures.words)
+      read = subst (λ (ws : List ℕ). (index : ℕ) → index < l.at + 1 → get_or ws index 0 ≡ get_or (slots_items c.args.rows.now.words) index 0) (sym c.set_word.ensures.words)
           (read_next (slots_items c.args.rows.now.words) (words_of l.image) l.at c.word.result within c.word.ensures l.invariant.read);
     }
 

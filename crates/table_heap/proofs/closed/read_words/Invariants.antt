@@ -8,5 +8,5 @@ abbrev pub invariant-loop-at : goal.invariant-loop-at
 invariant-loop-at l = record {
   config : config_of l.image ≡ config_of l.fn.image;
   long : length (words_of l.image) ≡ slots_len l.rows.words;
-  read : (k : ℕ) → k < l.at → slice_index (words_of l.image) k ≡ slice_index (slots_items l.rows.words) k;
+  read : (index : ℕ) → index < l.at → slice_index (words_of l.image) index ≡ slice_index (slots_items l.rows.words) index;
 }

@@ -7,10 +7,10 @@ use Rattle.heap_machines.specs.declared.machine.Machine.{Machine}
 use Rattle.table_heap.proofs.heap.placed.Goals as goal
 
 -- the last one of those that are left is placed next
-one_more : (all now new : List Machine) (m : Machine) (places : View Machine) → now ≡ new ++ m ∷ [] → places ++ whole (reverse now) ≡ whole all → (places ++ Some m ∷ []) ++ whole (reverse new) ≡ whole all
-one_more all now new m places split so_far =
-    append_assoc places (Some m ∷ []) (whole (reverse new))
-    ∙ ap (λ xs. places ++ whole xs) (sym (ap reverse split ∙ reverse-append new (m ∷ [])))
+one_more : (all now new : List Machine) (machine : Machine) (places : View Machine) → now ≡ new ++ machine ∷ [] → places ++ whole (reverse now) ≡ whole all → (places ++ Some machine ∷ []) ++ whole (reverse new) ≡ whole all
+one_more all now new machine places split so_far =
+    append_assoc places (Some machine ∷ []) (whole (reverse new))
+    ∙ ap (λ xs. places ++ whole xs) (sym (ap reverse split ∙ reverse-append new (machine ∷ [])))
     ∙ so_far
 
 -- once none is left all are placed

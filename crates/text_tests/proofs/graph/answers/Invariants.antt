@@ -5,5 +5,5 @@ use Rattle.text_tests.proofs.graph.answers.Given as goal
 abbrev pub invariant-loop-command : goal.invariant-loop-command
 invariant-loop-command g l = record {
   threads : threads_of l.plain ≡ threads_of l.initial.plain;
-  made : (t : ℕ) → (graph_of l.plain).count t ≤ (graph_of l.initial.plain).count t + l.command-index;
+  made : (thread : ℕ) → (graph_of l.plain).count thread ≤ (graph_of l.initial.plain).count thread + l.command-index;
 }

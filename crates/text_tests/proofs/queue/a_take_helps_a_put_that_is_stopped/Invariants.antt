@@ -5,5 +5,5 @@ use Rattle.text_tests.proofs.queue.a_take_helps_a_put_that_is_stopped.Given as g
 abbrev pub invariant-loop-row : goal.invariant-loop-row
 invariant-loop-row g l = record {
   threads : threads_of l.plain ≡ 2;
-  made : (t : ℕ) → (graph_of l.plain).count t ≤ l.row-index;
+  made : (thread : ℕ) → (graph_of l.plain).count thread ≤ l.row-index;
 }

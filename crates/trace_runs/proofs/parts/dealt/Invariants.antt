@@ -13,7 +13,7 @@ abbrev pub invariant-loop-bundle : goal.invariant-loop-bundle
 invariant-loop-bundle l = record {
   workers_are : l.workers ≡ length l.fn.bundles.items;
   count : length l.parts.items + into_iter_len l.bundle-iterator ≡ l.workers;
-  left : (i : ℕ) (b : Bundle) → slice_get (into_iter_items l.bundle-iterator) i ≡ Some b → slice_get l.fn.bundles.items (length l.parts.items + i) ≡ Some b;
+  left : (index : ℕ) (bundle : Bundle) → slice_get (into_iter_items l.bundle-iterator) index ≡ Some bundle → slice_get l.fn.bundles.items (length l.parts.items + index) ≡ Some bundle;
   work_left : (scripts : Scripts) → CanBeDealt l.heap scripts l.fn.work l.fn.bundles.items → l.work ≡ picked (λ t. not (nat_lt (t % l.workers) (length l.parts.items))) (opened scripts);
   ready : (scripts : Scripts) → CanBeDealt l.heap scripts l.fn.work l.fn.bundles.items → AreReady l.heap (by_scripts scripts) l.workers l.parts.items;
 }

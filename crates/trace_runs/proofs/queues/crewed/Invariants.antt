@@ -12,6 +12,6 @@ use Rattle.trace_runs.proofs.queues.crewed.Given as goal
 abbrev pub invariant-loop-bundle : goal.invariant-loop-bundle
 invariant-loop-bundle l = record {
   count : length l.parts.items + into_iter_len l.bundle-iterator ≡ length l.fn.bundles.items;
-  left : (i : ℕ) (b : Bundle) → slice_get (into_iter_items l.bundle-iterator) i ≡ Some b → slice_get l.fn.bundles.items (length l.parts.items + i) ≡ Some b;
-  ready : (h : Heap) → CanBeCrewed h l.fn.bundles.items → AreReady h (users (queue_users l.fn.count)) (length l.fn.bundles.items) l.parts.items;
+  left : (index : ℕ) (bundle : Bundle) → slice_get (into_iter_items l.bundle-iterator) index ≡ Some bundle → slice_get l.fn.bundles.items (length l.parts.items + index) ≡ Some bundle;
+  ready : (heap : Heap) → CanBeCrewed heap l.fn.bundles.items → AreReady heap (users (queue_users l.fn.count)) (length l.fn.bundles.items) l.parts.items;
 }

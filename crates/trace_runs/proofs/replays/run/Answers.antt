@@ -22,7 +22,7 @@ run-requires-clause-run c =
 pub run-requires-clause-items : goal.run-requires-clause-items
 run-requires-clause-items c =
     let trace = c.args.trace in
-    subst (λ (d : Config). All (IsInSeats d) trace.schedule) (sym c.in-Ok-open.ensures.config) (items_in_seats c.requires.0 trace.version trace.config trace.scripts trace.schedule c.requires.1)
+    subst (λ (config : Config). All (IsInSeats config) trace.schedule) (sym c.in-Ok-open.ensures.config) (items_in_seats c.requires.0 trace.version trace.config trace.scripts trace.schedule c.requires.1)
 
 pub returns-in-Finished-clause-finished : goal.returns-in-Finished-clause-finished
 returns-in-Finished-clause-finished c =

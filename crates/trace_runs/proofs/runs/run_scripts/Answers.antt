@@ -98,6 +98,6 @@ returns g c =
     let work : Jobs = c.in-Scripted.work in
     let did : LoadIsDone (config_of heap) (by_scripts scripts) (length parts) 0 (length parts) (view_of all.bundle) (Scripted work) =
     subst (λ l. LoadIsDone (config_of heap) (by_scripts scripts) (length parts) 0 (length parts) (view_of all.bundle) l) c.in-Scripted.is done.load in
-    subst (λ (k : Config). HasCome k scripts work c.close-closed.result) c.in_ok-heap.ensures.config
+    subst (λ (config : Config). HasCome config scripts work c.close-closed.result) c.in_ok-heap.ensures.config
     (come heap (by_scripts scripts) (length parts) all some done c.close-closed.result c.close-closed.ensures.machines scripts work did c.close-closed.ensures.config
     (reached_from_opening heap c.args.config (stage_of c.close-closed.result) c.in_ok-heap.ensures.config c.in_ok-heap.ensures.opening c.close-closed.ensures.reached))

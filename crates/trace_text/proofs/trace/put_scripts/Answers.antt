@@ -11,7 +11,7 @@ pub loop-mutator-preserved : goal.loop-mutator-preserved
 loop-mutator-preserved g c =
     let mutator : ℕ = c.loop-mutator.mutator in
     let script = c.index-scripts-mutator.result in
-    let own = ap (λ (s : List Command). flat_map line (lines_of (mutator + 1) s)) (c.list.ensures ∙ c.index-scripts-mutator.is) in
+    let own = ap (λ (script : List Command). flat_map line (lines_of (mutator + 1) script)) (c.list.ensures ∙ c.index-scripts-mutator.is) in
     puts_same (script_more c.args.scripts.now mutator script c.loop-mutator-test.true)
     (puts_both c.loop-mutator.invariant (puts_same own c.put_script.ensures))
 

@@ -10,7 +10,7 @@ use Rattle.update_refs.proofs.begin.init_update.Goals as goal
 
 pub returns-clause-words : goal.returns-clause-words
 returns-clause-words c =
-    c.begin.ensures.words ∙ ap (λ (k : Config). updating_begun k (memory_of c.settle.new.self)) c.settle.ensures.config
+    c.begin.ensures.words ∙ ap (λ (config : Config). updating_begun config (memory_of c.settle.new.self)) c.settle.ensures.config
     ∙ ap (updating_begun (config_of c.args.image.now)) c.settle.ensures.words
 
 pub returns-clause-holds : goal.returns-clause-holds

@@ -19,7 +19,7 @@ loop-region-preserved c =
     let out : ℕ → Bool = is_chosen memory in
     let region = c.loop-region.region in
     let is = c.loop-region.invariant in
-    let few : region < 64 = omega (arith, c.loop-region-test.true, c.regions-region-end.ensures, ap (λ (k : Config). k.regions) c.config-config.ensures, config.in_range.most_regions) in
+    let few : region < 64 = omega (arith, c.loop-region-test.true, c.regions-region-end.ensures, ap (λ (config : Config). config.regions) c.config-config.ensures, config.in_range.most_regions) in
     let still : is_chosen (memory_of c.loop-region.image) region ≡ out region = ap (λ n. is_chosen n region) is.words in
     record {
       config = c.free_if_chosen.ensures.config ∙ is.config;
@@ -34,6 +34,6 @@ returns-clause-words c =
     let old = c.args.image.now in
     let config = config_of old in
     let all : c.loop-region.region ≡ config.regions =
-    omega (arith, c.loop-region-test.false, c.loop-region.auto.region-end, c.regions-region-end.ensures, ap (λ (k : Config). k.regions) c.config-config.ensures) in
+    omega (arith, c.loop-region-test.false, c.loop-region.auto.region-end, c.regions-region-end.ensures, ap (λ (config : Config). config.regions) c.config-config.ensures) in
     c.loop-region.invariant.words ∙ ap (λ n. freed_below (is_chosen (memory_of old)) n (memory_of old)) all
     ∙ freed_all config (words_of old) (is_chosen (memory_of old))

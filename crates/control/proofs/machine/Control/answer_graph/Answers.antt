@@ -19,7 +19,7 @@ pub answer_graph-requires-clause-stand : goal.answer_graph-requires-clause-stand
 answer_graph-requires-clause-stand c =
     let image = c.load.new.image in
     let config = config_in c.args.self.now in
-    subst (λ (e : Config). StandsForSome e (words_of image)) (sym c.load.ensures.config)
+    subst (λ (config : Config). StandsForSome config (words_of image)) (sym c.load.ensures.config)
     (stands_same config (words_of image) c.args.words.now (loaded config image c.args.words.now c.load.ensures.config c.load.ensures.image) c.requires.stand)
 
 pub returns-clause-shows : goal.returns-clause-shows
@@ -27,7 +27,7 @@ returns-clause-shows c =
     let image = c.load.new.image in
     let config = config_in c.args.self.now in
     shows_same config (words_of image) c.args.words.now (loaded config image c.args.words.now c.load.ensures.config c.load.ensures.image) c.answer_graph.new.text
-    (subst (λ (e : Config). ShowsTheGraph e (words_of image) c.answer_graph.new.text) c.load.ensures.config c.answer_graph.ensures.shows)
+    (subst (λ (config : Config). ShowsTheGraph config (words_of image) c.answer_graph.new.text) c.load.ensures.config c.answer_graph.ensures.shows)
 
 pub returns-clause-same : goal.returns-clause-same
 returns-clause-same c =

@@ -39,7 +39,7 @@ returns-in-LoadWord-default-Whole-clause-row c =
     let inside : c.image_start.result + index < length table = omega (arith, start, more, c.requires.words) in
     let found = get_or_read table (c.image_start.result + index) c.index.result.now inside c.index.ensures 0 ∙ ap (λ n. slice_index table (n + index)) start ∙ load_finds config index Whole (seen_control control) table spot in
     let ys = image_in c.put_word.new.image in
-    ap (λ (e : Extent). record { spot = LoadWord (index + 1) e; seen = control.last.seen; phase = control.last.phase; cset = control.last.cset; image = words_seen (config_of c.put_word.new.image) (LoadWord (index + 1) e) control.starts ys; hints = control.hints }) extent
+    ap (λ (extent : Extent). record { spot = LoadWord (index + 1) extent; seen = control.last.seen; phase = control.last.phase; cset = control.last.cset; image = words_seen (config_of c.put_word.new.image) (LoadWord (index + 1) extent) control.starts ys; hints = control.hints }) extent
     ∙ loads_on collect_image config control.last.seen control.last.phase control.last.cset control.hints (image_in control.image) (length-image_in control.image) index c.index.result.now more control.starts control.spot ys spot c.put_word.ensures.image ∙ ap (control_next collect_image config (seen_control control)) found
 
 pub returns-in-StoreWord-default-Whole-clause-words : goal.returns-in-StoreWord-default-Whole-clause-words
@@ -64,5 +64,5 @@ returns-in-StoreWord-default-Whole-clause-row c =
     let extent : c.in-StoreWord-default-Whole.extent ≡ Whole = c.in-StoreWord-default-Whole.extent-is in
     let spot : control.spot ≡ StoreWord index Whole = c.in-StoreWord-default-Whole.is ∙ ap (StoreWord index) extent in
     let more : index + 1 < image_words config = ltb-true (index + 1) (image_words config) (ap (is_inside_image config) (sym spot) ∙ c.requires.inside) in
-    ap (λ (e : Extent). record { spot = StoreWord (index + 1) e; seen = control.last.seen; phase = control.last.phase; cset = control.last.cset; image = words_seen config (StoreWord (index + 1) e) control.starts (image_in control.image); hints = control.hints }) extent
+    ap (λ (extent : Extent). record { spot = StoreWord (index + 1) extent; seen = control.last.seen; phase = control.last.phase; cset = control.last.cset; image = words_seen config (StoreWord (index + 1) extent) control.starts (image_in control.image); hints = control.hints }) extent
     ∙ stores_on collect_image config control.last.seen control.last.phase control.last.cset control.hints (image_in control.image) (length-image_in control.image) index (slice_index table (table_index (control_access config (seen_control control)))) more control.starts control.spot spot

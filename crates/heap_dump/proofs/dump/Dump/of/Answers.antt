@@ -12,7 +12,7 @@ found P Q None never it = absurd (never it)
 found P Q (Some x) never it = refl
 
 of_found : {A : Type 0} (P : Type 0) (Q : A → Type 0) (o : Option A) (x : A) → o ≡ Some x → MatchOption o P Q → Q x
-of_found {A} P Q o x is it = subst (λ (p : Option A). MatchOption p P Q) is it
+of_found {A} P Q o x is it = subst (λ (found : Option A). MatchOption found P Q) is it
 
 -- what was copied is the rows with a mark, and the roots
 copied : (config : Config) (counts : List ℕ) (graph : Text) (marks : List Bool) (text after : Text) → text.rows ≡ marked_rows marks graph.rows → after ≡ record text { roots = graph.roots }

@@ -5,7 +5,7 @@ use Rattle.heap_machines.specs.Shown.{config_of}
 use Rattle.heap_machines.proofs.machine.Machine.answer_graph.Goals as goal
 
 pub answer_graph-requires-clause-stand : goal.answer_graph-requires-clause-stand
-answer_graph-requires-clause-stand c = subst (λ (m : Machine). StandsForSome (config_of m) c.args.words.now) c.in-Control.is c.requires.stand
+answer_graph-requires-clause-stand c = subst (λ (machine : Machine). StandsForSome (config_of machine) c.args.words.now) c.in-Control.is c.requires.stand
 
 pub returns-clause-shows : goal.returns-clause-shows
-returns-clause-shows c = subst (λ (m : Machine). ShowsTheGraph (config_of m) c.args.words.now c.answer_graph.new.text) (sym c.in-Control.is) c.answer_graph.ensures.shows
+returns-clause-shows c = subst (λ (machine : Machine). ShowsTheGraph (config_of machine) c.args.words.now c.answer_graph.new.text) (sym c.in-Control.is) c.answer_graph.ensures.shows

@@ -13,7 +13,7 @@ pub returns-clause-shown : goal.returns-clause-shown
 returns-clause-shown c =
     ap controlling c.loaded.ensures.row
     ∙ ap (λ o. machine_after pause_image (config_in c.in-Control.control) (hinting o) c.args.got (controlling (seen_control c.in-Control.control))) (sym c.loaded.ensures.none)
-    ∙ ap (λ (m : Machine). machine_after pause_image (config_of m) (order_of m) c.args.got (shown m)) (sym c.in-Control.is)
+    ∙ ap (λ (machine : Machine). machine_after pause_image (config_of machine) (order_of machine) c.args.got (shown machine)) (sym c.in-Control.is)
 
 pub returns-clause-heap : goal.returns-clause-heap
 returns-clause-heap c = c.loaded.ensures.config ∙ ap config_of (sym c.in-Control.is)
@@ -22,4 +22,4 @@ pub returns-clause-order : goal.returns-clause-order
 returns-clause-order c = ap hinting c.loaded.ensures.hint
 
 pub returns-clause-left : goal.returns-clause-left
-returns-clause-left c = c.loaded.ensures.left ∙ ap (λ (m : Machine). loads_left (config_of m) (shown m)) (sym c.in-Control.is)
+returns-clause-left c = c.loaded.ensures.left ∙ ap (λ (machine : Machine). loads_left (config_of machine) (shown machine)) (sym c.in-Control.is)

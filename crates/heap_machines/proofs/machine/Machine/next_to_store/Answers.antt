@@ -12,10 +12,10 @@ pub returns-clause-row : goal.returns-clause-row
 returns-clause-row c =
     c.next_to_store.ensures.row
     ∙ ap (λ o. plan_of (config_in c.in-Control.control) (hinting o) (controlling (seen_control c.in-Control.control))) (sym c.next_to_store.ensures.none)
-    ∙ ap (λ (m : Machine). plan_of (config_of m) (order_of m) (shown m)) (sym c.in-Control.is)
+    ∙ ap (λ (machine : Machine). plan_of (config_of machine) (order_of machine) (shown machine)) (sym c.in-Control.is)
 
 pub returns-clause-inside : goal.returns-clause-inside
-returns-clause-inside c = subst (λ (m : Machine). c.next_to_store.result.0 < table_words (config_of m)) (sym c.in-Control.is) c.next_to_store.ensures.inside
+returns-clause-inside c = subst (λ (machine : Machine). c.next_to_store.result.0 < table_words (config_of machine)) (sym c.in-Control.is) c.next_to_store.ensures.inside
 
 pub returns-clause-none : goal.returns-clause-none
 returns-clause-none c = ap order_of c.in-Control.is ∙ ap hinting c.next_to_store.ensures.none

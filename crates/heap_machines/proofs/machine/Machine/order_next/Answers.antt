@@ -13,5 +13,5 @@ returns-then-not-may_begin-clause-turn c =
     let busy : may_begin (shown machine) ≡ false = sym c.may_begin.ensures ∙ c.if-not-may_begin.true in
     let takes : takes_of (shown machine) Nothing ≡ not c.is_idle.result = ap (takes_of (shown machine)) (sym c.requires.none) ∙ c.is_idle.ensures in
     turn_in_call (shown machine) c.args.next busy
-    ∙ ap (λ (b : Bool). if◌then◌else◌ {A = Option Order} b (Some Nothing) None) takes
-    ∙ ap (λ (o : Order). if◌then◌else◌ {A = Option Order} (not c.is_idle.result) (Some o) None) (sym c.requires.none)
+    ∙ ap (λ (holds : Bool). if◌then◌else◌ {A = Option Order} holds (Some Nothing) None) takes
+    ∙ ap (λ (order : Order). if◌then◌else◌ {A = Option Order} (not c.is_idle.result) (Some order) None) (sym c.requires.none)

@@ -15,7 +15,7 @@ pub returns-clause-words : goal.returns-clause-words
 returns-clause-words c =
     c.step_inside_image.ensures.words
     ∙ ap (λ o. accessed (plan_of (config_in c.in-Control.control) (hinting o) (controlling (seen_control c.in-Control.control))) c.args.words.now.items) (sym c.step_inside_image.ensures.none)
-    ∙ ap (λ (m : Machine). accessed (plan_of (config_of m) (order_of m) (shown m)) c.args.words.now.items) (sym c.in-Control.is)
+    ∙ ap (λ (machine : Machine). accessed (plan_of (config_of machine) (order_of machine) (shown machine)) c.args.words.now.items) (sym c.in-Control.is)
 
 pub returns-clause-shown : goal.returns-clause-shown
 returns-clause-shown c =
@@ -23,7 +23,7 @@ returns-clause-shown c =
     ∙ ap (λ o. machine_after pause_image (config_in c.in-Control.control) (hinting o)
     (slice_index c.args.words.now.items (table_index (plan_of (config_in c.in-Control.control) (hinting o) (controlling (seen_control c.in-Control.control))))) (controlling (seen_control c.in-Control.control)))
     (sym c.step_inside_image.ensures.none)
-    ∙ ap (λ (m : Machine). machine_after pause_image (config_of m) (order_of m) (slice_index c.args.words.now.items (table_index (plan_of (config_of m) (order_of m) (shown m)))) (shown m)) (sym c.in-Control.is)
+    ∙ ap (λ (machine : Machine). machine_after pause_image (config_of machine) (order_of machine) (slice_index c.args.words.now.items (table_index (plan_of (config_of machine) (order_of machine) (shown machine)))) (shown machine)) (sym c.in-Control.is)
 
 pub returns-clause-heap : goal.returns-clause-heap
 returns-clause-heap c = c.step_inside_image.ensures.config ∙ ap config_of (sym c.in-Control.is)

@@ -28,7 +28,7 @@ took-requires-in-Control-clause-fit c =
     let config = config_in c.in-Control.control in
     let hint = hint_of c.in-Control.control in
     let k : Controlling = control_hinted config hint (seen_control c.in-Control.control) in
-    let fit = subst (λ (m : Machine). IsFitFor (config_of m) (order_of m) c.args.got (shown m)) c.in-Control.is c.requires.fit in
+    let fit = subst (λ (machine : Machine). IsFitFor (config_of machine) (order_of machine) c.args.got (shown machine)) c.in-Control.is c.requires.fit in
     fit_for_control config k.phase k.spot k.image c.args.got (whole_with_hint config hint (seen_control c.in-Control.control) c.args.got fit.0)
     (subst (λ (x : Controlling). UnitGoesOn config x.spot c.args.got) (controlled config hint (seen_control c.in-Control.control)) fit.1)
 
@@ -38,11 +38,11 @@ returns-in-Control-clause-replied c = λ done.
     absurd (goes_on (config_in c.in-Control.control) k.seen k.spot c.args.got (sym c.took-in-Control.ensures.says ∙ done))
 
 pub took-requires-clause-fit : goal.took-requires-clause-fit
-took-requires-clause-fit c = subst (λ (m : Machine). IsFitFor (config_of m) (order_of m) c.args.got (shown m)) c.in-Mutator.is c.requires.fit
+took-requires-clause-fit c = subst (λ (machine : Machine). IsFitFor (config_of machine) (order_of machine) c.args.got (shown machine)) c.in-Mutator.is c.requires.fit
 
 pub returns-in-Mutator-clause-shown : goal.returns-in-Mutator-clause-shown
 returns-in-Mutator-clause-shown c =
-    ap mutating c.took.ensures.seen ∙ ap (λ (m : Machine). machine_after pause_image (config_of m) (order_of m) c.args.got (shown m)) (sym c.in-Mutator.is)
+    ap mutating c.took.ensures.seen ∙ ap (λ (machine : Machine). machine_after pause_image (config_of machine) (order_of machine) c.args.got (shown machine)) (sym c.in-Mutator.is)
 
 pub returns-in-Mutator-clause-order : goal.returns-in-Mutator-clause-order
 returns-in-Mutator-clause-order c = c.took.ensures.order
@@ -52,11 +52,11 @@ returns-in-Mutator-clause-heap c = c.took.ensures.config ∙ ap config_of (sym c
 
 pub returns-in-Mutator-clause-answer : goal.returns-in-Mutator-clause-answer
 returns-in-Mutator-clause-answer c =
-    ap (λ (m : Machine). answer_of (config_of m) (order_of m) (shown m) c.args.got) c.in-Mutator.is ∙ ap Some (sym c.took.ensures.answer)
+    ap (λ (machine : Machine). answer_of (config_of machine) (order_of machine) (shown machine) c.args.got) c.in-Mutator.is ∙ ap Some (sym c.took.ensures.answer)
 
 pub returns-in-Mutator-clause-done : goal.returns-in-Mutator-clause-done
 returns-in-Mutator-clause-done c =
-    subst (λ (m : Machine). (c.took.result ≡ took.Done) ↔ ((is_mutating (shown m) ≡ true) × (place_in (order_of m) (shown m) ≡ LV))) (sym c.in-Mutator.is)
+    subst (λ (machine : Machine). (c.took.result ≡ took.Done) ↔ ((is_mutating (shown machine) ≡ true) × (place_in (order_of machine) (shown machine) ≡ LV))) (sym c.in-Mutator.is)
     (λ done. (refl, c.took.ensures.done.0 done), λ both. c.took.ensures.done.1 both.1)
 
 pub returns-in-Mutator-clause-replied : goal.returns-in-Mutator-clause-replied
@@ -64,19 +64,19 @@ returns-in-Mutator-clause-replied c = c.took.ensures.replied
 
 pub returns-in-Mutator-clause-again : goal.returns-in-Mutator-clause-again
 returns-in-Mutator-clause-again c =
-    subst (λ (m : Machine). (c.took.result ≡ took.Again) ↔ WaitsIn (config_of m) (order_of m) (shown m) c.args.got) (sym c.in-Mutator.is) c.took.ensures.again
+    subst (λ (machine : Machine). (c.took.result ≡ took.Again) ↔ WaitsIn (config_of machine) (order_of machine) (shown machine) c.args.got) (sym c.in-Mutator.is) c.took.ensures.again
 
 pub took-requires-in-Helper-clause-fit : goal.took-requires-in-Helper-clause-fit
 took-requires-in-Helper-clause-fit c =
     let helper = c.in-Helper.helper in
     subst (λ (x : Helping). IsFit (helpers.config_of helper) x c.args.got) (helped (helpers.config_of helper) (helpers.hint_of helper) (helpers.seen_helper helper))
-    (subst (λ (m : Machine). IsFitFor (config_of m) (order_of m) c.args.got (shown m)) c.in-Helper.is c.requires.fit)
+    (subst (λ (machine : Machine). IsFitFor (config_of machine) (order_of machine) c.args.got (shown machine)) c.in-Helper.is c.requires.fit)
 
 pub returns-in-Helper-clause-shown : goal.returns-in-Helper-clause-shown
 returns-in-Helper-clause-shown c =
     ap helping c.took-in-Helper.ensures.row
-    ∙ ap (λ (x : Helping). helping (help_next (helpers.config_of c.in-Helper.helper) x c.args.got)) (sym (helped (helpers.config_of c.in-Helper.helper) (helpers.hint_of c.in-Helper.helper) (helpers.seen_helper c.in-Helper.helper)))
-    ∙ ap (λ (m : Machine). machine_after pause_image (config_of m) (order_of m) c.args.got (shown m)) (sym c.in-Helper.is)
+    ∙ ap (λ (helper : Helping). helping (help_next (helpers.config_of c.in-Helper.helper) helper c.args.got)) (sym (helped (helpers.config_of c.in-Helper.helper) (helpers.hint_of c.in-Helper.helper) (helpers.seen_helper c.in-Helper.helper)))
+    ∙ ap (λ (machine : Machine). machine_after pause_image (config_of machine) (order_of machine) c.args.got (shown machine)) (sym c.in-Helper.is)
 
 pub returns-in-Helper-clause-order : goal.returns-in-Helper-clause-order
 returns-in-Helper-clause-order c = ap hinting c.took-in-Helper.ensures.hint
@@ -86,13 +86,13 @@ returns-in-Helper-clause-heap c = c.took-in-Helper.ensures.config ∙ ap config_
 
 pub returns-in-Helper-clause-answer : goal.returns-in-Helper-clause-answer
 returns-in-Helper-clause-answer c =
-    ap (λ (m : Machine). answer_of (config_of m) (order_of m) (shown m) c.args.got) c.in-Helper.is
-    ∙ ap (λ (x : Helping). Some (help_says (helpers.config_of c.in-Helper.helper) x c.args.got)) (helped (helpers.config_of c.in-Helper.helper) (helpers.hint_of c.in-Helper.helper) (helpers.seen_helper c.in-Helper.helper))
+    ap (λ (machine : Machine). answer_of (config_of machine) (order_of machine) (shown machine) c.args.got) c.in-Helper.is
+    ∙ ap (λ (helper : Helping). Some (help_says (helpers.config_of c.in-Helper.helper) helper c.args.got)) (helped (helpers.config_of c.in-Helper.helper) (helpers.hint_of c.in-Helper.helper) (helpers.seen_helper c.in-Helper.helper))
     ∙ ap Some (sym c.took-in-Helper.ensures.says)
 
 pub returns-in-Helper-clause-done : goal.returns-in-Helper-clause-done
 returns-in-Helper-clause-done c =
-    subst (λ (m : Machine). (c.took-in-Helper.result ≡ took.Done) ↔ ((is_mutating (shown m) ≡ true) × (place_in (order_of m) (shown m) ≡ LV))) (sym c.in-Helper.is)
+    subst (λ (machine : Machine). (c.took-in-Helper.result ≡ took.Done) ↔ ((is_mutating (shown machine) ≡ true) × (place_in (order_of machine) (shown machine) ≡ LV))) (sym c.in-Helper.is)
     (λ done. absurd (helps_on (helpers.config_of c.in-Helper.helper) (help_hinted (helpers.config_of c.in-Helper.helper) (helpers.hint_of c.in-Helper.helper) (helpers.seen_helper c.in-Helper.helper)).spot c.args.got (sym c.took-in-Helper.ensures.says ∙ done)), λ both. absurd (false≢true both.0))
 
 pub returns-in-Helper-clause-replied : goal.returns-in-Helper-clause-replied
@@ -101,15 +101,15 @@ returns-in-Helper-clause-replied c = λ done.
 
 pub returns-in-Helper-clause-again : goal.returns-in-Helper-clause-again
 returns-in-Helper-clause-again c =
-    subst (λ (m : Machine). (c.took-in-Helper.result ≡ took.Again) ↔ WaitsIn (config_of m) (order_of m) (shown m) c.args.got) (sym c.in-Helper.is)
-    (subst (λ (x : Helping). (c.took-in-Helper.result ≡ took.Again) ↔ WaitsAt (helpers.config_of c.in-Helper.helper) x c.args.got)
+    subst (λ (machine : Machine). (c.took-in-Helper.result ≡ took.Again) ↔ WaitsIn (config_of machine) (order_of machine) (shown machine) c.args.got) (sym c.in-Helper.is)
+    (subst (λ (helper : Helping). (c.took-in-Helper.result ≡ took.Again) ↔ WaitsAt (helpers.config_of c.in-Helper.helper) helper c.args.got)
     (sym (helped (helpers.config_of c.in-Helper.helper) (helpers.hint_of c.in-Helper.helper) (helpers.seen_helper c.in-Helper.helper))) c.took-in-Helper.ensures.again)
 
 pub returns-in-Control-clause-shown : goal.returns-in-Control-clause-shown
 returns-in-Control-clause-shown c =
     ap controlling c.took-in-Control.ensures.row
     ∙ ap (λ (x : Controlling). controlling (control_next pause_image (config_in c.in-Control.control) x c.args.got)) (sym (controlled (config_in c.in-Control.control) (hint_of c.in-Control.control) (seen_control c.in-Control.control)))
-    ∙ ap (λ (m : Machine). machine_after pause_image (config_of m) (order_of m) c.args.got (shown m)) (sym c.in-Control.is)
+    ∙ ap (λ (machine : Machine). machine_after pause_image (config_of machine) (order_of machine) c.args.got (shown machine)) (sym c.in-Control.is)
 
 pub returns-in-Control-clause-order : goal.returns-in-Control-clause-order
 returns-in-Control-clause-order c = ap hinting c.took-in-Control.ensures.hint
@@ -119,19 +119,19 @@ returns-in-Control-clause-heap c = c.took-in-Control.ensures.config ∙ ap confi
 
 pub returns-in-Control-clause-answer : goal.returns-in-Control-clause-answer
 returns-in-Control-clause-answer c =
-    ap (λ (m : Machine). answer_of (config_of m) (order_of m) (shown m) c.args.got) c.in-Control.is
+    ap (λ (machine : Machine). answer_of (config_of machine) (order_of machine) (shown machine) c.args.got) c.in-Control.is
     ∙ ap (λ (x : Controlling). Some (control_says (config_in c.in-Control.control) x c.args.got)) (controlled (config_in c.in-Control.control) (hint_of c.in-Control.control) (seen_control c.in-Control.control))
     ∙ ap Some (sym c.took-in-Control.ensures.says)
 
 pub returns-in-Control-clause-done : goal.returns-in-Control-clause-done
 returns-in-Control-clause-done c =
     let k : Controlling = control_hinted (config_in c.in-Control.control) (hint_of c.in-Control.control) (seen_control c.in-Control.control) in
-    subst (λ (m : Machine). (c.took-in-Control.result ≡ took.Done) ↔ ((is_mutating (shown m) ≡ true) × (place_in (order_of m) (shown m) ≡ LV))) (sym c.in-Control.is)
+    subst (λ (machine : Machine). (c.took-in-Control.result ≡ took.Done) ↔ ((is_mutating (shown machine) ≡ true) × (place_in (order_of machine) (shown machine) ≡ LV))) (sym c.in-Control.is)
     (λ done. absurd (goes_on (config_in c.in-Control.control) k.seen k.spot c.args.got (sym c.took-in-Control.ensures.says ∙ done)), λ both. absurd (false≢true both.0))
 
 pub returns-in-Control-clause-again : goal.returns-in-Control-clause-again
 returns-in-Control-clause-again c =
-    subst (λ (m : Machine). (c.took-in-Control.result ≡ took.Again) ↔ WaitsIn (config_of m) (order_of m) (shown m) c.args.got) (sym c.in-Control.is)
+    subst (λ (machine : Machine). (c.took-in-Control.result ≡ took.Again) ↔ WaitsIn (config_of machine) (order_of machine) (shown machine) c.args.got) (sym c.in-Control.is)
     (subst (λ (x : Controlling). (c.took-in-Control.result ≡ took.Again) ↔ control.WaitsAt (config_in c.in-Control.control) x c.args.got)
     (sym (controlled (config_in c.in-Control.control) (hint_of c.in-Control.control) (seen_control c.in-Control.control))) c.took-in-Control.ensures.again)
 

@@ -18,19 +18,19 @@ pub close-requires-clause-control : goal.close-requires-clause-control
 close-requires-clause-control c = let k = c.args.self in let w = c.requires.whole in control_idle (sizes_closing k) (heap_closing k) w.seats k.together w.all w.given w.over
 
 pub returns-in-Some-clause-config : goal.returns-in-Some-clause-config
-returns-in-Some-clause-config c = c.close.ensures.config ∙ ap (λ (h : Heap). h.config) c.in-Some.ensures
+returns-in-Some-clause-config c = c.close.ensures.config ∙ ap (λ (heap : Heap). heap.config) c.in-Some.ensures
 
 pub returns-in-Some-clause-history : goal.returns-in-Some-clause-history
 returns-in-Some-clause-history c seats given all over =
     let k = c.args.self in
     one_history (sizes_closing k) (heap_closing k) seats k.together all given c.close.result c.close.ensures.machines over
-    (subst (λ (h : Heap). IsReached (heap_kind h.config) (start_of_heap h) (stage_of c.close.result)) c.in-Some.ensures c.close.ensures.reached)
+    (subst (λ (heap : Heap). IsReached (heap_kind heap.config) (start_of_heap heap) (stage_of c.close.result)) c.in-Some.ensures c.close.ensures.reached)
 
 pub returns-in-Some-clause-rest : goal.returns-in-Some-clause-rest
 returns-in-Some-clause-rest c =
     let k = c.args.self in
     let w = c.requires.whole in
-    all_rest (sizes_closing k) (heap_closing k) w.seats k.together w.all w.given c.close.result c.close.ensures.machines (c.close.ensures.config ∙ ap (λ (h : Heap). h.config) c.in-Some.ensures) w.over
+    all_rest (sizes_closing k) (heap_closing k) w.seats k.together w.all w.given c.close.result c.close.ensures.machines (c.close.ensures.config ∙ ap (λ (heap : Heap). heap.config) c.in-Some.ensures) w.over
 
 pub returns-in-Some-clause-machines : goal.returns-in-Some-clause-machines
 returns-in-Some-clause-machines c seats given all =

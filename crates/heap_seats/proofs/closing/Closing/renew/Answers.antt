@@ -16,7 +16,7 @@ pub count_made-requires : goal.count_made-requires
 count_made-requires c t below =
     let k = c.args.self in
     let w = c.requires.whole in
-    let room : c.args.room.config.mutators ≡ k.together.config.mutators = ap (λ (d : Config). d.mutators) (c.requires.room ∙ sym k.fits.config) in
+    let room : c.args.room.config.mutators ≡ k.together.config.mutators = ap (λ (config : Config). config.mutators) (c.requires.room ∙ sym k.fits.config) in
     let count = c.args.room.count in
     has_all (sizes_closing k) (heap_closing k) w.0 k.together w.1.all w.1.given t (omega (arith, below, count, room))
 
@@ -32,14 +32,14 @@ go_on-requires-clause-begins c =
     let w = c.requires.whole in
     let left = c.in_ok-closed.closed in
     let one = c.in_ok-closed.ensures.history w.0 w.1.given w.1.all (λ at s there role. w.1.over at s there) in
-    subst (λ (d : Config). ∥ IsLeftRenewable d (ends.stage_of left) ∥₁) (sym c.in_ok-closed.ensures.config) (left_renewable (sizes_closing k) (start_closing k) (ends.stage_of left) one.events one.ends one.history.some)
+    subst (λ (config : Config). ∥ IsLeftRenewable config (ends.stage_of left) ∥₁) (sym c.in_ok-closed.ensures.config) (left_renewable (sizes_closing k) (start_closing k) (ends.stage_of left) one.events one.ends one.history.some)
 
 pub go_on-requires-clause-counts : goal.go_on-requires-clause-counts
 go_on-requires-clause-counts c =
     let k = c.args.self in
     let w = c.requires.whole in
     let left = c.in_ok-closed.closed in
-    let sizes : c.args.room.config.mutators ≡ (ends.config_of left).mutators = ap (λ (d : Config). d.mutators) (c.requires.room ∙ sym c.in_ok-closed.ensures.config) in
+    let sizes : c.args.room.config.mutators ≡ (ends.config_of left).mutators = ap (λ (config : Config). config.mutators) (c.requires.room ∙ sym c.in_ok-closed.ensures.config) in
     let count = c.args.room.count in
     let same = c.count_made.ensures.count in
     left_made (ends.config_of left).mutators w.0 k.together left w.1.given.machines (c.in_ok-closed.ensures.machines w.0 w.1.given w.1.all) (λ at s there. w.1.all.number at s there)
@@ -55,7 +55,7 @@ returns c seats to_be =
       events = one.events;
       history = one.history;
       goes_on =
-          subst (λ (s : Stage Actor). BeginSeats (sizes_closing k) (IsGraphLeft (sizes_closing k) s) following.renewal following.seats.items) (sym one.ends)
-          (subst (λ (d : Config). BeginSeats d (IsGraphLeft d (ends.stage_of left)) following.renewal following.seats.items) c.in_ok-closed.ensures.config begin);
+          subst (λ (stage : Stage Actor). BeginSeats (sizes_closing k) (IsGraphLeft (sizes_closing k) stage) following.renewal following.seats.items) (sym one.ends)
+          (subst (λ (config : Config). BeginSeats config (IsGraphLeft config (ends.stage_of left)) following.renewal following.seats.items) c.in_ok-closed.ensures.config begin);
     })
     c.go_on.ensures

@@ -11,4 +11,4 @@ returns-clause-given c before given absent =
     let k = c.args.self in
     let new = c.join-together.result in
     joined_more (arc_value k.heap) before c.args.seat k.together new given absent (subst (IsBundleOf new) c.deref.ensures c.join-together.ensures.heap)
-    (c.join-together.ensures.view ∙ ap (λ (b : Bundle). merged (view_of k.together) (view_of b)) c.into_bundle.ensures)
+    (c.join-together.ensures.view ∙ ap (λ (bundle : Bundle). merged (view_of k.together) (view_of bundle)) c.into_bundle.ensures)

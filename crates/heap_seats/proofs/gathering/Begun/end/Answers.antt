@@ -7,4 +7,4 @@ use Rattle.heap_seats.proofs.gathering.Begun.end.Goals as goal
 pub returns : goal.returns
 returns c seats given all over =
     let b = c.args.self in
-    one_history b seats given all over (subst (λ (h : Heap). HasAllOf h.config b.machines → StandInRun h b.machines) c.deref.ensures c.know.ensures.run (all_gathered b seats given all))
+    one_history b seats given all over (subst (λ (heap : Heap). HasAllOf heap.config b.machines → StandInRun heap b.machines) c.deref.ensures c.know.ensures.run (all_gathered b seats given all))

@@ -13,4 +13,4 @@ invariant_of-result c = record { fits = c.of.ensures.heap (arc_value c.args.seat
 pub returns-clause-given : goal.returns-clause-given
 returns-clause-given c =
     let seat = c.args.seat in
-    record { machines = subst (λ (v : View Actor). AreMachinesOf (seat ∷ []) v) (sym c.of.ensures.view) (machines_one seat); long = ap length c.of.ensures.view ∙ places seat }
+    record { machines = subst (λ (view : View Actor). AreMachinesOf (seat ∷ []) view) (sym c.of.ensures.view) (machines_one seat); long = ap length c.of.ensures.view ∙ places seat }

@@ -11,5 +11,5 @@ returns-clause-given c before given same absent =
     let b = c.args.self in
     let seat = c.args.seat in
     let fits : IsBundleOf seat.bundle c.deref.result.now = subst (IsBundleOf seat.bundle) (same ∙ sym c.deref.ensures) seat.fits in
-    let moved : IsBundleOf c.into_bundle.result c.deref.result.now = subst (λ (x : Bundle). IsBundleOf x c.deref.result.now) (sym c.into_bundle.ensures) fits in
-    together_more before seat b _ refl given same absent (c.with-machines.ensures.view moved ∙ ap (λ (x : Bundle). merged (view_of b.machines) (bundle_view x)) c.into_bundle.ensures)
+    let moved : IsBundleOf c.into_bundle.result c.deref.result.now = subst (λ (bundle : Bundle). IsBundleOf bundle c.deref.result.now) (sym c.into_bundle.ensures) fits in
+    together_more before seat b _ refl given same absent (c.with-machines.ensures.view moved ∙ ap (λ (bundle : Bundle). merged (view_of b.machines) (bundle_view bundle)) c.into_bundle.ensures)

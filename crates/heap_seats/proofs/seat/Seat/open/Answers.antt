@@ -20,7 +20,7 @@ invariant_of-result c =
       only = fresh_only config (start_of_heap h) begins h c.args.bundle c.args.number fresh;
       same_config = fresh.of.config ∙ c.requires.config;
       reached = fresh_run config h c.args.bundle c.args.number fresh;
-      renewable = subst (λ (s : Stage Actor). ∥ BeginsRenewable config s ∥₁) (sym (ap start_of_key fresh.of.key)) begins;
+      renewable = subst (λ (stage : Stage Actor). ∥ BeginsRenewable config stage ∥₁) (sym (ap start_of_key fresh.of.key)) begins;
     }
 
 pub returns : goal.returns

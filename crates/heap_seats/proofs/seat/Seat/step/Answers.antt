@@ -38,8 +38,8 @@ returns-clause-stepped c moved =
     let order = order_at seat.bundle seat.number in
     record {
       got = step.got;
-      machine = subst (λ (k : Config). machine_at b seat.number ≡ machine_after pause_image k order step.got was) seat.same_config (machine_goes seat.bundle b seat.number c.step.result step);
-      answers = subst (λ (k : Config). c.step.result ≡ said_of_step k order was step.got) seat.same_config (answers_then seat.bundle b seat.number c.step.result step);
+      machine = subst (λ (config : Config). machine_at b seat.number ≡ machine_after pause_image config order step.got was) seat.same_config (machine_goes seat.bundle b seat.number c.step.result step);
+      answers = subst (λ (config : Config). c.step.result ≡ said_of_step config order was step.got) seat.same_config (answers_then seat.bundle b seat.number c.step.result step);
       calls = calls_go seat.bundle b seat.number c.step.result step;
       doing = doing_goes seat.bundle b seat.number c.step.result step;
       order = order_then seat.bundle b seat.number c.step.result step;

@@ -6,4 +6,4 @@ use Rattle.heap_tests.proofs.brief_pauses.Course.open.Goals as goal
 
 pub returns : goal.returns
 returns c =
-    (c.in_ok-played.ensures.run, c.open-walk.ensures.fits (config_of c.in_ok-played.played.plain) (subst (λ (k : Config). All (IsInSeats k) c.in_ok-schedule.field-0) c.config.ensures c.in_ok-schedule.ensures))
+    (c.in_ok-played.ensures.run, c.open-walk.ensures.fits (config_of c.in_ok-played.played.plain) (subst (λ (config : Config). All (IsInSeats config) c.in_ok-schedule.field-0) c.config.ensures c.in_ok-schedule.ensures))

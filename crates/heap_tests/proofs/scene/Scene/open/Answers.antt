@@ -5,4 +5,4 @@ use Rattle.shen_core.specs.State.{config_of}
 use Rattle.heap_tests.proofs.scene.Scene.open.Goals as goal
 
 pub returns : goal.returns
-returns c = (c.in_ok-plain.ensures, c.open-walk.ensures.fits (config_of c.in_ok-plain.plain) (subst (λ (k : Config). All (IsInSeats k) c.in_ok-schedule.field-0) c.config.ensures c.in_ok-schedule.ensures))
+returns c = (c.in_ok-plain.ensures, c.open-walk.ensures.fits (config_of c.in_ok-plain.plain) (subst (λ (config : Config). All (IsInSeats config) c.in_ok-schedule.field-0) c.config.ensures c.in_ok-schedule.ensures))

@@ -8,5 +8,5 @@ pub replies-requires : goal.replies-requires
 replies-requires c =
     let s = c.args.self.now in
     let same = c.requires.same in
-    let mutators = ap (λ (k : Config). k.mutators) same in
+    let mutators = ap (λ (config : Config). config.mutators) same in
     has_script s.bundle s.work c.loop-thread.thread c.requires.works (c.requires.here c.loop-thread.thread (omega arith)) (lt-ltb c.loop-thread.thread s.bundle.config.mutators (omega (arith, mutators)))

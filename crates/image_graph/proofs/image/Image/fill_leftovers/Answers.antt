@@ -15,60 +15,60 @@ use Rattle.image_graph.proofs.image.Image.fill_leftovers.Goals as goal
 use Rattle.image_graph.proofs.image.Image.fill_leftovers.Goals.{then-ends_at, else-ends_at}
 
 -- what was found of an object is so of the words at first
-module _ (g d : Config) (m now : Word → ℕ) (found : List ℕ) (left : Leftover) (r i : ℕ) (below : r < g.regions) (can : CanFill g m r) (some : i < m (Top r))
-    (same : d ≡ g) (words : now ≡ filled_at g (is_below g r i) (is_left_over m found left) m) (first : ℕ) (base : first ≡ base_of g r) where
+module _ (other_config d : Config) (memory now : Word → ℕ) (found : List ℕ) (left : Leftover) (region i : ℕ) (below : region < other_config.regions) (can : CanFill other_config memory region) (some : i < memory (Top region))
+    (same : d ≡ other_config) (words : now ≡ filled_at other_config (is_below other_config region i) (is_left_over memory found left) memory) (first : ℕ) (base : first ≡ base_of other_config region) where
   abbrev lost : ℕ → Bool
-  lost = is_left_over m found left
+  lost = is_left_over memory found left
 
-  objects : (a : ℕ) → lost a ≡ true → is_filler (m (Heap a)) ≡ false
-  objects = left_is_object m found left
+  objects : (address : ℕ) → lost address ≡ true → is_filler (memory (Heap address)) ≡ false
+  objects = left_is_object memory found left
 
   abbrev n : Word → ℕ
-  n = filled_at g (is_below g r i) lost m
+  n = filled_at other_config (is_below other_config region i) lost memory
 
   abbrev CanRead : Config → (Word → ℕ) → ℕ → Type 0
-  CanRead c k a = IsWord c (Heap a) × (is_filler (k (Heap a)) ≡ false → IsWord c (Heap (a + 1)))
+  CanRead config memory address = IsWord config (Heap address) × (is_filler (memory (Heap address)) ≡ false → IsWord config (Heap (address + 1)))
 
   inside : IsWord d (Heap (first + i))
   inside =
-      let part = room_in_heap g r i 1 below (let within = can.within in omega (arith, some, within)) in
-      subst (λ (k : Config). IsWord k (Heap (first + i))) (sym same) (omega (arith, part.from, base), omega (arith, part.to, base))
+      let part = room_in_heap other_config region i 1 below (let within = can.within in omega (arith, some, within)) in
+      subst (λ (config : Config). IsWord config (Heap (first + i))) (sym same) (omega (arith, part.from, base), omega (arith, part.to, base))
 
-  module _ (object : ℕ) (at : object ≡ base_of g r + start_of (λ a. m (Heap a)) (base_of g r) (i - 1)) where
+  module _ (object : ℕ) (at : object ≡ base_of other_config region + start_of (λ a. memory (Heap a)) (base_of other_config region) (i - 1)) where
     first_is : CanRead d now object
     first_is =
-        subst (λ (k : Config). CanRead k now object) (sym same)
-        (subst (λ (k : Word → ℕ). CanRead g k object) (sym words) (subst (CanRead g n) (sym at) (last_read g m r below can lost objects i some)))
+        subst (λ (config : Config). CanRead config now object) (sym same)
+        (subst (λ (memory : Word → ℕ). CanRead other_config memory object) (sym words) (subst (CanRead other_config n) (sym at) (last_read other_config memory region below can lost objects i some)))
 
-    test_is : (told : Bool) → told ≡ (object + stride_at (λ a. now (Heap a)) object == first + i) → (object + stride_at (λ a. n (Heap a)) object == base_of g r + i) ≡ told
+    test_is : (told : Bool) → told ≡ (object + stride_at (λ a. now (Heap a)) object == first + i) → (object + stride_at (λ a. n (Heap a)) object == base_of other_config region + i) ≡ told
     test_is told is =
-        ap (λ (k : Word → ℕ). object + stride_at (λ a. k (Heap a)) object == base_of g r + i) (sym words)
+        ap (λ (memory : Word → ℕ). object + stride_at (λ a. memory (Heap a)) object == base_of other_config region + i) (sym words)
         ∙ ap (λ b. object + stride_at (λ a. now (Heap a)) object == b + i) (sym base) ∙ sym is
 
     begun_here : (told : Bool) → told ≡ (object + stride_at (λ a. now (Heap a)) object == first + i) → told ≡ true
-        → first + i ≡ base_of g r + start_of (λ a. m (Heap a)) (base_of g r) i
-    begun_here told is passes = ap (λ b. b + i) base ∙ ends_here g m r below can lost objects i some object at (test_is told is ∙ passes)
+        → first + i ≡ base_of other_config region + start_of (λ a. memory (Heap a)) (base_of other_config region) i
+    begun_here told is passes = ap (λ b. b + i) base ∙ ends_here other_config memory region below can lost objects i some object at (test_is told is ∙ passes)
 
     goes_on_here : (told : Bool) → told ≡ (object + stride_at (λ a. now (Heap a)) object == first + i) → told ≡ false
-        → object ≡ base_of g r + start_of (λ a. m (Heap a)) (base_of g r) i
-    goes_on_here told is fails = goes_on g m r below can lost objects i some object at (test_is told is ∙ fails)
+        → object ≡ base_of other_config region + start_of (λ a. memory (Heap a)) (base_of other_config region) i
+    goes_on_here told is fails = goes_on other_config memory region below can lost objects i some object at (test_is told is ∙ fails)
 
-  module _ (object : ℕ) (at : object ≡ base_of g r + start_of (λ a. m (Heap a)) (base_of g r) i) where
+  module _ (object : ℕ) (at : object ≡ base_of other_config region + start_of (λ a. memory (Heap a)) (base_of other_config region) i) where
     place_is : object ≡ first + i → is_filler (now (Heap (first + i))) ≡ false → IsWord d (Heap (first + i + 1))
     place_is here plain =
-        let place : first + i ≡ base_of g r + i = ap (λ b. b + i) base in
-        subst (λ (k : Config). IsWord k (Heap (first + i + 1))) (sym same)
-        (subst (λ a. IsWord g (Heap (a + 1))) (sym place)
-        (place_read g m r below can lost objects i some object at (here ∙ place) (ap (λ (k : Word → ℕ). is_filler (k (Heap (base_of g r + i)))) (sym words) ∙ ap (λ a. is_filler (now (Heap a))) (sym place) ∙ plain)))
+        let place : first + i ≡ base_of other_config region + i = ap (λ b. b + i) base in
+        subst (λ (config : Config). IsWord config (Heap (first + i + 1))) (sym same)
+        (subst (λ a. IsWord other_config (Heap (a + 1))) (sym place)
+        (place_read other_config memory region below can lost objects i some object at (here ∙ place) (ap (λ (memory : Word → ℕ). is_filler (memory (Heap (base_of other_config region + i)))) (sym words) ∙ ap (λ a. is_filler (now (Heap a))) (sym place) ∙ plain)))
 
-    turn_is : (seen : List ℕ) → seen ≡ found → is_filled_from d (λ a. (object == a) && is_left_over now seen left a) (first + i) now ≡ filled_at g (is_below g r (i + 1)) lost m
+    turn_is : (seen : List ℕ) → seen ≡ found → is_filled_from d (λ a. (object == a) && is_left_over now seen left a) (first + i) now ≡ filled_at other_config (is_below other_config region (i + 1)) lost memory
     turn_is seen known =
-        let place : first + i ≡ base_of g r + i = ap (λ b. b + i) base in
-        ap (λ (k : Config). is_filled_from k (λ a. (object == a) && is_left_over now seen left a) (first + i) now) same
-        ∙ ap (λ a. is_filled_from g (λ b. (object == b) && is_left_over now seen left b) a now) place
-        ∙ ap (λ (k : Word → ℕ). is_filled_from g (λ b. (object == b) && is_left_over k seen left b) (base_of g r + i) k) words
-        ∙ ap (λ (k : List ℕ). is_filled_from g (λ b. (object == b) && is_left_over n k left b) (base_of g r + i) n) known
-        ∙ turn g m r below can lost objects i some object at (is_left_over n found left) (left_same m n found left (base_of g r + i) (still g m r below can lost objects i (base_of g r + i) (omega arith)))
+        let place : first + i ≡ base_of other_config region + i = ap (λ b. b + i) base in
+        ap (λ (config : Config). is_filled_from config (λ a. (object == a) && is_left_over now seen left a) (first + i) now) same
+        ∙ ap (λ a. is_filled_from other_config (λ b. (object == b) && is_left_over now seen left b) a now) place
+        ∙ ap (λ (memory : Word → ℕ). is_filled_from other_config (λ b. (object == b) && is_left_over memory seen left b) (base_of other_config region + i) memory) words
+        ∙ ap (λ (k : List ℕ). is_filled_from other_config (λ b. (object == b) && is_left_over n k left b) (base_of other_config region + i) n) known
+        ∙ turn other_config memory region below can lost objects i some object at (is_left_over n found left) (left_same memory n found left (base_of other_config region + i) (still other_config memory region below can lost objects i (base_of other_config region + i) (omega arith)))
 
 pub loop-offset-init : goal.loop-offset-init
 loop-offset-init c =

@@ -20,7 +20,7 @@ loop-mutator-init c = record {
 
 pub serve_one-requires-clause-mutator : goal.serve_one-requires-clause-mutator
 serve_one-requires-clause-mutator c =
-    omega (arith, c.loop-mutator-test.true, c.mutators-mutator-end.ensures, ap (λ (k : Config). k.mutators) (c.config.ensures ∙ sym c.loop-mutator.invariant.config))
+    omega (arith, c.loop-mutator-test.true, c.mutators-mutator-end.ensures, ap (λ (config : Config). config.mutators) (c.config.ensures ∙ sym c.loop-mutator.invariant.config))
 
 pub loop-mutator-preserved : goal.loop-mutator-preserved
 loop-mutator-preserved c =
@@ -30,22 +30,22 @@ loop-mutator-preserved c =
     let before : Word → ℕ = memory_of c.loop-mutator.self in
     let same : config_of c.loop-mutator.self ≡ config = c.loop-mutator.invariant.config in
     let so_far : before ≡ served config memory mutator = c.loop-mutator.invariant.words in
-    let below : mutator < config.mutators = omega (arith, c.loop-mutator-test.true, c.mutators-mutator-end.ensures, ap (λ (k : Config). k.mutators) c.config.ensures) in
+    let below : mutator < config.mutators = omega (arith, c.loop-mutator-test.true, c.mutators-mutator-end.ensures, ap (λ (config : Config). config.mutators) c.config.ensures) in
     let after : memory_of c.serve_one.new.self ≡ served config memory (mutator + 1) =
     turned config memory (memory_of c.serve_one.new.self) mutator
     (λ none. c.serve_one.ensures.idle (ap (λ k. k (Wait mutator)) so_far ∙ none) ∙ so_far)
     (λ some. c.serve_one.ensures.waits (λ e. some (ap (λ k. k (Wait mutator)) (sym so_far) ∙ e))
-    ∙ ap (λ (k : Config). served_in k before mutator (room_for k before mutator)) same
+    ∙ ap (λ (config : Config). served_in config before mutator (room_for config before mutator)) same
     ∙ ap (λ k. served_in config k mutator (room_for config k mutator)) so_far) in
     -- what a turn without room says, over the words by the definition
     let no_room : (before (Wait mutator) ≢ 0) × NoneHasRoom (config_of c.loop-mutator.self).region_words (λ r. before (Top r)) (object_words (request_shape_in (before (Wait mutator)))) (config_of c.loop-mutator.self).regions
     → (served config memory mutator (Wait mutator) ≢ 0) × NoneHasRoom config.region_words (λ r. served config memory mutator (Top r)) (object_words (request_shape_in (served config memory mutator (Wait mutator)))) config.regions =
-    λ h. subst (λ (k : Word → ℕ). (k (Wait mutator) ≢ 0) × NoneHasRoom config.region_words (λ r. k (Top r)) (object_words (request_shape_in (k (Wait mutator)))) config.regions) so_far
-    (subst (λ (k : Config). (before (Wait mutator) ≢ 0) × NoneHasRoom k.region_words (λ r. before (Top r)) (object_words (request_shape_in (before (Wait mutator)))) k.regions) same h) in
+    λ h. subst (λ (memory : Word → ℕ). (memory (Wait mutator) ≢ 0) × NoneHasRoom config.region_words (λ r. memory (Top r)) (object_words (request_shape_in (memory (Wait mutator)))) config.regions) so_far
+    (subst (λ (config : Config). (before (Wait mutator) ≢ 0) × NoneHasRoom config.region_words (λ r. before (Top r)) (object_words (request_shape_in (before (Wait mutator)))) config.regions) same h) in
     let and_back : (served config memory mutator (Wait mutator) ≢ 0) × NoneHasRoom config.region_words (λ r. served config memory mutator (Top r)) (object_words (request_shape_in (served config memory mutator (Wait mutator)))) config.regions
     → (before (Wait mutator) ≢ 0) × NoneHasRoom (config_of c.loop-mutator.self).region_words (λ r. before (Top r)) (object_words (request_shape_in (before (Wait mutator)))) (config_of c.loop-mutator.self).regions =
-    λ h. subst (λ (k : Config). (before (Wait mutator) ≢ 0) × NoneHasRoom k.region_words (λ r. before (Top r)) (object_words (request_shape_in (before (Wait mutator)))) k.regions) (sym same)
-    (subst (λ (k : Word → ℕ). (k (Wait mutator) ≢ 0) × NoneHasRoom config.region_words (λ r. k (Top r)) (object_words (request_shape_in (k (Wait mutator)))) config.regions) (sym so_far) h) in
+    λ h. subst (λ (config : Config). (before (Wait mutator) ≢ 0) × NoneHasRoom config.region_words (λ r. before (Top r)) (object_words (request_shape_in (before (Wait mutator)))) config.regions) (sym same)
+    (subst (λ (memory : Word → ℕ). (memory (Wait mutator) ≢ 0) × NoneHasRoom config.region_words (λ r. memory (Top r)) (object_words (request_shape_in (memory (Wait mutator)))) config.regions) (sym so_far) h) in
     record {
       config = c.serve_one.ensures.config ∙ same;
       words = after;

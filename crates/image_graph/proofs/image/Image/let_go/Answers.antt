@@ -19,9 +19,9 @@ let_go_one-requires-clause-inside c =
     let memory : Word → ℕ = memory_of c.args.self.now in
     let seat = c.loop-seat.seat in
     let same : config_of c.loop-seat.self ≡ config = c.loop-seat.invariant.config in
-    let word : memory_of c.loop-seat.self (Current seat) ≡ memory (Current seat) = ap (λ (n : Word → ℕ). n (Current seat)) c.loop-seat.invariant.words ∙ let_go_later config memory seat seat (omega arith) in
+    let word : memory_of c.loop-seat.self (Current seat) ≡ memory (Current seat) = ap (λ (memory : Word → ℕ). memory (Current seat)) c.loop-seat.invariant.words ∙ let_go_later config memory seat seat (omega arith) in
     let below : seat < seat_count config.mutators config.helpers = omega (arith, c.loop-seat-test.true, c.seats-seat-end.ensures) in
-    λ some. subst (λ (n : ℕ). IsInside (config_of c.loop-seat.self) n) (sym word) (subst (λ (j : Config). IsInside j (memory (Current seat))) (sym same) (c.requires seat below (λ none. some (word ∙ none))))
+    λ some. subst (λ (n : ℕ). IsInside (config_of c.loop-seat.self) n) (sym word) (subst (λ (config : Config). IsInside config (memory (Current seat))) (sym same) (c.requires seat below (λ none. some (word ∙ none))))
 
 pub loop-seat-preserved : goal.loop-seat-preserved
 loop-seat-preserved c =
@@ -30,8 +30,8 @@ loop-seat-preserved c =
     let seat = c.loop-seat.seat in
     record {
       config = c.let_go_one.ensures.config ∙ c.loop-seat.invariant.config;
-      words = c.let_go_one.ensures.words ∙ ap (λ (j : Config). let_go_at j (memory_of c.loop-seat.self) seat) c.loop-seat.invariant.config
-          ∙ ap (λ (n : Word → ℕ). let_go_at config n seat) c.loop-seat.invariant.words ∙ let_go_next config memory seat;
+      words = c.let_go_one.ensures.words ∙ ap (λ (config : Config). let_go_at config (memory_of c.loop-seat.self) seat) c.loop-seat.invariant.config
+          ∙ ap (λ (memory : Word → ℕ). let_go_at config memory seat) c.loop-seat.invariant.words ∙ let_go_next config memory seat;
     }
 
 pub returns-clause-holds : goal.returns-clause-holds

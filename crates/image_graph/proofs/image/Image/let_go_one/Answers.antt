@@ -20,11 +20,11 @@ returns-clause-words c =
       | then-is_last w ↦
           let yes : c.is_last.result ≡ true = cc in
           stored (config_of c.if-is_last.self) config _ _ (Current seat) c.cur_at-at.result 0 (ap config_of w.self-is ∙ w.give_back.ensures.config) c.requires.seat c.cur_at-at.ensures c.set_word.ensures.named
-          ∙ ap (λ (n : Word → ℕ). write n (Current seat) 0) (ap memory_of w.self-is ∙ w.give_back.ensures.words ∙ ap (given_back config memory) word)
+          ∙ ap (λ (memory : Word → ℕ). write memory (Current seat) 0) (ap memory_of w.self-is ∙ w.give_back.ensures.words ∙ ap (given_back config memory) word)
           ∙ let_go_back config memory seat some (last ∙ yes)
       | else-is_last w ↦
           let no : c.is_last.result ≡ false = cc in
           stored (config_of c.if-is_last.self) config _ _ (Current seat) c.cur_at-at.result 0 (ap config_of w.self-is ∙ w.fill.ensures.config) c.requires.seat c.cur_at-at.ensures c.set_word.ensures.named
-          ∙ ap (λ (n : Word → ℕ). write n (Current seat) 0) (ap memory_of w.self-is ∙ w.fill.ensures.words ∙ ap (filled_over memory) word)
+          ∙ ap (λ (memory : Word → ℕ). write memory (Current seat) 0) (ap memory_of w.self-is ∙ w.fill.ensures.words ∙ ap (filled_over memory) word)
           ∙ let_go_filled config memory seat some (last ∙ no)
     ]

@@ -18,11 +18,11 @@ returns-clause-words c =
     let old : Word → ℕ = memory_of c.args.self.now in
     let same : g ≡ config_of c.args.self.now = c.config-config.ensures in
     -- what was read
-    let request : c.word-request.result ≡ old (Wait mutator) = c.word-request.ensures.named (Wait mutator) c.requires.mutator (ap (λ (k : Config). word_at k (Wait mutator)) (sym same) ∙ sym c.wait_at.ensures) in
-    let top : c.word-top.result ≡ old (Top region) = c.word-top.ensures.named (Top region) c.requires.region (ap (λ (k : Config). word_at k (Top region)) (sym same) ∙ sym c.top_at.ensures) in
-    let free : c.word-free.result ≡ old Free = c.word-free.ensures.named Free tt (ap (λ (k : Config). word_at k Free) (sym same) ∙ sym c.free_at.ensures) in
+    let request : c.word-request.result ≡ old (Wait mutator) = c.word-request.ensures.named (Wait mutator) c.requires.mutator (ap (λ (config : Config). word_at config (Wait mutator)) (sym same) ∙ sym c.wait_at.ensures) in
+    let top : c.word-top.result ≡ old (Top region) = c.word-top.ensures.named (Top region) c.requires.region (ap (λ (config : Config). word_at config (Top region)) (sym same) ∙ sym c.top_at.ensures) in
+    let free : c.word-free.result ≡ old Free = c.word-free.ensures.named Free tt (ap (λ (config : Config). word_at config Free) (sym same) ∙ sym c.free_at.ensures) in
     let shape : c.request_shape-shape.result ≡ request_shape_in (old (Wait mutator)) = c.request_shape-shape.ensures ∙ ap request_shape_in request in
-    let base : c.base.result ≡ base_of (config_of c.args.self.now) region = c.base.ensures ∙ ap (λ (k : Config). base_of k region) same in
+    let base : c.base.result ≡ base_of (config_of c.args.self.now) region = c.base.ensures ∙ ap (λ (config : Config). base_of config region) same in
     let a : ℕ = c.base.result + c.word-top.result in
     let address : a ≡ base_of (config_of c.args.self.now) region + old (Top region) = omega (arith, base, top) in
     let name : c.name_word-name.result ≡ name_code (mutator + 1) (request_count_in (old (Wait mutator))) =
@@ -32,7 +32,7 @@ returns-clause-words c =
     let inside : AreInHeap (config_of c.args.self.now) (base_of (config_of c.args.self.now) region + old (Top region)) (object_words (request_shape_in (old (Wait mutator)))) =
     room_in_heap (config_of c.args.self.now) region (old (Top region)) (object_words (request_shape_in (old (Wait mutator)))) c.requires.region c.requires.room in
     let is_heap : (i : ℕ) → i < 3 → IsWord g (Heap (a + i)) =
-    λ i few. subst (λ (k : Config). IsWord k (Heap (a + i))) (sym same) (omega (arith, inside.from, address), omega (arith, inside.to, address, few)) in
+    λ i few. subst (λ (config : Config). IsWord config (Heap (a + i))) (sym same) (omega (arith, inside.from, address), omega (arith, inside.to, address, few)) in
     let config_cleared : config_of c.clear.new.self ≡ g = c.clear.ensures.config ∙ sym same in
     let config_header : config_of c.set_word.new.self ≡ g = c.set_word.ensures.config ∙ config_cleared in
     let config_shape : config_of c.set_word-2.new.self ≡ g = c.set_word-2.ensures.config ∙ config_header in
@@ -40,13 +40,13 @@ returns-clause-words c =
     let config_top : config_of c.set_word-4.new.self ≡ g = c.set_word-4.ensures.config ∙ config_name in
     let config_free : config_of c.set_word-5.new.self ≡ g = c.set_word-5.ensures.config ∙ config_top in
     let config_answer : config_of c.set_word-6.new.self ≡ g = c.set_word-6.ensures.config ∙ config_free in
-    let stored_header = stored (config_of c.clear.new.self) g _ _ (Heap a) c.heap_at.result 1 config_cleared (subst (λ (k : Config). IsWord k (Heap a)) (sym same) (omega (arith, inside.from, address), omega (arith, inside.to, address))) c.heap_at.ensures c.set_word.ensures.named in
+    let stored_header = stored (config_of c.clear.new.self) g _ _ (Heap a) c.heap_at.result 1 config_cleared (subst (λ (config : Config). IsWord config (Heap a)) (sym same) (omega (arith, inside.from, address), omega (arith, inside.to, address))) c.heap_at.ensures c.set_word.ensures.named in
     let stored_shape = stored (config_of c.set_word.new.self) g _ _ (Heap (a + 1)) c.heap_at-2.result c.request_shape-shape.result config_header (is_heap 1 (omega arith)) c.heap_at-2.ensures c.set_word-2.ensures.named in
     let stored_name = stored (config_of c.set_word-2.new.self) g _ _ (Heap (a + 2)) c.heap_at-3.result c.name_word-name.result config_shape (is_heap 2 (omega arith)) c.heap_at-3.ensures c.set_word-3.ensures.named in
-    let stored_top = stored (config_of c.set_word-3.new.self) g _ _ (Top region) c.top_at-2.result (c.word-top.result + c.words_of-2.result) config_name (subst (λ (k : Config). region < k.regions) (sym same) c.requires.region) c.top_at-2.ensures c.set_word-4.ensures.named in
+    let stored_top = stored (config_of c.set_word-3.new.self) g _ _ (Top region) c.top_at-2.result (c.word-top.result + c.words_of-2.result) config_name (subst (λ (config : Config). region < config.regions) (sym same) c.requires.region) c.top_at-2.ensures c.set_word-4.ensures.named in
     let stored_free = stored (config_of c.set_word-4.new.self) g _ _ Free c.free_at-2.result (bit_and c.word-free.result c.all_but.result) config_top tt c.free_at-2.ensures c.set_word-5.ensures.named in
-    let stored_answer = stored (config_of c.set_word-5.new.self) g _ _ (Answer mutator) c.answer_at.result a config_free (subst (λ (k : Config). mutator < k.mutators) (sym same) c.requires.mutator) c.answer_at.ensures c.set_word-6.ensures.named in
-    let stored_wait = stored (config_of c.set_word-6.new.self) g _ _ (Wait mutator) c.wait_at-2.result 0 config_answer (subst (λ (k : Config). mutator < k.mutators) (sym same) c.requires.mutator) c.wait_at-2.ensures c.set_word-7.ensures.named in
+    let stored_answer = stored (config_of c.set_word-5.new.self) g _ _ (Answer mutator) c.answer_at.result a config_free (subst (λ (config : Config). mutator < config.mutators) (sym same) c.requires.mutator) c.answer_at.ensures c.set_word-6.ensures.named in
+    let stored_wait = stored (config_of c.set_word-6.new.self) g _ _ (Wait mutator) c.wait_at-2.result 0 config_answer (subst (λ (config : Config). mutator < config.mutators) (sym same) c.requires.mutator) c.wait_at-2.ensures c.set_word-7.ensures.named in
     let cleared_is : memory_of c.clear.new.self ≡ heap_cleared a (object_words c.request_shape-shape.result) old = c.clear.ensures.words ∙ ap (λ n. heap_cleared a n old) words in
     stored_wait ∙ ap (λ m. write m (Wait mutator) 0)
     (stored_answer ∙ ap (λ m. write m (Answer mutator) a)
@@ -60,19 +60,19 @@ returns-clause-words c =
 
 pub wait_at-requires : goal.wait_at-requires
 wait_at-requires c =
-    subst (λ (j : Config). c.args.mutator < j.mutators) (sym c.config-config.ensures) c.requires.mutator
+    subst (λ (config : Config). c.args.mutator < config.mutators) (sym c.config-config.ensures) c.requires.mutator
 
 pub word-request-requires : goal.word-request-requires
 word-request-requires c =
-    placed_inside (config_of c.args.self.now) c.config-config.result (Wait c.args.mutator) _ (sym c.config-config.ensures) (subst (λ (j : Config). c.args.mutator < j.mutators) (sym c.config-config.ensures) c.requires.mutator) c.wait_at.ensures
+    placed_inside (config_of c.args.self.now) c.config-config.result (Wait c.args.mutator) _ (sym c.config-config.ensures) (subst (λ (config : Config). c.args.mutator < config.mutators) (sym c.config-config.ensures) c.requires.mutator) c.wait_at.ensures
 
 pub top_at-requires : goal.top_at-requires
 top_at-requires c =
-    subst (λ (j : Config). c.args.region < j.regions) (sym c.config-config.ensures) c.requires.region
+    subst (λ (config : Config). c.args.region < config.regions) (sym c.config-config.ensures) c.requires.region
 
 pub word-top-requires : goal.word-top-requires
 word-top-requires c =
-    placed_inside (config_of c.args.self.now) c.config-config.result (Top c.args.region) _ (sym c.config-config.ensures) (subst (λ (j : Config). c.args.region < j.regions) (sym c.config-config.ensures) c.requires.region) c.top_at.ensures
+    placed_inside (config_of c.args.self.now) c.config-config.result (Top c.args.region) _ (sym c.config-config.ensures) (subst (λ (config : Config). c.args.region < config.regions) (sym c.config-config.ensures) c.requires.region) c.top_at.ensures
 
 pub word-free-requires : goal.word-free-requires
 word-free-requires c =
@@ -80,7 +80,7 @@ word-free-requires c =
 
 pub base-requires : goal.base-requires
 base-requires c =
-    subst (λ (j : Config). c.args.region < j.regions) (sym c.config-config.ensures) c.requires.region
+    subst (λ (config : Config). c.args.region < config.regions) (sym c.config-config.ensures) c.requires.region
 
 pub overflow_add-address : goal.overflow_add-address
 overflow_add-address c =
@@ -88,7 +88,7 @@ overflow_add-address c =
     let region = c.args.region in
     let used : c.word-top.result ≡ memory_of c.args.self.now (Top region) =
     read config _ (memory_of c.args.self.now) (Top region) _ _ c.config-config.ensures c.requires.region c.top_at.ensures c.word-top.ensures.named in
-    let base : c.base.result ≡ base_of config region = c.base.ensures ∙ ap (λ (j : Config). base_of j region) c.config-config.ensures in
+    let base : c.base.result ≡ base_of config region = c.base.ensures ∙ ap (λ (config : Config). base_of config region) c.config-config.ensures in
     omega (arith, used, base, c.requires.room, low_region config region c.requires.region)
 
 pub overflow_cast-mutator : goal.overflow_cast-mutator
@@ -200,7 +200,7 @@ set_word-requires-3 c =
 
 pub top_at-requires-2 : goal.top_at-requires-2
 top_at-requires-2 c =
-    subst (λ (j : Config). c.args.region < j.regions) (sym c.config-config.ensures) c.requires.region
+    subst (λ (config : Config). c.args.region < config.regions) (sym c.config-config.ensures) c.requires.region
 
 pub overflow_add-top : goal.overflow_add-top
 overflow_add-top c =
@@ -210,7 +210,7 @@ overflow_add-top c =
 
 pub set_word-requires-4 : goal.set_word-requires-4
 set_word-requires-4 c =
-    placed_inside (config_of c.set_word-3.new.self) c.config-config.result (Top c.args.region) _ (c.set_word-3.ensures.config ∙ c.set_word-2.ensures.config ∙ c.set_word.ensures.config ∙ c.clear.ensures.config ∙ sym c.config-config.ensures) (subst (λ (j : Config). c.args.region < j.regions) (sym c.config-config.ensures) c.requires.region) c.top_at-2.ensures
+    placed_inside (config_of c.set_word-3.new.self) c.config-config.result (Top c.args.region) _ (c.set_word-3.ensures.config ∙ c.set_word-2.ensures.config ∙ c.set_word.ensures.config ∙ c.clear.ensures.config ∙ sym c.config-config.ensures) (subst (λ (config : Config). c.args.region < config.regions) (sym c.config-config.ensures) c.requires.region) c.top_at-2.ensures
 
 pub all_but-requires : goal.all_but-requires
 all_but-requires c =
@@ -222,19 +222,19 @@ set_word-requires-5 c =
 
 pub answer_at-requires : goal.answer_at-requires
 answer_at-requires c =
-    subst (λ (j : Config). c.args.mutator < j.mutators) (sym c.config-config.ensures) c.requires.mutator
+    subst (λ (config : Config). c.args.mutator < config.mutators) (sym c.config-config.ensures) c.requires.mutator
 
 pub set_word-requires-6 : goal.set_word-requires-6
 set_word-requires-6 c =
-    placed_inside (config_of c.set_word-5.new.self) c.config-config.result (Answer c.args.mutator) _ (c.set_word-5.ensures.config ∙ c.set_word-4.ensures.config ∙ c.set_word-3.ensures.config ∙ c.set_word-2.ensures.config ∙ c.set_word.ensures.config ∙ c.clear.ensures.config ∙ sym c.config-config.ensures) (subst (λ (j : Config). c.args.mutator < j.mutators) (sym c.config-config.ensures) c.requires.mutator) c.answer_at.ensures
+    placed_inside (config_of c.set_word-5.new.self) c.config-config.result (Answer c.args.mutator) _ (c.set_word-5.ensures.config ∙ c.set_word-4.ensures.config ∙ c.set_word-3.ensures.config ∙ c.set_word-2.ensures.config ∙ c.set_word.ensures.config ∙ c.clear.ensures.config ∙ sym c.config-config.ensures) (subst (λ (config : Config). c.args.mutator < config.mutators) (sym c.config-config.ensures) c.requires.mutator) c.answer_at.ensures
 
 pub wait_at-requires-2 : goal.wait_at-requires-2
 wait_at-requires-2 c =
-    subst (λ (j : Config). c.args.mutator < j.mutators) (sym c.config-config.ensures) c.requires.mutator
+    subst (λ (config : Config). c.args.mutator < config.mutators) (sym c.config-config.ensures) c.requires.mutator
 
 pub set_word-requires-7 : goal.set_word-requires-7
 set_word-requires-7 c =
-    placed_inside (config_of c.set_word-6.new.self) c.config-config.result (Wait c.args.mutator) _ (c.set_word-6.ensures.config ∙ c.set_word-5.ensures.config ∙ c.set_word-4.ensures.config ∙ c.set_word-3.ensures.config ∙ c.set_word-2.ensures.config ∙ c.set_word.ensures.config ∙ c.clear.ensures.config ∙ sym c.config-config.ensures) (subst (λ (j : Config). c.args.mutator < j.mutators) (sym c.config-config.ensures) c.requires.mutator) c.wait_at-2.ensures
+    placed_inside (config_of c.set_word-6.new.self) c.config-config.result (Wait c.args.mutator) _ (c.set_word-6.ensures.config ∙ c.set_word-5.ensures.config ∙ c.set_word-4.ensures.config ∙ c.set_word-3.ensures.config ∙ c.set_word-2.ensures.config ∙ c.set_word.ensures.config ∙ c.clear.ensures.config ∙ sym c.config-config.ensures) (subst (λ (config : Config). c.args.mutator < config.mutators) (sym c.config-config.ensures) c.requires.mutator) c.wait_at-2.ensures
 
 pub returns-clause-config : goal.returns-clause-config
 returns-clause-config c =

@@ -11,8 +11,8 @@ pub returns : goal.returns
 returns c =
     let memory = memory_of c.args.self.now in
     let same = c.config.ensures in
-    subst (λ (k : Config). c.first_with_room.result ≡ lowest_room k.region_words (λ r. memory (Top r)) c.args.words k.regions) same
+    subst (λ (config : Config). c.first_with_room.result ≡ lowest_room config.region_words (λ region. memory (Top region)) c.args.words config.regions) same
     (room_found c.config.result memory c.tops.result.now c.args.words c.first_with_room.result
-    (subst (λ (k : Config). (r : ℕ) → r < k.regions → slice_index c.tops.result.now r ≡ memory (Top r)) (sym same) c.tops.ensures.tops)
-    (subst (λ (k : Config). AreWithin k memory) (sym same) c.requires)
+    (subst (λ (config : Config). (region : ℕ) → region < config.regions → slice_index c.tops.result.now region ≡ memory (Top region)) (sym same) c.tops.ensures.tops)
+    (subst (λ (config : Config). AreWithin config memory) (sym same) c.requires)
     c.first_with_room.ensures.none c.first_with_room.ensures.first)

@@ -12,7 +12,7 @@ pub make_object-requires-clause-region : goal.make_object-requires-clause-region
 make_object-requires-clause-region c =
     let config = config_of c.args.self.now in
     let memory : Word → ℕ = memory_of c.args.self.now in
-    let request : c.word-request.result ≡ memory (Wait c.args.mutator) = c.word-request.ensures.named (Wait c.args.mutator) c.requires.mutator (ap (λ (k : Config). word_at k (Wait c.args.mutator)) (sym c.config-config.ensures) ∙ sym c.wait_at.ensures) in
+    let request : c.word-request.result ≡ memory (Wait c.args.mutator) = c.word-request.ensures.named (Wait c.args.mutator) c.requires.mutator (ap (λ (config : Config). word_at config (Wait c.args.mutator)) (sym c.config-config.ensures) ∙ sym c.wait_at.ensures) in
     let asked : c.words_of.result ≡ object_words (request_shape_in (memory (Wait c.args.mutator))) = c.words_of.ensures ∙ ap object_words (c.request_shape.ensures ∙ ap request_shape_in request) in
     (found_room config memory c.words_of.result (object_words (request_shape_in (memory (Wait c.args.mutator)))) c.in-Some.region c.room_for.result c.room_for.ensures asked c.in-Some.is).below
 
@@ -20,7 +20,7 @@ pub make_object-requires-clause-room : goal.make_object-requires-clause-room
 make_object-requires-clause-room c =
     let config = config_of c.args.self.now in
     let memory : Word → ℕ = memory_of c.args.self.now in
-    let request : c.word-request.result ≡ memory (Wait c.args.mutator) = c.word-request.ensures.named (Wait c.args.mutator) c.requires.mutator (ap (λ (k : Config). word_at k (Wait c.args.mutator)) (sym c.config-config.ensures) ∙ sym c.wait_at.ensures) in
+    let request : c.word-request.result ≡ memory (Wait c.args.mutator) = c.word-request.ensures.named (Wait c.args.mutator) c.requires.mutator (ap (λ (config : Config). word_at config (Wait c.args.mutator)) (sym c.config-config.ensures) ∙ sym c.wait_at.ensures) in
     let asked : c.words_of.result ≡ object_words (request_shape_in (memory (Wait c.args.mutator))) = c.words_of.ensures ∙ ap object_words (c.request_shape.ensures ∙ ap request_shape_in request) in
     (found_room config memory c.words_of.result (object_words (request_shape_in (memory (Wait c.args.mutator)))) c.in-Some.region c.room_for.result c.room_for.ensures asked c.in-Some.is).room
 
@@ -28,17 +28,17 @@ pub returns-in-Some-clause-within : goal.returns-in-Some-clause-within
 returns-in-Some-clause-within c =
     let config = config_of c.args.self.now in
     let memory : Word → ℕ = memory_of c.args.self.now in
-    let request : c.word-request.result ≡ memory (Wait c.args.mutator) = c.word-request.ensures.named (Wait c.args.mutator) c.requires.mutator (ap (λ (k : Config). word_at k (Wait c.args.mutator)) (sym c.config-config.ensures) ∙ sym c.wait_at.ensures) in
+    let request : c.word-request.result ≡ memory (Wait c.args.mutator) = c.word-request.ensures.named (Wait c.args.mutator) c.requires.mutator (ap (λ (config : Config). word_at config (Wait c.args.mutator)) (sym c.config-config.ensures) ∙ sym c.wait_at.ensures) in
     let asked : c.words_of.result ≡ object_words (request_shape_in (memory (Wait c.args.mutator))) = c.words_of.ensures ∙ ap object_words (c.request_shape.ensures ∙ ap request_shape_in request) in
     let found = found_room config memory c.words_of.result (object_words (request_shape_in (memory (Wait c.args.mutator)))) c.in-Some.region c.room_for.result c.room_for.ensures asked c.in-Some.is in
-    subst (λ (k : Config). AreWithin k (memory_of c.make_object.new.self)) (sym c.make_object.ensures.config)
+    subst (λ (config : Config). AreWithin config (memory_of c.make_object.new.self)) (sym c.make_object.ensures.config)
     (subst (AreWithin config) (sym c.make_object.ensures.words) (made_within config memory c.args.mutator c.in-Some.region c.requires.within found.room))
 
 pub returns-in-Some-clause-left : goal.returns-in-Some-clause-left
 returns-in-Some-clause-left c =
     let config = config_of c.args.self.now in
     let memory : Word → ℕ = memory_of c.args.self.now in
-    let request : c.word-request.result ≡ memory (Wait c.args.mutator) = c.word-request.ensures.named (Wait c.args.mutator) c.requires.mutator (ap (λ (k : Config). word_at k (Wait c.args.mutator)) (sym c.config-config.ensures) ∙ sym c.wait_at.ensures) in
+    let request : c.word-request.result ≡ memory (Wait c.args.mutator) = c.word-request.ensures.named (Wait c.args.mutator) c.requires.mutator (ap (λ (config : Config). word_at config (Wait c.args.mutator)) (sym c.config-config.ensures) ∙ sym c.wait_at.ensures) in
     let asked : c.words_of.result ≡ object_words (request_shape_in (memory (Wait c.args.mutator))) = c.words_of.ensures ∙ ap object_words (c.request_shape.ensures ∙ ap request_shape_in request) in
     let found = found_room config memory c.words_of.result (object_words (request_shape_in (memory (Wait c.args.mutator)))) c.in-Some.region c.room_for.result c.room_for.ensures asked c.in-Some.is in
     (λ never. absurd (true≢false never), λ none. absurd (omega (arith, found.room, none.1 c.in-Some.region found.below)))
@@ -47,7 +47,7 @@ pub returns-in-None-clause-left : goal.returns-in-None-clause-left
 returns-in-None-clause-left c =
     let config = config_of c.args.self.now in
     let memory : Word → ℕ = memory_of c.args.self.now in
-    let request : c.word-request.result ≡ memory (Wait c.args.mutator) = c.word-request.ensures.named (Wait c.args.mutator) c.requires.mutator (ap (λ (k : Config). word_at k (Wait c.args.mutator)) (sym c.config-config.ensures) ∙ sym c.wait_at.ensures) in
+    let request : c.word-request.result ≡ memory (Wait c.args.mutator) = c.word-request.ensures.named (Wait c.args.mutator) c.requires.mutator (ap (λ (config : Config). word_at config (Wait c.args.mutator)) (sym c.config-config.ensures) ∙ sym c.wait_at.ensures) in
     let asked : c.words_of.result ≡ object_words (request_shape_in (memory (Wait c.args.mutator))) = c.words_of.ensures ∙ ap object_words (c.request_shape.ensures ∙ ap request_shape_in request) in (
       λ _. (
         λ none. c.if-request-eq0.false (request ∙ none),

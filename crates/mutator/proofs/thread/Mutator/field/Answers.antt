@@ -10,7 +10,7 @@ use Rattle.mutator.proofs.thread.Mutator.field.Goals as goal
 
 -- the mutator at a spot
 abbrev at_spot : Mutating → Spot → Mutating
-at_spot m spot = record m { spot = spot }
+at_spot mutator spot = record mutator { spot = spot }
 
 pub after-self-requires : goal.after-self-requires
 after-self-requires c =

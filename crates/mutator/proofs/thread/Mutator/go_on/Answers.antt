@@ -11,7 +11,7 @@ use Rattle.mutator.proofs.thread.Mutator.go_on.Goals as goal
 
 -- the mutator at a spot
 abbrev at_spot : Mutating → Spot → Mutating
-at_spot m spot = record m { spot = spot }
+at_spot mutator spot = record mutator { spot = spot }
 
 pub invariant_of-self : goal.invariant_of-self
 invariant_of-self c =

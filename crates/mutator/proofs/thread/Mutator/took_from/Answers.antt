@@ -22,19 +22,19 @@ pub go_on-requires-clause-takes : goal.go_on-requires-clause-takes
 go_on-requires-clause-takes c =
     let mutator = c.args.self.now in
     let takes = takes_where_busy _ _ _ c.requires.busy mutator.allowed in
-    subst (λ (o : Order). takes_at mutator.spot mutator.made o ≡ true) (in_progress mutator.spot mutator.made mutator.order (ap takes_commands c.requires.at ∙ sym c.takes_commands.ensures ∙ c.if-takes_commands.false) takes) takes
+    subst (λ (order : Order). takes_at mutator.spot mutator.made order ≡ true) (in_progress mutator.spot mutator.made mutator.order (ap takes_commands c.requires.at ∙ sym c.takes_commands.ensures ∙ c.if-takes_commands.false) takes) takes
 
 pub go_on-requires-clause-fit : goal.go_on-requires-clause-fit
 go_on-requires-clause-fit c =
     let mutator = c.args.self.now in
     let none = in_progress mutator.spot mutator.made mutator.order (ap takes_commands c.requires.at ∙ sym c.takes_commands.ensures ∙ c.if-takes_commands.false) (takes_where_busy _ _ _ c.requires.busy mutator.allowed) in
-    subst (λ (o : Order). IsFit mutator.config (seen mutator) o c.args.got) none c.requires.fit
+    subst (λ (order : Order). IsFit mutator.config (seen mutator) order c.args.got) none c.requires.fit
 
 pub returns-clause-seen : goal.returns-clause-seen
 returns-clause-seen c =
     let mutator = c.args.self.now in
     let none = in_progress mutator.spot mutator.made mutator.order (ap takes_commands c.requires.at ∙ sym c.takes_commands.ensures ∙ c.if-takes_commands.false) (takes_where_busy _ _ _ c.requires.busy mutator.allowed) in
-    c.go_on.ensures.seen ∙ ap (λ (o : Order). next_of mutator.config (seen mutator) o c.args.got) (sym none)
+    c.go_on.ensures.seen ∙ ap (λ (order : Order). next_of mutator.config (seen mutator) order c.args.got) (sym none)
 
 pub returns-clause-done : goal.returns-clause-done
 returns-clause-done c = let mutator = c.args.self.now in rw c.go_on.ensures.answer (ends mutator.config mutator.kept mutator.order mutator.spot c.args.got)

@@ -7,8 +7,8 @@ use Rattle.shen_graph.specs.PlainGraph.{graph_of}
 use Rattle.shen_check.proofs.Accepted.{answered}
 use Rattle.shen_check.proofs.judge.Judge.may_answer.Goals as goal
 
-no_full : (r : Reply) (told : Bool) → told ≡ eq-value.it r Full → told ≡ false → r ≡ Full → ⊥
-no_full r told is other same = let one = sym other ∙ is ∙ ap (λ (s : Reply). eq-value.it s Full) same in absurd cc
+no_full : (reply : Reply) (told : Bool) → told ≡ eq-value.it reply Full → told ≡ false → reply ≡ Full → ⊥
+no_full reply told is other same = let one = sym other ∙ is ∙ ap (λ (reply : Reply). eq-value.it reply Full) same in absurd cc
 
 pub returns-clause-answer : goal.returns-clause-answer
 returns-clause-answer c =

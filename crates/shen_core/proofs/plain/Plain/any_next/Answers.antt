@@ -5,7 +5,7 @@ use borrow.Author.Count.{below_more}
 use Rattle.step_core.specs.Schedule.{turn}
 use Rattle.shen_core.proofs.plain.Plain.any_next.Goals as goal
 
-none_there : {A : Type 0} → (o : Option A) → is_some o ≡ false → o ≡ None
+none_there : {A : Type 0} → (found : Option A) → is_some found ≡ false → found ≡ None
 none_there None is = refl
 none_there (Some x) is = absurd cc
 

@@ -6,4 +6,4 @@ use Rattle.shen_core.specs.State.{Shows}
 use Rattle.shen_core.proofs.plain.Plain.any_next.Given as goal
 
 abbrev pub invariant-loop-number : goal.invariant-loop-number
-invariant-loop-number l = (scripts : Scripts) (s : Stage Actor) → Shows l.self s → (k : ℕ) → k < l.number → turn scripts s k ≡ None
+invariant-loop-number l = (scripts : Scripts) (stage : Stage Actor) → Shows l.self stage → (k : ℕ) → k < l.number → turn scripts stage k ≡ None

@@ -23,7 +23,7 @@ answer_graph-requires-clause-control c =
     let here = from_read plain.machines.items (c.seats-control.result - 1) m (omega (arith, plain.all_machines, c.seats-control.ensures)) c.index_mut.ensures.value in
     let at : slice_get (map shown plain.machines.items) (control_number plain.config) ≡ Some (shown m) =
     ap (slice_get (map shown plain.machines.items)) (sym number) ∙ shown_here plain.machines.items (c.seats-control.result - 1) m here in
-    subst (λ (e : Config). CanShow e (image_from e c.deref.result.now) (shown m)) (sym (heap_here plain.config plain.machines.items (c.seats-control.result - 1) m plain.one_heap here))
+    subst (λ (config : Config). CanShow config (image_from config c.deref.result.now) (shown m)) (sym (heap_here plain.config plain.machines.items (c.seats-control.result - 1) m plain.one_heap here))
     (subst (λ ws. CanShow plain.config (image_from plain.config ws) (shown m)) (sym c.deref.ensures.value)
     (some_can_show plain.config plain.words.items (map shown plain.machines.items) c.requires.rest.mutators c.requires.rest.control plain.reached (shown m) at))
 
@@ -32,7 +32,7 @@ answer_graph-requires-clause-stand c =
     let plain = c.args.self.now in
     let m = c.index_mut.result.now in
     let here = from_read plain.machines.items (c.seats-control.result - 1) m (omega (arith, plain.all_machines, c.seats-control.ensures)) c.index_mut.ensures.value in
-    subst (λ (e : Config). StandsForSome e c.deref.result.now) (sym (heap_here plain.config plain.machines.items (c.seats-control.result - 1) m plain.one_heap here))
+    subst (λ (config : Config). StandsForSome config c.deref.result.now) (sym (heap_here plain.config plain.machines.items (c.seats-control.result - 1) m plain.one_heap here))
     (subst (λ ws. StandsForSome plain.config ws) (sym c.deref.ensures.value)
     (some_stand plain.config plain.words.items (map shown plain.machines.items) c.requires.rest.mutators c.requires.rest.control plain.reached))
 
@@ -68,7 +68,7 @@ returns-clause-shows c run shown_by =
     let m = c.index_mut.result.now in
     let here = from_read plain.machines.items (c.seats-control.result - 1) m (omega (arith, plain.all_machines, c.seats-control.ensures)) c.index_mut.ensures.value in
     let shows = subst (λ ws. ShowsTheGraph plain.config ws c.answer_graph.new.text) c.deref.ensures.value
-    (subst (λ (e : Config). ShowsTheGraph e c.deref.result.now c.answer_graph.new.text) (heap_here plain.config plain.machines.items (c.seats-control.result - 1) m plain.one_heap here)
+    (subst (λ (config : Config). ShowsTheGraph config c.deref.result.now c.answer_graph.new.text) (heap_here plain.config plain.machines.items (c.seats-control.result - 1) m plain.one_heap here)
     c.answer_graph.ensures.shows) in
     shows (names plain.config plain.words.items (map shown plain.machines.items) c.requires.rest.mutators c.requires.rest.control run shown_by) (graph_after pause_image plain.config run)
     (stand plain.config plain.words.items (map shown plain.machines.items) c.requires.rest.mutators c.requires.rest.control run shown_by)

@@ -13,5 +13,5 @@ invariant-loop-number l = record {
   config : config_of l.self ≡ config_of l.initial.self;
   less : l.left ≤ l.initial.left;
   runs : RunsNoted l.initial.self l.initial.work (agenda [] 0) l.initial.left l.self l.work (agenda [] l.number) l.left;
-  idle : l.left ≡ l.initial.left → (scripts : Scripts) (s : Stage Actor) → Shows l.self s → Tells (config_of l.self) scripts l.work s → (k : ℕ) → k < l.number → turn scripts s k ≡ None;
+  idle : l.left ≡ l.initial.left → (scripts : Scripts) (stage : Stage Actor) → Shows l.self stage → Tells (config_of l.self) scripts l.work stage → (k : ℕ) → k < l.number → turn scripts stage k ≡ None;
 }

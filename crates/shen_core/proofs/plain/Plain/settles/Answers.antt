@@ -15,20 +15,20 @@ use Rattle.shen_core.proofs.Settles.{sees_reply, sees_nothing, sees_refusal, wai
 use Rattle.shen_core.proofs.plain.Plain.settles.Goals as goal
 
 -- the machine takes its order
-takes_now : (p : Plain) (number : ℕ) (m : Machine) → slice_get p.machines.items number ≡ Some m → has_turn p number ≡ true → takes_of (shown m) (order_at p number) ≡ true
-takes_now p number m here turn = ap (λ x. takes_of x (order_at p number)) (sym (machine_here p.machines.items number m here)) ∙ turn
+takes_now : (plain : Plain) (number : ℕ) (machine : Machine) → slice_get plain.machines.items number ≡ Some machine → has_turn plain number ≡ true → takes_of (shown machine) (order_at plain number) ≡ true
+takes_now plain number machine here turn = ap (λ x. takes_of x (order_at plain number)) (sym (machine_here plain.machines.items number machine here)) ∙ turn
 
 -- what it settles, by the words of the heap
-settled_now : (p : Plain) (number : ℕ) (m : Machine) (words : List ℕ) (o : Option Reply) → slice_get p.machines.items number ≡ Some m → words ≡ p.words.items → o ≡ reply_settled (view (config_of m) words) (shown m) → reply_settled (view p.config p.words.items) (shown m) ≡ o
-settled_now p number m words o here read is =
-    sym (is ∙ ap (λ ws. reply_settled (view (config_of m) ws) (shown m)) read ∙ ap (λ k. reply_settled (view k p.words.items) (shown m)) (heap_here p.config p.machines.items number m p.one_heap here))
+settled_now : (plain : Plain) (number : ℕ) (machine : Machine) (words : List ℕ) (found : Option Reply) → slice_get plain.machines.items number ≡ Some machine → words ≡ plain.words.items → found ≡ reply_settled (view (config_of machine) words) (shown machine) → reply_settled (view plain.config plain.words.items) (shown machine) ≡ found
+settled_now plain number machine words found here read is =
+    sym (is ∙ ap (λ ws. reply_settled (view (config_of machine) ws) (shown machine)) read ∙ ap (λ k. reply_settled (view k plain.words.items) (shown machine)) (heap_here plain.config plain.machines.items number machine plain.one_heap here))
 
 -- the mutator that it refuses
-refused_now : (p : Plain) (number t : ℕ) (m : Machine) (words : List ℕ) → slice_get p.machines.items number ≡ Some m → has_turn p number ≡ true → words ≡ p.words.items → Some t ≡ refused_by p.config words (shown m)
-    → IsWaiting p.config p.words.items (map shown p.machines.items) number (order_at p number) t
-refused_now p number t m words here turn read is =
-    waiting p.config p.words.items (map shown p.machines.items) number (order_at p number) (shown m) t (shown_here p.machines.items number m here) (takes_now p number m here turn)
-    (sym (is ∙ ap (λ ws. refused_by p.config ws (shown m)) read)) p.reached
+refused_now : (plain : Plain) (number t : ℕ) (machine : Machine) (words : List ℕ) → slice_get plain.machines.items number ≡ Some machine → has_turn plain number ≡ true → words ≡ plain.words.items → Some t ≡ refused_by plain.config words (shown machine)
+    → IsWaiting plain.config plain.words.items (map shown plain.machines.items) number (order_at plain number) t
+refused_now plain number t machine words here turn read is =
+    waiting plain.config plain.words.items (map shown plain.machines.items) number (order_at plain number) (shown machine) t (shown_here plain.machines.items number machine here) (takes_now plain number machine here turn)
+    (sym (is ∙ ap (λ ws. refused_by plain.config ws (shown machine)) read)) plain.reached
 
 pub returns-in-Some : goal.returns-in-Some
 returns-in-Some c =

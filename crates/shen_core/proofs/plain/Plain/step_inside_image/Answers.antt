@@ -12,8 +12,8 @@ use Rattle.shen_core.proofs.Memory.{from_read, machine_here, made_from, made_ste
 use Rattle.shen_core.proofs.plain.Plain.step_inside_image.Goals as goal
 
 -- it has a turn
-turn_of : (c : Config) (m : Machine) → order_of m ≡ Nothing → is_inside_image c (shown m) ≡ true → has_turn m ≡ true
-turn_of c m none inside = ap (takes_of (shown m)) none ∙ (goes_inside c (shown m) inside).takes
+turn_of : (config : Config) (machine : Machine) → order_of machine ≡ Nothing → is_inside_image config (shown machine) ≡ true → has_turn machine ≡ true
+turn_of config machine none inside = ap (takes_of (shown machine)) none ∙ (goes_inside config (shown machine) inside).takes
 
 pub invariant_of-self : goal.invariant_of-self
 invariant_of-self c =

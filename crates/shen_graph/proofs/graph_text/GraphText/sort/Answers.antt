@@ -21,7 +21,7 @@ gather-requires-clause-room_for_references c =
       c.self.invariant.words,
       c.self.invariant.moved_references.1,
       laid.fills_refs,
-      sum_by-IsPermutation (λ (p : Place). span_length p.refs) c.self.inside.places.items c.sort_unstable_by_key.new.self.items c.sort_unstable_by_key.ensures.permutation,
+      sum_by-IsPermutation (λ (place : Place). span_length place.refs) c.self.inside.places.items c.sort_unstable_by_key.new.self.items c.sort_unstable_by_key.ensures.permutation,
     )
 
 pub gather-requires-clause-room_for_numbers : goal.gather-requires-clause-room_for_numbers
@@ -32,14 +32,14 @@ gather-requires-clause-room_for_numbers c =
       c.self.invariant.words,
       c.self.invariant.moved_numbers.1,
       laid.fills_nums,
-      sum_by-IsPermutation (λ (p : Place). span_length p.nums) c.self.inside.places.items c.sort_unstable_by_key.new.self.items c.sort_unstable_by_key.ensures.permutation,
+      sum_by-IsPermutation (λ (place : Place). span_length place.nums) c.self.inside.places.items c.sort_unstable_by_key.new.self.items c.sort_unstable_by_key.ensures.permutation,
     )
 
 pub invariant_of-self : goal.invariant_of-self
 invariant_of-self c =
     let room = c.self.invariant in
-    let refs = sum_by-IsPermutation (λ (p : Place). span_length p.refs) c.self.inside.places.items c.sort_unstable_by_key.new.self.items c.sort_unstable_by_key.ensures.permutation in
-    let nums = sum_by-IsPermutation (λ (p : Place). span_length p.nums) c.self.inside.places.items c.sort_unstable_by_key.new.self.items c.sort_unstable_by_key.ensures.permutation in
+    let refs = sum_by-IsPermutation (λ (place : Place). span_length place.refs) c.self.inside.places.items c.sort_unstable_by_key.new.self.items c.sort_unstable_by_key.ensures.permutation in
+    let nums = sum_by-IsPermutation (λ (place : Place). span_length place.nums) c.self.inside.places.items c.sort_unstable_by_key.new.self.items c.sort_unstable_by_key.ensures.permutation in
     let ref_count : vec_len c.swap.new.x ≡ vec_len c.self.inside.references = ap vec_len c.swap.ensures.x_after ∙ c.gather.ensures.references ∙ refs ∙ room.laid.fills_refs in
     let num_count : vec_len c.swap-2.new.x ≡ vec_len c.self.inside.numbers = ap vec_len c.swap-2.ensures.x_after ∙ c.gather.ensures.numbers ∙ nums ∙ room.laid.fills_nums in
     let places : vec_len c.gather.new.places ≡ vec_len c.self.inside.places = c.gather.ensures.places ∙ c.sort_unstable_by_key.ensures.len in
@@ -64,7 +64,7 @@ returns-clause-rows c =
 
 pub returns-clause-order : goal.returns-clause-order
 returns-clause-order c =
-    let sorted = c.sort_unstable_by_key.ensures.sorted (λ (p : Place). p.name) (answers_always _ _ _ (λ f a r g h. search rules)) in
+    let sorted = c.sort_unstable_by_key.ensures.sorted (λ (place : Place). place.name) (answers_always _ _ _ (λ f a r g h. search rules)) in
     let seen = row_at c.self.inside.references.items c.self.inside.numbers.items in
     let rows : map (row_at c.swap.new.x.items c.swap-2.new.x.items) c.gather.new.places.items ≡ map seen c.sort_unstable_by_key.new.self.items =
     rw (c.swap.ensures.x_after, c.swap-2.ensures.x_after) (c.gather.ensures.rows ∙ rw (c.deref.ensures.value, c.deref-2.ensures.value) refl) in

@@ -13,7 +13,7 @@ none = record { thread = 0; count = 0 }
 
 pub put_object-requires : goal.put_object-requires
 put_object-requires c =
-    let words = λ (n : Name). size (named (graph_of c.args.self.now) (Some n)) in
+    let words = λ (name : Name). size (named (graph_of c.args.self.now) (Some name)) in
     omega (arith, sum_by_more_le words c.args.names.now c.loop-name.name-index none)
 
 pub loop-name-preserved : goal.loop-name-preserved

@@ -9,33 +9,33 @@ use Rattle.shen_graph.specs.declared.command.Command.{Command}
 use Rattle.shen_graph.specs.Work.{Progress, begun}
 use Rattle.shen_graph.proofs.work.Work.of.Goals as goal
 
-longer : (now new : List (List Command)) (s : List Command) → now ≡ new ++ s ∷ [] → length now ≡ length new + 1
-longer now new s split = omega (arith, ap length split, length-append new (s ∷ []))
+longer : (now new : List (List Command)) (script : List Command) → now ≡ new ++ script ∷ [] → length now ≡ length new + 1
+longer now new script split = omega (arith, ap length split, length-append new (script ∷ []))
 
 -- the last script is taken
-kept : (all now new : List (List Command)) (s : List Command) → now ≡ take (length now) all → now ≡ new ++ s ∷ [] → new ≡ take (length new) all
-kept all now new s left split =
-    let fewer : length new ≤ length now = omega (arith, longer now new s split) in
-    sym (take_at new (s ∷ []) (length new) refl) ∙ ap (take (length new)) (sym split ∙ left) ∙ take-take (length new) (length now) all fewer
+kept : (all now new : List (List Command)) (script : List Command) → now ≡ take (length now) all → now ≡ new ++ script ∷ [] → new ≡ take (length new) all
+kept all now new script left split =
+    let fewer : length new ≤ length now = omega (arith, longer now new script split) in
+    sym (take_at new (script ∷ []) (length new) refl) ∙ ap (take (length new)) (sym split ∙ left) ∙ take-take (length new) (length now) all fewer
 
 -- it was the last of those that were left
-last : (all now new : List (List Command)) (s : List Command) → now ≡ take (length now) all → now ≡ new ++ s ∷ [] → slice_get all (length new) ≡ Some s
-last all now new s left split =
+last : (all now new : List (List Command)) (script : List Command) → now ≡ take (length now) all → now ≡ new ++ script ∷ [] → slice_get all (length new) ≡ Some script
+last all now new script left split =
     let n : ℕ = length new in
-    let below : n < length now = omega (arith, longer now new s split) in
+    let below : n < length now = omega (arith, longer now new script split) in
     let within : length now ≤ length all = omega (arith, ap length left, length-take (length now) all) in
-    slice_get_read all (length all) n s refl (omega arith)
-    (sym (get_or_at new s [] s n refl) ∙ ap (λ list. get_or list n s) (sym split ∙ left) ∙ get_or-take (length now) all n s below)
+    slice_get_read all (length all) n script refl (omega arith)
+    (sym (get_or_at new script [] script n refl) ∙ ap (λ list. get_or list n script) (sym split ∙ left) ∙ get_or-take (length now) all n script below)
 
 -- and put into its place
-moved_on : (all now new : List (List Command)) (s : List Command) (jobs : List (Option Progress)) (i k : ℕ) (job : Progress) → i ≡ length new → i < length jobs → job ≡ begun s →
-    now ≡ take (length now) all → now ≡ new ++ s ∷ [] → (length now ≤ k → get_or jobs k None ≡ option_map begun (slice_get all k)) → length new ≤ k →
-    get_or (slice_set jobs i (Some job)) k None ≡ option_map begun (slice_get all k)
-moved_on all now new s jobs i k job at within made left split moved past =
-    elim (cases_eq k i) [
-      | inl same ↦ subst (λ k. get_or (slice_set jobs i (Some job)) k None ≡ option_map begun (slice_get all k)) (sym same)
-          (get_or-set_same jobs i (Some job) None within ∙ ap Some made ∙ sym (ap (λ n. option_map begun (slice_get all n)) at ∙ ap (option_map begun) (last all now new s left split)))
-      | inr other ↦ get_or-set_other jobs i k (Some job) None other ∙ moved (omega (arith, longer now new s split))
+moved_on : (all now new : List (List Command)) (script : List Command) (jobs : List (Option Progress)) (index other_index : ℕ) (job : Progress) → index ≡ length new → index < length jobs → job ≡ begun script →
+    now ≡ take (length now) all → now ≡ new ++ script ∷ [] → (length now ≤ other_index → get_or jobs other_index None ≡ option_map begun (slice_get all other_index)) → length new ≤ other_index →
+    get_or (slice_set jobs index (Some job)) other_index None ≡ option_map begun (slice_get all other_index)
+moved_on all now new script jobs index other_index job at within made left split moved past =
+    elim (cases_eq other_index index) [
+      | inl same ↦ subst (λ other_index. get_or (slice_set jobs index (Some job)) other_index None ≡ option_map begun (slice_get all other_index)) (sym same)
+          (get_or-set_same jobs index (Some job) None within ∙ ap Some made ∙ sym (ap (λ n. option_map begun (slice_get all n)) at ∙ ap (option_map begun) (last all now new script left split)))
+      | inr other ↦ get_or-set_other jobs index other_index (Some job) None other ∙ moved (omega (arith, longer now new script split))
     ]
 
 pub loop-script-smaller-in_ok-of : goal.loop-script-smaller-in_ok-of

@@ -9,28 +9,28 @@ use Rattle.shen_graph.specs.Work.{Progress, begun}
 use Rattle.shen_graph.proofs.work.Work.open.Goals as goal
 
 -- the script at a place among the first ones
-among : (scripts : List (List Command)) (n k : ℕ) (s : List Command) → k < n → n ≤ length scripts → slice_get (take n scripts) k ≡ Some (get_or scripts k s)
-among scripts n k s below within = slice_get-get_or (take n scripts) k s (omega (arith, length-take-le n scripts within)) ∙ ap Some (get_or-take n scripts k s below)
+among : (scripts : List (List Command)) (n index : ℕ) (script : List Command) → index < n → n ≤ length scripts → slice_get (take n scripts) index ≡ Some (get_or scripts index script)
+among scripts n index script below within = slice_get-get_or (take n scripts) index script (omega (arith, length-take-le n scripts within)) ∙ ap Some (get_or-take n scripts index script below)
 
-behind : (scripts : List (List Command)) (n k : ℕ) → n ≤ k → n ≤ length scripts → slice_get (take n scripts) k ≡ None
-behind scripts n k past within = slice_get_past (take n scripts) k (omega (arith, length-take-le n scripts within))
+behind : (scripts : List (List Command)) (n index : ℕ) → n ≤ index → n ≤ length scripts → slice_get (take n scripts) index ≡ None
+behind scripts n index past within = slice_get_past (take n scripts) index (omega (arith, length-take-le n scripts within))
 
 -- at another place one script more changes nothing
-same_among : (scripts : List (List Command)) (i k : ℕ) → i + 1 ≤ length scripts → (k ≡ i → ⊥) → slice_get (take i scripts) k ≡ slice_get (take (i + 1) scripts) k
-same_among scripts i k within other =
-    elim (cases_lt k i) [
-      | inl below ↦ among scripts i k [] below (omega arith) ∙ sym (among scripts (i + 1) k [] (omega arith) within)
-      | inr past ↦ behind scripts i k past (omega arith) ∙ sym (behind scripts (i + 1) k (omega (arith, other)) within)
+same_among : (scripts : List (List Command)) (i index : ℕ) → i + 1 ≤ length scripts → (index ≡ i → ⊥) → slice_get (take i scripts) index ≡ slice_get (take (i + 1) scripts) index
+same_among scripts i index within other =
+    elim (cases_lt index i) [
+      | inl below ↦ among scripts i index [] below (omega arith) ∙ sym (among scripts (i + 1) index [] (omega arith) within)
+      | inr past ↦ behind scripts i index past (omega arith) ∙ sym (behind scripts (i + 1) index (omega (arith, other)) within)
     ]
 
 -- a script more is in its place
-opened_more : (scripts : List (List Command)) (s : List Command) (jobs : List (Option Progress)) (i k : ℕ) (job : Progress) → i + 1 ≤ length scripts → i < length jobs → s ≡ get_or scripts i s → job ≡ begun s →
-    get_or jobs k None ≡ option_map begun (slice_get (take i scripts) k) → get_or (slice_set jobs i (Some job)) k None ≡ option_map begun (slice_get (take (i + 1) scripts) k)
-opened_more scripts s jobs i k job within inside read made before =
-    elim (cases_eq k i) [
-      | inl same ↦ subst (λ k. get_or (slice_set jobs i (Some job)) k None ≡ option_map begun (slice_get (take (i + 1) scripts) k)) (sym same)
-          (get_or-set_same jobs i (Some job) None inside ∙ ap Some (made ∙ ap begun read) ∙ sym (ap (option_map begun) (among scripts (i + 1) i s (omega arith) within)))
-      | inr other ↦ get_or-set_other jobs i k (Some job) None other ∙ before ∙ ap (option_map begun) (same_among scripts i k within other)
+opened_more : (scripts : List (List Command)) (script : List Command) (jobs : List (Option Progress)) (index other_index : ℕ) (job : Progress) → index + 1 ≤ length scripts → index < length jobs → script ≡ get_or scripts index script → job ≡ begun script →
+    get_or jobs other_index None ≡ option_map begun (slice_get (take index scripts) other_index) → get_or (slice_set jobs index (Some job)) other_index None ≡ option_map begun (slice_get (take (index + 1) scripts) other_index)
+opened_more scripts script jobs index other_index job within inside read made before =
+    elim (cases_eq other_index index) [
+      | inl same ↦ subst (λ other_index. get_or (slice_set jobs index (Some job)) other_index None ≡ option_map begun (slice_get (take (index + 1) scripts) other_index)) (sym same)
+          (get_or-set_same jobs index (Some job) None inside ∙ ap Some (made ∙ ap begun read) ∙ sym (ap (option_map begun) (among scripts (index + 1) index script (omega arith) within)))
+      | inr other ↦ get_or-set_other jobs index other_index (Some job) None other ∙ before ∙ ap (option_map begun) (same_among scripts index other_index within other)
     ]
 
 pub loop-mutator-preserved : goal.loop-mutator-preserved

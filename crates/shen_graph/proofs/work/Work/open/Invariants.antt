@@ -5,4 +5,4 @@ use Rattle.shen_graph.proofs.work.Work.open.Given as goal
 
 abbrev pub invariant-loop-mutator : goal.invariant-loop-mutator
 invariant-loop-mutator l =
-    (length l.jobs ≡ 8) × ((k : ℕ) → k < 8 → get_or l.jobs k None ≡ option_map begun (slice_get (take l.mutator l.scripts) k))
+    (length l.jobs ≡ 8) × ((index : ℕ) → index < 8 → get_or l.jobs index None ≡ option_map begun (slice_get (take l.mutator l.scripts) index))

@@ -5,9 +5,9 @@ use Rattle.shen_graph.specs.Work.{Progress, progress_of, is_in_part, picked}
 use Rattle.shen_graph.proofs.Parts.{all_picked}
 use Rattle.shen_graph.proofs.work.Work.part.Goals as goal
 
-turned : (b : Bool) (o : Option Progress) → (if b then None else o) ≡ (if not b then o else None)
-turned true o = refl
-turned false o = refl
+turned : (holds : Bool) (found : Option Progress) → (if holds then None else found) ≡ (if not holds then found else None)
+turned true found = refl
+turned false found = refl
 
 pub returns-clause-parted : goal.returns-clause-parted
 returns-clause-parted c =

@@ -19,7 +19,7 @@ pub store_words-requires-clause-number : goal.store_words-requires-clause-number
 store_words-requires-clause-number g c = λ _ _.
     let turns = c.load_words.ensures.turns in
     let same = gone_same (c.seats-control.result - 1) turns.0 c.args.self.now c.load_words.new.self turns.1 in
-    let count = ap (λ (k : Config). seat_count k.mutators k.helpers) same.config in
+    let count = ap (λ (config : Config). seat_count config.mutators config.helpers) same.config in
     let seats = c.seats-control.ensures in
     omega (arith, count, seats)
 

@@ -131,7 +131,7 @@ make_step-got-requires-clause-machine c =
     let here = read_here shown bundle.machines.items c.args.number c.index_mut.result.now machine inside c.index_mut.ensures.value (sym c.as_mut.ensures.value ∙ ap option_copied_mut c.in-Some.is) in
     let heap = (bundle.of_heap c.args.number machine here).heap in
     let key : c.args.heap.now.table.shared.key ≡ bundle.key.value = c.args.heap.now.table_key ∙ sym c.requires.heap.key in
-    let sizes : c.args.heap.now.table.shared.key.config ≡ bundle.config = ap (λ (k : HeapKey). k.config) key ∙ bundle.same_sizes in
+    let sizes : c.args.heap.now.table.shared.key.config ≡ bundle.config = ap (λ (key : HeapKey). key.config) key ∙ bundle.same_sizes in
     let turn = c.is_idle.ensures ∙ ap not c.if-is_idle.false in
     can_counted (heap_kind c.args.heap.now.table.shared.key.config) bundle.seat.me.0 c.args.number c.order.result c.plan.result
     (can_as c.args.heap.now.table.shared.key.config bundle.config (State.view_of bundle) c.args.number c.order.result (order_of machine) c.plan.result sizes c.order.ensures
@@ -185,7 +185,7 @@ returns-clause-event c = λ _.
     let took = took_as c.args.heap.now.table.shared.key bundle.key.value c.args.number c.order.result (order_at bundle c.args.number) bundle.seat.me c.make_step-got.result c.make_step-got.new.seat.me key (c.order.ensures ∙ sym given) c.make_step-got.ensures.took in
     record {
       got = c.make_step-got.result;
-      took = subst (λ (d : Config). Took (heap_kind d) (start_of_key bundle.key.value) c.args.number (order_at bundle c.args.number) (uncounted_seat bundle.seat.me) c.make_step-got.result (uncounted_seat c.make_step-got.new.seat.me)) bundle.same_sizes
+      took = subst (λ (config : Config). Took (heap_kind config) (start_of_key bundle.key.value) c.args.number (order_at bundle c.args.number) (uncounted_seat bundle.seat.me) c.make_step-got.result (uncounted_seat c.make_step-got.new.seat.me)) bundle.same_sizes
           (took_uncounted (heap_kind bundle.key.value.config) (start_of_key bundle.key.value) c.args.number (order_at bundle c.args.number) bundle.seat.me c.make_step-got.new.seat.me c.make_step-got.result took);
       steps = step_counted bundle.key.value c.args.number (order_at bundle c.args.number) bundle.seat.me c.make_step-got.new.seat.me c.make_step-got.result took;
       said_is = c.of.ensures ∙ ap stepped_by (sym c.took-said.ensures.answer) ∙ ap (λ k. says k (order_of machine) (shown machine) c.make_step-got.result) heap

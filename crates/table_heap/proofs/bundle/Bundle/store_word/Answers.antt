@@ -28,9 +28,9 @@ use Rattle.table_heap.proofs.Greyed.{greys_step}
 use Rattle.table_heap.proofs.bundle.Bundle.store_word.Goals as goal
 
 -- the machine in memory has words left
-left_here : (b : Bundle) (number : ℕ) (m : Machine) → machine_of b.machines.items number ≡ Some m → 0 < stores_left b.config (State.machine_at b number) → 0 < stores_left (config_of m) (shown m)
-left_here b number m here some =
-    subst (λ n. 0 < n) (ap (stores_left b.config) (shows_as shown b.machines.items number m no_machine here) ∙ ap (λ k. stores_left k (shown m)) (sym (b.of_heap number m here).heap)) some
+left_here : (bundle : Bundle) (number : ℕ) (machine : Machine) → machine_of bundle.machines.items number ≡ Some machine → 0 < stores_left bundle.config (State.machine_at bundle number) → 0 < stores_left (config_of machine) (shown machine)
+left_here bundle number machine here some =
+    subst (λ n. 0 < n) (ap (stores_left bundle.config) (shows_as shown bundle.machines.items number machine no_machine here) ∙ ap (λ k. stores_left k (shown machine)) (sym (bundle.of_heap number machine here).heap)) some
 
 pub index_mut-requires : goal.index_mut-requires
 index_mut-requires c = let inside = within shown c.args.self.now.machines.items c.args.number c.requires.here in omega arith
@@ -83,7 +83,7 @@ make_step-requires-clause-machine c =
     let goes = left_here bundle c.args.number machine here c.requires.left in
     let turn = ap (takes_of (shown machine)) c.next_to_store-at.ensures.none ∙ (goes_inside (config_of machine) (shown machine) (stores_inside (config_of machine) (shown machine) goes)).takes in
     can_counted (heap_kind c.args.heap.now.table.shared.key.config) bundle.seat.me.0 c.args.number Nothing (Store c.next_to_store-at.result.0 c.next_to_store-at.result.1)
-    (can_as c.args.heap.now.table.shared.key.config bundle.config (State.view_of bundle) c.args.number Nothing (order_of machine) (Store c.next_to_store-at.result.0 c.next_to_store-at.result.1) (ap (λ (k : HeapKey). k.config) key ∙ bundle.same_sizes) (sym c.next_to_store-at.ensures.none)
+    (can_as c.args.heap.now.table.shared.key.config bundle.config (State.view_of bundle) c.args.number Nothing (order_of machine) (Store c.next_to_store-at.result.0 c.next_to_store-at.result.1) (ap (λ (key : HeapKey). key.config) key ∙ bundle.same_sizes) (sym c.next_to_store-at.ensures.none)
     (can bundle.config bundle.key.value bundle.same_sizes bundle.machines.items (uncounted_seat bundle.seat.me) bundle.kept c.args.number machine here (Store c.next_to_store-at.result.0 c.next_to_store-at.result.1) heap turn c.next_to_store-at.ensures.row))
 
 pub invariant_of-self : goal.invariant_of-self
@@ -124,7 +124,7 @@ returns-clause-event c =
     let took = took_as c.args.heap.now.table.shared.key bundle.key.value c.args.number Nothing (order_at bundle c.args.number) bundle.seat.me c.make_step.result c.make_step.new.seat.me key (sym none) c.make_step.ensures.took in
     record {
       got = c.make_step.result;
-      took = subst (λ (d : Config). Took (heap_kind d) (start_of_key bundle.key.value) c.args.number (order_at bundle c.args.number) (uncounted_seat bundle.seat.me) c.make_step.result (uncounted_seat c.make_step.new.seat.me)) bundle.same_sizes
+      took = subst (λ (config : Config). Took (heap_kind config) (start_of_key bundle.key.value) c.args.number (order_at bundle c.args.number) (uncounted_seat bundle.seat.me) c.make_step.result (uncounted_seat c.make_step.new.seat.me)) bundle.same_sizes
           (took_uncounted (heap_kind bundle.key.value.config) (start_of_key bundle.key.value) c.args.number (order_at bundle c.args.number) bundle.seat.me c.make_step.new.seat.me c.make_step.result took);
       steps = step_counted bundle.key.value c.args.number (order_at bundle c.args.number) bundle.seat.me c.make_step.new.seat.me c.make_step.result took;
       said_is = sym (ap (λ x. says bundle.config (order_at bundle c.args.number) x c.make_step.result) at ∙ ap (λ order. says bundle.config order (shown machine) c.make_step.result) none

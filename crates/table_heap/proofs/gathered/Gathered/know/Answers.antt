@@ -21,16 +21,16 @@ returns-clause-run c all =
     let key = heap.table.shared.key in
     let whole : HasAllMachines (length (start_of_key heap.key).machines) (view_of gathered) = record {
       all = all_here (view_of gathered) (λ k below. all.each k (let long = all.long in omega (arith, below, long)));
-      counts = all.long ∙ ap (λ (d : Config). seat_count d.mutators d.helpers) (sym heap.same_sizes) ∙ sym (start_count heap.key);
+      counts = all.long ∙ ap (λ (config : Config). seat_count config.mutators config.helpers) (sym heap.same_sizes) ∙ sym (start_count heap.key);
     } in
     let counted : HasAllMachines (length (table_start key).machines) gathered.seat.me.0 =
-    subst (λ (k : HeapKey). HasAllMachines (length (table_start k).machines) gathered.seat.me.0) (sym heap.table_key)
+    subst (λ (key : HeapKey). HasAllMachines (length (table_start key).machines) gathered.seat.me.0) (sym heap.table_key)
     (subst (λ n. HasAllMachines n gathered.seat.me.0) (sym (length-map (start_of_key heap.key).machines at_start)) (all_counted (length (start_of_key heap.key).machines) gathered.seat.me.0 whole)) in
     let run = c.read_run.ensures.run counted in
     record {
       words = run.words;
       reached =
-          subst (λ (d : Config). IsReached (heap_kind d) (start_of_key heap.key) (record { words = run.words; machines = machines_of (view_of gathered) })) heap.same_sizes
-          (subst (λ (k : HeapKey). IsReached (heap_kind k.config) (start_of_key k) (record { words = run.words; machines = machines_of (view_of gathered) })) heap.table_key
+          subst (λ (config : Config). IsReached (heap_kind config) (start_of_key heap.key) (record { words = run.words; machines = machines_of (view_of gathered) })) heap.same_sizes
+          (subst (λ (key : HeapKey). IsReached (heap_kind key.config) (start_of_key key) (record { words = run.words; machines = machines_of (view_of gathered) })) heap.table_key
           (view_reached (heap_kind key.config) (start_of_key key) run.words gathered.seat.me.0 run.reached));
     }

@@ -23,7 +23,7 @@ pub close_table-rows-requires-clause-all : goal.close_table-rows-requires-clause
 close_table-rows-requires-clause-all c =
     let bundle = c.args.bundle in
     let key : bundle.key.value ≡ c.args.self.table.shared.key = c.requires.heap.key ∙ sym c.args.self.table_key in
-    subst (λ (k : HeapKey). HasAllMachines (length (table_start k).machines) bundle.seat.me.0) key
+    subst (λ (key : HeapKey). HasAllMachines (length (table_start key).machines) bundle.seat.me.0) key
     (subst (λ n. HasAllMachines n bundle.seat.me.0) (sym (length-map (start_of_key bundle.key.value).machines at_start))
     (all_counted (length (start_of_key bundle.key.value).machines) bundle.seat.me.0
     (view_is_whole bundle.key.value bundle.config bundle.same_sizes (view_of bundle) (kept_in_view shown bundle.machines.items) bundle.kept (length-kept shown bundle.machines.items ∙ bundle.seats) c.requires.all)))
@@ -36,7 +36,7 @@ control_image-image-requires c =
     let all = view_is_whole bundle.key.value bundle.config bundle.same_sizes view (kept_in_view shown bundle.machines.items) bundle.kept (length-kept shown bundle.machines.items ∙ bundle.seats) c.requires.all in
     let key : heap.table.shared.key ≡ bundle.key.value = heap.table_key ∙ sym c.requires.heap.key in
     let words = slots_items c.close_table-rows.result.words in
-    subst (λ (k : Config). HasTheControl k bundle.machines.items) c.requires.heap.config
+    subst (λ (config : Config). HasTheControl config bundle.machines.items) c.requires.heap.config
     (has_control bundle.key.value bundle.config bundle.same_sizes bundle.machines.items view words bundle.kept bundle.of_heap all.all (c.requires.all (control_number bundle.config) (omega arith))
     (reached_as heap.table.shared.key bundle.key.value bundle.config words words view view key bundle.same_sizes refl refl
     (view_reached (heap_kind heap.table.shared.key.config) (start_of_key heap.table.shared.key) words bundle.seat.me.0 c.close_table-rows.ensures.reached)))
@@ -53,12 +53,12 @@ invariant_of-result c =
     let config : heap.config ≡ config_of image = sym (c.read_words.ensures.config ∙ c.control_image-image.ensures) in
     record {
       same_sizes = heap.same_sizes ∙ config;
-      counted = c.hints_taken-hinted.ensures (machines_of view) (ap (kept_in_view shown) c.deref.ensures.value ∙ sym bundle.kept ∙ ap (kept_in_view machine_in) all.all) ∙ ap (λ (v : View Actor). hints_in (machines_of v)) seen;
+      counted = c.hints_taken-hinted.ensures (machines_of view) (ap (kept_in_view shown) c.deref.ensures.value ∙ sym bundle.kept ∙ ap (kept_in_view machine_in) all.all) ∙ ap (λ (view : View Actor). hints_in (machines_of view)) seen;
       reached = ∣ reached_as heap.table.shared.key heap.key (config_of image) (slots_items c.close_table-rows.result.words) (words_of image) view last heap.table_key (heap.same_sizes ∙ config) (sym c.read_words.ensures.words) seen
           (view_reached (heap_kind heap.table.shared.key.config) (start_of_key heap.table.shared.key) (slots_items c.close_table-rows.result.words) bundle.seat.me.0 c.close_table-rows.ensures.reached) ∣₁;
       calm =
-          subst (λ (k : Config). image_of (slice_get (machines_of last) (control_number k)) ≡ None) (c.requires.heap.config ∙ config)
-          (subst (λ (v : View Actor). image_of (slice_get (machines_of v) (control_number bundle.config)) ≡ None) seen
+          subst (λ (config : Config). image_of (slice_get (machines_of last) (control_number config)) ≡ None) (c.requires.heap.config ∙ config)
+          (subst (λ (view : View Actor). image_of (slice_get (machines_of view) (control_number bundle.config)) ≡ None) seen
           (view_is_calm view (control_number bundle.config) all.all c.requires.control));
     }
 
@@ -75,4 +75,4 @@ returns-clause-machines c =
     let bundle = c.args.bundle in
     let view : View Actor = view_of bundle in
     let seen : view ≡ uncounted_view c.of-last.result.value.me.0 = sym (ap (λ s. uncounted_view s.me.0) c.of-last.ensures) in
-    (view_is_whole bundle.key.value bundle.config bundle.same_sizes view (kept_in_view shown bundle.machines.items) bundle.kept (length-kept shown bundle.machines.items ∙ bundle.seats) c.requires.all).all ∙ ap (λ (v : View Actor). whole (machines_of v)) seen
+    (view_is_whole bundle.key.value bundle.config bundle.same_sizes view (kept_in_view shown bundle.machines.items) bundle.kept (length-kept shown bundle.machines.items ∙ bundle.seats) c.requires.all).all ∙ ap (λ (view : View Actor). whole (machines_of view)) seen

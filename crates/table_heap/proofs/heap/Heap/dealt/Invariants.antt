@@ -16,7 +16,7 @@ invariant-loop-bundle l = record {
   steps : (number made : ℕ) → machine_of (steps_of l.all) number ≡ Some made → made ≡ 0;
   greyed : (number address : ℕ) → machine_of (greyed_of l.all) number ≡ Some address → ⊥;
   count : length l.bundles.items ≡ l.bundle;
-  each : (k : ℕ) (b : Bundle) → slice_get l.bundles.items k ≡ Some b → IsFresh l.heap b (dealt_to l.workers k (whole (start_of_heap l.heap).machines));
+  each : (k : ℕ) (bundle : Bundle) → slice_get l.bundles.items k ≡ Some bundle → IsFresh l.heap bundle (dealt_to l.workers k (whole (start_of_heap l.heap).machines));
 }
 
 -- when the bundles share their hints they are as they were, and the hints of the first ones are shared

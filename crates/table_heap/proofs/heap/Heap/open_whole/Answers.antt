@@ -11,7 +11,7 @@ use Rattle.table_heap.proofs.Greyed.{greys_as, greys_none, none_greyed}
 use Rattle.table_heap.proofs.heap.Heap.open_whole.Goals as goal
 
 pub invariant_of-bundle-clause-same_sizes : goal.invariant_of-bundle-clause-same_sizes
-invariant_of-bundle-clause-same_sizes c = ap (λ (k : HeapKey). k.config) c.of.ensures
+invariant_of-bundle-clause-same_sizes c = ap (λ (key : HeapKey). key.config) c.of.ensures
 
 pub invariant_of-bundle-clause-seats : goal.invariant_of-bundle-clause-seats
 invariant_of-bundle-clause-seats c = ap length c.in_ok-machines.ensures ∙ opened_count c.args.key c.args.machines.items c.requires.machines

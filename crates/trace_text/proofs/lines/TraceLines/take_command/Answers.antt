@@ -56,7 +56,7 @@ returns-else-script-len-clause-taken c = λ h.
     let fine : is_ok c.push.result ≡ true = sym c.is_ok.ensures.value ∙ h in
     let added = on_ok c.push.result fine c.push.ensures.added in
     let before = get_or_read items _ _ low c.index_mut.ensures.value [] in
-    let made = ap (slice_set items i) (added ∙ ap (λ (s : List Command). s ++ c.unwrap-thread.result.1 ∷ []) before) ∙ ap (with_line items) same in (
+    let made = ap (slice_set items i) (added ∙ ap (λ (script : List Command). script ++ c.unwrap-thread.result.1 ∷ []) before) ∙ ap (with_line items) same in (
       it.0,
       c.requires.before,
       it.1,
