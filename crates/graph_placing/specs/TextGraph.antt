@@ -5,7 +5,7 @@ use Rattle.shen_graph.specs.declared.name.Name.{Name}
 use Rattle.shen_graph.specs.Graph.{Graph, Object}
 use Rattle.shen_graph.specs.GraphText.{Text, Row, row_of, root_of}
 use Rattle.shen_graph.specs.PlainGraph.{graph_of}
-use Rattle.heap_world.specs.Roots.{HasNoMore}
+use Rattle.heap_world.specs.Roots.{HasNoMoreRoots}
 use Rattle.heap_world.specs.World.{IsGiven}
 
 -- the object of a row
@@ -16,7 +16,7 @@ row_object row = record { refs = row.refs; nums = row.nums }
 pub record IsGraphOf (config : Config) (text : Text) (counts : List ℕ) (graph : Graph) : Type 0 where
   pub objects : (other_index : ℕ) → other_index < length text.rows → graph.object (row_of text other_index).name ≡ Some (row_object (row_of text other_index))
   pub roots : (mutator index : ℕ) → mutator < config.mutators → index < 16 → graph.root (mutator + 1) index ≡ root_of text (mutator + 1) index
-  pub no_more : HasNoMore config.mutators graph
+  pub no_more : HasNoMoreRoots config.mutators graph
   pub no_pins : (thread slot : ℕ) → graph.pin thread slot ≡ None
   pub counts_are : (mutator : ℕ) → mutator < config.mutators → graph.count (mutator + 1) ≡ slice_index counts mutator
   pub given : (name : Name) (object : Object) → graph.object name ≡ Some object → IsGiven config graph.count name

@@ -14,7 +14,7 @@ use Rattle.shen_graph.specs.Graph.{Graph, Object}
 use Rattle.shen_graph.specs.Reach.{size}
 use Rattle.heap_world.specs.Objects.{Refers, IsObject}
 use Rattle.heap_world.specs.World.{Ghost, Plot, Block, thing, moved, words_of, name_at, body_of, Points, PinStands, IsPlotted, Shared}
-use Rattle.heap_world.specs.Roots.{is_root_of, is_slot_of, HasNoMore, HasNoMorePins}
+use Rattle.heap_world.specs.Roots.{is_root_of, is_slot_of, HasNoMoreRoots, HasNoMorePins}
 use Rattle.heap_world.proofs.Pointing.{named_body, copy_cases, piece_inside as words_inside}
 use Rattle.heap_words.specs.Encoding.{is_forwarded, forwardee_in}
 use Rattle.heap_world.specs.Stands.{current_of, IsCopyAt, IsAt, HoldsPin}
@@ -150,7 +150,7 @@ module _ (config : Config) (words : List ℕ) (block : Plot) (at : ℕ → Optio
   length-roots : length roots ≡ 16 * config.mutators
   length-roots = let e : length roots ≡ roots_start config + 16 * config.mutators - roots_start config = length-part words (roots_start config) (roots_start config + 16 * config.mutators) (omega (arith, long)) in omega (arith, e)
 
-  module _ (own : (t i : ℕ) → t < config.mutators → i < 16 → Refers at (view config words (Root t i)) (graph.root (t + 1) i)) (no_more : HasNoMore config.mutators graph) where
+  module _ (own : (t i : ℕ) → t < config.mutators → i < 16 → Refers at (view config words (Root t i)) (graph.root (t + 1) i)) (no_more : HasNoMoreRoots config.mutators graph) where
     -- a root of a mutator
     own_root : (seat index : ℕ) → seat < config.mutators → index < 16 → Refers at (slice_index roots (16 * seat + index)) (graph.root (seat + 1) index)
     own_root seat index below small =
@@ -229,7 +229,7 @@ module _ (config : Config) (words : List ℕ) (block : Plot) (at : ℕ → Optio
 
 -- the words stand for the graph
 pub copies_stand : (config : Config) (words : List ℕ) (block : Plot) (at : ℕ → Option Name) (graph : Graph) → length words ≡ table_words config → AreCopies config words block at graph
-    → ((mutator index : ℕ) → mutator < config.mutators → index < 16 → Refers at (view config words (Root mutator index)) (graph.root (mutator + 1) index)) → HasNoMore config.mutators graph
+    → ((mutator index : ℕ) → mutator < config.mutators → index < 16 → Refers at (view config words (Root mutator index)) (graph.root (mutator + 1) index)) → HasNoMoreRoots config.mutators graph
     → ((mutator index : ℕ) → mutator < config.mutators → index < 4 → HoldsPin (λ x. view config words (Heap x)) at (view config words (Pin mutator index)) (graph.pin (mutator + 1) index)) → HasNoMorePins config.mutators graph
     → WordsStand config.region_words (heap_in config words) (roots_in config words) (pins_in config words) at graph
 copies_stand config words block at graph long pieces own no_more own_pins no_more_pins = record {
@@ -292,7 +292,7 @@ module _ (config : Config) (words : List ℕ) (block : Plot) (ghost : Ghost) (gr
 
 pub table_stands : (config : Config) (words : List ℕ) (block : Plot) (ghost : Ghost) (graph : Graph) → length words ≡ table_words config
     → Shared config (record { memory = view config words; block = block; ghost = ghost; graph = graph })
-    → ((mutator index : ℕ) → mutator < config.mutators → index < 16 → Points block (view config words (Root mutator index)) (graph.root (mutator + 1) index)) → HasNoMore config.mutators graph → HasNoMorePins config.mutators graph
+    → ((mutator index : ℕ) → mutator < config.mutators → index < 16 → Points block (view config words (Root mutator index)) (graph.root (mutator + 1) index)) → HasNoMoreRoots config.mutators graph → HasNoMorePins config.mutators graph
     → WordsStand config.region_words (heap_in config words) (roots_in config words) (pins_in config words) (λ a. name_at (block a)) graph
 table_stands config words block ghost graph long shared own no_more no_more_pins =
     copies_stand config words block (λ a. name_at (block a)) graph long (are_copies config words block ghost graph shared) own no_more

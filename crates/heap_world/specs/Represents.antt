@@ -7,7 +7,7 @@ use Rattle.heap_words.specs.Words.{Word, Cset, Evac, Ask, Root}
 use Rattle.shen_graph.specs.Graph.{Graph}
 use Rattle.heap_world.specs.World.{hand, carved, Plot, Ghost, Points, AreUsable, Shared}
 use Rattle.heap_world.specs.Asking.{Asking, asks, IsAsked, PromisedToMutators}
-use Rattle.heap_world.specs.Roots.{HasNoMore, HasNoMorePins}
+use Rattle.heap_world.specs.Roots.{HasNoMoreRoots, HasNoMorePins}
 
 -- no machine is about to record an address, or scans an object
 pub record NobodyMarks (config : Config) (ghost : Ghost) : Type 0 where
@@ -36,7 +36,7 @@ pub record RepresentsWith (AsksOfRoots : Plot → Type 0) (config : Config) (mem
   pub promised_to : PromisedToMutators config block
   pub unmarking : NobodyMarks config ghost
   pub uncopying : NobodyCopies config ghost
-  pub no_more : HasNoMore config.mutators graph
+  pub no_more : HasNoMoreRoots config.mutators graph
   pub no_more_pins : HasNoMorePins config.mutators graph
 
 -- words represent a graph: each root word may be used besides

@@ -11,8 +11,8 @@ abbrev pub is_slot_of : ℕ → ℕ → ℕ → Bool
 is_slot_of threads thread slot = nat_le 1 thread && (nat_le thread threads && nat_lt slot 4)
 
 -- where there is no such root, the graph has null
-abbrev pub HasNoMore : ℕ → Graph → Type 0
-HasNoMore threads graph = (thread index : ℕ) → is_root_of threads thread index ≡ false → graph.root thread index ≡ None
+abbrev pub HasNoMoreRoots : ℕ → Graph → Type 0
+HasNoMoreRoots threads graph = (thread index : ℕ) → is_root_of threads thread index ≡ false → graph.root thread index ≡ None
 
 -- and where there is no such slot, it is empty
 abbrev pub HasNoMorePins : ℕ → Graph → Type 0

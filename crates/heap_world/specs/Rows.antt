@@ -4,7 +4,7 @@ use Rattle.std.specs.List.{range_with_len}
 use Rattle.heap_words.specs.Encoding.{thread_in, count_in}
 use Rattle.shen_graph.specs.declared.name.Name.{Name}
 use Rattle.shen_graph.specs.Graph.{Reference}
-use Rattle.shen_graph.specs.GraphText.{Text, Row, with_reference, with_number}
+use Rattle.shen_graph.specs.GraphText.{Row}
 use Rattle.heap_world.specs.Walk.{refs_at, nums_at, current_at}
 
 -- the name of the object whose header is the word at an index of the heap
@@ -22,20 +22,6 @@ row_in_heap first heap address = record {
   refs = map (reference_in first heap) (refs_at heap (address - first));
   nums = nums_at heap (address - first);
 }
-
--- the text with these references in its last row too
-abbrev pub with_references : Text → List Reference → Text
-with_references text [] = text
-with_references text (r ∷ rs) = with_references (with_reference text r) rs
-
--- the text with these numbers in its last row too
-abbrev pub with_numbers : Text → List ℕ → Text
-with_numbers text [] = text
-with_numbers text (x ∷ xs) = with_numbers (with_number text x) xs
-
--- the text with a row more, which takes as many words as the object
-abbrev pub with_whole_row : Text → Row → Text
-with_whole_row text row = record text { rows = text.rows ++ row ∷ []; spare = text.spare - (3 + length row.refs + length row.nums) }
 
 -- the word of a cell of a thread, counted from 1, among the words of all threads, so many a thread; 0 where there is no such cell
 abbrev pub cell_word : (cells : ℕ) → List ℕ → ℕ → ℕ → ℕ

@@ -395,12 +395,12 @@ pub data IsTracedAt (config : Config) (snapshot : Snapshot) (heap black : ℕ �
   done : NeedsNoMarking snapshot Noted address k → IsTracedAt config snapshot heap black scanning Noted address k
   stands : heap (address + 3 + k) ≡ was_at snapshot address k → IsToScan config black scanning address k → IsTracedAt config snapshot heap black scanning Noted address k
 
--- no reference of the snapshot is lost, and what roots and answers named then is noted
+-- no reference of the snapshot is lost, and what roots, answers and pin slots named then is noted
 pub record AreTraced (config : Config) (snapshot : Snapshot) (heap black : ℕ → ℕ) (scanning : ℕ → Option Scan) (Noted : ℕ → Type 0) : Type 0 where
   pub edges : (address refs nums k : ℕ) (name : Name) → snapshot.block address ≡ Some (thing name refs nums) → k < refs → IsTracedAt config snapshot heap black scanning Noted address k
   pub starts : (address : ℕ) → snapshot.starts address ≡ true → Noted address
 
--- what roots and answers of the snapshot lead to, by its fields
+-- what roots, answers and pin slots of the snapshot lead to, by its fields
 pub data IsLed (snapshot : Snapshot) : ℕ → Type 0 where
   by_start : (address : ℕ) → snapshot.starts address ≡ true → IsLed snapshot address
   by_field : (address refs nums k : ℕ) (name : Name) → IsLed snapshot address → snapshot.block address ≡ Some (thing name refs nums) → k < refs → was_at snapshot address k ≢ 0 → IsLed snapshot (was_at snapshot address k)

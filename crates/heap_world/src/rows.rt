@@ -4,9 +4,9 @@ ghost use Rattle.std.specs.Prelude.{◌≡◌, ◌+◌, ◌-◌, ◌*◌, ◌^�
 ghost use Rattle.std.specs.List.{IsDistinct};
 ghost use Rattle.shen_graph.specs.Graph.{same_name};
 ghost use Rattle.shen_graph.specs.Reach.{InOrder};
-ghost use Rattle.shen_graph.specs.GraphText.{names_of};
+ghost use Rattle.shen_graph.specs.GraphText.{names_of, with_references, with_whole_row};
 ghost use Rattle.heap_world.specs.Walk.{refs_at, nums_at, size_at, IsNamed};
-ghost use Rattle.heap_world.specs.Rows.{name_in_heap, reference_in, row_in_heap, with_references, with_numbers, with_whole_row, root_word, root_rows, pin_word, pin_rows};
+ghost use Rattle.heap_world.specs.Rows.{name_in_heap, reference_in, row_in_heap, root_word, root_rows, pin_word, pin_rows};
 
 use crate::walk::{current, references};
 use heap_words::{count_of, nums_of, refs_of, thread_of};
@@ -58,17 +58,6 @@ fn add_references(first: u64, heap: &[u64], words: &[u64], text: &mut GraphText)
     }
 }
 
-// Adds numbers to the last row.
-fn add_numbers(words: &[u64], text: &mut GraphText)
-    requires row { 0 < length text.old.rows }
-    requires room { length words.now ≤ text.old.spare }
-    ensures { text.new ≡ with_numbers text.old words.now }
-{
-    for word in words {
-        text.number(*word);
-    }
-}
-
 // Adds the row of the object at an address.
 fn add_object(first: u64, heap: &[u64], address: u64, text: &mut GraphText)
     requires above { first ≤ address }
@@ -80,7 +69,7 @@ fn add_object(first: u64, heap: &[u64], address: u64, text: &mut GraphText)
     let index = (address - first) as usize;
     text.object(name(heap, index));
     add_references(first, heap, references(heap, index), text);
-    add_numbers(numbers(heap, index), text);
+    text.add_numbers(numbers(heap, index));
 }
 
 // Adds the row of the object at each of some addresses.

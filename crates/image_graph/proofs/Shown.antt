@@ -13,7 +13,7 @@ use Rattle.shen_graph.specs.Graph.{Graph, Object, Reference, blank, same_referen
 use Rattle.shen_graph.proofs.PlainLemmas.{same_name-itself}
 use Rattle.shen_graph.specs.Reach.{IsReachable}
 use Rattle.shen_graph.specs.Reach as reach
-use Rattle.heap_world.specs.Roots.{is_root_of, HasNoMore, is_slot_of, HasNoMorePins}
+use Rattle.heap_world.specs.Roots.{is_root_of, HasNoMoreRoots, is_slot_of, HasNoMorePins}
 use Rattle.heap_world.specs.World.{Block, thing, moved, Plot, name_at, Points, IsThing}
 use Rattle.heap_world.specs.Walk.{has}
 use Rattle.heap_world.specs.Shows.{WordsStand}
@@ -205,7 +205,7 @@ module _ (config : Config) (memory : Word → ℕ) (block : Plot) (owner : ℕ �
           (from_root word (root_among config (λ reference. memory (Top reference)) memory block graph promises holds.objects.plotted holds.rooted mutator index inside few) (none_at_0 config (λ reference. memory (Top reference)) block holds.objects.plotted word n points))
           points
 
-  no_more : HasNoMore config.mutators graph
+  no_more : HasNoMoreRoots config.mutators graph
   no_more t i none = by_root (graph.root t i) refl
     where
       by_root : (reference : Reference) → graph.root t i ≡ reference → reference ≡ None

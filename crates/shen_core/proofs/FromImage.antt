@@ -21,7 +21,7 @@ use Rattle.step_core.specs.Machines.{kind}
 use Rattle.heap_machines.specs.declared.machine.Machine.{Machine}
 use Rattle.shen_core.specs.declared.plain.Plain.{Plain}
 use Rattle.shen_core.specs.State.{words_of, machines_of, orders_of}
-use Rattle.shen_core.specs.Runs.{WordsShow, IsShownBySome}
+use Rattle.shen_core.specs.Runs.{WordsShow, IsShownBySomeRun}
 use Rattle.heap_machines.specs.FromImage.{machine_from, stage_from, CanBeginFrom}
 use Rattle.heap_machines.proofs.FromImages.{mutator_is, stage_machines, begins_from}
 
@@ -33,7 +33,7 @@ shows_from config words counts held machines words_are machines_are = record { w
 
 -- so some run has led there, of no event
 pub shown_from : (config : Config) (words counts held : List ℕ) (machines : List actors.Machine) → length words ≡ table_words config → WordsShow held machines (stage_from config words counts) → ∥ ((graph : Graph) × CanBeginFrom config (view config words) counts graph) ∥₁
-    → ∥ IsShownBySome config held machines ∥₁
+    → ∥ IsShownBySomeRun config held machines ∥₁
 shown_from config words counts held machines long shows some = ∥∥₁_map some (λ can. record {
   run = record { start = stage_from config words counts; graph = can.0; begins = begins_from config words counts long can.0 can.1; events = [] };
   shows = subst (λ s. WordsShow held machines s) (sym (go-none (kind pause_image config) (stage_from config words counts))) shows;

@@ -23,7 +23,7 @@ use Rattle.heap_machines.specs.Shown.{no_machine}
 use Rattle.step_core.specs.Begins.{Run, ending, graph_after}
 use Rattle.step_core.specs.Settled.{image_read, image_of, control_number}
 use Rattle.step_core.specs.Machines.{control_in, is_resting}
-use Rattle.shen_core.specs.Runs.{WordsShow, IsShownBySome}
+use Rattle.shen_core.specs.Runs.{WordsShow, IsShownBySomeRun}
 use Rattle.shen_core.proofs.Events.{shown_actor}
 
 -- that the control can work on words is one fact
@@ -75,7 +75,7 @@ module _ (config : Config) (words : List ℕ) (machines : List Machine) (rest : 
 
 -- so it is of those that led to the words
 module _ (config : Config) (words : List ℕ) (machines : List Machine) (rest : (number : ℕ) → number < config.mutators → is_resting (slice_index_or machines number no_machine) ≡ true)
-    (calm : image_read (slice_index_or machines (control_number config) no_machine) ≡ None) (some : ∥ IsShownBySome config words machines ∥₁) where
+    (calm : image_read (slice_index_or machines (control_number config) no_machine) ≡ None) (some : ∥ IsShownBySomeRun config words machines ∥₁) where
   pub some_can_show : (machine : Machine) → slice_get machines (control_number config) ≡ Some machine → CanShow config (image_from config words) machine
   some_can_show machine here = ∥∥₁_elim some (can_show_is_prop config (image_from config words) machine) (λ s. can_show config words machines rest calm s.run s.shows machine here)
 

@@ -30,7 +30,7 @@ use Rattle.step_core.proofs.Theorem.FirstFacts.{opening_run}
 use Rattle.heap_words.specs.Steps.{accessed}
 use Rattle.heap_words.proofs.Places.{slice_get-set_same}
 use Rattle.heap_words.proofs.Runs.{go-none}
-use Rattle.shen_core.specs.Runs.{WordsShow, event, IsShownBySome, IsOneEvent, machine_next}
+use Rattle.shen_core.specs.Runs.{WordsShow, event, IsShownBySomeRun, IsOneEvent, machine_next}
 use Rattle.shen_core.proofs.Events.{one_event}
 
 -- a machine of these has made its access, and has taken its word
@@ -131,7 +131,7 @@ module _ (config : Config) (words new_words : List ℕ) (machines : List Machine
       (one_event (config_of machine) words (map shown machines) number (shown machine) (order_of machine) (shown_here machines number machine made.here) made.takes))
 
   -- so memory shows a stage again
-  pub made_shown : IsShownBySome config words (map shown machines) → IsShownBySome config new_words (map shown (slice_set machines number other_machine))
+  pub made_shown : IsShownBySomeRun config words (map shown machines) → IsShownBySomeRun config new_words (map shown (slice_set machines number other_machine))
   made_shown some = record {
     run = record { start = some.run.start; graph = some.run.graph; begins = some.run.begins; events = some.run.events ++ event number (order_of machine) ∷ [] };
     shows = made_event.goes_on some.run.start some.run.events some.shows;
@@ -199,7 +199,7 @@ unfolding opening
 shows_opening config words machines words_are machines_are = record { words_are = sym words_are; machines_are = first_machines config ∙ sym machines_are }
 
 -- so no event led to it
-pub shown_by_none : (config : Config) (words : List ℕ) (machines : List actors.Machine) → WordsShow words machines (opening config) → IsShownBySome config words machines
+pub shown_by_none : (config : Config) (words : List ℕ) (machines : List actors.Machine) → WordsShow words machines (opening config) → IsShownBySomeRun config words machines
 shown_by_none config words machines shows = record { run = opening_run config []; shows = subst (λ s. WordsShow words machines s) (sym (go-none (kind pause_image config) (opening config))) shows }
 
 -- there is a machine for each seat

@@ -47,7 +47,7 @@ use Rattle.step_core.specs.History.{told, told_by, told_of_machine, history}
 use Rattle.step_core.specs.Sound.{IsMutator, IsSound, AreCalls}
 use Rattle.step_core.proofs.Theorem.EveryList.{run_sound, run_pauses}
 use Rattle.step_core.proofs.History.Entries.{own_more}
-use Rattle.shen_core.specs.Runs.{event, WordsShow, IsShownBySome}
+use Rattle.shen_core.specs.Runs.{event, WordsShow, IsShownBySomeRun}
 use Rattle.shen_core.proofs.Events.{shown_actor}
 use Rattle.shen_core.specs.Noting.{IsEnding}
 
@@ -442,7 +442,7 @@ module _ (config : Config) (words : List ℕ) (machines : List Machine) (number 
     pub role : is_mutating (slice_index_or machines t no_machine) ≡ true
     pub busy : is_resting (slice_index_or machines t no_machine) ≡ false
 
-  waiting_by : (machine : Machine) (index : ℕ) → slice_get machines number ≡ Some machine → takes_of machine order ≡ true → refused_by config words machine ≡ Some index → IsShownBySome config words machines → IsWaiting index
+  waiting_by : (machine : Machine) (index : ℕ) → slice_get machines number ≡ Some machine → takes_of machine order ≡ true → refused_by config words machine ≡ Some index → IsShownBySomeRun config words machines → IsWaiting index
   waiting_by (controlling k) index here takes some shown =
       let run = shown.run in
       let found = shown_actor words machines (ending pause_image config run) number (controlling k) shown.shows here in
@@ -455,7 +455,7 @@ module _ (config : Config) (words : List ℕ) (machines : List Machine) (number 
   waiting_by (mutating m) index here takes some shown = absurd cc
   waiting_by (helping h) index here takes some shown = absurd cc
 
-  pub waiting : (machine : Machine) (t : ℕ) → slice_get machines number ≡ Some machine → takes_of machine order ≡ true → refused_by config words machine ≡ Some t → ∥ IsShownBySome config words machines ∥₁ → IsWaiting t
+  pub waiting : (machine : Machine) (t : ℕ) → slice_get machines number ≡ Some machine → takes_of machine order ≡ true → refused_by config words machine ≡ Some t → ∥ IsShownBySomeRun config words machines ∥₁ → IsWaiting t
   waiting machine t here takes some reached =
       let prop : IsProp (IsWaiting t) = waiting_prop t in
       ∥∥₁_elim reached prop (waiting_by machine t here takes some)

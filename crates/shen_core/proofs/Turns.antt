@@ -30,18 +30,18 @@ use Rattle.heap_words.specs.declared.place.Place.{Place}
 use Rattle.step_core.proofs.Theorem.EveryList.{run_sound, found_fit}
 use Rattle.shen_core.specs.declared.plain.Plain.{Plain}
 use Rattle.shen_core.specs.State.{config_of, words_of, machines_of, machine_at, Shows}
-use Rattle.shen_core.specs.Runs.{IsShownBySome, event}
+use Rattle.shen_core.specs.Runs.{IsShownBySomeRun, event}
 use Rattle.shen_core.specs.Progress.{Jobs, Tells, CanRun, IsTurn, IsNextTurn, event_if, next_for}
 use Rattle.shen_core.proofs.Events.{shown_actor}
 
 -- the machine of a number is a mutator where the number is one of a mutator
-pub role_shown : (config : Config) (words : List ℕ) (machines : List Machine) (number : ℕ) (machine : Machine) → ∥ IsShownBySome config words machines ∥₁ → slice_get machines number ≡ Some machine → is_mutating machine ≡ nat_lt number config.mutators
+pub role_shown : (config : Config) (words : List ℕ) (machines : List Machine) (number : ℕ) (machine : Machine) → ∥ IsShownBySomeRun config words machines ∥₁ → slice_get machines number ≡ Some machine → is_mutating machine ≡ nat_lt number config.mutators
 role_shown config words machines number machine some here = ∥∥₁_elim some (hlevel (Bool-set)) (λ shown.
     let found = shown_actor words machines (ending pause_image config shown.run) number machine shown.shows here in
     ap is_mutating (sym found.2) ∙ role_of config number found.0.machine ((run_sound pause_image heap_pauses config shown.run).of_heap.roles number found.0 found.1))
 
 -- the word that a machine finds is fit
-pub fit_shown : (config : Config) (words : List ℕ) (machines : List Machine) (number : ℕ) (machine : Machine) (order : Order) → ∥ IsShownBySome config words machines ∥₁ → slice_get machines number ≡ Some machine → takes_of machine order ≡ true
+pub fit_shown : (config : Config) (words : List ℕ) (machines : List Machine) (number : ℕ) (machine : Machine) (order : Order) → ∥ IsShownBySomeRun config words machines ∥₁ → slice_get machines number ≡ Some machine → takes_of machine order ≡ true
     → IsFitFor config order (slice_index words (table_index (plan_of config order machine))) machine
 unfolding kind
 fit_shown config words machines number machine order some here takes = ∥∥₁_elim some (fit_is_prop config order (slice_index words (table_index (plan_of config order machine))) machine) (λ shown.

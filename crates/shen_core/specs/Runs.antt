@@ -15,7 +15,7 @@ pub record WordsShow (words : List ℕ) (machines : List Machine) (stage : Stage
   pub machines_are : map (λ a. a.machine) stage.machines ≡ machines
 
 -- some run leads to these words and machines
-pub record IsShownBySome (config : Config) (words : List ℕ) (machines : List Machine) : Type 0 where
+pub record IsShownBySomeRun (config : Config) (words : List ℕ) (machines : List Machine) : Type 0 where
   pub run : Run config
   pub shows : WordsShow words machines (ending pause_image config run)
 

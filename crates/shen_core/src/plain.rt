@@ -3,7 +3,7 @@ ghost use Rattle.shen_graph.specs.Valid.{most_objects};
 ghost use Rattle.heap_words.specs.Words.{table_words, heap_size};
 ghost use Rattle.heap_words.specs.Ranges.{seat_count};
 ghost use Rattle.heap_machines.specs.Shown.{shown, order_of, config_of as machine_config};
-ghost use Rattle.shen_core.specs.Runs.{IsShownBySome};
+ghost use Rattle.shen_core.specs.Runs.{IsShownBySomeRun};
 
 use heap_machines::{Machine, Stepped, machines_from, open_machines, words_from};
 use heap_words::{Access, Config, NoMemory, Place};
@@ -24,7 +24,7 @@ pub struct Plain {
     ghost all_words: { length words.items ≡ table_words config },
     ghost all_machines: { length machines.items ≡ seat_count config.mutators config.helpers },
     ghost one_heap: { All (λ m. machine_config m ≡ config) machines.items },
-    ghost reached: { ∥ IsShownBySome config words.items (map shown machines.items) ∥₁ },
+    ghost reached: { ∥ IsShownBySomeRun config words.items (map shown machines.items) ∥₁ },
 }
 
 impl Plain {
@@ -93,7 +93,7 @@ impl Plain {
         requires words { length words.items ≡ table_words config }
         requires machines { length machines.items ≡ seat_count config.mutators config.helpers }
         requires heap { All (λ m. machine_config m ≡ config) machines.items }
-        requires reached { ∥ IsShownBySome config words.items (map shown machines.items) ∥₁ }
+        requires reached { ∥ IsShownBySomeRun config words.items (map shown machines.items) ∥₁ }
         ensures config { config_of result ≡ config }
         ensures words { words_of result ≡ words.items }
         ensures machines { machines_of result ≡ map shown machines.items }

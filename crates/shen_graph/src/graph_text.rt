@@ -1,7 +1,7 @@
 ghost use Rattle.std.specs.Prelude.{◌≡◌, ◌+◌, ◌-◌, ◌<◌, ◌≤◌, [], ◌++◌, length, map, replicate, sum_by, All, IfOk, None, slice_index, slice_index_or, slice_set, vec_len, vec_capacity};
 ghost use Rattle.std.specs.List.Sorted.{IsPermutation};
 ghost use Rattle.shen_graph.specs.Reach.{InOrder};
-ghost use Rattle.shen_graph.specs.GraphText.{empty, cleared, with_row, with_reference, with_number, with_root_of, with_pin_of, root_of, pin_of, row_of, names_of, NamesDiffer};
+ghost use Rattle.shen_graph.specs.GraphText.{empty, cleared, with_row, with_reference, with_number, with_numbers, with_root_of, with_pin_of, root_of, pin_of, row_of, names_of, NamesDiffer};
 ghost use Rattle.shen_graph.specs.TextLayout.{part, row_at, span_length, Within, IsLaid};
 
 use crate::NoMemory;
@@ -201,6 +201,17 @@ impl GraphText {
         let place = &mut self.places[last];
         place.nums.to += 1;
         self.spare -= 1;
+    }
+
+    /// Adds numbers to the object in the last row.
+    pub fn add_numbers(&mut self, numbers: &[u64])
+        requires row { 0 < length self.old.rows }
+        requires room { length numbers.now ≤ self.old.spare }
+        ensures { self.new ≡ with_numbers self.old numbers.now }
+    {
+        for number in numbers {
+            self.number(*number);
+        }
     }
 
     /// Sets a root of a thread.

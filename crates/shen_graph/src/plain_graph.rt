@@ -7,7 +7,7 @@ ghost use Rattle.shen_graph.specs.Valid.{IsValid};
 ghost use Rattle.shen_graph.specs.Graph.{Graph, blank, field_at, number_at, fresh, with_root, with_field, with_number, with_fresh, with_pin, hub, named, opening, same_name};
 ghost use Rattle.shen_graph.specs.Step.{answers, outcome, shown, yes_or_no, ok_or_bad, shown_at, pinned_by, name_in, place_in, slot_of, MayBePinned, IsLegal, IsPinning, IsPin};
 ghost use Rattle.shen_graph.specs.Reach.{IsReach, Live, size};
-ghost use Rattle.shen_graph.specs.GraphText.{cleared, root_of, pin_of, row_in, with_references, with_numbers, with_whole_row, IsTextOf};
+ghost use Rattle.shen_graph.specs.GraphText.{cleared, root_of, pin_of, row_in, with_references, with_whole_row, IsTextOf};
 ghost use Rattle.shen_graph.specs.PlainGraph.{graph_of, threads_of, place_of, root_in, pin_in, differs};
 ghost use Rattle.shen_graph.specs.Found.{with_name, with_names};
 
@@ -230,17 +230,6 @@ fn put_references(text: &mut GraphText, references: &[Option<Name>])
     }
 }
 
-// Adds numbers to the last row of a text.
-fn put_numbers(text: &mut GraphText, numbers: &[u64])
-    requires row { 0 < length text.old.rows }
-    requires room { length numbers.now ≤ text.old.spare }
-    ensures { text.new ≡ with_numbers text.old numbers.now }
-{
-    for number in numbers {
-        text.number(*number);
-    }
-}
-
 impl Object {
     ghost use Rattle.shen_graph.specs.GraphText.{Row};
 
@@ -288,7 +277,7 @@ impl Object {
     {
         text.object(self.name);
         put_references(text, &self.refs);
-        put_numbers(text, &self.nums);
+        text.add_numbers(&self.nums);
     }
 
     fn set_field(&mut self, field: u32, value: Option<Name>)

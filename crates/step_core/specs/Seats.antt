@@ -91,10 +91,10 @@ unit_in (helping h) = help_unit h.spot
 unit_in (controlling k) = control_unit k.spot
 
 -- the scan or the pass of updating in which who works on a unit is
-abbrev pub unit_scan : Config → UnitSpot → Option Scan
-unit_scan config (Scanning at) = scanning_of at
-unit_scan config (Updating cset at) = pass_of config at
-unit_scan config _ = None
+abbrev pub unit_progress : Config → UnitSpot → Option Scan
+unit_progress config (Scanning at) = scanning_of at
+unit_progress config (Updating cset at) = pass_of config at
+unit_progress config _ = None
 
 -- whether it copies
 abbrev pub unit_copies : UnitSpot → Bool
@@ -249,7 +249,7 @@ pub record StandsThere (config : Config) (world : World) (x : Carried) : Type 0 
 -- word that is on its way from an object into a copy is the object's word.
 pub record IsInSeat (config : Config) (world : World) (seat : ℕ) (machine : Machine) : Type 0 where
   pub records : world.ghost.recording seat ≡ records_of machine
-  pub scans : world.ghost.scanning seat ≡ unit_scan config (unit_in machine)
+  pub scans : world.ghost.scanning seat ≡ unit_progress config (unit_in machine)
   pub copies : world.ghost.copying seat ≡ copies_of machine
   pub works : world.ghost.working seat ≡ unit_region config (unit_in machine)
   pub goes_on : CanWorkOn config world seat (unit_in machine)

@@ -27,7 +27,7 @@ use Rattle.mutator.specs.Orders.{is_between_calls}
 use Rattle.mutator.specs.Rows.{Mutating, given_at}
 use Rattle.heap_world.specs.World.{Ghost, World, Block, Plot, room_of, Shared}
 use Rattle.heap_world.specs.Asking.{Asking, nothing, asks, refused, given, IsAsked, PromisedToMutators}
-use Rattle.heap_world.specs.Roots.{HasNoMore, HasNoMorePins}
+use Rattle.heap_world.specs.Roots.{HasNoMoreRoots, HasNoMorePins}
 use Rattle.step_core.specs.Pins.{HoldsPin}
 use Rattle.step_core.specs.Actor.{mutating, Actor, entries_of}
 use Rattle.step_core.specs.Machines.{takes_of, plan_of, HasNumber, IsFitFor}
@@ -172,7 +172,7 @@ pub record IsSound (config : Config) (graph : Graph) (stage : Stage Actor) (past
   pub crowded : AreCrowded config.regions config.region_words graph (scripts_begun config stage) past
   -- each entry is of a thread of the heap, and no thread has more roots than its 16, and more pin slots than its 4
   pub entries : All (IsSettled config.mutators) past
-  pub no_more : HasNoMore config.mutators (after graph past)
+  pub no_more : HasNoMoreRoots config.mutators (after graph past)
   pub no_more_pins : HasNoMorePins config.mutators (after graph past)
   -- each pin word is 0 where the slot is empty, and else the place of its object, which is its current copy and has not moved
   pub pinned : (other_mutator index : ℕ) → other_mutator < config.mutators → index < 4 → HoldsPin (settled config stage) (settled config stage (Pin other_mutator index)) ((after graph past).pin (other_mutator + 1) index)

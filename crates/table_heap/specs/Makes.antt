@@ -9,6 +9,7 @@ use Rattle.mutator.specs.declared.spot.Entered.TheVariants.{Waited}
 use Rattle.step_core.specs.Actor.{Machine, mutating}
 use Rattle.step_core.specs.Machines.{is_resting, made_of_machine, at_hand_of}
 
+-- whether a command makes an object
 abbrev pub makes_object : Command → Bool
 makes_object (New dst refs nums) = true
 makes_object _ = false
@@ -28,6 +29,7 @@ abbrev pub call_in : Machine → Command
 call_in (mutating m) = m.kept.command
 call_in _ = Gc
 
+-- whether a machine stands where its call may, if it is a mutator
 abbrev pub stands_in_its_call : Machine → Bool
 stands_in_its_call (mutating m) = may_stand (makes_object m.kept.command) m.spot
 stands_in_its_call _ = true

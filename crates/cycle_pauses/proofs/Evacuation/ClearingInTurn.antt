@@ -245,7 +245,7 @@ module _ (config : Config) (first memory : Word → ℕ) (block : Plot) (owner :
     plot = moves.1
 
     abbrev other_memory : Word → ℕ
-    n = copied_out config memory answer
+    other_memory = copied_out config memory answer
 
     abbrev written : Word → ℕ
     written = write other_memory (Answer t) to

@@ -12,7 +12,7 @@ use Rattle.regions.specs.Place.{region_with}
 use Rattle.shen_graph.specs.Graph.{Graph}
 use Rattle.heap_world.specs.World.{Plot, no_ghost, with_owner, HasNoRoom, AreOwned, IsCollected, IsEvacuating, IsUsable}
 use Rattle.heap_world.specs.Asking.{Asking, asks}
-use Rattle.heap_world.specs.Roots.{HasNoMore, HasNoMorePins}
+use Rattle.heap_world.specs.Roots.{HasNoMoreRoots, HasNoMorePins}
 use Rattle.heap_world.specs.Represents.{Represents}
 use Rattle.heap_world.proofs.Copies.{none_in_0, none_is_in, none_evacuated}
 use Rattle.heap_world.proofs.Keeping.{usable_now}
@@ -35,7 +35,7 @@ use Rattle.cycle_pauses.proofs.Finishing.Serving.{IsIdle}
 
 -- Such words represent the graph.
 pub idle_represents : (config : Config) (memory : Word → ℕ) (block : Plot) (owner : ℕ → Option ℕ) (graph : Graph) (asking : ℕ → Asking) → IsIdle config memory block owner graph asking
-    → memory Phase ≡ 0 → memory Cset ≡ 0 → memory Evac ≡ 0 → ((mutator refs nums : ℕ) → mutator < config.mutators → asking mutator ≡ asks refs nums → bit_at (memory Ask) 1 ≡ 1) → HasNoMore config.mutators graph → HasNoMorePins config.mutators graph → Represents config memory graph asking
+    → memory Phase ≡ 0 → memory Cset ≡ 0 → memory Evac ≡ 0 → ((mutator refs nums : ℕ) → mutator < config.mutators → asking mutator ≡ asks refs nums → bit_at (memory Ask) 1 ≡ 1) → HasNoMoreRoots config.mutators graph → HasNoMorePins config.mutators graph → Represents config memory graph asking
 idle_represents config memory block owner graph asking s no_phase no_cset no_evac heard no_more no_more_pins = record {
   block = block;
   ghost = with_owner no_ghost owner;

@@ -10,7 +10,7 @@ use Rattle.regions.specs.Marks.{HasMark}
 use Rattle.heap_world.specs.World.{moved, spent, hand, promised, dead, carved, Plot, Ghost, no_snapshot, Points, IsParsable, HasContents, AreOwned, PinStands, AreUnwritten, IsMarkable, IsYoung, AreYoungRooms}
 use Rattle.heap_world.specs.Asking.{Asking, asks, IsAsked}
 use Rattle.heap_world.specs.Represents.{NobodyMarks, NobodyCopies}
-use Rattle.heap_world.specs.Roots.{HasNoMore, HasNoMorePins}
+use Rattle.heap_world.specs.Roots.{HasNoMoreRoots, HasNoMorePins}
 use Rattle.image_graph.specs.Buffers.{HasNoMoreSeats}
 
 -- no piece is an old copy, in hand or carved: all room is free words of buffers
@@ -51,5 +51,5 @@ pub record IsMarkedOut (config : Config) (memory : Word → ℕ) (block : Plot) 
   pub asked : (mutator : ℕ) → mutator < config.mutators → IsAsked memory block graph.count mutator (asking mutator)
   pub heard : (mutator refs nums : ℕ) → mutator < config.mutators → asking mutator ≡ asks refs nums → bit_at (memory Ask) 1 ≡ 1
   pub promised_to : (address seat words : ℕ) → block address ≡ Some (promised seat words) → seat < config.mutators
-  pub no_more : HasNoMore config.mutators graph
+  pub no_more : HasNoMoreRoots config.mutators graph
   pub no_more_pins : HasNoMorePins config.mutators graph

@@ -33,7 +33,7 @@ use Rattle.heap_world.specs.Asking.{Asking, nothing, asks, refused, given, IsAsk
 use Rattle.heap_world.specs.Change.{Change, Answers, IsDue, IsPaused, image_view, image_words, words_given}
 use Rattle.collector_rows.specs.ByParts.{PausesByParts}
 use Rattle.heap_world.specs.Represents.{NobodyMarks, NobodyCopies, Represents}
-use Rattle.heap_world.specs.Roots.{HasNoMore, HasNoMorePins}
+use Rattle.heap_world.specs.Roots.{HasNoMoreRoots, HasNoMorePins}
 use Rattle.collector_rows.specs.declared.extent.Extent.{Extent}
 use Rattle.collector_rows.specs.Extent.{extent_by, counts, Counting}
 use Rattle.collector_rows.specs.ByParts.{IsImagePart, IsMadeOf}
@@ -350,7 +350,7 @@ module _ (config : Config) (words : List ℕ) (block : Plot) (ghost : Ghost) (gr
   }
 
   -- The words of the table stand for the graph.
-  pub words_stand : Shared config before → PromisedToMutators config block → HasNoMore config.mutators graph → HasNoMorePins config.mutators graph → AllKnown → AllOutside → Represents config (view config words) graph asking
+  pub words_stand : Shared config before → PromisedToMutators config block → HasNoMoreRoots config.mutators graph → HasNoMorePins config.mutators graph → AllKnown → AllOutside → Represents config (view config words) graph asking
   words_stand shared promised_to no_more no_more_pins known outside = record {
     block = block;
     ghost = ghost;
@@ -384,7 +384,7 @@ module _ (config : Config) (words : List ℕ) (block : Plot) (ghost : Ghost) (gr
   all_read : view config words ≡ mixed config words (all_of whole)
   all_read = sym (mixed_whole config words (all_of whole) (λ i below counted. image_in_reads config words i))
 
-  pub image_stands : Shared config before → PromisedToMutators config block → HasNoMore config.mutators graph → HasNoMorePins config.mutators graph → AllKnown → AllOutside → Represents config (image_view config whole) graph asking
+  pub image_stands : Shared config before → PromisedToMutators config block → HasNoMoreRoots config.mutators graph → HasNoMorePins config.mutators graph → AllKnown → AllOutside → Represents config (image_view config whole) graph asking
   image_stands shared promised_to no_more no_more_pins known outside =
       let stands = words_stand shared promised_to no_more no_more_pins known outside in
       record {
@@ -407,7 +407,7 @@ module _ (config : Config) (words : List ℕ) (block : Plot) (ghost : Ghost) (gr
   -- A part of it was read.
   module _ (extent : Extent) (part : List ℕ) (part_of : IsImagePart config extent whole part) (extent_is : extent ≡ extent_by config (slice_index part 0) part) (whole_long : length whole ≡ image_words config) (part_long : length part ≡ image_words config) where
     -- The new image counts: what the step owes.
-    module _ (change : Change) (law : PausesByParts change) (due : IsDue config (view config words)) (shared : Shared config before) (promised_to : PromisedToMutators config block) (no_more : HasNoMore config.mutators graph) (no_more_pins : HasNoMorePins config.mutators graph)
+    module _ (change : Change) (law : PausesByParts change) (due : IsDue config (view config words)) (shared : Shared config before) (promised_to : PromisedToMutators config block) (no_more : HasNoMoreRoots config.mutators graph) (no_more_pins : HasNoMorePins config.mutators graph)
         (known : AllKnown) (outside : AllOutside) where
       -- the pause is due by the image
       image_due : IsDue config (image_view config whole)

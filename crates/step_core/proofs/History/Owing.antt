@@ -16,7 +16,7 @@ use Rattle.step_core.specs.Actor.{Actor}
 use Rattle.step_core.specs.Settled.{settled}
 use Rattle.step_core.specs.Threads.{IsSettled}
 use Rattle.step_core.specs.Sound.{world_of}
-use Rattle.heap_world.specs.Roots.{HasNoMore, HasNoMorePins}
+use Rattle.heap_world.specs.Roots.{HasNoMoreRoots, HasNoMorePins}
 use Rattle.step_core.proofs.Mutators.Roots.{no_more_after, no_more_pins_after}
 use Rattle.step_core.proofs.Machines.Owed.{IsMachine, Follows, Owes}
 use Rattle.step_core.proofs.History.Entries.{after-append, legal-append}
@@ -43,7 +43,7 @@ module _ (config : Config) (graph : Graph) (stage : Stage Actor) (past : List En
         seats = length-set stage.machines number new ∙ follows.seats;
         legal = legal-append config.regions config.region_words graph past settles follows.legal owes.legal;
         entries = All-append (IsSettled config.mutators) past settles follows.entries owes.entries;
-        no_more = subst (λ h. HasNoMore config.mutators h) (sym (after-append graph past settles)) (no_more_after config.mutators (after graph past) settles owes.entries follows.no_more);
+        no_more = subst (λ h. HasNoMoreRoots config.mutators h) (sym (after-append graph past settles)) (no_more_after config.mutators (after graph past) settles owes.entries follows.no_more);
         no_more_pins = subst (λ h. HasNoMorePins config.mutators h) (sym (after-append graph past settles)) (no_more_pins_after config.mutators (after graph past) settles owes.entries follows.no_more_pins);
         shared = subst (λ w. Shared config w) world_is owes.shared;
         promised_to = owes.promised_to;

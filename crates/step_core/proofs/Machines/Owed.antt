@@ -19,7 +19,7 @@ use Rattle.heap_world.specs.World.{Ghost, World, Block, Plot, room_of, Shared}
 use Rattle.alloc_buffers.specs.Facts.{IsSpare, OnlySpares}
 pub use Rattle.heap_world.specs.Asking.{PromisedToMutators}
 use Rattle.heap_world.specs.Change.{IsDue}
-use Rattle.heap_world.specs.Roots.{HasNoMore, HasNoMorePins}
+use Rattle.heap_world.specs.Roots.{HasNoMoreRoots, HasNoMorePins}
 use Rattle.collector_rows.specs.declared.control_spot.ControlSpot.{ControlSpot}
 use Rattle.collector_rows.specs.declared.control_spot.ControlSpot.TheVariants.{LookFree, Working, Stopping, LoadWord}
 use Rattle.collector_rows.specs.ControlRows.{Controlling}
@@ -146,7 +146,7 @@ pub record Follows (config : Config) (graph : Graph) (stage : Stage Actor) (past
   pub seats : length stage.machines ≡ seat_count config.mutators config.helpers
   pub legal : EachIsLegal config.regions config.region_words graph past
   pub entries : All (IsSettled config.mutators) past
-  pub no_more : HasNoMore config.mutators (after graph past)
+  pub no_more : HasNoMoreRoots config.mutators (after graph past)
   pub no_more_pins : HasNoMorePins config.mutators (after graph past)
   pub shared : Shared config (world_of config stage block ghost (after graph past))
   pub promised_to : PromisedToMutators config block

@@ -54,7 +54,7 @@ use Rattle.collector_rows.specs.declared.control_spot.ControlSpot.{ControlSpot}
 use Rattle.collector_rows.specs.declared.control_spot.ControlSpot.TheVariants as control
 use Rattle.heap_world.specs.World.{World, Block, Body, body_words, hand, room_of, UsableIn}
 use Rattle.step_core.specs.Actor.{Machine, mutating, helping, controlling, Actor}
-use Rattle.step_core.specs.Seats.{copies_in, IsRoomIn, help_unit, control_unit, unit_scan, unit_copies, unit_region, CanWorkOn, UnitRoom, resolve_hand, evac_hand, unit_hand, make_hand, call_hand, Taking, resolve_taking, evac_taking, unit_taking, make_taking, call_taking, take_looks, looks_in, Carried, resolve_carries, evac_carries, unit_carries, call_carries, StandsThere, IsInSeat, before_record, before_resolve, works_on, AsksNothing, MakesObject, IsServed, IsOfRoots, IsOfField, IsOfLoaded, IsOfOverwritten, IsOfCall, is_answered}
+use Rattle.step_core.specs.Seats.{copies_in, IsRoomIn, help_unit, control_unit, unit_progress, unit_copies, unit_region, CanWorkOn, UnitRoom, resolve_hand, evac_hand, unit_hand, make_hand, call_hand, Taking, resolve_taking, evac_taking, unit_taking, make_taking, call_taking, take_looks, looks_in, Carried, resolve_carries, evac_carries, unit_carries, call_carries, StandsThere, IsInSeat, before_record, before_resolve, works_on, AsksNothing, MakesObject, IsServed, IsOfRoots, IsOfField, IsOfLoaded, IsOfOverwritten, IsOfCall, is_answered}
 use Rattle.step_core.proofs.Machines.Owed.{IsResting, CanWork, HelpFacts, ControlFacts, IsMachine}
 use Rattle.step_core.proofs.Machines.Stepped.{HasObject, FieldFacts, NumberFacts, ShowFacts, RecordFacts, LoadedFacts, MakeFacts, IsResolving, IsMaking, IsPolling, IsAnswered, WaitFacts, SpotFacts, Mine, HasTaken, IsCas, IsCopy, IsDrop, IsOfSlot, PinFacts, LoadFacts}
 
@@ -146,7 +146,7 @@ on_unit config world seat (evac.Ended unit) facts = on_unit_nothing config world
 -- What the ghost state and the pieces have of a seat that works on a unit, or rests.
 record AtUnit (config : Config) (world : World) (seat : ℕ) (at : UnitSpot) : Type 0 where
   records : world.ghost.recording seat ≡ None
-  scans : world.ghost.scanning seat ≡ unit_scan config at
+  scans : world.ghost.scanning seat ≡ unit_progress config at
   copies : world.ghost.copying seat ≡ unit_copies at
   works : world.ghost.working seat ≡ unit_region config at
   goes_on : CanWorkOn config world seat at

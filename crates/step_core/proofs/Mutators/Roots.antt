@@ -15,44 +15,44 @@ use Rattle.shen_graph.specs.History.{Entry, is_full, after_reply, after_entry, a
 use Rattle.shen_graph.specs.Valid.{is_root, is_slot, is_valid, fits_value}
 use Rattle.std.proofs.lemmas.Bool.{and_parts}
 use Rattle.step_core.specs.Threads.{IsSettled}
-use Rattle.heap_world.specs.Roots.{HasNoMore, HasNoMorePins}
+use Rattle.heap_world.specs.Roots.{HasNoMoreRoots, HasNoMorePins}
 
 -- the opening has no roots but those of its threads
-pub no_more_opening : (threads : ℕ) → HasNoMore threads (graphs.opening threads)
+pub no_more_opening : (threads : ℕ) → HasNoMoreRoots threads (graphs.opening threads)
 no_more_opening threads t i none = grind (arith, nat_tests)
 
 -- a reference goes into a root of a thread
-with_root_keeps : (threads : ℕ) (graph : Graph) (t r : ℕ) (reference : Reference) → 1 ≤ t → t ≤ threads → is_root r ≡ true → HasNoMore threads graph → HasNoMore threads (with_root graph t r reference)
+with_root_keeps : (threads : ℕ) (graph : Graph) (t r : ℕ) (reference : Reference) → 1 ≤ t → t ≤ threads → is_root r ≡ true → HasNoMoreRoots threads graph → HasNoMoreRoots threads (with_root graph t r reference)
 with_root_keeps threads graph t r reference least most root few u k none =
     let before = few u k none in
     grind (arith, nat_tests)
 
 -- a change of an object changes no root
-named_keeps : (threads : ℕ) (graph : Graph) (reference : Reference) (object : Object) → HasNoMore threads graph → HasNoMore threads (with_named graph reference object)
+named_keeps : (threads : ℕ) (graph : Graph) (reference : Reference) (object : Object) → HasNoMoreRoots threads graph → HasNoMoreRoots threads (with_named graph reference object)
 named_keeps threads graph None object few = few
 named_keeps threads graph (Some n) object few = few
 
 -- a change on an object that may be missing
-on_keeps : {A : Type 0} (threads : ℕ) (found : Option A) (graph : Graph) (f : A → Outcome) → HasNoMore threads graph → ((x : A) → HasNoMore threads (f x).graph) → HasNoMore threads (on found graph f).graph
+on_keeps : {A : Type 0} (threads : ℕ) (found : Option A) (graph : Graph) (f : A → Outcome) → HasNoMoreRoots threads graph → ((x : A) → HasNoMoreRoots threads (f x).graph) → HasNoMoreRoots threads (on found graph f).graph
 on_keeps threads None graph f few more = few
 on_keeps threads (Some x) graph f few more = more x
 
 -- one of two changes
-either_keeps : (threads : ℕ) (holds : Bool) (x y : Outcome) → HasNoMore threads x.graph → HasNoMore threads y.graph → HasNoMore threads (if holds then x else y).graph
+either_keeps : (threads : ℕ) (holds : Bool) (x y : Outcome) → HasNoMoreRoots threads x.graph → HasNoMoreRoots threads y.graph → HasNoMoreRoots threads (if holds then x else y).graph
 either_keeps threads true x y one other = one
 either_keeps threads false x y one other = other
 
 -- a change of a field
-field_keeps : (threads : ℕ) (graph : Graph) (thread obj field : ℕ) (reference : Reference) → HasNoMore threads graph → HasNoMore threads (with_field graph thread obj field reference)
+field_keeps : (threads : ℕ) (graph : Graph) (thread obj field : ℕ) (reference : Reference) → HasNoMoreRoots threads graph → HasNoMoreRoots threads (with_field graph thread obj field reference)
 field_keeps threads graph thread obj field reference few = named_keeps threads graph (graph.root thread obj) (record { refs = slice_set (named graph (graph.root thread obj)).refs field reference; nums = (named graph (graph.root thread obj)).nums }) few
 
 -- a change of a number
-number_keeps : (threads : ℕ) (graph : Graph) (thread obj index value : ℕ) → HasNoMore threads graph → HasNoMore threads (with_number graph thread obj index value)
+number_keeps : (threads : ℕ) (graph : Graph) (thread obj index value : ℕ) → HasNoMoreRoots threads graph → HasNoMoreRoots threads (with_number graph thread obj index value)
 number_keeps threads graph thread obj index value few = named_keeps threads graph (graph.root thread obj) (record { refs = (named graph (graph.root thread obj)).refs; nums = slice_set (named graph (graph.root thread obj)).nums index value }) few
 
-module _ (threads thread : ℕ) (least : 1 ≤ thread) (most : thread ≤ threads) (graph : Graph) (few : HasNoMore threads graph) where
+module _ (threads thread : ℕ) (least : 1 ≤ thread) (most : thread ≤ threads) (graph : Graph) (few : HasNoMoreRoots threads graph) where
   -- each command in range
-  outcome_keeps : (command : Command) → is_valid command ≡ true → HasNoMore threads (outcome graph thread command).graph
+  outcome_keeps : (command : Command) → is_valid command ≡ true → HasNoMoreRoots threads (outcome graph thread command).graph
   outcome_keeps (New dst refs nums) valid =
       with_root_keeps threads (with_fresh graph thread (blank refs nums)) thread dst (Some (fresh graph thread)) least most (and_parts _ _ valid).0 few
   outcome_keeps (Get dst src field) valid =
@@ -83,26 +83,26 @@ module _ (threads thread : ℕ) (least : 1 ≤ thread) (most : thread ≤ thread
   outcome_keeps (Unpin slot) valid = on_keeps threads (graph.pin thread slot) graph (λ _. answers reply.Ok (with_pin graph thread slot None)) few (λ v. few)
 
   -- a pin changes no root
-  pinned_keeps : (slot place : ℕ) (reference : Reference) → HasNoMore threads (with_pinned graph thread slot reference place)
+  pinned_keeps : (slot place : ℕ) (reference : Reference) → HasNoMoreRoots threads (with_pinned graph thread slot reference place)
   pinned_keeps slot place None = few
   pinned_keeps slot place (Some n) = few
 
   -- so does each reply
-  reply_keeps : (command : Command) (r : Reply) → is_valid command ≡ true → HasNoMore threads (after_reply graph thread command r)
+  reply_keeps : (command : Command) (r : Reply) → is_valid command ≡ true → HasNoMoreRoots threads (after_reply graph thread command r)
   reply_keeps (Pin slot obj) (reply.At place) valid = pinned_keeps slot place (pinned_by graph thread (Pin slot obj))
   reply_keeps (Pin slot obj) _ valid = few
   reply_keeps command r valid = outcome_keeps command valid
 
 -- each settled entry
-entry_keeps : (threads : ℕ) (graph : Graph) (entry : Entry) → IsSettled threads entry → HasNoMore threads graph → HasNoMore threads (after_entry graph entry)
+entry_keeps : (threads : ℕ) (graph : Graph) (entry : Entry) → IsSettled threads entry → HasNoMoreRoots threads graph → HasNoMoreRoots threads (after_entry graph entry)
 entry_keeps threads graph entry settled few = by_full (is_full entry.reply)
   where
-    by_full : (holds : Bool) → HasNoMore threads (if holds then graph else after_reply graph entry.thread entry.command entry.reply)
+    by_full : (holds : Bool) → HasNoMoreRoots threads (if holds then graph else after_reply graph entry.thread entry.command entry.reply)
     by_full true = few
     by_full false = reply_keeps threads entry.thread settled.least settled.most graph few entry.command entry.reply (and_parts (is_valid entry.command) (fits_value entry.command) settled.valid).0
 
 -- the same after a whole history
-pub no_more_after : (threads : ℕ) (graph : Graph) (es : List Entry) → All (IsSettled threads) es → HasNoMore threads graph → HasNoMore threads (after graph es)
+pub no_more_after : (threads : ℕ) (graph : Graph) (es : List Entry) → All (IsSettled threads) es → HasNoMoreRoots threads graph → HasNoMoreRoots threads (after graph es)
 no_more_after threads graph [] each few = few
 no_more_after threads graph (e ∷ es) each few =
     no_more_after threads (after_entry graph e) es (All-tail (IsSettled threads) e es each) (entry_keeps threads graph e (All-head (IsSettled threads) e es each) few)

@@ -5,7 +5,7 @@ use Rattle.heap_words.specs.Words.{Word, view, table_words}
 use Rattle.image_graph.specs.State as images
 use Rattle.step_core.specs.Machines.{made_of_machine}
 use Rattle.step_core.specs.Opening.{first_free}
-use Rattle.shen_core.specs.Runs.{IsShownBySome}
+use Rattle.shen_core.specs.Runs.{IsShownBySomeRun}
 use Rattle.shen_core.specs.State.{config_of, words_of, machines_of, machine_at}
 use Rattle.heap_tests.proofs.LeftAtRest.{LeftGraph, left}
 use Rattle.heap_tests.proofs.calls_step_by_step.image_of.Goals as goal
@@ -22,5 +22,5 @@ returns-clause-stands c =
     ∙ take_all c.loop-at.at (words_of plain) (omega (arith, plain.all_words, all, c.loop-at-test.false, c.table_words-at-end.ensures)) in
     let memory : view (config_of plain) (words_of plain) ≡ images.memory_of image =
     sym (ap (λ k. view k (images.words_of image)) c.loop-at.invariant.config ∙ ap (view (config_of plain)) words) in
-    ∥∥₁_map plain.reached (λ (some : IsShownBySome (config_of plain) (words_of plain) (machines_of plain)). subst (λ (memory : Word → ℕ). LeftGraph (config_of plain) memory (made_of_machine (machine_at plain 0))) memory
+    ∥∥₁_map plain.reached (λ (some : IsShownBySomeRun (config_of plain) (words_of plain) (machines_of plain)). subst (λ (memory : Word → ℕ). LeftGraph (config_of plain) memory (made_of_machine (machine_at plain 0))) memory
     (left (config_of plain) (words_of plain) (machines_of plain) (first_free (config_of plain).regions) c.requires.seats.0 c.requires.seats.1 c.requires.rest c.requires.control some.run some.shows))

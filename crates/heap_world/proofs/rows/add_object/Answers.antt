@@ -1,10 +1,10 @@
 use Rattle.std.proofs.Common.{◌+◌, ◌-◌, ◌≤◌, [], ◌∷◌, length, map, arith, ap, ◌∙◌, length-append}
 use Rattle.std.proofs.lemmas.List.{length-map}
-use Rattle.shen_graph.specs.GraphText.{bare, with_row}
+use Rattle.shen_graph.specs.GraphText.{bare, with_row, with_references, with_numbers}
 use Rattle.heap_world.specs.Walk.{refs_at, nums_at, size_at}
-use Rattle.heap_world.specs.Rows.{name_in_heap, reference_in, with_references, with_numbers}
+use Rattle.heap_world.specs.Rows.{name_in_heap, reference_in}
 use Rattle.heap_world.proofs.ObjectRows.{length-refs_at, length-nums_at}
-use Rattle.heap_world.proofs.Texts.{whole, rows_left, spare_left}
+use Rattle.shen_graph.proofs.RowLemmas.{whole, rows_left, spare_left}
 use Rattle.heap_world.proofs.rows.add_object.Goals as goal
 
 pub add_numbers-requires-clause-row : goal.add_numbers-requires-clause-row

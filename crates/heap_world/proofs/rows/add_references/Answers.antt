@@ -1,8 +1,9 @@
 use Rattle.std.proofs.Common.{[], ◌∷◌, length, map, get_or, take, arith, ap, sym, ◌∙◌}
 use Rattle.std.proofs.lemmas.List.{take_more, map-append}
 use Rattle.shen_graph.specs.GraphText.{add_reference, with_reference}
-use Rattle.heap_world.specs.Rows.{reference_in, with_references}
-use Rattle.heap_world.proofs.Texts.{length-change_last, with_references-push}
+use Rattle.shen_graph.specs.GraphText.{with_references}
+use Rattle.heap_world.specs.Rows.{reference_in}
+use Rattle.shen_graph.proofs.RowLemmas.{length-change_last, with_references-push}
 use Rattle.heap_world.proofs.rows.add_references.Goals as goal
 
 pub loop-word-preserved : goal.loop-word-preserved

@@ -1,5 +1,6 @@
 use Rattle.std.proofs.Common.{◌≡◌, ◌+◌, length, map, take}
-use Rattle.heap_world.specs.Rows.{reference_in, with_references}
+use Rattle.shen_graph.specs.GraphText.{with_references}
+use Rattle.heap_world.specs.Rows.{reference_in}
 use Rattle.heap_world.proofs.rows.add_references.Given as goal
 
 abbrev pub invariant-loop-word : goal.invariant-loop-word

@@ -4,7 +4,7 @@ use Rattle.std.proofs.Common.{sym, ap, ◌∙◌, subst, arith, ◌<◌, refl}
 use Rattle.std.proofs.lemmas.List.{length-set}
 use Rattle.std.proofs.Math.Logic.{∥∥₁_map}
 use Rattle.step_core.specs.Machines.{may_begin, made_of_machine, takes_of}
-use Rattle.shen_core.specs.Runs.{IsShownBySome}
+use Rattle.shen_core.specs.Runs.{IsShownBySomeRun}
 use Rattle.shen_core.proofs.Memory.{from_read, machine_here, ordered_machines, ordered_orders, ordered_heap}
 use Rattle.shen_core.proofs.plain.Plain.begin.Goals as goal
 
@@ -21,7 +21,7 @@ invariant_of-self c =
       all_words = plain.all_words;
       all_machines = length-set plain.machines.items _ _ ∙ plain.all_machines;
       one_heap = ordered_heap plain.config plain.machines.items c.args.number c.index_mut.result.now c.begin.new.self here c.begin.ensures.heap plain.one_heap;
-      reached = ∥∥₁_map plain.reached (subst (λ machines. IsShownBySome plain.config plain.words.items machines)
+      reached = ∥∥₁_map plain.reached (subst (λ machines. IsShownBySomeRun plain.config plain.words.items machines)
           (sym (ordered_machines plain.machines.items c.args.number c.index_mut.result.now c.begin.new.self here c.begin.ensures.shown)));
     }
 

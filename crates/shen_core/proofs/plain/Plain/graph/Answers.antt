@@ -8,7 +8,7 @@ use Rattle.heap_machines.specs.Image.{image_from}
 use Rattle.heap_machines.specs.Pause.{pause_image}
 use Rattle.step_core.specs.Begins.{graph_after}
 use Rattle.heap_machines.specs.Shown.{shown}
-use Rattle.shen_core.specs.Runs.{IsShownBySome}
+use Rattle.shen_core.specs.Runs.{IsShownBySomeRun}
 use Rattle.shen_core.proofs.Memory.{from_read, heap_here, shown_here, ordered_machines, ordered_none, ordered_heap}
 use Rattle.shen_core.proofs.Graphs.{names, stand, some_can_show, some_stand}
 use Rattle.step_core.specs.Settled.{control_number}
@@ -45,7 +45,7 @@ invariant_of-self c =
       all_words = plain.all_words;
       all_machines = length-set plain.machines.items _ _ ∙ plain.all_machines;
       one_heap = ordered_heap plain.config plain.machines.items (c.seats-control.result - 1) m c.answer_graph.new.self here c.answer_graph.ensures.heap plain.one_heap;
-      reached = ∥∥₁_map plain.reached (subst (λ machines. IsShownBySome plain.config plain.words.items machines)
+      reached = ∥∥₁_map plain.reached (subst (λ machines. IsShownBySomeRun plain.config plain.words.items machines)
           (sym (ordered_machines plain.machines.items (c.seats-control.result - 1) m c.answer_graph.new.self here c.answer_graph.ensures.shown)));
     }
 

@@ -4,7 +4,7 @@ use Rattle.heap_words.specs.Ranges.{seat_count}
 use Rattle.shen_graph.specs.declared.order.Order.TheVariants.{Nothing}
 use Rattle.heap_machines.specs.Shown.{shown, order_of}
 use Rattle.heap_machines.specs.FromImage.{stage_from}
-use Rattle.shen_core.specs.Runs.{IsShownBySome}
+use Rattle.shen_core.specs.Runs.{IsShownBySomeRun}
 use Rattle.heap_machines.proofs.FromImages.{machines_count, begins_from}
 use Rattle.shen_core.proofs.FromImage.{shows_from, shown_from, opened_shows, opened_orders}
 use Rattle.shen_core.proofs.plain.Plain.open_from.Goals as goal
@@ -22,7 +22,7 @@ of-requires-clause-machines c =
 
 pub of-requires-clause-reached : goal.of-requires-clause-reached
 of-requires-clause-reached c =
-    subst (λ k. ∥ IsShownBySome k c.in_ok-words.words.items (map shown c.in_ok-machines.machines.items) ∥₁) (sym c.config-config.ensures)
+    subst (λ k. ∥ IsShownBySomeRun k c.in_ok-words.words.items (map shown c.in_ok-machines.machines.items) ∥₁) (sym c.config-config.ensures)
     (shown_from c.args.image.config c.args.image.words.items c.args.counts.now c.in_ok-words.words.items (map shown c.in_ok-machines.machines.items) c.args.image.all_words
     (shows_from c.args.image.config c.args.image.words.items c.args.counts.now c.in_ok-words.words.items c.in_ok-machines.machines.items c.in_ok-words.ensures c.in_ok-machines.ensures.machines) c.requires.begins)
 

@@ -10,7 +10,7 @@ use Rattle.heap_machines.specs.Roles.{is_mutating}
 use Rattle.heap_machines.specs.Turn.{order_for}
 use Rattle.shen_core.specs.State.{config_of}
 use Rattle.shen_core.specs.Progress.{next_for}
-use Rattle.shen_core.specs.Runs.{IsShownBySome}
+use Rattle.shen_core.specs.Runs.{IsShownBySomeRun}
 use Rattle.shen_core.proofs.Memory.{from_read, shown_here, none_here, machine_here, machine_now, order_now, ordered_machines, ordered_none, ordered_orders, ordered_heap}
 use Rattle.shen_core.proofs.Turns.{role_shown, next_fits, is_turn}
 use Rattle.shen_core.proofs.plain.Plain.order_next.Goals as goal
@@ -42,7 +42,7 @@ invariant_of-self c =
       all_words = plain.all_words;
       all_machines = length-set plain.machines.items _ _ ∙ plain.all_machines;
       one_heap = ordered_heap plain.config plain.machines.items c.args.number m c.order_next.new.self here c.order_next.ensures.heap plain.one_heap;
-      reached = ∥∥₁_map plain.reached (subst (λ machines. IsShownBySome plain.config plain.words.items machines)
+      reached = ∥∥₁_map plain.reached (subst (λ machines. IsShownBySomeRun plain.config plain.words.items machines)
           (sym (ordered_machines plain.machines.items c.args.number m c.order_next.new.self here c.order_next.ensures.shown)));
     }
 

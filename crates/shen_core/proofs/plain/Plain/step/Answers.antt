@@ -7,7 +7,7 @@ use Rattle.heap_words.specs.Access.{table_index}
 use Rattle.heap_words.specs.Words.{table_words}
 use Rattle.heap_machines.specs.Shown.{shown, order_of, config_of}
 use Rattle.step_core.specs.Machines.{plan_of, reply_in, IsFitFor}
-use Rattle.shen_core.specs.Runs.{IsShownBySome}
+use Rattle.shen_core.specs.Runs.{IsShownBySomeRun}
 use Rattle.shen_core.proofs.Memory.{from_read, put_back, shown_here, heap_here, machine_now, made_from, made_step, made_shown, made_heap, made_orders, made_machines, turn_here, never_idle, done_only, says_here, done_here, again_here}
 use Rattle.shen_core.proofs.Turns.{fit_shown}
 use Rattle.shen_core.proofs.plain.Plain.step.Goals as goal
@@ -95,7 +95,7 @@ invariant_of-self c =
       all_words = plain.all_words;
       all_machines = length-set plain.machines.items _ _ ∙ plain.all_machines;
       one_heap = subst (λ xs. All (λ x. config_of x ≡ plain.config) xs) (sym back) plain.one_heap;
-      reached = subst (λ xs. ∥ IsShownBySome plain.config plain.words.items (map shown xs) ∥₁) (sym back) plain.reached;
+      reached = subst (λ xs. ∥ IsShownBySomeRun plain.config plain.words.items (map shown xs) ∥₁) (sym back) plain.reached;
     }
 
 pub returns-then-is_idle-clause-idle : goal.returns-then-is_idle-clause-idle

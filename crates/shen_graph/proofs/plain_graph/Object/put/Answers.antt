@@ -3,8 +3,8 @@ use Rattle.shen_graph.specs.GraphText.{bare, with_references, with_numbers}
 use Rattle.shen_graph.proofs.RowLemmas.{whole, rows_left, spare_left}
 use Rattle.shen_graph.proofs.plain_graph.Object.put.Goals as goal
 
-pub put_numbers-requires-clause-row : goal.put_numbers-requires-clause-row
-put_numbers-requires-clause-row c =
+pub add_numbers-requires-clause-row : goal.add_numbers-requires-clause-row
+add_numbers-requires-clause-row c =
     omega (
       arith,
       ap (λ t. length t.rows) c.put_references.ensures,
@@ -13,8 +13,8 @@ put_numbers-requires-clause-row c =
       length-append c.args.text.now.rows (bare c.self.inside.name ∷ []),
     )
 
-pub put_numbers-requires-clause-room : goal.put_numbers-requires-clause-room
-put_numbers-requires-clause-room c =
+pub add_numbers-requires-clause-room : goal.add_numbers-requires-clause-room
+add_numbers-requires-clause-room c =
     let room = rw (← c.self.view_is) at c.requires in
     omega (
       arith,
@@ -29,7 +29,7 @@ put_numbers-requires-clause-room c =
 pub returns : goal.returns
 returns c =
     rw (← c.self.view_is)
-    (c.put_numbers.ensures
+    (c.add_numbers.ensures
     ∙ ap (with_numbers c.put_references.new.text) c.deref-2.ensures.value
     ∙ ap (λ t. with_numbers t c.self.inside.nums.items)
     (c.put_references.ensures ∙ ap (with_references c.object.new.self) c.deref.ensures.value

@@ -3,19 +3,19 @@ use Rattle.std.proofs.lemmas.List.{take_more}
 use Rattle.shen_graph.specs.GraphText.{add_number, with_number}
 use Rattle.shen_graph.specs.GraphText.{with_numbers}
 use Rattle.shen_graph.proofs.RowLemmas.{length-change_last, with_numbers-push}
-use Rattle.shen_graph.proofs.plain_graph.put_numbers.Goals as goal
+use Rattle.shen_graph.proofs.graph_text.GraphText.add_numbers.Goals as goal
 
 pub loop-number-preserved : goal.loop-number-preserved
 loop-number-preserved c =
     let i = c.loop-number.number-index in
     let numbers = c.args.numbers.now in
     let number = get_or numbers i 0 in
-    let text = c.loop-number.text in
+    let text = c.loop-number.self in
     let made = c.number.ensures in
     record {
       rows = ap (λ t. length t.rows) made ∙ length-change_last (add_number number) text.rows ∙ c.loop-number.invariant.rows;
       spare = omega (arith, ap (λ t. t.spare) made);
       added = (made ∙ ap (λ t. with_number t number) c.loop-number.invariant.added
-          ∙ sym (with_numbers-push c.args.text.now (take i numbers) number)
-          ∙ ap (with_numbers c.args.text.now) (sym (take_more numbers i 0 (omega arith))));
+          ∙ sym (with_numbers-push c.args.self.now (take i numbers) number)
+          ∙ ap (with_numbers c.args.self.now) (sym (take_more numbers i 0 (omega arith))));
     }
