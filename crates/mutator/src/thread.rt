@@ -329,8 +329,9 @@ impl Mutator {
         self.go_on(spot, got)
     }
 
-    /// Makes its next step on the words of the heap's table: the access of `plan`, and what `took` makes of the word that it finds. Each
-    /// spot at which calls often stand is named here too, and nothing is looked up after its access.
+    /// Makes its next step on the words of the heap's table: the access of `plan`, and what `took` makes of the word that it finds. Spots
+    /// at which every call stands have their step written out here, and two of the others are handed on as values, so that the compiler
+    /// makes a way of its own for each. More of these, and the function is too large for the compiler to leave it inline.
     #[inline(always)]
     pub fn step(&mut self, words: &mut Vec<u64>) -> Took
         requires busy { is_idle self.old ≡ false }
@@ -346,18 +347,43 @@ impl Mutator {
         ensures again { (result ≡ Took.Again) ↔ WaitsAt (seen self.old).spot (word_found self.old words.old.items) }
     {
         match self.spot {
-            Spot::Ended { reply } => self.step_from(Spot::Ended { reply }, words),
-            Spot::Entering { at, then } => self.step_from(Spot::Entering { at, then }, words),
-            Spot::LoadPhase => self.step_from(Spot::LoadPhase, words),
-            Spot::LoadSet => self.step_from(Spot::LoadSet, words),
+            Spot::Ended { .. } => {
+                let _ = make_access(words, first_access(self.config, self.mutator, self.order));
+                self.obey();
+                Took::More
+            }
+            Spot::Entering { at, then } => {
+                let got = make_access(words, at.access(self.config, self.mutator));
+                self.spot = then.after(at.after(got));
+                call_says(at.says(got))
+            }
+            Spot::LoadPhase => {
+                self.kept.phase = make_access(
+                    words,
+                    Access::Load {
+                        at: self.config.phase_at(),
+                    },
+                );
+                self.spot = Spot::LoadSet;
+                Took::More
+            }
+            Spot::LoadSet => {
+                self.kept.cset = make_access(
+                    words,
+                    Access::Load {
+                        at: self.config.cset_at(),
+                    },
+                );
+                self.spot = first_spot(self.kept.command);
+                Took::More
+            }
             Spot::Loading { at } => self.step_from(Spot::Loading { at }, words),
             Spot::OnField { object, at } => self.step_from(Spot::OnField { object, at }, words),
-            Spot::OnNumber { object, refs, at } => self.step_from(
-                Spot::OnNumber { object, refs, at },
-                words,
-            ),
-            Spot::Showing { value, at } => self.step_from(Spot::Showing { value, at }, words),
-            Spot::Leave { reply } => self.step_from(Spot::Leave { reply }, words),
+            Spot::Leave { reply } => {
+                let _ = make_access(words, leave_access(self.config, self.mutator));
+                self.spot = Spot::Ended { reply };
+                Took::Done
+            }
             spot => self.step_from(spot, words),
         }
     }
