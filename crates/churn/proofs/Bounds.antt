@@ -42,32 +42,32 @@ by_root graph tidy thread (suc (suc (suc (suc (suc r))))) name is held =
     let never : None ≡ Some name = sym none ∙ held in
     absurd cc
 
-by_field : (graph : Graph) → Tidy graph → (name other_name : Name) (thread : ℕ) → IsKnown graph name → slice_get (fields_of graph name) thread ≡ Some (Some other_name) → IsKnown graph other_name
-by_field graph tidy name other_name thread known is =
+by_field : (graph : Graph) → Tidy graph → (name other_name : Name) (field : ℕ) → IsKnown graph name → slice_get (fields_of graph name) field ≡ Some (Some other_name) → IsKnown graph other_name
+by_field graph tidy name other_name field known is =
     elim known [
       | inl at_hub ↦
-          let here : field_of graph hub thread ≡ Some other_name = ap (λ (name : Name). field_of graph name thread) (sym at_hub) ∙ get_or_from_slice_get (fields_of graph name) thread (Some other_name) None is in
-          let link = subst (IsLink thread) here (tidy.links thread) in
-          inr (thread, link.2, inl (name_of other_name thread 1 link.0 link.1))
+          let here : field_of graph hub field ≡ Some other_name = ap (λ (name : Name). field_of graph name field) (sym at_hub) ∙ get_or_from_slice_get (fields_of graph name) field (Some other_name) None is in
+          let link = subst (IsLink field) here (tidy.links field) in
+          inr (field, link.2, inl (name_of other_name field 1 link.0 link.1))
       | inr w ↦ elim (w.2) [
         | inl at_box ↦
             let t = w.0 in
-            let here : slice_get (fields_of graph (own t 1)) thread ≡ Some (Some other_name) = ap (λ (name : Name). slice_get (fields_of graph name) thread) (sym at_box) ∙ is in
-            let value : field_of graph (own t 1) thread ≡ Some other_name = get_or_from_slice_get (fields_of graph (own t 1)) thread (Some other_name) None here in
+            let here : slice_get (fields_of graph (own t 1)) field ≡ Some (Some other_name) = ap (λ (name : Name). slice_get (fields_of graph name) field) (sym at_box) ∙ is in
+            let value : field_of graph (own t 1) field ≡ Some other_name = get_or_from_slice_get (fields_of graph (own t 1)) field (Some other_name) None here in
             inr (
               t,
               w.1,
               inr (
-                subst (IsLeaf t) value ((tidy.threads t w.1).slots thread),
-                Contains-append_right (graph.root t new_leaf ∷ graph.root t old_leaf ∷ graph.root t last_leaf ∷ []) (fields_of graph (own t 1)) (Some other_name) (Contains-from_slice_get (fields_of graph (own t 1)) thread (Some other_name) here),
+                subst (IsLeaf t) value ((tidy.threads t w.1).slots field),
+                Contains-append_right (graph.root t new_leaf ∷ graph.root t old_leaf ∷ graph.root t last_leaf ∷ []) (fields_of graph (own t 1)) (Some other_name) (Contains-from_slice_get (fields_of graph (own t 1)) field (Some other_name) here),
               ),
             )
         | inr leaf ↦
             let t = w.0 in
-            let none : field_of graph (own t name.count) thread ≡ None = (tidy.threads t w.1).leaves name.count thread leaf.0.1 in
+            let none : field_of graph (own t name.count) field ≡ None = (tidy.threads t w.1).leaves name.count field leaf.0.1 in
             let same = name_of name t name.count leaf.0.0 refl in
-            let value : field_of graph name thread ≡ Some other_name = get_or_from_slice_get (fields_of graph name) thread (Some other_name) None is in
-            let never : None ≡ Some other_name = sym none ∙ ap (λ (name : Name). field_of graph name thread) (sym same) ∙ value in
+            let value : field_of graph name field ≡ Some other_name = get_or_from_slice_get (fields_of graph name) field (Some other_name) None is in
+            let never : None ≡ Some other_name = sym none ∙ ap (λ (name : Name). field_of graph name field) (sym same) ∙ value in
             absurd cc
       ]
     ]

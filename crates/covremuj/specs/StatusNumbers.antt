@@ -56,19 +56,19 @@ number_of_renewal renewal.TooSmall = 25
 number_of_renewal renewal.NoMemory = 26
 
 -- the command of a number, with its arguments
-abbrev pub command_numbered : (op mutator index c d value : ℕ) → Option Command
-command_numbered op mutator index c d value =
-    if op == 0 then Some (command.New mutator index c)
-    else if op == 1 then Some (command.Get mutator index c)
-    else if op == 2 then Some (command.Set mutator index c)
-    else if op == 3 then Some (command.Cas mutator index c d)
-    else if op == 4 then Some (command.Xchg mutator index c d)
-    else if op == 5 then Some (command.Rd mutator index)
-    else if op == 6 then Some (command.Wr mutator index value)
-    else if op == 7 then Some (command.Copy mutator index)
-    else if op == 8 then Some (command.Drop mutator)
-    else if op == 9 then Some (command.Same mutator index)
+abbrev pub command_numbered : (op a b c d value : ℕ) → Option Command
+command_numbered op a b c d value =
+    if op == 0 then Some (command.New a b c)
+    else if op == 1 then Some (command.Get a b c)
+    else if op == 2 then Some (command.Set a b c)
+    else if op == 3 then Some (command.Cas a b c d)
+    else if op == 4 then Some (command.Xchg a b c d)
+    else if op == 5 then Some (command.Rd a b)
+    else if op == 6 then Some (command.Wr a b value)
+    else if op == 7 then Some (command.Copy a b)
+    else if op == 8 then Some (command.Drop a)
+    else if op == 9 then Some (command.Same a b)
     else if op == 10 then Some command.Gc
-    else if op == 11 then Some (command.Pin mutator index)
-    else if op == 12 then Some (command.Unpin mutator)
+    else if op == 11 then Some (command.Pin a b)
+    else if op == 12 then Some (command.Unpin a)
     else None

@@ -80,20 +80,20 @@ live_none config memory = record {
   is = λ r below. absurd (omega (arith, below));
 }
 
-pub live_more : (config : Config) (memory : Word → ℕ) (live : List ℕ) (index words : ℕ) → index < 64 → (is_candidate config memory index ≡ true → words ≡ live_words config memory index) → words ≤ most_live → AreLiveBelow config memory live index
-    → AreLiveBelow config memory (slice_set live index words) (index + 1)
-live_more config memory live index words few is bound before =
-    let inside : index < length live = omega (arith, few, before.long) in
+pub live_more : (config : Config) (memory : Word → ℕ) (live : List ℕ) (n words : ℕ) → n < 64 → (is_candidate config memory n ≡ true → words ≡ live_words config memory n) → words ≤ most_live → AreLiveBelow config memory live n
+    → AreLiveBelow config memory (slice_set live n words) (n + 1)
+live_more config memory live n words few is bound before =
+    let inside : n < length live = omega (arith, few, before.long) in
     record {
-      long = length-set live index words ∙ before.long;
+      long = length-set live n words ∙ before.long;
       small = λ r below. ⊎_elim
-          (λ (here : r ≡ index). (let there : slice_index (slice_set live index words) r ≡ words = ap (slice_index (slice_set live index words)) here ∙ get_or-set_same live index words 0 inside in omega (arith, there, bound)))
-          (λ (other : r ≢ index). (let there : slice_index (slice_set live index words) r ≡ slice_index live r = get_or-set_other live index r words 0 other in omega (arith, there, before.small r below)))
-          (cases_eq r index);
+          (λ (here : r ≡ n). (let there : slice_index (slice_set live n words) r ≡ words = ap (slice_index (slice_set live n words)) here ∙ get_or-set_same live n words 0 inside in omega (arith, there, bound)))
+          (λ (other : r ≢ n). (let there : slice_index (slice_set live n words) r ≡ slice_index live r = get_or-set_other live n r words 0 other in omega (arith, there, before.small r below)))
+          (cases_eq r n);
       is = λ r below told. ⊎_elim
-          (λ (here : r ≡ index). ap (slice_index (slice_set live index words)) here ∙ get_or-set_same live index words 0 inside ∙ is (ap (is_candidate config memory) (sym here) ∙ told) ∙ ap (live_words config memory) (sym here))
-          (λ (other : r ≢ index). get_or-set_other live index r words 0 other ∙ before.is r (omega (arith, below, other)) told)
-          (cases_eq r index);
+          (λ (here : r ≡ n). ap (slice_index (slice_set live n words)) here ∙ get_or-set_same live n words 0 inside ∙ is (ap (is_candidate config memory) (sym here) ∙ told) ∙ ap (live_words config memory) (sym here))
+          (λ (other : r ≢ n). get_or-set_other live n r words 0 other ∙ before.is r (omega (arith, below, other)) told)
+          (cases_eq r n);
     }
 
 -- what was counted of a candidate, as the number that a table has of it

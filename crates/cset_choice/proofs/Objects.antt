@@ -36,43 +36,43 @@ sum_pass f i (suc n) none =
 
 module _ (config : Config) where
   -- so many words from an address on that end within its region are of the heap
-  pub object_in_heap : (a n : ℕ) → config.region_words ≤ a → region_with config a < config.regions → a % config.region_words + n ≤ config.region_words → AreInHeap config a n
-  object_in_heap a n above below fits =
-      subst (λ x. AreInHeap config x n) (from_base config.region_words a (some_words config) above) (room_in_heap config (region_with config a) (a % config.region_words) n below fits)
+  pub object_in_heap : (address n : ℕ) → config.region_words ≤ address → region_with config address < config.regions → address % config.region_words + n ≤ config.region_words → AreInHeap config address n
+  object_in_heap address n above below fits =
+      subst (λ x. AreInHeap config x n) (from_base config.region_words address (some_words config) above) (room_in_heap config (region_with config address) (address % config.region_words) n below fits)
 
   -- each of them is a word
-  pub word_of_heap : (a n k : ℕ) → AreInHeap config a n → k < n → IsWord config (Heap (a + k))
-  word_of_heap a n k are below = (omega (arith, are.from), omega (arith, are.to, below))
+  pub word_of_heap : (address n k : ℕ) → AreInHeap config address n → k < n → IsWord config (Heap (address + k))
+  word_of_heap address n k are below = (omega (arith, are.from), omega (arith, are.to, below))
 
   -- the shape of a marked object is one
-  pub shape_in_heap : (memory : Word → ℕ) (a : ℕ) → LieApart config.region_words (marked_words config memory) → IsWord config (Heap a) → is_black config memory a ≡ true → IsWord config (Heap (a + 1))
-  shape_in_heap memory a lie inside black =
-      let all : marked_words config memory a ≡ words_at memory a = cond-true (is_black config memory a) (words_at memory a) 0 black in
-      let within = lie.within a (omega (arith, all)) in
-      word_of_heap a (words_at memory a) 1 (object_in_heap a (words_at memory a) inside.0 (regions_tile.in_range config a inside) (omega (arith, within, all))) (omega arith)
+  pub shape_in_heap : (memory : Word → ℕ) (address : ℕ) → LieApart config.region_words (marked_words config memory) → IsWord config (Heap address) → is_black config memory address ≡ true → IsWord config (Heap (address + 1))
+  shape_in_heap memory address lie inside black =
+      let all : marked_words config memory address ≡ words_at memory address = cond-true (is_black config memory address) (words_at memory address) 0 black in
+      let within = lie.within address (omega (arith, all)) in
+      word_of_heap address (words_at memory address) 1 (object_in_heap address (words_at memory address) inside.0 (regions_tile.in_range config address inside) (omega (arith, within, all))) (omega arith)
 
   -- what is of the collection set is an address of the heap
-  module _ (memory : Word → ℕ) (a : ℕ) (small : memory Cset < 2 ^ config.regions) where
-    member_of_heap : config.region_words ≤ a → bit_at (memory Cset) (region_with config a) ≡ 1 → IsWord config (Heap a)
+  module _ (memory : Word → ℕ) (address : ℕ) (small : memory Cset < 2 ^ config.regions) where
+    member_of_heap : config.region_words ≤ address → bit_at (memory Cset) (region_with config address) ≡ 1 → IsWord config (Heap address)
     member_of_heap above member =
-        let below : region_with config a < config.regions = ⊎_elim
-        (λ (less : region_with config a < config.regions). less)
-        (λ (more : config.regions ≤ region_with config a).
-        absurd (let none = bit_at_above (memory Cset) config.regions (region_with config a) small more in omega (arith, member, none)))
-        (cases_lt (region_with config a) config.regions) in
+        let below : region_with config address < config.regions = ⊎_elim
+        (λ (less : region_with config address < config.regions). less)
+        (λ (more : config.regions ≤ region_with config address).
+        absurd (let none = bit_at_above (memory Cset) config.regions (region_with config address) small more in omega (arith, member, none)))
+        (cases_lt (region_with config address) config.regions) in
         let least = some_words config in
-        let are = object_in_heap a 1 above below (omega (arith, mod_below a config.region_words least)) in
+        let are = object_in_heap address 1 above below (omega (arith, mod_below address config.region_words least)) in
         (are.from, omega (arith, are.to))
 
-    pub collected_of_heap : is_collected config memory a ≡ true → IsWord config (Heap a)
+    pub collected_of_heap : is_collected config memory address ≡ true → IsWord config (Heap address)
     collected_of_heap collected =
-        let parts = and_parts (nat_le config.region_words a) (bit_at (memory Cset) (region_with config a) == 1) collected in
-        member_of_heap (leb-true config.region_words a parts.0) (eqb-true (bit_at (memory Cset) (region_with config a)) 1 parts.1)
+        let parts = and_parts (nat_le config.region_words address) (bit_at (memory Cset) (region_with config address) == 1) collected in
+        member_of_heap (leb-true config.region_words address parts.0) (eqb-true (bit_at (memory Cset) (region_with config address)) 1 parts.1)
 
-    pub not_of_heap : (IsWord config (Heap a) → ⊥) → is_collected config memory a ≡ false
+    pub not_of_heap : (IsWord config (Heap address) → ⊥) → is_collected config memory address ≡ false
     not_of_heap other = ⊎_elim
-        (λ (less : a < config.region_words). and_left (nat_le config.region_words a) (bit_at (memory Cset) (region_with config a) == 1) (lt-leb config.region_words a less))
-        (λ (above : config.region_words ≤ a).
-        and_right (nat_le config.region_words a) (bit_at (memory Cset) (region_with config a) == 1)
-        (ne_eqb (bit_at (memory Cset) (region_with config a)) 1 (λ member. other (member_of_heap above member))))
-        (cases_lt a config.region_words)
+        (λ (less : address < config.region_words). and_left (nat_le config.region_words address) (bit_at (memory Cset) (region_with config address) == 1) (lt-leb config.region_words address less))
+        (λ (above : config.region_words ≤ address).
+        and_right (nat_le config.region_words address) (bit_at (memory Cset) (region_with config address) == 1)
+        (ne_eqb (bit_at (memory Cset) (region_with config address)) 1 (λ member. other (member_of_heap above member))))
+        (cases_lt address config.region_words)

@@ -20,11 +20,11 @@ both_true : (holds other_holds : Bool) → holds ≡ true → other_holds ≡ tr
 both_true holds other_holds is too = ap (λ x. x && other_holds) is ∙ too
 
 -- what lies where objects stay
-pub record LiesThere (config : Config) (memory : Word → ℕ) (x : ℕ) : Type 0 where
-  pub above : config.region_words ≤ x
-  pub of_region : region_with config x < config.regions
-  pub staying : stays config memory (region_with config x) ≡ true
-  pub below : x - base_of config (region_with config x) < memory (Top (region_with config x))
+pub record LiesThere (config : Config) (memory : Word → ℕ) (address : ℕ) : Type 0 where
+  pub above : config.region_words ≤ address
+  pub of_region : region_with config address < config.regions
+  pub staying : stays config memory (region_with config address) ≡ true
+  pub below : address - base_of config (region_with config address) < memory (Top (region_with config address))
 
 module _ (config : Config) (memory : Word → ℕ) where
   pub lies_there : (x : ℕ) → is_staying config memory x ≡ true → LiesThere config memory x

@@ -43,13 +43,13 @@ own_region config address above =
     (base_below config address above, omega (arith, row, div-add-mod' address config.region_words, mod_below address config.region_words (omega (arith, config.in_range.least_words))))
 
 -- an address in use lies above the base of its region and below the top
-pub used_parts : (config : Config) (memory : Word → ℕ) (a : ℕ) → is_in_use config memory a ≡ true
-    → (config.region_words ≤ a) × (region_with config a < config.regions) × (a - base_of config (region_with config a) < memory (Top (region_with config a)))
-used_parts config memory a is =
-    let region = region_with config a in
-    let low = and_parts (nat_le config.region_words a) (nat_lt region config.regions && nat_lt (a - base_of config region) (memory (Top region))) is in
-    let rest = and_parts (nat_lt region config.regions) (nat_lt (a - base_of config region) (memory (Top region))) low.1 in
-    (leb-true config.region_words a low.0, ltb-true region config.regions rest.0, ltb-true (a - base_of config region) (memory (Top region)) rest.1)
+pub used_parts : (config : Config) (memory : Word → ℕ) (address : ℕ) → is_in_use config memory address ≡ true
+    → (config.region_words ≤ address) × (region_with config address < config.regions) × (address - base_of config (region_with config address) < memory (Top (region_with config address)))
+used_parts config memory address is =
+    let region = region_with config address in
+    let low = and_parts (nat_le config.region_words address) (nat_lt region config.regions && nat_lt (address - base_of config region) (memory (Top region))) is in
+    let rest = and_parts (nat_lt region config.regions) (nat_lt (address - base_of config region) (memory (Top region))) low.1 in
+    (leb-true config.region_words address low.0, ltb-true region config.regions rest.0, ltb-true (address - base_of config region) (memory (Top region)) rest.1)
 
 pub begins_there : (config : Config) (memory : Word → ℕ) (region address : ℕ) → base_of config region ≤ address → address < base_of config region + config.region_words → begins config memory address ≡ true → memory (Heap address) ≡ plain_header → BeginsThere config memory region address
 begins_there config memory region address low high is header =

@@ -61,12 +61,12 @@ module _ (old one two : Image) (can : CanCollect (config_of old) (memory_of old)
       (renews word (carried (λ k n. LeadsToHeld k n word) old one same leads)))
 
   -- pinned regions can be filled then
-  pub can_fill_still : KeptBegin g m → (region : ℕ) → region < (config_of two).regions → is_pinned (config_of two) (memory_of two) region ≡ true → CanFill (config_of two) (memory_of two) region
-  can_fill_still begin region inside pinned =
-      let still : is_pinned g moved region ≡ true =
-      sym (ap (λ (memory : Word → ℕ). is_pinned g memory region) two_words) ∙ sym (ap (λ (config : Config). is_pinned config (memory_of two) region) two_config) ∙ pinned in
-      subst (λ (config : Config). CanFill config (memory_of two) region) (sym two_config)
-      (subst (λ (memory : Word → ℕ). CanFill g memory region) (sym two_words) (can_fill g m can begin region (subst (λ (config : Config). region < config.regions) two_config inside) still))
+  pub can_fill_still : KeptBegin g m → (r : ℕ) → r < (config_of two).regions → is_pinned (config_of two) (memory_of two) r ≡ true → CanFill (config_of two) (memory_of two) r
+  can_fill_still begin r inside pinned =
+      let still : is_pinned g moved r ≡ true =
+      sym (ap (λ (memory : Word → ℕ). is_pinned g memory r) two_words) ∙ sym (ap (λ (config : Config). is_pinned config (memory_of two) r) two_config) ∙ pinned in
+      subst (λ (config : Config). CanFill config (memory_of two) r) (sym two_config)
+      (subst (λ (memory : Word → ℕ). CanFill g memory r) (sym two_words) (can_fill g m can begin r (subst (λ (config : Config). r < config.regions) two_config inside) still))
 
   -- what a word that leads to a kept object becomes
   renewed_some : (word : ℕ) → 1 < word → LeadsToHeld g m word → renewed_by g.region_words (places_of two) word ≡ renewed place now word

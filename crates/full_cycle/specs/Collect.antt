@@ -35,7 +35,7 @@ pub record CanCollect (config : Config) (memory : Word → ℕ) : Type 0 where
   pub apart : LieApart config.region_words (kept_in config memory)
   pub inside : (address : ℕ) → 0 < kept_in config memory address → address + kept_in config memory address ≤ heap_end config
   pub current : (address : ℕ) → 0 < kept_in config memory address → now_in memory address ≡ address
-  pub found : (other_index address : ℕ) → slice_get (found_in_turns config memory other_index) other_index ≡ Some address → 0 < kept_in config memory address
+  pub found : (number address : ℕ) → slice_get (found_in_turns config memory number) number ≡ Some address → 0 < kept_in config memory address
   pub roots : (mutator index : ℕ) → mutator < config.mutators → index < 16 → LeadsToHeld config memory (memory (Root mutator index))
   pub answers : (mutator : ℕ) → mutator < config.mutators → 1 < memory (Answer mutator) → LeadsToHeld config memory (memory (Answer mutator))
   pub pins : (mutator index : ℕ) → mutator < config.mutators → index < 4 → LeadsToHeld config memory (memory (Pin mutator index))

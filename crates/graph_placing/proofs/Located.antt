@@ -255,5 +255,5 @@ module _ (config : Config) (text : Text) (whole : IsPlaceable config text) where
     is_word k i below inside = (omega (arith, from_first k), omega (arith, in_heap k below, inside))
 
     -- and its region is one of the heap's
-    pub region_within : (region : ℕ) → region < n → region_at region < config.regions
-    region_within region below = regions_tile.in_range config (address_of config text region) (omega (arith, from_first region), omega (arith, in_heap region below, some_words region))
+    pub region_within : (k : ℕ) → k < n → region_at k < config.regions
+    region_within k below = regions_tile.in_range config (address_of config text k) (omega (arith, from_first k), omega (arith, in_heap k below, some_words k))

@@ -92,19 +92,19 @@ module _ (config : Config) (text : Text) (whole : IsPlaceable config text) (are 
   new_reference None there = tt
   new_reference (Some name) there = new_name name (there name refl)
 
-  old_root : (other_index index : ℕ) (name : Name) → root_of text (suc other_index) index ≡ Some name → Contains names name
-  old_root other_index index name is =
-      let back : suc other_index - 1 ≡ other_index = omega arith in
-      let found : get_or (get_or text.roots other_index []) index None ≡ Some name = ap (λ (k : ℕ). get_or (get_or text.roots k []) index None) (sym back) ∙ is in
+  old_root : (m index : ℕ) (name : Name) → root_of text (suc m) index ≡ Some name → Contains names name
+  old_root m index name is =
+      let back : suc m - 1 ≡ m = omega arith in
+      let found : get_or (get_or text.roots m []) index None ≡ Some name = ap (λ (k : ℕ). get_or (get_or text.roots k []) index None) (sym back) ∙ is in
       ⊎_elim
-      (λ (below : other_index < length text.roots). ⊎_elim
-      (λ (small : index < 16). whole.roots (suc other_index) index name (omega arith) (omega (arith, below, whole.threads)) small is)
+      (λ (below : m < length text.roots). ⊎_elim
+      (λ (small : index < 16). whole.roots (suc m) index name (omega arith) (omega (arith, below, whole.threads)) small is)
       (λ (large : 16 ≤ index).
-      let long = All-get_or (λ (row : List Reference). length row ≡ 16) text.roots other_index [] below whole.sixteen in
-      absurd (none-some name (sym (get_or_past (get_or text.roots other_index []) index None (omega (arith, long, large))) ∙ found)))
+      let long = All-get_or (λ (row : List Reference). length row ≡ 16) text.roots m [] below whole.sixteen in
+      absurd (none-some name (sym (get_or_past (get_or text.roots m []) index None (omega (arith, long, large))) ∙ found)))
       (cases_lt index 16))
-      (λ (past : length text.roots ≤ other_index). absurd (none-some name (sym (ap (λ (row : List Reference). get_or row index None) (get_or_past text.roots other_index [] past)) ∙ found)))
-      (cases_lt other_index (length text.roots))
+      (λ (past : length text.roots ≤ m). absurd (none-some name (sym (ap (λ (row : List Reference). get_or row index None) (get_or_past text.roots m [] past)) ∙ found)))
+      (cases_lt m (length text.roots))
 
   new_root : (thread root : ℕ) → IsOfThreads config.mutators ((text_graph (text_anew text) counts).root thread root)
   unfolding graph_of

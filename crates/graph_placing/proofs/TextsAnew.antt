@@ -39,13 +39,13 @@ pub root_is : (f : Name → Name) (text : Text) (thread index : ℕ) → root_of
 root_is f text thread index =
     ap (λ (row : List Reference). get_or row index None) (mapped_at (map (renamed f)) text.roots (thread - 1) []) ∙ mapped_at (renamed f) (roots_of text thread) index None
 
-pub words_at : (f : Name → Name) (text : Text) (index : ℕ) → words_of_row (text_renamed f text) index ≡ words_of_row text index
-words_at f text index = ⊎_elim
-    (λ (below : index < length text.rows).
-    ap (λ (row : Row). 3 + length row.refs + length row.nums) (row_is f text index below) ∙ ap (λ i. 3 + i + length (row_of text index).nums) (length-map (row_of text index).refs (renamed f)))
-    (λ (past : length text.rows ≤ index).
-    ap (λ (row : Row). 3 + length row.refs + length row.nums) (get_or_past (text_renamed f text).rows index (bare hub) (omega (arith, past, rows_count f text)) ∙ sym (get_or_past text.rows index (bare hub) past)))
-    (cases_lt index (length text.rows))
+pub words_at : (f : Name → Name) (text : Text) (k : ℕ) → words_of_row (text_renamed f text) k ≡ words_of_row text k
+words_at f text k = ⊎_elim
+    (λ (below : k < length text.rows).
+    ap (λ (row : Row). 3 + length row.refs + length row.nums) (row_is f text k below) ∙ ap (λ i. 3 + i + length (row_of text k).nums) (length-map (row_of text k).refs (renamed f)))
+    (λ (past : length text.rows ≤ k).
+    ap (λ (row : Row). 3 + length row.refs + length row.nums) (get_or_past (text_renamed f text).rows k (bare hub) (omega (arith, past, rows_count f text)) ∙ sym (get_or_past text.rows k (bare hub) past)))
+    (cases_lt k (length text.rows))
 
 pub words_are : (f : Name → Name) (text : Text) → words_of_row (text_renamed f text) ≡ words_of_row text
 words_are f text = fun_ext (λ k. words_at f text k)

@@ -15,6 +15,6 @@ pub record IsPlaceable (config : Config) (text : Text) : Type 0 where
   pub threads : length text.roots ≡ config.mutators
   pub sixteen : All (λ roots. length roots ≡ 16) text.roots
   pub in_order : InOrder (names_of text)
-  pub short : (other_index : ℕ) → other_index < length text.rows → IsShort (row_of text other_index)
-  pub references : (other_index i : ℕ) (name : Name) → other_index < length text.rows → slice_get (row_of text other_index).refs i ≡ Some (Some name) → Contains (names_of text) name
+  pub short : (row : ℕ) → row < length text.rows → IsShort (row_of text row)
+  pub references : (row index : ℕ) (name : Name) → row < length text.rows → slice_get (row_of text row).refs index ≡ Some (Some name) → Contains (names_of text) name
   pub roots : (thread index : ℕ) (name : Name) → 1 ≤ thread → thread ≤ config.mutators → index < 16 → root_of text thread index ≡ Some name → Contains (names_of text) name

@@ -35,8 +35,8 @@ is_content _ = false
 -- Each object stands at its address, and other words of the heap are 0. A region's top is how much of it is used, and a region is free
 -- where nothing is. Roots are those of the text. No mutator has ended, and no other word says anything.
 pub record IsPlaced (config : Config) (text : Text) (memory : Word → ℕ) : Type 0 where
-  pub objects : (other_index index : ℕ) → other_index < length text.rows → index < words_of_row text other_index → memory (Heap (address_of config text other_index + index)) ≡ slice_index (words_of_object (word_for config text) (row_of text other_index)) index
-  pub unused : (address : ℕ) → ((other_index index : ℕ) → other_index < length text.rows → index < words_of_row text other_index → address ≢ address_of config text other_index + index) → memory (Heap address) ≡ 0
+  pub objects : (row index : ℕ) → row < length text.rows → index < words_of_row text row → memory (Heap (address_of config text row + index)) ≡ slice_index (words_of_object (word_for config text) (row_of text row)) index
+  pub unused : (address : ℕ) → ((row index : ℕ) → row < length text.rows → index < words_of_row text row → address ≢ address_of config text row + index) → memory (Heap address) ≡ 0
   pub tops : (region : ℕ) → memory (Top region) ≡ used_words config text (length text.rows) region
   pub free : memory Free ≡ empty_regions (λ region. memory (Top region)) config.regions
   pub roots : (mutator index : ℕ) → mutator < config.mutators → index < 16 → memory (Root mutator index) ≡ word_for config text (root_of text (mutator + 1) index)

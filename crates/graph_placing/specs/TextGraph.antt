@@ -14,7 +14,7 @@ row_object row = record { refs = row.refs; nums = row.nums }
 
 -- A graph has the objects of the text, and maybe others; the text's roots, and no others; these counts; and nothing pinned. Its names are given.
 pub record IsGraphOf (config : Config) (text : Text) (counts : List ℕ) (graph : Graph) : Type 0 where
-  pub objects : (other_index : ℕ) → other_index < length text.rows → graph.object (row_of text other_index).name ≡ Some (row_object (row_of text other_index))
+  pub objects : (row : ℕ) → row < length text.rows → graph.object (row_of text row).name ≡ Some (row_object (row_of text row))
   pub roots : (mutator index : ℕ) → mutator < config.mutators → index < 16 → graph.root (mutator + 1) index ≡ root_of text (mutator + 1) index
   pub no_more : HasNoMoreRoots config.mutators graph
   pub no_pins : (thread slot : ℕ) → graph.pin thread slot ≡ None

@@ -39,10 +39,10 @@ pub record IsFormedObject (threads : ℕ) (count : ℕ → ℕ) (name : Name) (o
   pub hub_nums : name ≡ hub → length object.nums ≡ 0
 
 -- the root of a number of a thread is one of 16, of one of so many threads
-pub record IsRootWithin (threads t index : ℕ) : Type 0 where
+pub record IsRootWithin (threads t r : ℕ) : Type 0 where
   pub from_first : 1 ≤ t
   pub to_last : t ≤ threads
-  pub low : index < 16
+  pub low : r < 16
 
 pub record IsFormed (threads : ℕ) (graph : Graph) : Type 0 where
   pub root : (thread r : ℕ) → IsKnown threads graph.count (graph.root thread r)

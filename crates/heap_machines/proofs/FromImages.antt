@@ -67,16 +67,16 @@ stage_actor config words counts seat actor here =
     (below, sym (get_or-map-range_with_len made 0 (seat_count config.mutators config.helpers) seat seat actor below (omega arith)) ∙ get_or_from_slice_get (stage_from config words counts).machines seat actor actor here)
 
 -- each machine is new
-machine_new : (config : Config) (counts : List ℕ) (memory : Word → ℕ) (graph : Graph) → ((mutator : ℕ) → mutator < config.mutators → graph.count (mutator + 1) ≡ slice_index counts mutator) → (k : ℕ) → k < seat_count config.mutators config.helpers
-    → HasNumber config k (machine_from config counts memory k) × IsIdle (memory Phase) (memory Cset) graph k (machine_from config counts memory k)
-machine_new config counts memory graph count k below = by_role (nat_lt k config.mutators) refl (nat_lt k (config.mutators + config.helpers)) refl
+machine_new : (config : Config) (counts : List ℕ) (memory : Word → ℕ) (graph : Graph) → ((mutator : ℕ) → mutator < config.mutators → graph.count (mutator + 1) ≡ slice_index counts mutator) → (seat : ℕ) → seat < seat_count config.mutators config.helpers
+    → HasNumber config seat (machine_from config counts memory seat) × IsIdle (memory Phase) (memory Cset) graph seat (machine_from config counts memory seat)
+machine_new config counts memory graph count seat below = by_role (nat_lt seat config.mutators) refl (nat_lt seat (config.mutators + config.helpers)) refl
   where
-    by_role : (holds : Bool) → nat_lt k config.mutators ≡ holds → (other_holds : Bool) → nat_lt k (config.mutators + config.helpers) ≡ other_holds
-        → HasNumber config k (if holds then mutating (mutator_after k (slice_index counts k)) else (if other_holds then fresh_helper k else control_from memory))
-        × IsIdle (memory Phase) (memory Cset) graph k (if holds then mutating (mutator_after k (slice_index counts k)) else (if other_holds then fresh_helper k else control_from memory))
-    by_role true is other_holds other = let small : k < config.mutators = ltb-true k config.mutators is in ((refl, small), (count k small, refl))
-    by_role false is true other = ((refl, ltb-false k config.mutators is, ltb-true k (config.mutators + config.helpers) other), refl)
-    by_role false is false other = ((let above = ltb-false k (config.mutators + config.helpers) other in omega arith), (refl, refl, refl, refl))
+    by_role : (holds : Bool) → nat_lt seat config.mutators ≡ holds → (other_holds : Bool) → nat_lt seat (config.mutators + config.helpers) ≡ other_holds
+        → HasNumber config seat (if holds then mutating (mutator_after seat (slice_index counts seat)) else (if other_holds then fresh_helper seat else control_from memory))
+        × IsIdle (memory Phase) (memory Cset) graph seat (if holds then mutating (mutator_after seat (slice_index counts seat)) else (if other_holds then fresh_helper seat else control_from memory))
+    by_role true is other_holds other = let small : seat < config.mutators = ltb-true seat config.mutators is in ((refl, small), (count seat small, refl))
+    by_role false is true other = ((refl, ltb-false seat config.mutators is, ltb-true seat (config.mutators + config.helpers) other), refl)
+    by_role false is false other = ((let above = ltb-false seat (config.mutators + config.helpers) other in omega arith), (refl, refl, refl, refl))
 
 -- the stage begins each graph with which the words can begin
 pub begins_from : (config : Config) (words counts : List ℕ) → length words ≡ table_words config → (graph : Graph) → CanBeginFrom config (view config words) counts graph → Begins config (stage_from config words counts) graph

@@ -13,15 +13,15 @@ length_part xs from n h =
 get_or_part : (xs : List ℕ) (from n i : ℕ) → i < n → get_or (take (from + n - from) (drop from xs)) i 0 ≡ get_or xs (from + i) 0
 get_or_part xs from n i h = get_or-take (from + n - from) (drop from xs) i 0 (omega arith) ∙ get_or-drop from xs i 0
 
-pub length-refs_at : (heap : List ℕ) (address : ℕ) → address + size_at heap address ≤ length heap → length (refs_at heap address) ≡ refs_in (shape_at heap address)
-length-refs_at heap address h = length_part heap (address + 3) (refs_in (shape_at heap address)) (omega arith)
+pub length-refs_at : (heap : List ℕ) (k : ℕ) → k + size_at heap k ≤ length heap → length (refs_at heap k) ≡ refs_in (shape_at heap k)
+length-refs_at heap k h = length_part heap (k + 3) (refs_in (shape_at heap k)) (omega arith)
 
-pub length-nums_at : (heap : List ℕ) (address : ℕ) → address + size_at heap address ≤ length heap → length (nums_at heap address) ≡ nums_in (shape_at heap address)
-length-nums_at heap address h = length_part heap (address + 3 + refs_in (shape_at heap address)) (nums_in (shape_at heap address)) (omega arith)
+pub length-nums_at : (heap : List ℕ) (k : ℕ) → k + size_at heap k ≤ length heap → length (nums_at heap k) ≡ nums_in (shape_at heap k)
+length-nums_at heap k h = length_part heap (k + 3 + refs_in (shape_at heap k)) (nums_in (shape_at heap k)) (omega arith)
 
-pub get_or-refs_at : (heap : List ℕ) (address index : ℕ) → index < refs_in (shape_at heap address) → get_or (refs_at heap address) index 0 ≡ get_or heap (address + 3 + index) 0
-get_or-refs_at heap address index h = get_or_part heap (address + 3) (refs_in (shape_at heap address)) index h
+pub get_or-refs_at : (heap : List ℕ) (k index : ℕ) → index < refs_in (shape_at heap k) → get_or (refs_at heap k) index 0 ≡ get_or heap (k + 3 + index) 0
+get_or-refs_at heap k index h = get_or_part heap (k + 3) (refs_in (shape_at heap k)) index h
 
-pub get_or-nums_at : (heap : List ℕ) (address index : ℕ) → index < nums_in (shape_at heap address)
-    → get_or (nums_at heap address) index 0 ≡ get_or heap (address + 3 + refs_in (shape_at heap address) + index) 0
-get_or-nums_at heap address index h = get_or_part heap (address + 3 + refs_in (shape_at heap address)) (nums_in (shape_at heap address)) index h
+pub get_or-nums_at : (heap : List ℕ) (k index : ℕ) → index < nums_in (shape_at heap k)
+    → get_or (nums_at heap k) index 0 ≡ get_or heap (k + 3 + refs_in (shape_at heap k) + index) 0
+get_or-nums_at heap k index h = get_or_part heap (k + 3 + refs_in (shape_at heap k)) (nums_in (shape_at heap k)) index h

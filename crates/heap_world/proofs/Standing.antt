@@ -163,21 +163,21 @@ module _ (first : ℕ) (heap roots pins : List ℕ) (at : ℕ → Option Name) (
       ]
 
   -- and so where a field's word of such an object is not null
-  field_name : (address a index : ℕ) (name : Name) (here : IsHere address name) → IsReachable graph name
-      → index < length (refs_at heap (address - first)) → get_or (refs_at heap (address - first)) index 0 ≡ a → a ≢ 0
+  field_name : (m a index : ℕ) (name : Name) (here : IsHere m name) → IsReachable graph name
+      → index < length (refs_at heap (m - first)) → get_or (refs_at heap (m - first)) index 0 ≡ a → a ≢ 0
       → (q : Name) × (at a ≡ Some q) × IsReachable graph q
-  field_name address a index name here reach h is ne =
-      let o = (object_at address name here).0 in
-      let f = facts address name here in
-      let field : index < refs_in (shape_at heap (address - first)) = omega (arith, length-refs_at heap (address - first) f.within, h) in
+  field_name m a index name here reach h is ne =
+      let o = (object_at m name here).0 in
+      let f = facts m name here in
+      let field : index < refs_in (shape_at heap (m - first)) = omega (arith, length-refs_at heap (m - first) f.within, h) in
       let low : index < length o.refs = omega (arith, f.refs, field) in
-      let above = (object_at address name here).1.above in
-      let place = shift_field first address index above in
-      let word : get_or heap (address + 3 + index - first) 0 ≡ a =
-      ap (λ j. get_or heap j 0) place ∙ sym (get_or-refs_at heap (address - first) index field) ∙ is in
+      let above = (object_at m name here).1.above in
+      let place = shift_field first m index above in
+      let word : get_or heap (m + 3 + index - first) 0 ≡ a =
+      ap (λ j. get_or heap j 0) place ∙ sym (get_or-refs_at heap (m - first) index field) ∙ is in
       let q = get_or o.refs index None in
       let got : slice_get o.refs index ≡ Some q = slice_get-get_or o.refs index None low in
-      let r = refers-some a q (subst (λ (w : ℕ). Refers at w q) word ((object_at address name here).1.words.references index q got)) ne in
+      let r = refers-some a q (subst (λ (w : ℕ). Refers at w q) word ((object_at m name here).1.words.references index q got)) ne in
       (r.0, r.2, reach_field name r.0 index reach (ap (λ b. slice_get b.refs index) f.object ∙ got ∙ ap (λ b. Some b) r.1))
 
   -- a current copy that is among those of some words is that of one of them
@@ -242,10 +242,10 @@ module _ (first : ℕ) (heap roots pins : List ℕ) (at : ℕ → Option Name) (
       (current_at first heap w, now, from_field u.0 (current_at first heap w) u.2 (never_null (current_at first heap w) name now.0) (has_current (refs_at heap k) w inside))
 
   -- a word that names an object leads to words of the heap
-  is_named : (address : ℕ) (name : Name) → at address ≡ Some name → ((first ≤ address) × (address < first + length heap)) × ((first ≤ current_at first heap address) × (current_at first heap address + 3 ≤ first + length heap))
-  is_named address name is =
-      let copy = s.each address name is in
-      let now = object_at (current_at first heap address) name (current_is address name is) in
+  is_named : (a : ℕ) (name : Name) → at a ≡ Some name → ((first ≤ a) × (a < first + length heap)) × ((first ≤ current_at first heap a) × (current_at first heap a + 3 ≤ first + length heap))
+  is_named a name is =
+      let copy = s.each a name is in
+      let now = object_at (current_at first heap a) name (current_is a name is) in
       ((copy.above, copy.below), (now.1.above, omega (arith, now.1.below)))
 
   pub sound : IsWalkable first heap (roots ++ pins)
@@ -279,13 +279,13 @@ module _ (first : ℕ) (heap roots pins : List ℕ) (at : ℕ → Option Name) (
   pub pin_same : (address : ℕ) (held : Option Pinned) → HoldsPin words at address held → reference_in first heap address ≡ name_in held
   pin_same address held h = reference_same address (name_in held) (pin_refers address held h)
 
-  refs_same : (address : ℕ) (name : Name) (here : IsHere address name)
-      → map (reference_in first heap) (refs_at heap (address - first)) ≡ (object_at address name here).0.refs
-  refs_same address name here =
-      let o = (object_at address name here).0 in
-      let f = facts address name here in
-      let k = address - first in
-      let above = (object_at address name here).1.above in
+  refs_same : (a : ℕ) (name : Name) (here : IsHere a name)
+      → map (reference_in first heap) (refs_at heap (a - first)) ≡ (object_at a name here).0.refs
+  refs_same a name here =
+      let o = (object_at a name here).0 in
+      let f = facts a name here in
+      let k = a - first in
+      let above = (object_at a name here).1.above in
       let count : length (refs_at heap k) ≡ length o.refs = length-refs_at heap k f.within ∙ f.refs in
       let shown = reference_in first heap in
       let many : length (map shown (refs_at heap k)) ≡ length o.refs = length-map (refs_at heap k) shown ∙ count in
@@ -294,12 +294,12 @@ module _ (first : ℕ) (heap roots pins : List ℕ) (at : ℕ → Option Name) (
       let low : i < length o.refs = omega (arith, many, h) in
       let within : i < length (refs_at heap k) = omega (arith, count, low) in
       let field : i < refs_in (shape_at heap k) = omega (arith, f.refs, low) in
-      let place = sym (shift_field first address i above) in
+      let place = sym (shift_field first a i above) in
       let q = get_or o.refs i None in
       get_or-map shown (refs_at heap k) i 0 None within
       ∙ ap shown (get_or-refs_at heap k i field ∙ ap (λ j. get_or heap j 0) place)
-      ∙ reference_same (get_or heap (address + 3 + i - first) 0) q
-      ((object_at address name here).1.words.references i q (slice_get-get_or o.refs i None low)))
+      ∙ reference_same (get_or heap (a + 3 + i - first) 0) q
+      ((object_at a name here).1.words.references i q (slice_get-get_or o.refs i None low)))
 
   nums_same : (a : ℕ) (name : Name) (here : IsHere a name) → nums_at heap (a - first) ≡ (object_at a name here).0.nums
   nums_same a name here =
@@ -317,9 +317,9 @@ module _ (first : ℕ) (heap roots pins : List ℕ) (at : ℕ → Option Name) (
       ∙ (object_at a name here).1.words.numbers i (get_or o.nums i 0) (slice_get-get_or o.nums i 0 low))
 
   -- the row by the words of an object is its row in the graph
-  pub row_same : (address : ℕ) (name : Name) → IsHere address name → row_in_heap first heap address ≡ row_in graph name
-  row_same address name here =
-      let f = facts address name here in
-      ap (λ m. record { name = m; refs = map (reference_in first heap) (refs_at heap (address - first)); nums = nums_at heap (address - first) }) f.name
-      ∙ ap (λ rs. record { name = name; refs = rs; nums = nums_at heap (address - first) }) (refs_same address name here ∙ ap (λ b. b.refs) (sym f.object))
-      ∙ ap (λ ns. record { name = name; refs = (named graph (Some name)).refs; nums = ns }) (nums_same address name here ∙ ap (λ b. b.nums) (sym f.object))
+  pub row_same : (a : ℕ) (name : Name) → IsHere a name → row_in_heap first heap a ≡ row_in graph name
+  row_same a name here =
+      let f = facts a name here in
+      ap (λ m. record { name = m; refs = map (reference_in first heap) (refs_at heap (a - first)); nums = nums_at heap (a - first) }) f.name
+      ∙ ap (λ rs. record { name = name; refs = rs; nums = nums_at heap (a - first) }) (refs_same a name here ∙ ap (λ b. b.refs) (sym f.object))
+      ∙ ap (λ ns. record { name = name; refs = (named graph (Some name)).refs; nums = ns }) (nums_same a name here ∙ ap (λ b. b.nums) (sym f.object))

@@ -169,20 +169,20 @@ module _ (config : Config) (words : List ℕ) (block : Plot) (at : ℕ → Optio
         (cases_Bool (nat_le 1 t && nat_lt i 16))
 
     -- each root's word refers to it
-    root_stands : (thread index : ℕ) → Refers at (root_word roots thread index) (graph.root thread index)
-    root_stands thread index = ⊎_elim
-        (λ (yes : is_root_of config.mutators thread index ≡ true).
+    root_stands : (thread i : ℕ) → Refers at (root_word roots thread i) (graph.root thread i)
+    root_stands thread i = ⊎_elim
+        (λ (yes : is_root_of config.mutators thread i ≡ true).
         let one : 1 ≤ thread = leb-true 1 thread (and_parts _ _ yes).0 in
-        let rest : (nat_le thread config.mutators ≡ true) × (nat_lt index 16 ≡ true) = and_parts _ _ (and_parts (nat_le 1 thread) (nat_le thread config.mutators && nat_lt index 16) yes).1 in
+        let rest : (nat_le thread config.mutators ≡ true) × (nat_lt i 16 ≡ true) = and_parts _ _ (and_parts (nat_le 1 thread) (nat_le thread config.mutators && nat_lt i 16) yes).1 in
         let most : thread ≤ config.mutators = leb-true thread config.mutators rest.0 in
-        let small : index < 16 = ltb-true index 16 rest.1 in
+        let small : i < 16 = ltb-true i 16 rest.1 in
         let seat : thread - 1 + 1 ≡ thread = omega (arith, one) in
-        let word : root_word roots thread index ≡ slice_index roots (16 * (thread - 1) + index) = cond-true (nat_le 1 thread && nat_lt index 16) _ _ (and_from _ _ (and_parts _ _ yes).0 rest.1) in
-        subst (λ w. Refers at w (graph.root thread index)) (sym word)
-        (subst (λ k. Refers at (slice_index roots (16 * (thread - 1) + index)) (graph.root k index)) seat (own_root (thread - 1) index (omega (arith, one, most)) small)))
-        (λ (none : is_root_of config.mutators thread index ≡ false).
-        subst (λ r. Refers at (root_word roots thread index) r) (sym (no_more thread index none)) (no_root thread index none))
-        (cases_Bool (is_root_of config.mutators thread index))
+        let word : root_word roots thread i ≡ slice_index roots (16 * (thread - 1) + i) = cond-true (nat_le 1 thread && nat_lt i 16) _ _ (and_from _ _ (and_parts _ _ yes).0 rest.1) in
+        subst (λ w. Refers at w (graph.root thread i)) (sym word)
+        (subst (λ k. Refers at (slice_index roots (16 * (thread - 1) + i)) (graph.root k i)) seat (own_root (thread - 1) i (omega (arith, one, most)) small)))
+        (λ (none : is_root_of config.mutators thread i ≡ false).
+        subst (λ r. Refers at (root_word roots thread i) r) (sym (no_more thread i none)) (no_root thread i none))
+        (cases_Bool (is_root_of config.mutators thread i))
 
   -- there are 4 pin slots for each mutator
   length-pins : length pins ≡ 4 * config.mutators

@@ -12,13 +12,13 @@ use Rattle.shen_graph.specs.declared.name.Name.{Name}
 use Rattle.heap_world.specs.World.{World, Block, thing, words_of, Plot, Scan, IsPlotted, IsCollected, IsYoung, IsCurrent, IsToUpdate, IsUpdating, Shared}
 
 -- a piece of some words lies in the region with its address, which is one of the heap
-pub piece_region : (config : Config) (top : ℕ → ℕ) (block : Plot) → IsPlotted config top block → (a : ℕ) (piece : Block) → block a ≡ Some piece → 1 ≤ words_of piece → (region_with config a < config.regions) × IsOf config (region_with config a) a
-piece_region config top block plotted a piece is some =
-    let used = plotted.in_use a piece is in
+pub piece_region : (config : Config) (top : ℕ → ℕ) (block : Plot) → IsPlotted config top block → (address : ℕ) (piece : Block) → block address ≡ Some piece → 1 ≤ words_of piece → (region_with config address < config.regions) × IsOf config (region_with config address) address
+piece_region config top block plotted address piece is some =
+    let used = plotted.in_use address piece is in
     let most = plotted.tops used.region used.within in
-    let of : IsOf config used.region a = record { from = used.from_base; before = (let end = used.to_top in omega (arith, end, most, some)) } in
-    let same : region_with config a ≡ used.region = regions_tile.of_no_other config used.region a of in
-    (subst (λ r. r < config.regions) (sym same) used.within, subst (λ r. IsOf config r a) (sym same) of)
+    let of : IsOf config used.region address = record { from = used.from_base; before = (let end = used.to_top in omega (arith, end, most, some)) } in
+    let same : region_with config address ≡ used.region = regions_tile.of_no_other config used.region address of in
+    (subst (λ r. r < config.regions) (sym same) used.within, subst (λ r. IsOf config r address) (sym same) of)
 
 -- A field of a current copy is current, where its region's unit is claimed and no machine stands in it.
 pub unit_is_current : (config : Config) (cset claim : ℕ) (top limit heap : ℕ → ℕ) (block : Plot) (scanning : ℕ → Option Scan) → IsUpdating config cset claim top limit heap block scanning

@@ -9,7 +9,7 @@ use Rattle.heap_world.specs.Walk.{refs_at, nums_at, current_at}
 
 -- the name of the object whose header is the word at an index of the heap
 abbrev pub name_in_heap : List ℕ → ℕ → Name
-name_in_heap heap address = record { thread = thread_in (slice_index heap (address + 2)); count = count_in (slice_index heap (address + 2)) }
+name_in_heap heap index = record { thread = thread_in (slice_index heap (index + 2)); count = count_in (slice_index heap (index + 2)) }
 
 -- the reference that a word stands for, by the name of the current copy there
 abbrev pub reference_in : ℕ → List ℕ → ℕ → Reference

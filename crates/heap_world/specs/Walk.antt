@@ -11,20 +11,20 @@ has words word = list_any (nat_eq word) words
 
 -- its shape word
 abbrev pub shape_at : List ℕ → ℕ → ℕ
-shape_at heap address = slice_index heap (address + 1)
+shape_at heap index = slice_index heap (index + 1)
 
 -- the words of its references
 abbrev pub refs_at : List ℕ → ℕ → List ℕ
-refs_at heap address = slice_range heap (address + 3) (address + 3 + refs_in (shape_at heap address))
+refs_at heap index = slice_range heap (index + 3) (index + 3 + refs_in (shape_at heap index))
 
 -- its numbers
 abbrev pub nums_at : List ℕ → ℕ → List ℕ
-nums_at heap address =
-    slice_range heap (address + 3 + refs_in (shape_at heap address)) (address + 3 + refs_in (shape_at heap address) + nums_in (shape_at heap address))
+nums_at heap index =
+    slice_range heap (index + 3 + refs_in (shape_at heap index)) (index + 3 + refs_in (shape_at heap index) + nums_in (shape_at heap index))
 
 -- how many words it has
 abbrev pub size_at : List ℕ → ℕ → ℕ
-size_at heap address = object_words (shape_at heap address)
+size_at heap index = object_words (shape_at heap index)
 
 -- the address of the current copy of what a word names, by the header there; null stays null
 abbrev pub current_at : (first : ℕ) (heap : List ℕ) → ℕ → ℕ
@@ -36,8 +36,8 @@ currents first heap words = map (current_at first heap) words
 
 -- the current copy of what a root names, or of what a reference of the object at such an address names, and so on
 pub data Leads (first : ℕ) (heap roots : List ℕ) : ℕ → Type 0 where
-  from_root : (a : ℕ) → a ≢ 0 → has (currents first heap roots) a ≡ true → Leads first heap roots a
-  from_field : (m a : ℕ) → Leads first heap roots m → a ≢ 0 → has (currents first heap (refs_at heap (m - first))) a ≡ true → Leads first heap roots a
+  from_root : (address : ℕ) → address ≢ 0 → has (currents first heap roots) address ≡ true → Leads first heap roots address
+  from_field : (m address : ℕ) → Leads first heap roots m → address ≢ 0 → has (currents first heap (refs_at heap (m - first))) address ≡ true → Leads first heap roots address
 
 -- a word is null, or an address of the heap, and header, shape and name of the current copy there are words of the heap
 abbrev pub IsNamed : (first : ℕ) (heap : List ℕ) → ℕ → Type 0
@@ -51,11 +51,11 @@ pub record IsWalkable (first : ℕ) (heap roots : List ℕ) : Type 0 where
   pub fields_named : (m address : ℕ) → Leads first heap roots m → has (refs_at heap (m - first)) address ≡ true → IsNamed first heap address
   pub above : (address : ℕ) → Leads first heap roots address → first ≤ address
   pub below : (address : ℕ) → Leads first heap roots address → address + size_at heap (address - first) ≤ first + length heap
-  pub apart : (address b : ℕ) → Leads first heap roots address → Leads first heap roots b → address < b → address + size_at heap (address - first) ≤ b
+  pub apart : (address other_address : ℕ) → Leads first heap roots address → Leads first heap roots other_address → address < other_address → address + size_at heap (address - first) ≤ other_address
 
 -- a word is null, or the address of one of so many words
 abbrev pub IsNullOrAmong : (first words : ℕ) → ℕ → Type 0
-IsNullOrAmong first words a = a ≢ 0 → (first ≤ a) × (a < first + words)
+IsNullOrAmong first words address = address ≢ 0 → (first ≤ address) × (address < first + words)
 
 -- the list has no address twice, and a flag for each address says whether the list has it
 pub record IsMarked (first : ℕ) (marks : List Bool) (order : List ℕ) : Type 0 where

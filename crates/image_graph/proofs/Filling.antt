@@ -66,11 +66,11 @@ pub region_of_base : (config : Config) (region k : ℕ) → k < config.region_wo
 region_of_base config region k below = regions_tile.of_no_other config region (base_of config region + k) (record { from = omega arith; before = omega (arith, below) })
 
 -- an address is of the heap if its region is
-pub in_heap_by_region : (config : Config) (x : ℕ) → config.region_words ≤ x → region_with config x < config.regions → IsWord config (Heap x)
-in_heap_by_region config x above below =
+pub in_heap_by_region : (config : Config) (address : ℕ) → config.region_words ≤ address → region_with config address < config.regions → IsWord config (Heap address)
+in_heap_by_region config address above below =
     let some : 0 < config.region_words = omega (arith, config.in_range.least_words) in
-    let last : (x / config.region_words + 1) * config.region_words ≤ (config.regions + 1) * config.region_words = mul-le-mul (omega (arith, below)) (omega arith) in
-    (above, omega (arith, last, lt-div-mul-add {a = x} {b = config.region_words} some))
+    let last : (address / config.region_words + 1) * config.region_words ≤ (config.regions + 1) * config.region_words = mul-le-mul (omega (arith, below)) (omega arith) in
+    (above, omega (arith, last, lt-div-mul-add {a = address} {b = config.region_words} some))
 
 -- Where objects begin in the part of a region that is in use.
 module _ (config : Config) (memory : Word → ℕ) (r : ℕ) (below : r < config.regions) (within : memory (Top r) ≤ config.region_words) where

@@ -200,11 +200,11 @@ module _ (config : Config) (memory : Word → ℕ) (objects : List ℕ) (laid : 
       (cases_eq word 0)
 
   -- the region of an object
-  in_region : (a : ℕ) → has objects a ≡ true → (region_with config a < config.regions) × IsOf config (region_with config a) a
-  in_region a is =
-      let at = lies a is in
-      let inside : a < (config.regions + 1) * config.region_words = omega (arith, at.below) in
-      (regions_tile.in_range config a (at.above, inside), regions_tile.of_one config a (at.above, inside))
+  in_region : (address : ℕ) → has objects address ≡ true → (region_with config address < config.regions) × IsOf config (region_with config address) address
+  in_region address is =
+      let at = lies address is in
+      let inside : address < (config.regions + 1) * config.region_words = omega (arith, at.below) in
+      (regions_tile.in_range config address (at.above, inside), regions_tile.of_one config address (at.above, inside))
 
   plotted : IsPlotted config (λ r. memory (Top r)) block
   plotted = record {

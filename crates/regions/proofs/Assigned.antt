@@ -45,13 +45,13 @@ module _ (w : ℕ) (shut : ℕ → Bool) (heap : List ℕ) (marks : List Bool) (
       omega (arith, size, marked.inside (w + index) (omega (arith, size)))
 
   -- the sums that the code makes fit
-  pub fits_behind : (address end words : ℕ) → get_or marks address false ≡ true → end ≡ end_before w shut kept (w + address) → words ≡ object_words (get_or heap (address + 1) 0)
+  pub fits_behind : (index end words : ℕ) → get_or marks index false ≡ true → end ≡ end_before w shut kept (w + index) → words ≡ object_words (get_or heap (index + 1) 0)
       → end + w + words < 2 ^ 63
-  fits_behind address end words met is words_are =
-      let size = kept_marked w heap marks address met in
-      let some : 0 < kept (w + address) = omega (arith, size) in
-      let least = end_at_object w shut kept marked.apart (w + address) some in
-      let most = marked.inside (w + address) some in
+  fits_behind index end words met is words_are =
+      let size = kept_marked w heap marks index met in
+      let some : 0 < kept (w + index) = omega (arith, size) in
+      let least = end_at_object w shut kept marked.apart (w + index) some in
+      let most = marked.inside (w + index) some in
       omega (arith, is, words_are, size, least, most, marked.small)
 
   pub rows_fit : (index end : ℕ) → get_or marks index false ≡ true → end ≡ end_before w shut kept (w + index) → (end / w + 65) * w < 2 ^ 64
@@ -62,37 +62,37 @@ module _ (w : ℕ) (shut : ℕ → Bool) (heap : List ℕ) (marks : List Bool) (
       let most = marked.inside (w + index) some in
       omega (arith, is, least, most, marked.small, div-add-mod' end w)
 
-  pub is_placed : (address end words place : ℕ) → get_or marks address false ≡ true → shut ((w + address) / w) ≡ false → end ≡ end_before w shut kept (w + address) → words ≡ object_words (get_or heap (address + 1) 0)
-      → place ≡ place_around w shut end words → IsPlaced w shut (length heap) regions kept (w + address) words place
-  is_placed address end words place met opened is words_are place_is =
-      let size = kept_marked w heap marks address met in
-      let same : words ≡ kept (w + address) = omega (arith, size, words_are) in
-      let some : 0 < kept (w + address) = omega (arith, size) in
-      let at : place ≡ new_place w shut kept (w + address) =
-      place_is ∙ ap (λ e. place_around w shut e words) is ∙ ap (place_around w shut (end_before w shut kept (w + address))) same ∙ sym (new_open w shut kept (w + address) opened) in
-      let row : new_place w shut kept (w + address) / w ≡ place / w = ap (λ p. p / w) (sym at) in
-      let region = in_region w shut kept marked.apart (w + address) some in
-      let most = marked.inside (w + address) some in
-      let down = moves_down w shut kept marked.apart (w + address) some in
-      let here : new_place w shut kept (w + address) / w ≡ place / w - 1 + 1 = omega (arith, region, row) in
-      let counts = open_same w shut kept (w + address) opened in
-      let within = place_in_range w shut kept marked.apart regions (w + address) some (omega (arith, most, tile, some)) in
-      let top = top_is_offset w shut kept marked.apart (place / w - 1) (w + address) (omega (arith, counts, some)) here in
+  pub is_placed : (index end words place : ℕ) → get_or marks index false ≡ true → shut ((w + index) / w) ≡ false → end ≡ end_before w shut kept (w + index) → words ≡ object_words (get_or heap (index + 1) 0)
+      → place ≡ place_around w shut end words → IsPlaced w shut (length heap) regions kept (w + index) words place
+  is_placed index end words place met opened is words_are place_is =
+      let size = kept_marked w heap marks index met in
+      let same : words ≡ kept (w + index) = omega (arith, size, words_are) in
+      let some : 0 < kept (w + index) = omega (arith, size) in
+      let at : place ≡ new_place w shut kept (w + index) =
+      place_is ∙ ap (λ e. place_around w shut e words) is ∙ ap (place_around w shut (end_before w shut kept (w + index))) same ∙ sym (new_open w shut kept (w + index) opened) in
+      let row : new_place w shut kept (w + index) / w ≡ place / w = ap (λ p. p / w) (sym at) in
+      let region = in_region w shut kept marked.apart (w + index) some in
+      let most = marked.inside (w + index) some in
+      let down = moves_down w shut kept marked.apart (w + index) some in
+      let here : new_place w shut kept (w + index) / w ≡ place / w - 1 + 1 = omega (arith, region, row) in
+      let counts = open_same w shut kept (w + index) opened in
+      let within = place_in_range w shut kept marked.apart regions (w + index) some (omega (arith, most, tile, some)) in
+      let top = top_is_offset w shut kept marked.apart (place / w - 1) (w + index) (omega (arith, counts, some)) here in
       record {
         words_are = same;
         counts = omega (arith, counts, same);
         some = omega (arith, same, some);
         place_is = at;
-        end = omega (arith, end_behind w shut kept (w + address) opened, at, same);
-        low = omega (arith, at, stays_above w shut kept marked.apart (w + address) some);
+        end = omega (arith, end_behind w shut kept (w + index) opened, at, same);
+        low = omega (arith, at, stays_above w shut kept marked.apart (w + index) some);
         down = omega (arith, at, down);
         high = omega (arith, at, down, same, most);
         region_some = omega (arith, region, row);
         region_within = omega (arith, within, row);
         region_small = omega (arith, div-le_self place w, at, down, same, most, marked.small);
         here = here;
-        region_open = ap shut (sym here) ∙ same_kind w shut kept marked.apart inside (w + address) some ∙ opened;
-        room = omega (arith, top, same, stays_within w shut kept marked.apart (w + address) some);
+        region_open = ap shut (sym here) ∙ same_kind w shut kept marked.apart inside (w + index) some ∙ opened;
+        room = omega (arith, top, same, stays_within w shut kept marked.apart (w + index) some);
       }
 
   -- one address more, by the one before

@@ -8,11 +8,11 @@ use Rattle.regions.proofs.Flags.{kept_marked, kept_unmarked, kept_below}
 
 -- the words of the object at an index
 abbrev words : List ℕ → ℕ → ℕ
-words heap address = object_words (get_or heap (address + 1) 0)
+words heap k = object_words (get_or heap (k + 1) 0)
 
 -- a marked object lies within its region and within the heap
 abbrev fits : ℕ → List ℕ → List Bool → ℕ → Bool
-fits w heap marks address = cond (get_or marks address false) (nat_le ((w + address) % w + words heap address) w && nat_le (address + words heap address) (length heap)) true
+fits w heap marks index = cond (get_or marks index false) (nat_le ((w + index) % w + words heap index) w && nat_le (index + words heap index) (length heap)) true
 
 -- a marked object ends before another behind it
 abbrev ends_before : List ℕ → List Bool → ℕ → ℕ → Bool
@@ -22,81 +22,81 @@ abbrev yes : ℕ → Bool
 yes k = true
 
 -- a kept address has a marked index
-marked_index : (index : ℕ) (heap : List ℕ) (marks : List Bool) (a : ℕ) → 0 < kept_of index heap marks a
-    → (index ≤ a) × (get_or marks (a - index) false ≡ true) × (a - index < length marks) × (kept_of index heap marks a ≡ words heap (a - index))
-marked_index index heap marks a some = ⊎_elim
-    (λ (below : a < index). absurd (omega (arith, kept_below index heap marks a below, some)))
-    (λ (least : index ≤ a).
-    let back : index + (a - index) ≡ a = omega (arith, least) in
-    let same : kept_of index heap marks (index + (a - index)) ≡ kept_of index heap marks a = ap (kept_of index heap marks) back in
+marked_index : (w : ℕ) (heap : List ℕ) (marks : List Bool) (a : ℕ) → 0 < kept_of w heap marks a
+    → (w ≤ a) × (get_or marks (a - w) false ≡ true) × (a - w < length marks) × (kept_of w heap marks a ≡ words heap (a - w))
+marked_index w heap marks a some = ⊎_elim
+    (λ (below : a < w). absurd (omega (arith, kept_below w heap marks a below, some)))
+    (λ (least : w ≤ a).
+    let back : w + (a - w) ≡ a = omega (arith, least) in
+    let same : kept_of w heap marks (w + (a - w)) ≡ kept_of w heap marks a = ap (kept_of w heap marks) back in
     ⊎_elim
-    (λ (set : get_or marks (a - index) false ≡ true). (
+    (λ (set : get_or marks (a - w) false ≡ true). (
       least,
       set,
       ⊎_elim
-          (λ (inside : a - index < length marks). inside)
-          (λ (past : length marks ≤ a - index). absurd (true≢false (sym set ∙ get_or_past marks (a - index) false past)))
-          (cases_lt (a - index) (length marks)),
-      sym same ∙ kept_marked index heap marks (a - index) set,
+          (λ (inside : a - w < length marks). inside)
+          (λ (past : length marks ≤ a - w). absurd (true≢false (sym set ∙ get_or_past marks (a - w) false past)))
+          (cases_lt (a - w) (length marks)),
+      sym same ∙ kept_marked w heap marks (a - w) set,
     ))
-    (λ (unset : get_or marks (a - index) false ≡ false). absurd (omega (arith, same, some, kept_unmarked index heap marks (a - index) unset)))
-    (cases_Bool (get_or marks (a - index) false)))
-    (cases_lt a index)
+    (λ (unset : get_or marks (a - w) false ≡ false). absurd (omega (arith, same, some, kept_unmarked w heap marks (a - w) unset)))
+    (cases_Bool (get_or marks (a - w) false)))
+    (cases_lt a w)
 
 -- a heap that passes the tests is as sliding asks
-pub marked_if : (index : ℕ) (heap : List ℕ) (marks : List Bool) → 0 < index → length marks ≡ length heap → index + length heap ≤ 2 ^ 32
-    → agree_below (fits index heap marks) yes (length marks) ≡ true
+pub marked_if : (w : ℕ) (heap : List ℕ) (marks : List Bool) → 0 < w → length marks ≡ length heap → w + length heap ≤ 2 ^ 32
+    → agree_below (fits w heap marks) yes (length marks) ≡ true
     → agree_below (λ j. agree_below (ends_before heap marks j) yes (length marks)) yes (length marks) ≡ true
-    → IsMarkedHeap index heap marks
-marked_if index heap marks some flags small one two = record {
+    → IsMarkedHeap w heap marks
+marked_if w heap marks some flags small one two = record {
   apart = (record {
     some = some;
-    above = λ a begins. (marked_index index heap marks a begins).0;
+    above = λ a begins. (marked_index w heap marks a begins).0;
     within = λ a begins.
-        let at = marked_index index heap marks a begins in
+        let at = marked_index w heap marks a begins in
         let fit = fitting a at.1 at.2 in
-        let address : index + (a - index) ≡ a = omega (arith, at.0) in
-        let rest : (index + (a - index)) % index ≡ a % index = ap (λ k. k % index) address in
+        let address : w + (a - w) ≡ a = omega (arith, at.0) in
+        let rest : (w + (a - w)) % w ≡ a % w = ap (λ k. k % w) address in
         omega (arith, fit.0, rest, at.3);
     apart = λ a b begins_a begins_b less.
-        let at = marked_index index heap marks a begins_a in
-        let bt = marked_index index heap marks b begins_b in
-        let test : nat_lt (a - index) (b - index) ≡ true = lt-ltb (a - index) (b - index) (omega (arith, less, at.0)) in
-        let row = agree_below_at (λ j. agree_below (ends_before heap marks j) yes (length marks)) yes (length marks) (a - index) two at.2 in
-        let cell = agree_below_at (ends_before heap marks (a - index)) yes (length marks) (b - index) row bt.2 in
-        let pair = and_from (get_or marks (a - index) false) (get_or marks (b - index) false && nat_lt (a - index) (b - index)) at.1
-        (and_from (get_or marks (b - index) false) (nat_lt (a - index) (b - index)) bt.1 test) in
-        let ends = leb-true (a - index + words heap (a - index)) (b - index)
-        (sym (cond-true (get_or marks (a - index) false && (get_or marks (b - index) false && nat_lt (a - index) (b - index))) (nat_le (a - index + words heap (a - index)) (b - index)) true pair) ∙ cell) in
+        let at = marked_index w heap marks a begins_a in
+        let bt = marked_index w heap marks b begins_b in
+        let test : nat_lt (a - w) (b - w) ≡ true = lt-ltb (a - w) (b - w) (omega (arith, less, at.0)) in
+        let row = agree_below_at (λ j. agree_below (ends_before heap marks j) yes (length marks)) yes (length marks) (a - w) two at.2 in
+        let cell = agree_below_at (ends_before heap marks (a - w)) yes (length marks) (b - w) row bt.2 in
+        let pair = and_from (get_or marks (a - w) false) (get_or marks (b - w) false && nat_lt (a - w) (b - w)) at.1
+        (and_from (get_or marks (b - w) false) (nat_lt (a - w) (b - w)) bt.1 test) in
+        let ends = leb-true (a - w + words heap (a - w)) (b - w)
+        (sym (cond-true (get_or marks (a - w) false && (get_or marks (b - w) false && nat_lt (a - w) (b - w))) (nat_le (a - w + words heap (a - w)) (b - w)) true pair) ∙ cell) in
         omega (arith, ends, at.0, bt.0, at.3);
   });
   flags = flags;
   inside = λ a begins.
-      let at = marked_index index heap marks a begins in
+      let at = marked_index w heap marks a begins in
       let fit = fitting a at.1 at.2 in
       omega (arith, fit.1, at.0, at.3);
   small = small;
 }
   where
-    fitting : (a : ℕ) → get_or marks (a - index) false ≡ true → a - index < length marks
-        → ((index + (a - index)) % index + words heap (a - index) ≤ index) × (a - index + words heap (a - index) ≤ length heap)
+    fitting : (a : ℕ) → get_or marks (a - w) false ≡ true → a - w < length marks
+        → ((w + (a - w)) % w + words heap (a - w) ≤ w) × (a - w + words heap (a - w) ≤ length heap)
     fitting a set inside =
-        let k = a - index in
-        let row = agree_below_at (fits index heap marks) yes (length marks) k one inside in
-        let parts = and_parts (nat_le ((index + k) % index + words heap k) index) (nat_le (k + words heap k) (length heap))
-        (sym (cond-true (get_or marks k false) (nat_le ((index + k) % index + words heap k) index && nat_le (k + words heap k) (length heap)) true set) ∙ row) in
-        (leb-true ((index + k) % index + words heap k) index parts.0, leb-true (k + words heap k) (length heap) parts.1)
+        let k = a - w in
+        let row = agree_below_at (fits w heap marks) yes (length marks) k one inside in
+        let parts = and_parts (nat_le ((w + k) % w + words heap k) w) (nat_le (k + words heap k) (length heap))
+        (sym (cond-true (get_or marks k false) (nat_le ((w + k) % w + words heap k) w && nat_le (k + words heap k) (length heap)) true set) ∙ row) in
+        (leb-true ((w + k) % w + words heap k) w parts.0, leb-true (k + words heap k) (length heap) parts.1)
 
 -- a marked object has not moved, and its references are null or lead to marked objects
 abbrev own : List ℕ → List Bool → ℕ → Bool
-own heap marks address = cond (get_or marks address false) (not (is_forwarded (get_or heap address 0))) true
+own heap marks index = cond (get_or marks index false) (not (is_forwarded (get_or heap index 0))) true
 
 abbrev leads : ℕ → List ℕ → List Bool → ℕ → Bool
 leads w heap marks word =
     (word == 0) || ((nat_le w word && nat_lt word (w + length heap)) && (nat_le w (now_of w heap word) && get_or marks (now_of w heap word - w) false))
 
 abbrev all_lead : ℕ → List ℕ → List Bool → ℕ → Bool
-all_lead w heap marks address = cond (get_or marks address false) (agree_below (λ i. leads w heap marks (get_or heap (address + (3 + i)) 0)) yes (refs_in (get_or heap (address + 1) 0))) true
+all_lead w heap marks index = cond (get_or marks index false) (agree_below (λ i. leads w heap marks (get_or heap (index + (3 + i)) 0)) yes (refs_in (get_or heap (index + 1) 0))) true
 
 -- a word that passes the test leads to a kept object
 leads_if : (w : ℕ) (heap : List ℕ) (marks : List Bool) (word : ℕ) → leads w heap marks word ≡ true → LeadsToKept w heap marks word

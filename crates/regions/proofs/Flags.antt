@@ -5,25 +5,25 @@ use Rattle.heap_words.specs.Encoding.{object_words}
 use Rattle.regions.specs.Table.{kept_of}
 
 -- the flag decides
-by_flag : (first : ℕ) (heap : List ℕ) (marks : List Bool) (address : ℕ)
-    → kept_of first heap marks (first + address) ≡ cond (nat_le first (first + address) && get_or marks address false) (object_words (get_or heap (address + 1) 0)) 0
-by_flag first heap marks address =
-    let index : first + address - first ≡ address = omega arith in
-    ap (λ j. cond (nat_le first (first + address) && get_or marks j false) (object_words (get_or heap (j + 1) 0)) 0) index
+by_flag : (first : ℕ) (heap : List ℕ) (marks : List Bool) (k : ℕ)
+    → kept_of first heap marks (first + k) ≡ cond (nat_le first (first + k) && get_or marks k false) (object_words (get_or heap (k + 1) 0)) 0
+by_flag first heap marks k =
+    let index : first + k - first ≡ k = omega arith in
+    ap (λ j. cond (nat_le first (first + k) && get_or marks j false) (object_words (get_or heap (j + 1) 0)) 0) index
 
-pub kept_marked : (first : ℕ) (heap : List ℕ) (marks : List Bool) (address : ℕ) → get_or marks address false ≡ true
-    → kept_of first heap marks (first + address) ≡ object_words (get_or heap (address + 1) 0)
-kept_marked first heap marks address set =
-    by_flag first heap marks address
-    ∙ cond-true (nat_le first (first + address) && get_or marks address false) (object_words (get_or heap (address + 1) 0)) 0
-    (and_from (nat_le first (first + address)) (get_or marks address false) (le-leb first (first + address) (omega arith)) set)
+pub kept_marked : (first : ℕ) (heap : List ℕ) (marks : List Bool) (index : ℕ) → get_or marks index false ≡ true
+    → kept_of first heap marks (first + index) ≡ object_words (get_or heap (index + 1) 0)
+kept_marked first heap marks index set =
+    by_flag first heap marks index
+    ∙ cond-true (nat_le first (first + index) && get_or marks index false) (object_words (get_or heap (index + 1) 0)) 0
+    (and_from (nat_le first (first + index)) (get_or marks index false) (le-leb first (first + index) (omega arith)) set)
 
-pub kept_unmarked : (first : ℕ) (heap : List ℕ) (marks : List Bool) (address : ℕ) → get_or marks address false ≡ false
-    → kept_of first heap marks (first + address) ≡ 0
-kept_unmarked first heap marks address unset =
-    by_flag first heap marks address
-    ∙ cond-false (nat_le first (first + address) && get_or marks address false) (object_words (get_or heap (address + 1) 0)) 0
-    (and_right (nat_le first (first + address)) (get_or marks address false) unset)
+pub kept_unmarked : (first : ℕ) (heap : List ℕ) (marks : List Bool) (index : ℕ) → get_or marks index false ≡ false
+    → kept_of first heap marks (first + index) ≡ 0
+kept_unmarked first heap marks index unset =
+    by_flag first heap marks index
+    ∙ cond-false (nat_le first (first + index) && get_or marks index false) (object_words (get_or heap (index + 1) 0)) 0
+    (and_right (nat_le first (first + index)) (get_or marks index false) unset)
 
 -- below the heap nothing is kept
 pub kept_below : (first : ℕ) (heap : List ℕ) (marks : List Bool) (a : ℕ) → a < first → kept_of first heap marks a ≡ 0

@@ -7,8 +7,8 @@ use Rattle.regions.proofs.Flags.{kept_marked, kept_unmarked}
 use Rattle.regions.proofs.Slid.{slid_word-same, intact, slid_more, slid_same}
 
 -- the word at an address, by its index
-pub word_at : (other_address : ℕ) (heap : List ℕ) (address : ℕ) → word_of other_address heap (other_address + address) ≡ get_or heap address 0
-word_at other_address heap address = let index : other_address + address - other_address ≡ address = omega arith in ap (λ j. get_or heap j 0) index
+pub word_at : (w : ℕ) (heap : List ℕ) (k : ℕ) → word_of w heap (w + k) ≡ get_or heap k 0
+word_at w heap k = let index : w + k - w ≡ k = omega arith in ap (λ j. get_or heap j 0) index
 
 module _ (w : ℕ) (places : List ℕ) (marks : List Bool) (before : List ℕ) (marked : IsMarkedHeap w before marks)
     (table : IsPlacing w (kept_of w before marks) places) where

@@ -6,7 +6,7 @@ use Rattle.regions.specs.Slide.{slid_word, renewed, PlacesApart}
 
 -- the word at an address
 abbrev pub word_of : (first : ℕ) (heap : List ℕ) → ℕ → ℕ
-word_of first heap address = slice_index heap (address - first)
+word_of first heap a = slice_index heap (a - first)
 
 -- the words of the object that begins at an address, if it is marked
 abbrev pub kept_of : (first : ℕ) (heap : List ℕ) (marks : List Bool) → ℕ → ℕ
@@ -51,17 +51,17 @@ pub record IsMovedTo (renew : ℕ → ℕ) (from to : ℕ) (before after : List 
 -- the index of the current copy of what begins at an index: that of the address in its header, if that is forwarded to
 -- an address of the heap, and else its own
 abbrev pub current_index : (first : ℕ) (heap : List ℕ) → ℕ → ℕ
-current_index first heap address =
-    if is_forwarded (slice_index heap address) && (nat_le first (forwardee_in (slice_index heap address)) && nat_lt (forwardee_in (slice_index heap address)) (first + length heap))
-    then forwardee_in (slice_index heap address) - first else address
+current_index first heap index =
+    if is_forwarded (slice_index heap index) && (nat_le first (forwardee_in (slice_index heap index)) && nat_lt (forwardee_in (slice_index heap index)) (first + length heap))
+    then forwardee_in (slice_index heap index) - first else index
 
 -- what begins at an index is its own current copy
 abbrev pub IsOwnCopy : (first : ℕ) (heap : List ℕ) → ℕ → Type 0
-IsOwnCopy first heap address = current_index first heap address ≡ address
+IsOwnCopy first heap k = current_index first heap k ≡ k
 
 -- the address of the current copy of what begins at an address, by its header
 abbrev pub now_of : (first : ℕ) (heap : List ℕ) → ℕ → ℕ
-now_of first heap address = if is_forwarded (word_of first heap address) then forwardee_in (word_of first heap address) else address
+now_of first heap a = if is_forwarded (word_of first heap a) then forwardee_in (word_of first heap a) else a
 
 -- a word is null, or the address of an old or current copy in the heap whose current copy is kept
 abbrev pub LeadsToKept : (first : ℕ) (heap : List ℕ) (marks : List Bool) → ℕ → Type 0
@@ -71,8 +71,8 @@ LeadsToKept first heap marks word =
 -- What is marked can be packed: marked objects are current copies, and their references lead to marked ones.
 pub record CanCompact (first : ℕ) (heap : List ℕ) (marks : List Bool) : Type 0 where
   pub marked : IsMarkedHeap first heap marks
-  pub current : (address : ℕ) → 0 < kept_of first heap marks address → now_of first heap address ≡ address
-  pub closed : (address i : ℕ) → 0 < kept_of first heap marks address → i < refs_in (word_of first heap (address + 1)) → LeadsToKept first heap marks (word_of first heap (address + (3 + i)))
+  pub current : (a : ℕ) → 0 < kept_of first heap marks a → now_of first heap a ≡ a
+  pub closed : (a i : ℕ) → 0 < kept_of first heap marks a → i < refs_in (word_of first heap (a + 1)) → LeadsToKept first heap marks (word_of first heap (a + (3 + i)))
 
 -- the place of a marked object, around the regions that are shut
 abbrev pub place_of : (first : ℕ) (shut : ℕ → Bool) (heap : List ℕ) (marks : List Bool) → ℕ → ℕ

@@ -92,19 +92,19 @@ beside_is scripts before graph work h thread index below =
     ap (λ (found : Option Command). if index + 1 == thread then 0 else words_asked found)
     (next_is scripts before graph work h index below ∙ ap (λ (k : ℕ). slice_get (slice_index_or scripts k []) (length (of_thread before (index + 1)))) back)
 
-waiting_up_to : (scripts : Scripts) (before : List Entry) (graph : Plain) (work : Jobs) → HasJudged scripts before graph work → (thread index : ℕ) → index ≤ length scripts
-    → sum_by (words_beside work thread) (range_with_len 0 index) ≡ sum_by (λ t. if t == thread then 0 else words_asked (next_command scripts before t)) (range_with_len 1 index)
+waiting_up_to : (scripts : Scripts) (before : List Entry) (graph : Plain) (work : Jobs) → HasJudged scripts before graph work → (thread n : ℕ) → n ≤ length scripts
+    → sum_by (words_beside work thread) (range_with_len 0 n) ≡ sum_by (λ t. if t == thread then 0 else words_asked (next_command scripts before t)) (range_with_len 1 n)
 waiting_up_to scripts before graph work h thread zero low = refl
-waiting_up_to scripts before graph work h thread (suc index) low =
+waiting_up_to scripts before graph work h thread (suc n) low =
     let f = λ (t : ℕ). if t == thread then 0 else words_asked (next_command scripts before t) in
-    let next : index + 1 ≡ suc index = omega arith in
-    let first : 1 + index ≡ index + 1 = omega arith in
-    let below : index < length scripts = omega (arith, low) in
+    let next : n + 1 ≡ suc n = omega arith in
+    let first : 1 + n ≡ n + 1 = omega arith in
+    let below : n < length scripts = omega (arith, low) in
     ap (λ (k : ℕ). sum_by (words_beside work thread) (range_with_len 0 k)) (sym next)
-    ∙ sum_more (words_beside work thread) 0 index index (omega arith)
-    ∙ ap (λ (k : ℕ). k + words_beside work thread index) (waiting_up_to scripts before graph work h thread index (omega (arith, low)))
-    ∙ ap (λ (k : ℕ). sum_by f (range_with_len 1 index) + k) (beside_is scripts before graph work h thread index below)
-    ∙ sym (sum_more f 1 index (index + 1) first)
+    ∙ sum_more (words_beside work thread) 0 n n (omega arith)
+    ∙ ap (λ (k : ℕ). k + words_beside work thread n) (waiting_up_to scripts before graph work h thread n (omega (arith, low)))
+    ∙ ap (λ (k : ℕ). sum_by f (range_with_len 1 n) + k) (beside_is scripts before graph work h thread n below)
+    ∙ sym (sum_more f 1 n (n + 1) first)
     ∙ ap (λ (k : ℕ). sum_by f (range_with_len 1 k)) next
 
 pub waiting_is : (config : Config) (scripts : Scripts) (before : List Entry) (graph : Plain) (work : Jobs) → HasJudged scripts before graph work → length scripts ≡ config.mutators → (thread : ℕ)

@@ -60,23 +60,23 @@ front_line text whole rest e = sym (append_assoc text (newline ∷ []) rest) ∙
 titled_line : (title : List ℕ) (ns : List ℕ) → (text : List ℕ) × (text ++ newline ∷ [] ≡ titled title ns)
 titled_line title ns = (_, titled_is title ns)
 
-pub begun_head : (bytes rest : List ℕ) (address : ℕ) (config : Config) → IsVersion address → IsNarrow config → bytes ≡ header address config ++ rest → Begun bytes rest 3 (Commands address config)
-begun_head bytes rest address config known narrow e =
-    let shen = titled_line (codes "shen") (address ∷ []) in
+pub begun_head : (bytes rest : List ℕ) (version : ℕ) (config : Config) → IsVersion version → IsNarrow config → bytes ≡ header version config ++ rest → Begun bytes rest 3 (Commands version config)
+begun_head bytes rest version config known narrow e =
+    let shen = titled_line (codes "shen") (version ∷ []) in
     let heap = titled_line (codes "heap") (config.regions ∷ config.region_words ∷ config.reserve ∷ []) in
     let threads = titled_line (codes "threads") (config.mutators ∷ config.helpers ∷ []) in
     let third = threads.0 ++ 10 ∷ rest in
     let second = heap.0 ++ 10 ∷ third in
     let whole : bytes ≡ shen.0 ++ 10 ∷ second =
-    e ∙ append_assoc (titled (codes "shen") (address ∷ [])) (titled (codes "heap") (config.regions ∷ config.region_words ∷ config.reserve ∷ []) ++ titled (codes "threads") (config.mutators ∷ config.helpers ∷ [])) rest
-    ∙ ap (λ (t : List ℕ). titled (codes "shen") (address ∷ []) ++ t)
+    e ∙ append_assoc (titled (codes "shen") (version ∷ [])) (titled (codes "heap") (config.regions ∷ config.region_words ∷ config.reserve ∷ []) ++ titled (codes "threads") (config.mutators ∷ config.helpers ∷ [])) rest
+    ∙ ap (λ (t : List ℕ). titled (codes "shen") (version ∷ []) ++ t)
     (append_assoc (titled (codes "heap") (config.regions ∷ config.region_words ∷ config.reserve ∷ [])) (titled (codes "threads") (config.mutators ∷ config.helpers ∷ [])) rest
     ∙ ap (λ (t : List ℕ). titled (codes "heap") (config.regions ∷ config.region_words ∷ config.reserve ∷ []) ++ t) (sym (front_line threads.0 (titled (codes "threads") (config.mutators ∷ config.helpers ∷ [])) rest threads.1))
     ∙ sym (front_line heap.0 (titled (codes "heap") (config.regions ∷ config.region_words ∷ config.reserve ∷ [])) third heap.1))
-    ∙ sym (front_line shen.0 (titled (codes "shen") (address ∷ [])) second shen.1) in
-    let one = begun_more bytes shen.0 second 0 Version (Heap address) (subst (λ (bs : List ℕ). Begun bytes bs 0 Version) whole (begun_none bytes)) (address, known, shen.1, refl) in
-    let two = begun_more bytes heap.0 third 1 (Heap address) (Threads address config.regions config.region_words config.reserve) one (config, narrow, heap.1, refl) in
-    begun_more bytes threads.0 rest 2 (Threads address config.regions config.region_words config.reserve) (Commands address config) two (config, refl, refl, refl, threads.1, refl)
+    ∙ sym (front_line shen.0 (titled (codes "shen") (version ∷ [])) second shen.1) in
+    let one = begun_more bytes shen.0 second 0 Version (Heap version) (subst (λ (bs : List ℕ). Begun bytes bs 0 Version) whole (begun_none bytes)) (version, known, shen.1, refl) in
+    let two = begun_more bytes heap.0 third 1 (Heap version) (Threads version config.regions config.region_words config.reserve) one (config, narrow, heap.1, refl) in
+    begun_more bytes threads.0 rest 2 (Threads version config.regions config.region_words config.reserve) (Commands version config) two (config, refl, refl, refl, threads.1, refl)
 
 -- ---- the lines behind it
 
@@ -154,16 +154,16 @@ version_read bytes rest behind none =
       whole ∙ front_line behind.0 (titled (codes "shen") (v ∷ [])) rest made.2,
     )
 
-pub heap_read : (address : ℕ) (bytes first rest : List ℕ) → Begun bytes first 1 (Heap address) → IsBehindLine first rest → cause_of (Heap address) (parts 10 first) ≡ None
-    → (h : Config) × IsNarrow h × Begun bytes rest 2 (Threads address h.regions h.region_words h.reserve) × (first ≡ titled (codes "heap") (h.regions ∷ h.region_words ∷ h.reserve ∷ []) ++ rest)
-heap_read address bytes first rest b behind none =
-    let read = line_of (Heap address) first rest behind.0 behind.1 refl none in
-    let made = heap_spelled address behind.0 read.1 in
+pub heap_read : (version : ℕ) (bytes first rest : List ℕ) → Begun bytes first 1 (Heap version) → IsBehindLine first rest → cause_of (Heap version) (parts 10 first) ≡ None
+    → (h : Config) × IsNarrow h × Begun bytes rest 2 (Threads version h.regions h.region_words h.reserve) × (first ≡ titled (codes "heap") (h.regions ∷ h.region_words ∷ h.reserve ∷ []) ++ rest)
+heap_read version bytes first rest b behind none =
+    let read = line_of (Heap version) first rest behind.0 behind.1 refl none in
+    let made = heap_spelled version behind.0 read.1 in
     let h = made.0 in
     let whole = bytes_of_line first behind.0 rest read.0 in (
       h,
       made.1,
-      begun_more bytes behind.0 rest 1 (Heap address) (Threads address h.regions h.region_words h.reserve) (subst (λ (bs : List ℕ). Begun bytes bs 1 (Heap address)) whole b) (h, made.1, made.2, refl),
+      begun_more bytes behind.0 rest 1 (Heap version) (Threads version h.regions h.region_words h.reserve) (subst (λ (bs : List ℕ). Begun bytes bs 1 (Heap version)) whole b) (h, made.1, made.2, refl),
       whole ∙ front_line behind.0 (titled (codes "heap") (h.regions ∷ h.region_words ∷ h.reserve ∷ [])) rest made.2,
     )
 

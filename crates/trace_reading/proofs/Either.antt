@@ -142,14 +142,14 @@ of_threads v r w e (text ∷ texts) last lead body =
     let others = of_commands v c texts last (subst (λ (stage : LineStage). Lead stage texts last) f.5 lead.2) in
     (c, f.1, f.2, f.3, others.0, others.1, others.2, others.3, ended-cons text texts (titled (codes "threads") (c.mutators ∷ c.helpers ∷ [])) (flat_map line others.0 ++ flat_map schedule_line others.1) f.4 others.4)
 
-of_heap : (address : ℕ) (texts : List (List ℕ)) (last : LineStage) → Lead (Heap address) texts last → IsBody last
-    → (c : Config) × IsNarrow c × (lines : List TraceLine) × (turns : List (List Item)) × AllByRecursion (IsLine address c.mutators) lines × AllByRecursion (IsScheduleLine c) turns
+of_heap : (version : ℕ) (texts : List (List ℕ)) (last : LineStage) → Lead (Heap version) texts last → IsBody last
+    → (c : Config) × IsNarrow c × (lines : List TraceLine) × (turns : List (List Item)) × AllByRecursion (IsLine version c.mutators) lines × AllByRecursion (IsScheduleLine c) turns
     × (ended texts ≡ titled (codes "heap") (c.regions ∷ c.region_words ∷ c.reserve ∷ []) ++ (titled (codes "threads") (c.mutators ∷ c.helpers ∷ []) ++ (flat_map line lines ++ flat_map schedule_line turns)))
-of_heap address [] last lead body = absurd (subst IsBody (sym lead) body)
-of_heap address (text ∷ texts) last lead body =
+of_heap version [] last lead body = absurd (subst IsBody (sym lead) body)
+of_heap version (text ∷ texts) last lead body =
     let f = lead.1 in
     let h = f.0 in
-    let others = of_threads address h.regions h.region_words h.reserve texts last (subst (λ (stage : LineStage). Lead stage texts last) f.3 lead.2) body in
+    let others = of_threads version h.regions h.region_words h.reserve texts last (subst (λ (stage : LineStage). Lead stage texts last) f.3 lead.2) body in
     let c = others.0 in
     let same : titled (codes "heap") (h.regions ∷ h.region_words ∷ h.reserve ∷ []) ≡ titled (codes "heap") (c.regions ∷ c.region_words ∷ c.reserve ∷ []) =
     ap (λ (r : ℕ). titled (codes "heap") (r ∷ h.region_words ∷ h.reserve ∷ [])) (sym others.1) ∙ ap (λ (w : ℕ). titled (codes "heap") (c.regions ∷ w ∷ h.reserve ∷ [])) (sym others.2) ∙ ap (λ (e : ℕ). titled (codes "heap") (c.regions ∷ c.region_words ∷ e ∷ [])) (sym others.3) in

@@ -136,15 +136,15 @@ at_most_64 n = by_test (ltb 64 n) refl
     by_test true e = (64, omega arith, λ le. absurd (above n e le))
     by_test false e = (n, ltb-false _ _ e, λ le. refl)
 
-pub heap_spelled : (address : ℕ) (text : List ℕ) → words_cause (Heap address) (parts 32 text) ≡ None → (c : Config) × IsNarrow c × (text ++ newline ∷ [] ≡ titled (codes "heap") (c.regions ∷ c.region_words ∷ c.reserve ∷ []))
-heap_spelled address text e =
+pub heap_spelled : (version : ℕ) (text : List ℕ) → words_cause (Heap version) (parts 32 text) ≡ None → (c : Config) × IsNarrow c × (text ++ newline ∷ [] ≡ titled (codes "heap") (c.regions ∷ c.region_words ∷ c.reserve ∷ []))
+heap_spelled version text e =
     let words = parts 32 text in
     let d = digits_value 10 (get_or words 1 []) in
     let m = at_most_64 d in
     let ranges : List (ℕ × ℕ) = (4, 64) ∷ (64, 1024) ∷ (0, m.0 - 1) ∷ [] in
     let small : AreSmallRanges ranges = (lit< tt, (lit< tt, (omega (arith, m.1), tt))) in
     let bounded = same_heap words (m.0 - 1) (λ fine. ap (λ (n : ℕ). n - 1) (m.2 (number_fine 4 64 (get_or words 1 []) fine).2)) in
-    let made = title_spelled (codes "heap") ranges words small (bounded ∙ sym (heap_words address words) ∙ e) in
+    let made = title_spelled (codes "heap") ranges words small (bounded ∙ sym (heap_words version words) ∙ e) in
     let numbers = three 4 64 64 1024 0 (m.0 - 1) made.0 made.2 in
     let r = numbers.0 in let w = numbers.1 in let k = numbers.2 in
     let spelled : words ≡ codes "heap" ∷ map decimal (r ∷ w ∷ k ∷ []) = made.1 ∙ ap (λ (ns : List ℕ). codes "heap" ∷ map decimal ns) numbers.3 in
@@ -160,9 +160,9 @@ heap_spelled address text e =
     } in
     (c, numbers.7, titled_text (codes "heap") (r ∷ w ∷ k ∷ []) text spelled)
 
-pub heap_again : (address : ℕ) (config : Config) (text : List ℕ) → IsNarrow config → text ++ newline ∷ [] ≡ titled (codes "heap") (config.regions ∷ config.region_words ∷ config.reserve ∷ [])
-    → (words_cause (Heap address) (parts 32 text) ≡ None) × (is_free 10 text ≡ true) × (parts 32 text ≡ codes "heap" ∷ map decimal (config.regions ∷ config.region_words ∷ config.reserve ∷ []))
-heap_again address config text narrow e =
+pub heap_again : (version : ℕ) (config : Config) (text : List ℕ) → IsNarrow config → text ++ newline ∷ [] ≡ titled (codes "heap") (config.regions ∷ config.region_words ∷ config.reserve ∷ [])
+    → (words_cause (Heap version) (parts 32 text) ≡ None) × (is_free 10 text ≡ true) × (parts 32 text ≡ codes "heap" ∷ map decimal (config.regions ∷ config.region_words ∷ config.reserve ∷ []))
+heap_again version config text narrow e =
     let ns = config.regions ∷ config.region_words ∷ config.reserve ∷ [] in
     let ranges : List (ℕ × ℕ) = (4, 64) ∷ (64, 1024) ∷ (0, config.regions - 1) ∷ [] in
     let small : AreSmallRanges ranges = (lit< tt, (lit< tt, (omega (arith, config.in_range.most_regions), tt))) in
@@ -170,7 +170,7 @@ heap_again address config text narrow e =
     let read = titled_parts (codes "heap") ranges ns text heap_word small between e in
     let value : digits_value 10 (decimal config.regions) ≡ config.regions = digits_value-decimal own config.regions (omega (arith, config.in_range.most_regions)) in
     let bounds : heap_ranges (codes "heap" ∷ map decimal ns) ≡ ranges = ap (λ (n : ℕ). up n) value in (
-      heap_words address (parts 32 text) ∙ ap (λ (ws : List (List ℕ)). title_cause (codes "heap") (heap_ranges ws) ws) read.0
+      heap_words version (parts 32 text) ∙ ap (λ (ws : List (List ℕ)). title_cause (codes "heap") (heap_ranges ws) ws) read.0
           ∙ ap (λ (rs : List (ℕ × ℕ)). title_cause (codes "heap") rs (codes "heap" ∷ map decimal ns)) bounds ∙ title_again (codes "heap") ranges ns small between,
       read.1,
       read.0,

@@ -39,9 +39,9 @@ pub version_words : (words : List (List ℕ)) → words_cause Version words ≡ 
 unfolding words_cause
 version_words words = refl
 
-pub heap_words : (address : ℕ) (words : List (List ℕ)) → words_cause (Heap address) words ≡ title_cause (codes "heap") (heap_ranges words) words
+pub heap_words : (version : ℕ) (words : List (List ℕ)) → words_cause (Heap version) words ≡ title_cause (codes "heap") (heap_ranges words) words
 unfolding words_cause
-heap_words address words = refl
+heap_words version words = refl
 
 pub threads_words : (v r w e : ℕ) (words : List (List ℕ)) → words_cause (Threads v r w e) words ≡ title_cause (codes "threads") ((1, 8) ∷ (0, 3) ∷ []) words
 unfolding words_cause

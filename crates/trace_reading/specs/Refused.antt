@@ -35,10 +35,10 @@ IsTurnItem config text = (items : List Item) × IsScheduleLine config items × (
 
 -- this text, with the end of its line, is a line of the grammar there, and what is to stand on the next
 abbrev pub LineFollows : LineStage → List ℕ → LineStage → Type 0
-LineFollows Version text next = (address : ℕ) × IsVersion address × (text ++ newline ∷ [] ≡ titled (codes "shen") (address ∷ [])) × (next ≡ Heap address)
-LineFollows (Heap address) text next = (config : Config) × IsNarrow config × (text ++ newline ∷ [] ≡ titled (codes "heap") (config.regions ∷ config.region_words ∷ config.reserve ∷ [])) × (next ≡ Threads address config.regions config.region_words config.reserve)
-LineFollows (Threads address r w e) text next = (config : Config) × (config.regions ≡ r) × (config.region_words ≡ w) × (config.reserve ≡ e) × (text ++ newline ∷ [] ≡ titled (codes "threads") (config.mutators ∷ config.helpers ∷ [])) × (next ≡ Commands address config)
-LineFollows (Commands address config) text next = (IsCommandLine address config text × (next ≡ Commands address config)) ⊎ (IsTurnItem config text × (next ≡ Turns config))
+LineFollows Version text next = (version : ℕ) × IsVersion version × (text ++ newline ∷ [] ≡ titled (codes "shen") (version ∷ [])) × (next ≡ Heap version)
+LineFollows (Heap version) text next = (config : Config) × IsNarrow config × (text ++ newline ∷ [] ≡ titled (codes "heap") (config.regions ∷ config.region_words ∷ config.reserve ∷ [])) × (next ≡ Threads version config.regions config.region_words config.reserve)
+LineFollows (Threads version r w e) text next = (config : Config) × (config.regions ≡ r) × (config.region_words ≡ w) × (config.reserve ≡ e) × (text ++ newline ∷ [] ≡ titled (codes "threads") (config.mutators ∷ config.helpers ∷ [])) × (next ≡ Commands version config)
+LineFollows (Commands version config) text next = (IsCommandLine version config text × (next ≡ Commands version config)) ⊎ (IsTurnItem config text × (next ≡ Turns config))
 LineFollows (Turns config) text next = IsTurnItem config text × (next ≡ Turns config)
 
 -- these lines follow one on the other

@@ -34,17 +34,17 @@ crew_joined firsts a b c low high =
     (cases_lt (length firsts) a)
 
 -- a user of some bundles is one of all
-pub crew_at : (firsts : List Use) (index b other_index : ℕ) (u : Use) → index ≤ other_index → slice_get (crew_of firsts index b) (other_index - index) ≡ Some u → slice_get firsts other_index ≡ Some u
-crew_at firsts index b other_index u low here =
-    let within : other_index - index < length (crew_of firsts index b) = slice_get_within (crew_of firsts index b) (other_index - index) u here in
-    let count = crew_count firsts index b in
-    let below : other_index < length firsts = omega (arith, within, count, low) in
-    let under : other_index < b = omega (arith, within, count, low) in
-    let back : index + (other_index - index) ≡ other_index = omega (arith, low) in
-    let same : get_or firsts other_index u ≡ u =
-    sym (get_or-take b firsts other_index u under) ∙ ap (λ k. get_or (take b firsts) k u) (sym back) ∙ sym (get_or-drop index (take b firsts) (other_index - index) u)
-    ∙ get_or_from_slice_get (crew_of firsts index b) (other_index - index) u u here in
-    slice_get-get_or firsts other_index u below ∙ ap Some same
+pub crew_at : (firsts : List Use) (a b index : ℕ) (u : Use) → a ≤ index → slice_get (crew_of firsts a b) (index - a) ≡ Some u → slice_get firsts index ≡ Some u
+crew_at firsts a b index u low here =
+    let within : index - a < length (crew_of firsts a b) = slice_get_within (crew_of firsts a b) (index - a) u here in
+    let count = crew_count firsts a b in
+    let below : index < length firsts = omega (arith, within, count, low) in
+    let under : index < b = omega (arith, within, count, low) in
+    let back : a + (index - a) ≡ index = omega (arith, low) in
+    let same : get_or firsts index u ≡ u =
+    sym (get_or-take b firsts index u under) ∙ ap (λ k. get_or (take b firsts) k u) (sym back) ∙ sym (get_or-drop a (take b firsts) (index - a) u)
+    ∙ get_or_from_slice_get (crew_of firsts a b) (index - a) u u here in
+    slice_get-get_or firsts index u below ∙ ap Some same
 
 pub at_front : (xs ys : List Use) (index : ℕ) (u : Use) → slice_get xs index ≡ Some u → slice_get (xs ++ ys) index ≡ Some u
 at_front [] ys zero u here = absurd cc

@@ -54,9 +54,9 @@ script_fits v config lines all t =
     All-map (Fits v) (λ (line : TraceLine). line.command) (filter (λ l. eqb l.thread t) lines) (All-filter (λ l. eqb l.thread t) (λ (line : TraceLine). Fits v line.command) lines each)
 
 -- a thread with a command is one of the trace's
-pub record IsOfScript (v : ℕ) (config : Config) (thread : ℕ) (command : Command) : Type 0 where
-  pub from_one : 1 ≤ thread
-  pub to_last : thread ≤ config.mutators
+pub record IsOfScript (v : ℕ) (config : Config) (t : ℕ) (command : Command) : Type 0 where
+  pub from_one : 1 ≤ t
+  pub to_last : t ≤ config.mutators
   pub fits : Fits v command
 
 of_script : (bytes : List ℕ) (v : ℕ) (config : Config) (scripts : List (List Command)) (items : List Item) (mutator : ℕ) (command : Command) → Reads bytes v config scripts items → Contains (script_of scripts mutator) command → IsOfScript v config mutator command

@@ -65,9 +65,9 @@ module _ (config : Config) (memory : Word → ℕ) (graph : Graph) (asking : ℕ
   spent_same words to (IsMarkable.to_come seat more is) = live_at config memory graph asking r to (promised seat more) is ∙ ap (λ o. Some (as_current graph asking o (dead words))) (sym is)
 
   -- an object of the larger graph is a current copy, or an old one
-  pub data Kind (seat refs nums : ℕ) (name : Name) : Type 0 where
-    is_current : Current seat → Kind seat refs nums name
-    is_old : (to : ℕ) → IsOld seat refs nums to name → Kind seat refs nums name
+  pub data Kind (address refs nums : ℕ) (name : Name) : Type 0 where
+    is_current : Current address → Kind address refs nums name
+    is_old : (to : ℕ) → IsOld address refs nums to name → Kind address refs nums name
 
   kind_of : (address refs nums : ℕ) (name : Name) (piece : Block) → r.block address ≡ Some piece → as_object graph asking r.block piece ≡ thing name refs nums → Kind address refs nums name
   kind_of address refs nums name (thing n more less) is same = is_current (IsMarkable.object n more less is)
@@ -138,11 +138,11 @@ module _ (config : Config) (memory : Word → ℕ) (graph : Graph) (asking : ℕ
       let shape : refs_in (heap (a + 1)) ≡ blank.refs = ap refs_in blank.shape ∙ refs_read blank.refs blank.nums blank.few_refs blank.few_nums in
       absurd (some (blank.nulls i (omega (arith, few, shape))))
 
-  pub held_current : (seat : ℕ) → IsLedTo (now_in memory) heap IsRoot seat → Current seat
+  pub held_current : (address : ℕ) → IsLedTo (now_in memory) heap IsRoot address → Current address
   held_current _ (from_root word is some) =
       let root = root_named config (λ q. memory (Top q)) memory old graph p (live_plotted config memory graph asking r) (live_rooted config memory graph asking r) word is some in
       (now_named word root.2 root.4).0
-  held_current _ (from_field seat i held few some) = field_current seat i (held_current seat held) few some
+  held_current _ (from_field address i held few some) = field_current address i (held_current address held) few some
 
   -- so the words hold the graph with the promised objects
   pub live_holds : HoldsGraph config (λ q. memory (Top q)) heap old (now_in memory) IsRoot (with_promised graph p)

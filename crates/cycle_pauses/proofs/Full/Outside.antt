@@ -39,25 +39,25 @@ outside_heap config address other = ⊎_elim
     (cases_lt address config.region_words)
 
 -- no object begins there
-pub none_begins : (config : Config) (memory : Word → ℕ) (x : ℕ) → (x < config.region_words) ⊎ (heap_end config ≤ x) → begins config memory x ≡ false
-none_begins config memory x out =
-    let below_top : Bool = nat_lt (x - base_of config (region_with config x)) (memory (Top (region_with config x))) in
-    let in_region : Bool = nat_lt (region_with config x) config.regions && below_top in
-    and_left (is_in_use config memory x) (object_of config memory x == x) (⊎_elim
-    (λ (low : x < config.region_words). and_left (nat_le config.region_words x) in_region (lt-leb config.region_words x low))
-    (λ (past : heap_end config ≤ x). and_right (nat_le config.region_words x) in_region (and_left (nat_lt (region_with config x) config.regions) below_top (le-ltb (region_with config x) config.regions (far past))))
+pub none_begins : (config : Config) (memory : Word → ℕ) (address : ℕ) → (address < config.region_words) ⊎ (heap_end config ≤ address) → begins config memory address ≡ false
+none_begins config memory address out =
+    let below_top : Bool = nat_lt (address - base_of config (region_with config address)) (memory (Top (region_with config address))) in
+    let in_region : Bool = nat_lt (region_with config address) config.regions && below_top in
+    and_left (is_in_use config memory address) (object_of config memory address == address) (⊎_elim
+    (λ (low : address < config.region_words). and_left (nat_le config.region_words address) in_region (lt-leb config.region_words address low))
+    (λ (past : heap_end config ≤ address). and_right (nat_le config.region_words address) in_region (and_left (nat_lt (region_with config address) config.regions) below_top (le-ltb (region_with config address) config.regions (far past))))
     out)
   where
-    far : heap_end config ≤ x → config.regions ≤ region_with config x
+    far : heap_end config ≤ address → config.regions ≤ region_with config address
     far past = ⊎_elim
-        (λ (few : region_with config x < config.regions).
+        (λ (few : region_with config address < config.regions).
         let long = config.in_range.least_words in
-        let split : x / config.region_words * config.region_words + x % config.region_words ≡ x = div-add-mod' x config.region_words in
-        let rest : x % config.region_words < config.region_words = mod_below x config.region_words (omega (arith, long)) in
-        let rows : x / config.region_words * config.region_words ≤ config.regions * config.region_words = mul-le-mul_right config.region_words (omega (arith, few)) in
+        let split : address / config.region_words * config.region_words + address % config.region_words ≡ address = div-add-mod' address config.region_words in
+        let rest : address % config.region_words < config.region_words = mod_below address config.region_words (omega (arith, long)) in
+        let rows : address / config.region_words * config.region_words ≤ config.regions * config.region_words = mul-le-mul_right config.region_words (omega (arith, few)) in
         absurd (omega (arith, split, rest, rows, past)))
-        (λ (past_all : config.regions ≤ region_with config x). past_all)
-        (cases_lt (region_with config x) config.regions)
+        (λ (past_all : config.regions ≤ region_with config address). past_all)
+        (cases_lt (region_with config address) config.regions)
 
 -- one of two that are 0
 either_zero : (holds : Bool) (x y : ℕ) → x ≡ 0 → y ≡ 0 → cond holds x y ≡ 0

@@ -58,11 +58,11 @@ module _ (config : Config) (memory : Word → ℕ) (graph : Graph) (asking : ℕ
   thing_at address name is = named_thing (r.block address) name (λ refs nums to. no_moved address refs nums to name) is
 
   -- a piece lies in the part of its region that is in use, and in the heap
-  pub piece_below : (a : ℕ) (piece : Block) → r.block a ≡ Some piece
-      → (region_with config a < config.regions) × (base_of config (region_with config a) ≤ a) × (a < base_of config (region_with config a) + memory (Top (region_with config a)))
-  piece_below a piece is =
-      let some = some_words config (λ q. memory (Top q)) r.block r.shared.parsable r.shared.owned.rooms a piece is in
-      let at = below_top config (λ q. memory (Top q)) r.block r.shared.parsable.plotted a piece is (omega (arith, some)) in
+  pub piece_below : (address : ℕ) (piece : Block) → r.block address ≡ Some piece
+      → (region_with config address < config.regions) × (base_of config (region_with config address) ≤ address) × (address < base_of config (region_with config address) + memory (Top (region_with config address)))
+  piece_below address piece is =
+      let some = some_words config (λ q. memory (Top q)) r.block r.shared.parsable r.shared.owned.rooms address piece is in
+      let at = below_top config (λ q. memory (Top q)) r.block r.shared.parsable.plotted address piece is (omega (arith, some)) in
       (at.0, at.1, omega (arith, at.2, some))
 
   pub piece_above : (address : ℕ) (piece : Block) → r.block address ≡ Some piece → config.region_words ≤ address

@@ -40,11 +40,11 @@ pub next_base : (config : Config) (region : ℕ) → base_of config (region + 1)
 next_base config region = omega arith
 
 -- where a piece lies: in the part in use of the region of its address
-pub record IsPlaced (config : Config) (world : World) (a : ℕ) (piece : Block) : Type 0 where
-  pub within : region_with config a < config.regions
-  pub from_base : base_of config (region_with config a) ≤ a
-  pub to_top : a + words_of piece ≤ base_of config (region_with config a) + world.memory (Top (region_with config a))
-  pub short : world.memory (Top (region_with config a)) ≤ config.region_words
+pub record IsPlaced (config : Config) (world : World) (address : ℕ) (piece : Block) : Type 0 where
+  pub within : region_with config address < config.regions
+  pub from_base : base_of config (region_with config address) ≤ address
+  pub to_top : address + words_of piece ≤ base_of config (region_with config address) + world.memory (Top (region_with config address))
+  pub short : world.memory (Top (region_with config address)) ≤ config.region_words
 
 -- the header of an object is none of words that only fill, moved or not, and that of such words tells how many they are
 plain_fills_not : (header : ℕ) → header ≡ plain_header → filler_words_in header ≡ None

@@ -71,99 +71,99 @@ gone_inside config memory region inside unpinned = or_from (bit_at (memory Cset)
 
 -- Which words are updated, where each piece of a region where objects stay says how many words it has.
 module _ (config : Config) (memory : Word → ℕ) (block : Plot) (plotted : IsPlotted config (λ r. memory (Top r)) block) (filled : IsFilled config (λ r. memory (Top r)) block)
-    (some : (a : ℕ) (piece : Block) → block a ≡ Some piece → 1 ≤ words_of piece)
-    (sizes : (a : ℕ) (piece : Block) → block a ≡ Some piece → stays config memory (region_with config a) ≡ true → stride_at (λ y. memory (Heap y)) a ≡ words_of piece) where
+    (some : (address : ℕ) (piece : Block) → block address ≡ Some piece → 1 ≤ words_of piece)
+    (sizes : (address : ℕ) (piece : Block) → block address ≡ Some piece → stays config memory (region_with config address) ≡ true → stride_at (λ y. memory (Heap y)) address ≡ words_of piece) where
   abbrev IsWalked : ℕ → Type 0
   IsWalked r = stays config memory r ≡ true
 
   -- A word of a piece.
-  module _ (a j : ℕ) (piece : Block) (here : block a ≡ Some piece) (below : j < words_of piece) where
-    abbrev at : (region_with config a < config.regions) × (base_of config (region_with config a) ≤ a) × (a + words_of piece ≤ base_of config (region_with config a) + memory (Top (region_with config a)))
-    at = walking.at config memory block plotted filled some IsWalked sizes a j piece here below
+  module _ (address j : ℕ) (piece : Block) (here : block address ≡ Some piece) (below : j < words_of piece) where
+    abbrev at : (region_with config address < config.regions) × (base_of config (region_with config address) ≤ address) × (address + words_of piece ≤ base_of config (region_with config address) + memory (Top (region_with config address)))
+    at = walking.at config memory block plotted filled some IsWalked sizes address j piece here below
 
-    region_low : config.region_words ≤ base_of config (region_with config a)
-    region_low = walking.region_low config memory block plotted filled some IsWalked sizes a j piece here below
+    region_low : config.region_words ≤ base_of config (region_with config address)
+    region_low = walking.region_low config memory block plotted filled some IsWalked sizes address j piece here below
 
-    pub same_region : region_with config (a + j) ≡ region_with config a
-    same_region = walking.same_region config memory block plotted filled some IsWalked sizes a j piece here below
+    pub same_region : region_with config (address + j) ≡ region_with config address
+    same_region = walking.same_region config memory block plotted filled some IsWalked sizes address j piece here below
 
-    module _ (stay : stays config memory (region_with config a) ≡ true) where
-      pub object_is : object_of config memory (a + j) ≡ a
-      object_is = walking.object_is config memory block plotted filled some IsWalked sizes a j piece here below stay
+    module _ (stay : stays config memory (region_with config address) ≡ true) where
+      pub object_is : object_of config memory (address + j) ≡ address
+      object_is = walking.object_is config memory block plotted filled some IsWalked sizes address j piece here below stay
 
       -- the word lies where objects stay
-      staying_is : is_staying config memory (a + j) ≡ true
+      staying_is : is_staying config memory (address + j) ≡ true
       staying_is =
-          and_from (is_in_use config memory (a + j)) (stays config memory (region_with config (a + j))) (walking.in_use config memory block plotted filled some IsWalked sizes a j piece here below)
+          and_from (is_in_use config memory (address + j)) (stays config memory (region_with config (address + j))) (walking.in_use config memory block plotted filled some IsWalked sizes address j piece here below)
           (ap (stays config memory) same_region ∙ stay)
 
       -- a word that is no reference of its piece stays
-      pub other_stays : is_reference memory a (a + j) ≡ false → all_updated config memory (Heap (a + j)) ≡ memory (Heap (a + j))
-      other_stays other = cond-false (is_kept_field config memory (a + j)) (updated_word config memory (memory (Heap (a + j)))) (memory (Heap (a + j))) no_field
+      pub other_stays : is_reference memory address (address + j) ≡ false → all_updated config memory (Heap (address + j)) ≡ memory (Heap (address + j))
+      other_stays other = cond-false (is_kept_field config memory (address + j)) (updated_word config memory (memory (Heap (address + j)))) (memory (Heap (address + j))) no_field
         where
-          no_field : is_kept_field config memory (a + j) ≡ false
-          no_field = and_right _ (is_reference memory (object_of config memory (a + j)) (a + j)) (ap (λ b. is_reference memory b (a + j)) object_is ∙ other)
+          no_field : is_kept_field config memory (address + j) ≡ false
+          no_field = and_right _ (is_reference memory (object_of config memory (address + j)) (address + j)) (ap (λ b. is_reference memory b (address + j)) object_is ∙ other)
 
       -- so does one of a piece that has moved
-      pub moved_stays : is_forwarded (memory (Heap a)) ≡ true → all_updated config memory (Heap (a + j)) ≡ memory (Heap (a + j))
-      moved_stays moved = cond-false (is_kept_field config memory (a + j)) (updated_word config memory (memory (Heap (a + j)))) (memory (Heap (a + j))) no_field
+      pub moved_stays : is_forwarded (memory (Heap address)) ≡ true → all_updated config memory (Heap (address + j)) ≡ memory (Heap (address + j))
+      moved_stays moved = cond-false (is_kept_field config memory (address + j)) (updated_word config memory (memory (Heap (address + j)))) (memory (Heap (address + j))) no_field
         where
-          not_here : is_kept_here config memory a ≡ false
-          not_here = and_left (not (is_forwarded (memory (Heap a)))) (is_kept config memory a) (not_from_true (is_forwarded (memory (Heap a))) moved)
+          not_here : is_kept_here config memory address ≡ false
+          not_here = and_left (not (is_forwarded (memory (Heap address)))) (is_kept config memory address) (not_from_true (is_forwarded (memory (Heap address))) moved)
 
-          no_field : is_kept_field config memory (a + j) ≡ false
-          no_field = and_left _ (is_reference memory (object_of config memory (a + j)) (a + j)) (and_right (is_staying config memory (a + j)) (is_kept_here config memory (object_of config memory (a + j))) (ap (is_kept_here config memory) object_is ∙ not_here))
+          no_field : is_kept_field config memory (address + j) ≡ false
+          no_field = and_left _ (is_reference memory (object_of config memory (address + j)) (address + j)) (and_right (is_staying config memory (address + j)) (is_kept_here config memory (object_of config memory (address + j))) (ap (is_kept_here config memory) object_is ∙ not_here))
 
       -- so does one of a piece that is not kept
-      pub dead_stays : (HasMark config (λ n. memory (Black n)) a → ⊥) → (IsYoung config (λ r. memory (Tams r)) a → ⊥) → all_updated config memory (Heap (a + j)) ≡ memory (Heap (a + j))
-      dead_stays unmarked old = cond-false (is_kept_field config memory (a + j)) (updated_word config memory (memory (Heap (a + j)))) (memory (Heap (a + j))) no_field
+      pub dead_stays : (HasMark config (λ n. memory (Black n)) address → ⊥) → (IsYoung config (λ r. memory (Tams r)) address → ⊥) → all_updated config memory (Heap (address + j)) ≡ memory (Heap (address + j))
+      dead_stays unmarked old = cond-false (is_kept_field config memory (address + j)) (updated_word config memory (memory (Heap (address + j)))) (memory (Heap (address + j))) no_field
         where
-          not_kept : is_kept config memory a ≡ false
+          not_kept : is_kept config memory address ≡ false
           not_kept =
               let from = at.1 in
-              or_from (is_black config memory a) (nat_le (memory (Tams (region_with config a))) (a - base_of config (region_with config a)))
-              (and_right (nat_le config.region_words a) (bit_at (memory (Black (mark_word config a))) (mark_bit config a) == 1) (ne_eqb (bit_at (memory (Black (mark_word config a))) (mark_bit config a)) 1 unmarked))
+              or_from (is_black config memory address) (nat_le (memory (Tams (region_with config address))) (address - base_of config (region_with config address)))
+              (and_right (nat_le config.region_words address) (bit_at (memory (Black (mark_word config address))) (mark_bit config address) == 1) (ne_eqb (bit_at (memory (Black (mark_word config address))) (mark_bit config address)) 1 unmarked))
               (⊎_elim
-              (λ (below_tams : a - base_of config (region_with config a) < memory (Tams (region_with config a))). lt-leb (memory (Tams (region_with config a))) (a - base_of config (region_with config a)) below_tams)
-              (λ (young : memory (Tams (region_with config a)) ≤ a - base_of config (region_with config a)). absurd (old (omega (arith, young, from))))
-              (cases_lt (a - base_of config (region_with config a)) (memory (Tams (region_with config a)))))
+              (λ (below_tams : address - base_of config (region_with config address) < memory (Tams (region_with config address))). lt-leb (memory (Tams (region_with config address))) (address - base_of config (region_with config address)) below_tams)
+              (λ (young : memory (Tams (region_with config address)) ≤ address - base_of config (region_with config address)). absurd (old (omega (arith, young, from))))
+              (cases_lt (address - base_of config (region_with config address)) (memory (Tams (region_with config address)))))
 
-          no_field : is_kept_field config memory (a + j) ≡ false
-          no_field = and_left _ (is_reference memory (object_of config memory (a + j)) (a + j)) (and_right (is_staying config memory (a + j)) (is_kept_here config memory (object_of config memory (a + j)))
-              (ap (is_kept_here config memory) object_is ∙ and_right (not (is_forwarded (memory (Heap a)))) (is_kept config memory a) not_kept))
+          no_field : is_kept_field config memory (address + j) ≡ false
+          no_field = and_left _ (is_reference memory (object_of config memory (address + j)) (address + j)) (and_right (is_staying config memory (address + j)) (is_kept_here config memory (object_of config memory (address + j)))
+              (ap (is_kept_here config memory) object_is ∙ and_right (not (is_forwarded (memory (Heap address)))) (is_kept config memory address) not_kept))
 
       -- a reference of a kept piece that has not moved is one for the walk, ..
-      pub kept_field : is_forwarded (memory (Heap a)) ≡ false → is_kept config memory a ≡ true → is_reference memory a (a + j) ≡ true → is_kept_field config memory (a + j) ≡ true
+      pub kept_field : is_forwarded (memory (Heap address)) ≡ false → is_kept config memory address ≡ true → is_reference memory address (address + j) ≡ true → is_kept_field config memory (address + j) ≡ true
       kept_field plain kept reference =
-          and_from _ (is_reference memory (object_of config memory (a + j)) (a + j))
-          (and_from (is_staying config memory (a + j)) (is_kept_here config memory (object_of config memory (a + j))) staying_is
-          (ap (is_kept_here config memory) object_is ∙ and_from (not (is_forwarded (memory (Heap a)))) (is_kept config memory a) (not_from_false (is_forwarded (memory (Heap a))) plain) kept))
-          (ap (λ b. is_reference memory b (a + j)) object_is ∙ reference)
+          and_from _ (is_reference memory (object_of config memory (address + j)) (address + j))
+          (and_from (is_staying config memory (address + j)) (is_kept_here config memory (object_of config memory (address + j))) staying_is
+          (ap (is_kept_here config memory) object_is ∙ and_from (not (is_forwarded (memory (Heap address)))) (is_kept config memory address) (not_from_false (is_forwarded (memory (Heap address))) plain) kept))
+          (ap (λ b. is_reference memory b (address + j)) object_is ∙ reference)
 
       -- .. and is updated
-      pub field_updated : is_forwarded (memory (Heap a)) ≡ false → HasMark config (λ n. memory (Black n)) a ⊎ IsYoung config (λ r. memory (Tams r)) a → is_reference memory a (a + j) ≡ true
-          → all_updated config memory (Heap (a + j)) ≡ updated_word config memory (memory (Heap (a + j)))
-      field_updated plain kept reference = cond-true (is_kept_field config memory (a + j)) (updated_word config memory (memory (Heap (a + j)))) (memory (Heap (a + j))) (kept_field plain kept_is reference)
+      pub field_updated : is_forwarded (memory (Heap address)) ≡ false → HasMark config (λ n. memory (Black n)) address ⊎ IsYoung config (λ r. memory (Tams r)) address → is_reference memory address (address + j) ≡ true
+          → all_updated config memory (Heap (address + j)) ≡ updated_word config memory (memory (Heap (address + j)))
+      field_updated plain kept reference = cond-true (is_kept_field config memory (address + j)) (updated_word config memory (memory (Heap (address + j)))) (memory (Heap (address + j))) (kept_field plain kept_is reference)
         where
-          kept_is : is_kept config memory a ≡ true
+          kept_is : is_kept config memory address ≡ true
           kept_is =
               let from = at.1 in
               let low = region_low in
               ⊎_elim
-              (λ (mark : HasMark config (λ n. memory (Black n)) a).
-              or_left (is_black config memory a) (nat_le (memory (Tams (region_with config a))) (a - base_of config (region_with config a)))
-              (and_from (nat_le config.region_words a) (bit_at (memory (Black (mark_word config a))) (mark_bit config a) == 1) (le-leb config.region_words a (omega (arith, from, low)))
-              (eq-eqb (bit_at (memory (Black (mark_word config a))) (mark_bit config a)) 1 mark)))
-              (λ (young : IsYoung config (λ r. memory (Tams r)) a).
-              or_right (is_black config memory a) (nat_le (memory (Tams (region_with config a))) (a - base_of config (region_with config a)))
-              (le-leb (memory (Tams (region_with config a))) (a - base_of config (region_with config a)) (omega (arith, young, from))))
+              (λ (mark : HasMark config (λ n. memory (Black n)) address).
+              or_left (is_black config memory address) (nat_le (memory (Tams (region_with config address))) (address - base_of config (region_with config address)))
+              (and_from (nat_le config.region_words address) (bit_at (memory (Black (mark_word config address))) (mark_bit config address) == 1) (le-leb config.region_words address (omega (arith, from, low)))
+              (eq-eqb (bit_at (memory (Black (mark_word config address))) (mark_bit config address)) 1 mark)))
+              (λ (young : IsYoung config (λ r. memory (Tams r)) address).
+              or_right (is_black config memory address) (nat_le (memory (Tams (region_with config address))) (address - base_of config (region_with config address)))
+              (le-leb (memory (Tams (region_with config address))) (address - base_of config (region_with config address)) (omega (arith, young, from))))
               kept
 
     -- a word of a region that goes stays
-    pub gone_stays : stays config memory (region_with config a) ≡ false → all_updated config memory (Heap (a + j)) ≡ memory (Heap (a + j))
+    pub gone_stays : stays config memory (region_with config address) ≡ false → all_updated config memory (Heap (address + j)) ≡ memory (Heap (address + j))
     gone_stays gone =
-        cond-false (is_kept_field config memory (a + j)) (updated_word config memory (memory (Heap (a + j)))) (memory (Heap (a + j)))
-        (and_left _ _ (and_left _ _ (and_right (is_in_use config memory (a + j)) (stays config memory (region_with config (a + j))) (ap (stays config memory) same_region ∙ gone))))
+        cond-false (is_kept_field config memory (address + j)) (updated_word config memory (memory (Heap (address + j)))) (memory (Heap (address + j)))
+        (and_left _ _ (and_left _ _ (and_right (is_in_use config memory (address + j)) (stays config memory (region_with config (address + j))) (ap (stays config memory) same_region ∙ gone))))
 
-    pub collected_stays : IsCollected config (memory Cset) a → is_pinned config memory (region_with config a) ≡ false → all_updated config memory (Heap (a + j)) ≡ memory (Heap (a + j))
-    collected_stays inside unpinned = gone_stays (gone_inside config memory (region_with config a) inside unpinned)
+    pub collected_stays : IsCollected config (memory Cset) address → is_pinned config memory (region_with config address) ≡ false → all_updated config memory (Heap (address + j)) ≡ memory (Heap (address + j))
+    collected_stays inside unpinned = gone_stays (gone_inside config memory (region_with config address) inside unpinned)

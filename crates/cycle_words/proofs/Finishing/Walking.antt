@@ -13,8 +13,8 @@ use Rattle.cycle_words.proofs.Marking.Plain.{below_top}
 
 -- `Walked` tells these regions.
 module _ (config : Config) (memory : Word → ℕ) (block : Plot) (plotted : IsPlotted config (λ r. memory (Top r)) block) (filled : IsFilled config (λ r. memory (Top r)) block)
-    (some : (a : ℕ) (x : Block) → block a ≡ Some x → 1 ≤ words_of x) (Walked : ℕ → Type 0)
-    (sizes : (a : ℕ) (x : Block) → block a ≡ Some x → Walked (region_with config a) → stride_at (λ y. memory (Heap y)) a ≡ words_of x) where
+    (some : (address : ℕ) (x : Block) → block address ≡ Some x → 1 ≤ words_of x) (Walked : ℕ → Type 0)
+    (sizes : (address : ℕ) (x : Block) → block address ≡ Some x → Walked (region_with config address) → stride_at (λ y. memory (Heap y)) address ≡ words_of x) where
   abbrev heap : ℕ → ℕ
   heap address = memory (Heap address)
 
@@ -22,10 +22,10 @@ module _ (config : Config) (memory : Word → ℕ) (block : Plot) (plotted : IsP
   start region k = start_of heap (base_of config region) k
 
   -- an address of a region's part in use is of the region
-  of_region : (region a : ℕ) → region < config.regions → base_of config region ≤ a → a < base_of config region + memory (Top region) → region_with config a ≡ region
-  of_region region a inside from below =
+  of_region : (region address : ℕ) → region < config.regions → base_of config region ≤ address → address < base_of config region + memory (Top region) → region_with config address ≡ region
+  of_region region address inside from below =
       let most = plotted.tops region inside in
-      regions_tile.of_no_other config region a (record { from = from; before = omega (arith, below, most) })
+      regions_tile.of_no_other config region address (record { from = from; before = omega (arith, below, most) })
 
   -- the object that has a word is a piece that has it
   pub covered : (region k : ℕ) → region < config.regions → Walked region → k < memory (Top region)
@@ -55,59 +55,59 @@ module _ (config : Config) (memory : Word → ℕ) (block : Plot) (plotted : IsP
       (cases_eq (start region k + words_of before.0) (suc k))
 
   -- A word of a piece.
-  module _ (a j : ℕ) (x : Block) (here : block a ≡ Some x) (below : j < words_of x) where
-    pub at : (region_with config a < config.regions) × (base_of config (region_with config a) ≤ a) × (a + words_of x ≤ base_of config (region_with config a) + memory (Top (region_with config a)))
-    at = below_top config (λ r. memory (Top r)) block plotted a x here (let long = some a x here in omega (arith, long))
+  module _ (address j : ℕ) (x : Block) (here : block address ≡ Some x) (below : j < words_of x) where
+    pub at : (region_with config address < config.regions) × (base_of config (region_with config address) ≤ address) × (address + words_of x ≤ base_of config (region_with config address) + memory (Top (region_with config address)))
+    at = below_top config (λ r. memory (Top r)) block plotted address x here (let long = some address x here in omega (arith, long))
 
-    pub region_low : config.region_words ≤ base_of config (region_with config a)
+    pub region_low : config.region_words ≤ base_of config (region_with config address)
     region_low = grind arith
 
     -- it is of the piece's region
-    pub same_region : region_with config (a + j) ≡ region_with config a
-    same_region = let end = at.2 in of_region (region_with config a) (a + j) at.0 (let from = at.1 in omega (arith, from)) (omega (arith, end, below))
+    pub same_region : region_with config (address + j) ≡ region_with config address
+    same_region = let end = at.2 in of_region (region_with config address) (address + j) at.0 (let from = at.1 in omega (arith, from)) (omega (arith, end, below))
 
     -- and of the part in use
-    pub in_use : is_in_use config memory (a + j) ≡ true
+    pub in_use : is_in_use config memory (address + j) ≡ true
     in_use =
         let from = at.1 in
         let end = at.2 in
         let low = region_low in
-        subst (λ r. (nat_le config.region_words (a + j) && (nat_lt r config.regions && nat_lt (a + j - base_of config r) (memory (Top r)))) ≡ true) (sym same_region)
-        (and_from (nat_le config.region_words (a + j)) _ (le-leb config.region_words (a + j) (omega (arith, low, from)))
-        (and_from (nat_lt (region_with config a) config.regions) _ (lt-ltb (region_with config a) config.regions at.0)
-        (lt-ltb (a + j - base_of config (region_with config a)) (memory (Top (region_with config a))) (omega (arith, from, end, below)))))
+        subst (λ r. (nat_le config.region_words (address + j) && (nat_lt r config.regions && nat_lt (address + j - base_of config r) (memory (Top r)))) ≡ true) (sym same_region)
+        (and_from (nat_le config.region_words (address + j)) _ (le-leb config.region_words (address + j) (omega (arith, low, from)))
+        (and_from (nat_lt (region_with config address) config.regions) _ (lt-ltb (region_with config address) config.regions at.0)
+        (lt-ltb (address + j - base_of config (region_with config address)) (memory (Top (region_with config address))) (omega (arith, from, end, below)))))
 
-    module _ (walked : Walked (region_with config a)) where
+    module _ (walked : Walked (region_with config address)) where
       -- the object that has it is the piece
-      in_own_region : base_of config (region_with config a) + start (region_with config a) (a + j - base_of config (region_with config a)) ≡ a
+      in_own_region : base_of config (region_with config address) + start (region_with config address) (address + j - base_of config (region_with config address)) ≡ address
       in_own_region =
           let from = at.1 in
           let end = at.2 in
-          let found = covered (region_with config a) (a + j - base_of config (region_with config a)) at.0 walked (omega (arith, from, end, below)) in
+          let found = covered (region_with config address) (address + j - base_of config (region_with config address)) at.0 walked (omega (arith, from, end, below)) in
           ⊎_elim
-          (λ (first : a < base_of config (region_with config a) + start (region_with config a) (a + j - base_of config (region_with config a))).
-          let apart = plotted.apart a (base_of config (region_with config a) + start (region_with config a) (a + j - base_of config (region_with config a))) x found.0 here found.1 first in
+          (λ (first : address < base_of config (region_with config address) + start (region_with config address) (address + j - base_of config (region_with config address))).
+          let apart = plotted.apart address (base_of config (region_with config address) + start (region_with config address) (address + j - base_of config (region_with config address))) x found.0 here found.1 first in
           absurd (omega (arith, apart, found.2, below, from)))
-          (λ (least : base_of config (region_with config a) + start (region_with config a) (a + j - base_of config (region_with config a)) ≤ a). ⊎_elim
-          (λ (same : base_of config (region_with config a) + start (region_with config a) (a + j - base_of config (region_with config a)) ≡ a). same)
-          (λ (differs : base_of config (region_with config a) + start (region_with config a) (a + j - base_of config (region_with config a)) ≢ a).
-          let apart = plotted.apart (base_of config (region_with config a) + start (region_with config a) (a + j - base_of config (region_with config a))) a found.0 x found.1 here (omega (arith, least, differs)) in
+          (λ (least : base_of config (region_with config address) + start (region_with config address) (address + j - base_of config (region_with config address)) ≤ address). ⊎_elim
+          (λ (same : base_of config (region_with config address) + start (region_with config address) (address + j - base_of config (region_with config address)) ≡ address). same)
+          (λ (differs : base_of config (region_with config address) + start (region_with config address) (address + j - base_of config (region_with config address)) ≢ address).
+          let apart = plotted.apart (base_of config (region_with config address) + start (region_with config address) (address + j - base_of config (region_with config address))) address found.0 x found.1 here (omega (arith, least, differs)) in
           absurd (omega (arith, apart, found.3, from)))
-          (cases_eq (base_of config (region_with config a) + start (region_with config a) (a + j - base_of config (region_with config a))) a))
-          (cases_lt a (base_of config (region_with config a) + start (region_with config a) (a + j - base_of config (region_with config a))))
+          (cases_eq (base_of config (region_with config address) + start (region_with config address) (address + j - base_of config (region_with config address))) address))
+          (cases_lt address (base_of config (region_with config address) + start (region_with config address) (address + j - base_of config (region_with config address))))
 
-      pub object_is : object_of config memory (a + j) ≡ a
-      object_is = ap (λ r. base_of config r + start r (a + j - base_of config r)) same_region ∙ in_own_region
+      pub object_is : object_of config memory (address + j) ≡ address
+      object_is = ap (λ r. base_of config r + start r (address + j - base_of config r)) same_region ∙ in_own_region
 
       -- and nothing begins there, if it is not the first
-      pub begins_not : 0 < j → begins config memory (a + j) ≡ false
-      begins_not later = and_right (is_in_use config memory (a + j)) (object_of config memory (a + j) == a + j) (ne_eqb (object_of config memory (a + j)) (a + j) (λ same. (let first = object_is in omega (arith, same, first, later))))
+      pub begins_not : 0 < j → begins config memory (address + j) ≡ false
+      begins_not later = and_right (is_in_use config memory (address + j)) (object_of config memory (address + j) == address + j) (ne_eqb (object_of config memory (address + j)) (address + j) (λ same. (let first = object_is in omega (arith, same, first, later))))
 
   -- each piece begins there
-  pub piece_begins : (a : ℕ) (x : Block) → block a ≡ Some x → Walked (region_with config a) → begins config memory a ≡ true
-  piece_begins a x here walked =
-      let long = some a x here in
-      let first : a + 0 ≡ a = omega arith in
-      let used = sym (ap (is_in_use config memory) first) ∙ in_use a 0 x here (omega (arith, long)) in
-      let own : object_of config memory a ≡ a = sym (ap (object_of config memory) first) ∙ object_is a 0 x here (omega (arith, long)) walked in
-      and_from (is_in_use config memory a) (object_of config memory a == a) used (eq-eqb (object_of config memory a) a own)
+  pub piece_begins : (address : ℕ) (x : Block) → block address ≡ Some x → Walked (region_with config address) → begins config memory address ≡ true
+  piece_begins address x here walked =
+      let long = some address x here in
+      let first : address + 0 ≡ address = omega arith in
+      let used = sym (ap (is_in_use config memory) first) ∙ in_use address 0 x here (omega (arith, long)) in
+      let own : object_of config memory address ≡ address = sym (ap (object_of config memory) first) ∙ object_is address 0 x here (omega (arith, long)) walked in
+      and_from (is_in_use config memory address) (object_of config memory address == address) used (eq-eqb (object_of config memory address) address own)

@@ -22,14 +22,14 @@ use Rattle.image_graph.specs.Holds.{HoldsBy}
 use Rattle.cycle_words.specs.Marking.WhileMarking.{IsObjectAt, CanBeReached}
 
 -- a piece of words begins below the top of its region
-pub below_top : (config : Config) (top : ℕ → ℕ) (block : Plot) → IsPlotted config top block → (a : ℕ) (piece : Block) → block a ≡ Some piece → 0 < words_of piece
-    → (region_with config a < config.regions) × (base_of config (region_with config a) ≤ a) × (a + words_of piece ≤ base_of config (region_with config a) + top (region_with config a))
-below_top config top block plotted a piece is some =
-    let used = plotted.in_use a piece is in
+pub below_top : (config : Config) (top : ℕ → ℕ) (block : Plot) → IsPlotted config top block → (address : ℕ) (piece : Block) → block address ≡ Some piece → 0 < words_of piece
+    → (region_with config address < config.regions) × (base_of config (region_with config address) ≤ address) × (address + words_of piece ≤ base_of config (region_with config address) + top (region_with config address))
+below_top config top block plotted address piece is some =
+    let used = plotted.in_use address piece is in
     let most : top used.region ≤ config.region_words = plotted.tops used.region used.within in
-    let of : IsOf config used.region a = record { from = used.from_base; before = omega (arith, used.to_top, most, some) } in
-    let same : used.region ≡ region_with config a = sym (regions_tile.of_no_other config used.region a of) in
-    subst (λ r. (r < config.regions) × (base_of config r ≤ a) × (a + words_of piece ≤ base_of config r + top r)) same (used.within, used.from_base, used.to_top)
+    let of : IsOf config used.region address = record { from = used.from_base; before = omega (arith, used.to_top, most, some) } in
+    let same : used.region ≡ region_with config address = sym (regions_tile.of_no_other config used.region address of) in
+    subst (λ r. (r < config.regions) × (base_of config r ≤ address) × (address + words_of piece ≤ base_of config r + top r)) same (used.within, used.from_base, used.to_top)
 
 -- a field of what can be reached names an object
 pub field_named : (config : Config) (memory : Word → ℕ) (block : Plot) (owner : ℕ → Option ℕ) (promises : Promises) (graph : Graph) → HoldsBy config memory block owner promises graph
@@ -92,10 +92,10 @@ module _ (config : Config) (memory : Word → ℕ) (block : Plot) (owner : ℕ �
   field_reached address i held few some = subst (CanBeReached config memory) (field_own address i held few some) (from_field address i held few some)
 
   -- an object lies in the part of its region that is in use
-  pub object_below : (a refs nums : ℕ) (name : Name) → block a ≡ Some (thing name refs nums)
-      → (region_with config a < config.regions) × (base_of config (region_with config a) ≤ a) × (a - base_of config (region_with config a) < memory (Top (region_with config a)))
-  object_below a refs nums name is =
-      let at = below_top config top block holds.objects.plotted a (thing name refs nums) is (omega arith) in
+  pub object_below : (address refs nums : ℕ) (name : Name) → block address ≡ Some (thing name refs nums)
+      → (region_with config address < config.regions) × (base_of config (region_with config address) ≤ address) × (address - base_of config (region_with config address) < memory (Top (region_with config address)))
+  object_below address refs nums name is =
+      let at = below_top config top block holds.objects.plotted address (thing name refs nums) is (omega arith) in
       (at.0, at.1, omega (arith, at.1, at.2))
 
   -- and in the heap

@@ -78,10 +78,10 @@ evac_begun config memory set word = if set == 0 then evac_spared memory word els
 
 -- What roots and answers name in the collection set can be copied: it is marked, of a region of the heap, and has at most 35
 -- words.
-pub record IsCopyable (config : Config) (memory : Word → ℕ) (a : ℕ) : Type 0 where
-  pub marked : is_black config memory a ≡ true
-  pub of_region : region_with config a < config.regions
-  pub short : words_at memory a ≤ 35
+pub record IsCopyable (config : Config) (memory : Word → ℕ) (address : ℕ) : Type 0 where
+  pub marked : is_black config memory address ≡ true
+  pub of_region : region_with config address < config.regions
+  pub short : words_at memory address ≤ 35
 
 -- no word of a free region is in use
 abbrev pub FreeAreEmpty : Config → (Word → ℕ) → Type 0

@@ -17,11 +17,11 @@ copy_room config memory a = lowest_room config.region_words (tops_outside config
 
 -- An object can be copied out: it lies in one region, which is of the collection set, and no region uses more words than it
 -- has.
-pub record CanCopyOut (config : Config) (memory : Word → ℕ) (a : ℕ) : Type 0 where
-  pub above : config.region_words ≤ a
-  pub of_region : region_with config a < config.regions
-  pub in_set : IsIn (memory Cset) (region_with config a)
-  pub lies : a % config.region_words + words_at memory a ≤ config.region_words
+pub record CanCopyOut (config : Config) (memory : Word → ℕ) (address : ℕ) : Type 0 where
+  pub above : config.region_words ≤ address
+  pub of_region : region_with config address < config.regions
+  pub in_set : IsIn (memory Cset) (region_with config address)
+  pub lies : address % config.region_words + words_at memory address ≤ config.region_words
   pub tops : AreWithin config memory
 
 -- the address behind all that is in use in a region

@@ -17,10 +17,10 @@ tops_outside region_words set top r = if bit_at set r == 1 then region_words els
 -- objects to copy: each is marked, lies in a region of the set, has at most 35 words, and comes once
 pub record AreToCopy (config : Config) (memory : Word → ℕ) (set : ℕ) (objects : List ℕ) : Type 0 where
   pub once : IsDistinct nat_eq objects
-  pub marked : (a : ℕ) → Contains objects a → is_black config memory a ≡ true
-  pub of_region : (a : ℕ) → Contains objects a → region_with config a < config.regions
-  pub in_set : (a : ℕ) → Contains objects a → IsIn set (region_with config a)
-  pub short : (a : ℕ) → Contains objects a → words_at memory a ≤ 35
+  pub marked : (address : ℕ) → Contains objects address → is_black config memory address ≡ true
+  pub of_region : (address : ℕ) → Contains objects address → region_with config address < config.regions
+  pub in_set : (address : ℕ) → Contains objects address → IsIn set (region_with config address)
+  pub short : (address : ℕ) → Contains objects address → words_at memory address ≤ 35
 
 -- the words of each of them, by its turn
 abbrev pub words_by_turn : (Word → ℕ) → List ℕ → ℕ → ℕ

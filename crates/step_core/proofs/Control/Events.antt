@@ -99,11 +99,11 @@ module _ (change : Change) (law : PausesByParts change) (config : Config) (graph
   known_held j actor there = subst (λ w. IsMachine config stage.words w (of_thread past (j + 1)) j actor actor.machine) world_is (follows.machines j actor there)
 
   -- in a pause every other machine is outside
-  all_outside : is_pausing (standing_of (controlling control)) ≡ true → (seat : ℕ) (actor : Actor) → slice_get stage.machines seat ≡ Some actor → seat ≢ control_number config → is_within (standing_of actor.machine) ≡ false
-  all_outside pausing seat actor there other =
+  all_outside : is_pausing (standing_of (controlling control)) ≡ true → (j : ℕ) (actor : Actor) → slice_get stage.machines j ≡ Some actor → j ≢ control_number config → is_within (standing_of actor.machine) ≡ false
+  all_outside pausing j actor there other =
       let same : control_before ≡ shaken.control = same_Some control_before shaken.control (sym here ∙ ap (slice_get stage.machines) facts.number_is ∙ shaken.there) in
-      let less : seat < seat_count config.mutators config.helpers = (let within = slice_get_within stage.machines seat actor there in let seats = follows.seats in omega (arith, within, seats)) in
-      pause_empty config (λ a. standing_of a.machine) stage shaken (ap (λ a. is_pausing (standing_of a.machine)) (sym same) ∙ pausing) seat actor (omega (arith, less, other)) there
+      let less : j < seat_count config.mutators config.helpers = (let within = slice_get_within stage.machines j actor there in let seats = follows.seats in omega (arith, within, seats)) in
+      pause_empty config (λ a. standing_of a.machine) stage shaken (ap (λ a. is_pausing (standing_of a.machine)) (sym same) ∙ pausing) j actor (omega (arith, less, other)) there
 
 -- by its spot
 module _ (change : Change) (law : PausesByParts change) (config : Config) (graph : Graph) (stage : Stage Actor) (past : List Entry) (number seen phase cset hints : ℕ) (image : List ℕ) (command : Command) (calls : List Entry)

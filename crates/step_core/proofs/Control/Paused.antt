@@ -464,16 +464,16 @@ module _ (config : Config) (words : List ℕ) (block : Plot) (ghost : Ghost) (gr
           }
 
       -- a mutator
-      mutator_then : (other_mutator : ℕ) (actor : Actor) (mutator : Mutating) → slice_get machines other_mutator ≡ Some actor → actor.machine ≡ mutating mutator → is_within (standing_at mutator.spot) ≡ false
-          → IsThread config words before (of_thread past (other_mutator + 1)) other_mutator actor mutator → IsThread config words then_world (of_thread past (other_mutator + 1)) other_mutator actor mutator
-      mutator_then other_mutator actor mutator there is out thread =
-          let below : other_mutator < config.mutators = subst (λ j. j < config.mutators) thread.number_is thread.mine.seated.below in
-          let asks_so = mutator_asks other_mutator actor mutator there is in
-          subst (λ j. IsThread config words then_world (of_thread past (other_mutator + 1)) other_mutator actor (mutator_at j mutator.made mutator.kept mutator.spot)) (sym thread.number_is)
-          (thread_then config words before then_world other_mutator mutator.made mutator.kept actor (paused.asked_then other_mutator) (asked_in_it other_mutator below) refl (λ i small. paused.stands.roots other_mutator i below small) (λ a. only_spares paused.stands.block paused.stands.none paused.stands.uncarved a other_mutator) paused.stands.unmarking
-          paused.stands.uncopying (λ i small. paused.stands.usable other_mutator i below small) (of_thread past (other_mutator + 1)) refl mutator.spot out (λ refs nums asks_by. crowded_then other_mutator below refs nums (asks_so ∙ asks_by))
-          (subst (λ y. Answers y (paused.asked_then other_mutator)) asks_so (paused.answers other_mutator below))
-          (subst (λ j. IsThread config words before (of_thread past (other_mutator + 1)) other_mutator actor (mutator_at j mutator.made mutator.kept mutator.spot)) thread.number_is thread))
+      mutator_then : (index : ℕ) (actor : Actor) (mutator : Mutating) → slice_get machines index ≡ Some actor → actor.machine ≡ mutating mutator → is_within (standing_at mutator.spot) ≡ false
+          → IsThread config words before (of_thread past (index + 1)) index actor mutator → IsThread config words then_world (of_thread past (index + 1)) index actor mutator
+      mutator_then index actor mutator there is out thread =
+          let below : index < config.mutators = subst (λ j. j < config.mutators) thread.number_is thread.mine.seated.below in
+          let asks_so = mutator_asks index actor mutator there is in
+          subst (λ j. IsThread config words then_world (of_thread past (index + 1)) index actor (mutator_at j mutator.made mutator.kept mutator.spot)) (sym thread.number_is)
+          (thread_then config words before then_world index mutator.made mutator.kept actor (paused.asked_then index) (asked_in_it index below) refl (λ i small. paused.stands.roots index i below small) (λ a. only_spares paused.stands.block paused.stands.none paused.stands.uncarved a index) paused.stands.unmarking
+          paused.stands.uncopying (λ i small. paused.stands.usable index i below small) (of_thread past (index + 1)) refl mutator.spot out (λ refs nums asks_by. crowded_then index below refs nums (asks_so ∙ asks_by))
+          (subst (λ y. Answers y (paused.asked_then index)) asks_so (paused.answers index below))
+          (subst (λ j. IsThread config words before (of_thread past (index + 1)) index actor (mutator_at j mutator.made mutator.kept mutator.spot)) thread.number_is thread))
 
       -- any machine but the control
       machine_then : (index : ℕ) (actor : Actor) (machine : Machine) → slice_get machines index ≡ Some actor → actor.machine ≡ machine → index ≢ control_number config → is_within (standing_of machine) ≡ false

@@ -194,10 +194,10 @@ idle_outside config phase cset graph number (helping h) has is below = ap help_s
 idle_outside config phase cset graph number (controlling k) has is below = absurd (omega (arith, has, below))
 
 -- A machine that is not in the heap rests, and the control where it is said to.
-pub rests_there : (config : Config) (words : List ℕ) (world : World) (entries : List Entry) (mutator : ℕ) (actor : Actor) (machine : Machine) → (mutator ≢ control_number config → is_within (standing_of machine) ≡ false)
-    → (mutator ≡ control_number config → IsResting world mutator) → IsMachine config words world entries mutator actor machine → IsResting world mutator
-rests_there config words world entries mutator actor (mutating m) out still is =
-    let below : mutator < config.mutators = subst (λ j. j < config.mutators) is.number_is is.mine.seated.below in
+pub rests_there : (config : Config) (words : List ℕ) (world : World) (entries : List Entry) (k : ℕ) (actor : Actor) (machine : Machine) → (k ≢ control_number config → is_within (standing_of machine) ≡ false)
+    → (k ≡ control_number config → IsResting world k) → IsMachine config words world entries k actor machine → IsResting world k
+rests_there config words world entries k actor (mutating m) out still is =
+    let below : k < config.mutators = subst (λ j. j < config.mutators) is.number_is is.mine.seated.below in
     let apart = out (λ e. omega (arith, below, e)) in
     subst (IsResting world) is.number_is
     (record {
@@ -207,8 +207,8 @@ rests_there config words world entries mutator actor (mutating m) out still is =
       works_none = is.mine.copying.works_none;
       rooms = λ a x here room. spares_outside m.seat m.kept m.spot a x apart (is.mine.rooms a x here room);
     })
-rests_there config words world entries mutator actor (helping h) out still is = rests_outside config world mutator h.spot (out (λ e. (let below = is.below in omega (arith, below, e)))) is.facts
-rests_there config words world entries mutator actor (controlling h) out still is = still is.number_is
+rests_there config words world entries k actor (helping h) out still is = rests_outside config world k h.spot (out (λ e. (let below = is.below in omega (arith, below, e)))) is.facts
+rests_there config words world entries k actor (controlling h) out still is = still is.number_is
 
 -- What holds of a machine but the control that is not in the heap holds in each world in which it rests, of a mutator if that is known.
 pub outside_goes_on : (config : Config) (words : List ℕ) (world other_world : World) (entries : List Entry) (seat : ℕ) (actor : Actor) (machine : Machine) → seat ≢ control_number config → is_within (standing_of machine) ≡ false

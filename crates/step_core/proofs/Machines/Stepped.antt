@@ -61,7 +61,7 @@ pub record IsRootWord (config : Config) (world : World) (seat index word : ℕ) 
 
 -- A word is that of a root which the command loads. Of a root that the command does not load nothing is known.
 abbrev pub HasRoot : Config → World → ℕ → Command → ℕ → ℕ → Type 0
-HasRoot config world seat command index word = index < length (command_roots command) → IsRootWord config world seat (command_root command index) word
+HasRoot config world seat command k word = k < length (command_roots command) → IsRootWord config world seat (command_root command k) word
 
 -- the call has begun and nothing is settled
 pub record IsBegun (made : ℕ) (command : Command) (fixed : Option Reply) (other_command : Command) : Type 0 where

@@ -25,49 +25,49 @@ loop-index-init c =
     }
 
 -- what comes after so many addresses, of the words at that time
-module _ (config other_config : Config) (memory now : Word → ℕ) (region : ℕ) (same : other_config ≡ config) (below : region < config.regions * config.region_words) (first : ℕ) (base : first ≡ config.region_words)
-    (words : copied_from config memory config.region_words (config.regions * config.region_words) ≡ copied_from config now (config.region_words + region) (config.regions * config.region_words - region))
-    (room : is_room_from config memory config.region_words (config.regions * config.region_words) ≡ is_room_from config now (config.region_words + region) (config.regions * config.region_words - region))
-    (can : CanCopyFrom config now (config.region_words + region) (config.regions * config.region_words - region)) where
+module _ (config other_config : Config) (memory now : Word → ℕ) (i : ℕ) (same : other_config ≡ config) (below : i < config.regions * config.region_words) (first : ℕ) (base : first ≡ config.region_words)
+    (words : copied_from config memory config.region_words (config.regions * config.region_words) ≡ copied_from config now (config.region_words + i) (config.regions * config.region_words - i))
+    (room : is_room_from config memory config.region_words (config.regions * config.region_words) ≡ is_room_from config now (config.region_words + i) (config.regions * config.region_words - i))
+    (can : CanCopyFrom config now (config.region_words + i) (config.regions * config.region_words - i)) where
   abbrev a : ℕ
-  a = config.region_words + region
+  a = config.region_words + i
 
   abbrev rest : ℕ
-  rest = config.regions * config.region_words - (region + 1)
+  rest = config.regions * config.region_words - (i + 1)
 
-  more : config.regions * config.region_words - region ≡ suc rest
+  more : config.regions * config.region_words - i ≡ suc rest
   more = omega (arith, below)
 
   can_more : CanCopyFrom config now a (suc rest)
   can_more = subst (CanCopyFrom config now a) more can
 
-  next : a + 1 ≡ config.region_words + (region + 1)
+  next : a + 1 ≡ config.region_words + (i + 1)
   next = omega arith
 
-  pub can_now : is_left other_config now (first + region) ≡ true → CanCopyOut other_config now (first + region)
+  pub can_now : is_left other_config now (first + i) ≡ true → CanCopyOut other_config now (first + i)
   can_now =
-      subst (λ (config : Config). is_left config now (first + region) ≡ true → CanCopyOut config now (first + region)) (sym same)
-      (subst (λ b. is_left config now (b + region) ≡ true → CanCopyOut config now (b + region)) (sym base) (can_here config now a rest can_more))
+      subst (λ (config : Config). is_left config now (first + i) ≡ true → CanCopyOut config now (first + i)) (sym same)
+      (subst (λ b. is_left config now (b + i) ≡ true → CanCopyOut config now (b + i)) (sym base) (can_here config now a rest can_more))
 
-  module _ (after : Word → ℕ) (told : Bool) (taken : after ≡ turn_taken other_config now (first + region)) (found : told ≡ has_turn_room other_config now (first + region)) where
+  module _ (after : Word → ℕ) (told : Bool) (taken : after ≡ turn_taken other_config now (first + i)) (found : told ≡ has_turn_room other_config now (first + i)) where
     taken_here : after ≡ turn_taken config now a
-    taken_here = taken ∙ ap (λ (config : Config). turn_taken config now (first + region)) same ∙ ap (λ b. turn_taken config now (b + region)) base
+    taken_here = taken ∙ ap (λ (config : Config). turn_taken config now (first + i)) same ∙ ap (λ b. turn_taken config now (b + i)) base
 
     found_here : told ≡ has_turn_room config now a
-    found_here = found ∙ ap (λ (config : Config). has_turn_room config now (first + region)) same ∙ ap (λ b. has_turn_room config now (b + region)) base
+    found_here = found ∙ ap (λ (config : Config). has_turn_room config now (first + i)) same ∙ ap (λ b. has_turn_room config now (b + i)) base
 
     module _ (is : told ≡ true) where
-      pub words_next : copied_from config memory config.region_words (config.regions * config.region_words) ≡ copied_from config after (config.region_words + (region + 1)) rest
+      pub words_next : copied_from config memory config.region_words (config.regions * config.region_words) ≡ copied_from config after (config.region_words + (i + 1)) rest
       words_next =
           words ∙ ap (copied_from config now a) more ∙ goes_on config now a rest (sym found_here ∙ is)
           ∙ ap (λ k. copied_from config k (a + 1) rest) (sym taken_here) ∙ ap (λ x. copied_from config after x rest) next
 
-      pub room_next : is_room_from config memory config.region_words (config.regions * config.region_words) ≡ is_room_from config after (config.region_words + (region + 1)) rest
+      pub room_next : is_room_from config memory config.region_words (config.regions * config.region_words) ≡ is_room_from config after (config.region_words + (i + 1)) rest
       room_next =
           room ∙ ap (is_room_from config now a) more ∙ room_goes_on config now a rest (sym found_here ∙ is)
           ∙ ap (λ k. is_room_from config k (a + 1) rest) (sym taken_here) ∙ ap (λ x. is_room_from config after x rest) next
 
-      pub can_next : CanCopyFrom config after (config.region_words + (region + 1)) rest
+      pub can_next : CanCopyFrom config after (config.region_words + (i + 1)) rest
       can_next =
           subst (λ x. CanCopyFrom config after x rest) next
           (subst (λ k. CanCopyFrom config k (a + 1) rest) (sym taken_here) (can_go_on config now a rest (sym found_here ∙ is) can_more))
