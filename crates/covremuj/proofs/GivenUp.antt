@@ -91,8 +91,8 @@ ended_is AtWork is = absurd cc
 ended_is Ended is = refl
 
 either_second : (holds other_holds : Bool) → holds ≡ false → (holds || other_holds) ≡ true → other_holds ≡ true
-either_second true other_holds no_first is = absurd cc
-either_second false other_holds no_first is = is
+either_second true holds no_first is = absurd cc
+either_second false holds no_first is = is
 
 kind_not : (mutator helper : Bool) → (mutator ≡ true) ⊎ (helper ≡ false) → ((if mutator then 1 else (if helper then 2 else 3)) == 2) ≡ false
 kind_not true helper is = refl

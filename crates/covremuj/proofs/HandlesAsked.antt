@@ -10,16 +10,16 @@ use Rattle.covremuj.specs.ClosedHandles.{shows, all_show, each_shows, AnswersBy,
 -- ---- tests of two parts
 
 both : (holds other_holds : Bool) → holds ≡ true → other_holds ≡ true → (holds && other_holds) ≡ true
-both true other_holds first second = second
-both false other_holds first second = absurd cc
+both true holds first second = second
+both false holds first second = absurd cc
 
 pub parts : (holds other_holds : Bool) → (holds && other_holds) ≡ true → (holds ≡ true) × (other_holds ≡ true)
-parts true other_holds is = (refl, is)
-parts false other_holds is = absurd cc
+parts true holds is = (refl, is)
+parts false holds is = absurd cc
 
 second_not : (holds other_holds : Bool) → other_holds ≡ false → (holds && other_holds) ≡ false
-second_not true other_holds is = is
-second_not false other_holds is = refl
+second_not true holds is = is
+second_not false holds is = refl
 
 -- ---- what each handle shows
 

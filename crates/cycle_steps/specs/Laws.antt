@@ -63,7 +63,7 @@ scanning_part config seat = record {
 
 -- A machine that scans makes grey what the fields of black objects name.
 pub record ScanningSteps : Type 0 where
-  pub begins : (config : Config) (world : World) (seat : ℕ) → seat < seat_count config.mutators config.helpers → world.memory Phase ≡ marking_phase → world.ghost.recording seat ≡ None → world.ghost.scanning seat ≡ None → ((other_address words : ℕ) → world.block other_address ≡ Some (hand seat words) → ⊥) → CanScan config world seat LoadClaim
+  pub begins : (config : Config) (world : World) (seat : ℕ) → seat < seat_count config.mutators config.helpers → world.memory Phase ≡ marking_phase → world.ghost.recording seat ≡ None → world.ghost.scanning seat ≡ None → ((address words : ℕ) → world.block address ≡ Some (hand seat words) → ⊥) → CanScan config world seat LoadClaim
   -- who has claimed no unit may take any hint
   pub hinted : (config : Config) (world : World) (seat address : ℕ) → CanScan config world seat LoadClaim → CanScan config world seat (scan.hinted config address)
   pub steps : (config : Config) (seat : ℕ) → PartSteps config seat (scanning_part config seat) (λ world. ⊤)

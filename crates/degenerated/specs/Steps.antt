@@ -38,7 +38,7 @@ abbrev pub is_at : ℕ → ℕ → Bool
 is_at a x = a == x
 
 abbrev pub is_below : Config → (region offset : ℕ) → ℕ → Bool
-is_below config other_region k x = nat_le (base_of config other_region) x && nat_lt x (base_of config other_region + k)
+is_below config region k x = nat_le (base_of config region) x && nat_lt x (base_of config region + k)
 
 abbrev pub is_of : Config → (region : ℕ) → ℕ → Bool
 is_of config r address = region_with config address == r

@@ -16,9 +16,9 @@ some_if n m lt = grind (arith, nat_tests)
 
 -- the first index at which a test holds
 pub position_is : {X : Type 0} (p : X → Bool) (xs : List X) (other_index : ℕ) (d : X) → other_index < length xs → ((index : ℕ) → index < other_index → p (get_or xs index d) ≡ false) → p (get_or xs other_index d) ≡ true → Some other_index ≡ position p xs
-position_is p xs other_index d lt before here =
-    let is : position_or_len p xs ≡ other_index = position_or_len_is p xs other_index d (omega arith) before (λ _. here) in
-    subst (λ (m : ℕ). Some other_index ≡ cond (nat_lt m (length xs)) (Some m) None) (sym is) (some_if other_index (length xs) lt)
+position_is p xs index d lt before here =
+    let is : position_or_len p xs ≡ index = position_or_len_is p xs index d (omega arith) before (λ _. here) in
+    subst (λ (m : ℕ). Some index ≡ cond (nat_lt m (length xs)) (Some m) None) (sym is) (some_if index (length xs) lt)
 
 -- a reply that fits is found
 pub never_broken : (w : Wanted) (entries : List Entry) (index : ℕ) (entry : Entry) → slice_get entries index ≡ Some entry → fits w entry.reply ≡ true → false ≡ list_all (λ x. not (fits w x.reply)) entries

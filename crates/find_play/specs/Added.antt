@@ -78,7 +78,7 @@ does told s = record told { programs = slice_set told.programs (length told.prog
 
 -- a block begins, or the innermost ends
 abbrev pub with_block : Told → Block → Told
-with_block told piece = record told { blocks = told.blocks ++ piece ∷ [] }
+with_block told begun = record told { blocks = told.blocks ++ begun ∷ [] }
 
 abbrev pub without_block : Told → Told
 without_block told = record told { blocks = take (length told.blocks - 1) told.blocks }

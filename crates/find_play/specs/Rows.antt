@@ -31,5 +31,5 @@ follow rows field _ = None
 
 -- the reference to which so many objects lead, each by the same field, if they are there
 abbrev pub along : List Row → ℕ → ℕ → Option Reference → Option Reference
-along rows field zero found = found
-along rows field (suc count) found = along rows field count (follow rows field found)
+along rows field zero reference = reference
+along rows field (suc count) reference = along rows field count (follow rows field reference)

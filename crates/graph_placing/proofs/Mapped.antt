@@ -35,7 +35,7 @@ mapped_from f (x ∷ xs) (suc index) y is = mapped_from f xs index y is
 -- names stay in order under a map that keeps it
 pub in_order_mapped : (f : Name → Name) (ns : List Name) → ((name other_name : Name) → Contains ns name → Contains ns other_name → IsBefore name other_name → IsBefore (f name) (f other_name)) → InOrder ns → InOrder (map f ns)
 in_order_mapped f [] rises order = tt
-in_order_mapped f (other_name ∷ []) rises order = tt
+in_order_mapped f (name ∷ []) rises order = tt
 in_order_mapped f (other_name ∷ name ∷ ns) rises order = (
   rises other_name name (there_first other_name (name ∷ ns)) (there_later other_name (name ∷ ns) name (there_first name ns)) order.0,
   in_order_mapped f (name ∷ ns) (λ a b in_a in_b. rises a b (there_later other_name (name ∷ ns) a in_a) (there_later other_name (name ∷ ns) b in_b)) order.1,

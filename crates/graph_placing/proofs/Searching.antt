@@ -25,7 +25,7 @@ before_first name (m ∷ ns) order (suc index) other_name below = before_join na
 pub before_later : (ns : List Name) → InOrder ns → (index other_index : ℕ) (name : Name) → index < other_index → other_index < length ns → IsBefore (get_or ns index name) (get_or ns other_index name)
 before_later [] order index other_index name less below = absurd (omega (arith, below))
 before_later (a ∷ ns) order zero zero name less below = absurd (omega (arith, less))
-before_later (a ∷ ns) order zero (suc other_index) name less below = before_first a ns order other_index name (omega (arith, below))
+before_later (a ∷ ns) order zero (suc index) name less below = before_first a ns order index name (omega (arith, below))
 before_later (a ∷ ns) order (suc index) zero name less below = absurd (omega (arith, less))
 before_later (a ∷ ns) order (suc index) (suc other_index) name less below = before_later ns (order_rest a ns order) index other_index name (omega (arith, less)) (omega (arith, below))
 

@@ -21,5 +21,5 @@ pub record IsSameAnew (f : Name → Name) (threads : ℕ) (old new : Graph) : Ty
   pub order : (name other_name : Name) → IsReachable old name → IsReachable old other_name → IsBefore name other_name → IsBefore (f name) (f other_name)
   pub counted : (name : Name) → IsReachable old name → 1 ≤ name.thread → (1 ≤ (f name).count) × ((f name).count ≤ new.count name.thread)
   pub no_gap : (thread count : ℕ) → 1 ≤ thread → thread ≤ threads → 1 ≤ count → count ≤ new.count thread
-      → (other_name : Name) × IsReachable old other_name × (f other_name ≡ record { thread = thread; count = count })
+      → (name : Name) × IsReachable old name × (f name ≡ record { thread = thread; count = count })
   pub hub_stays : IsReachable old hub → f hub ≡ hub

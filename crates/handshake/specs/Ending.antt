@@ -24,7 +24,7 @@ KeepsEnd config before access after = SaysEnd config access after ⊎ LeavesEnd 
 
 -- an event does so, if it is one
 abbrev pub EventKeepsEnd : {R O : Type 0} → Config → MachineKind R O → (R → Bool) → Stage R → Event O → Type 0
-EventKeepsEnd {R} c kind ended event e = (r : R) → IsEvent kind event e r → KeepsEnd c (ended r) (kind.plan r e.order) (λ got. ended (kind.took r e.order got))
+EventKeepsEnd {R} c kind ended stage e = (r : R) → IsEvent kind stage e r → KeepsEnd c (ended r) (kind.plan r e.order) (λ got. ended (kind.took r e.order got))
 
 -- each event of a run does so, where it is made
 abbrev pub EachKeepsEnd : {R O : Type 0} → Config → MachineKind R O → (R → Bool) → Stage R → List (Event O) → Type 0

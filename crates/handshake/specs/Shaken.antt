@@ -20,7 +20,7 @@ pub record IsShaken {R : Type 0} (config : Config) (standing : R → Standing) (
 
 -- an event obeys, if it is one
 abbrev pub EventObeys : {R O : Type 0} → Config → MachineKind R O → (R → Standing) → Stage R → Event O → Type 0
-EventObeys {R} c kind standing event e = (r : R) → IsEvent kind event e r → Obeys c e.number (standing r) (kind.plan r e.order) (λ got. standing (kind.took r e.order got))
+EventObeys {R} c kind standing stage e = (r : R) → IsEvent kind stage e r → Obeys c e.number (standing r) (kind.plan r e.order) (λ got. standing (kind.took r e.order got))
 
 -- each event of a run obeys, where it is made
 abbrev pub EachObeys : {R O : Type 0} → Config → MachineKind R O → (R → Standing) → Stage R → List (Event O) → Type 0

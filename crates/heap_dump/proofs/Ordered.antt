@@ -28,7 +28,7 @@ not_itself name h = elim h [ inl x ↦ omega (arith, x) | inr x ↦ omega (arith
 pub earlier : (ns : List Name) (index other_index : ℕ) (name : Name) → InOrder ns → index < other_index → other_index < length ns → IsBefore (get_or ns index name) (get_or ns other_index name)
 earlier [] index other_index name order less low = absurd (omega arith)
 earlier (n ∷ ns) index zero name order less low = absurd (omega arith)
-earlier (n ∷ ns) zero (suc other_index) name order less low = before_at n ns other_index name order (omega arith)
+earlier (n ∷ ns) zero (suc index) name order less low = before_at n ns index name order (omega arith)
 earlier (n ∷ ns) (suc index) (suc other_index) name order less low = earlier ns index other_index name (order_rest n ns order) (omega arith) (omega arith)
 
 -- ---- halving: all before `low` are before the name, and it is before all from `high` on

@@ -66,7 +66,7 @@ one_of y zero x is = same_some y x is
 one_of y (suc index) x is = absurd cc
 
 -- one seat alone
-pub machines_one : (other_seat : Seat) → AreMachinesOf (other_seat ∷ []) (view_of other_seat.bundle)
+pub machines_one : (seat : Seat) → AreMachinesOf (seat ∷ []) (view_of seat.bundle)
 machines_one other_seat = record {
   each = λ k t there. let seat = one_of other_seat k t there in subst (λ (seat : Seat). machine_of (view_of other_seat.bundle) seat.number ≡ Some (actor_in seat)) seat (seat_there other_seat);
   only = λ number absent. none_at (machine_of (view_of other_seat.bundle) number) (λ a is. absent 0 other_seat refl (sym (seat_only other_seat number a is)));
@@ -84,9 +84,9 @@ second_there found other_found a none is = ap (λ x. whichever_is_there x other_
 
 -- a seat of two lists, one behind the other
 in_both : {A : Type 0} (xs ys : List A) (other_index : ℕ) (x : A) → slice_get (xs ++ ys) other_index ≡ Some x → (slice_get xs other_index ≡ Some x) ⊎ ((index : ℕ) × (slice_get ys index ≡ Some x))
-in_both [] ys other_index x is = inr (other_index, is)
+in_both [] ys index x is = inr (index, is)
 in_both (y ∷ xs) ys zero x is = inl is
-in_both (y ∷ xs) ys (suc other_index) x is = in_both xs ys other_index x is
+in_both (y ∷ xs) ys (suc index) x is = in_both xs ys index x is
 
 -- and one more behind it
 module _ (before : List Seat) (seat : Seat) (old new : View Actor) (theirs : AreMachinesOf before old) (absent : HaveNot before seat.number) (view : new ≡ merged old (view_of seat.bundle)) where
@@ -100,8 +100,8 @@ module _ (before : List Seat) (seat : Seat) (old new : View Actor) (theirs : Are
   mine = under seat.number ∙ second_there (machine_of old seat.number) (machine_of (view_of seat.bundle) seat.number) (actor_in seat) new_there (seat_there seat)
 
   each_there : (other_index : ℕ) (other_seat : Seat) → (slice_get before other_index ≡ Some other_seat) ⊎ ((index : ℕ) × (slice_get (seat ∷ []) index ≡ Some other_seat)) → machine_of new other_seat.number ≡ Some (actor_in other_seat)
-  each_there other_index other_seat (inl is) = under other_seat.number ∙ first_there (machine_of old other_seat.number) (machine_of (view_of seat.bundle) other_seat.number) (actor_in other_seat) (theirs.each other_index other_seat is)
-  each_there other_index other_seat (inr is) = subst (λ (seat : Seat). machine_of new seat.number ≡ Some (actor_in seat)) (one_of seat is.0 other_seat is.1) mine
+  each_there index other_seat (inl is) = under other_seat.number ∙ first_there (machine_of old other_seat.number) (machine_of (view_of seat.bundle) other_seat.number) (actor_in other_seat) (theirs.each index other_seat is)
+  each_there index other_seat (inr is) = subst (λ (seat : Seat). machine_of new seat.number ≡ Some (actor_in seat)) (one_of seat is.0 other_seat is.1) mine
 
   none_there : (found other_found : Option Actor) → found ≡ None → other_found ≡ None → whichever_is_there found other_found ≡ None
   none_there found other_found first second = ap (λ x. whichever_is_there x other_found) first ∙ second
@@ -192,7 +192,7 @@ module _ (config : Config) (heap : Heap) (all : List Seat) (view : View Actor) (
 
   -- the seat of each number
   seat_under : (other_seat : ℕ) → other_seat < seat_count config.mutators config.helpers → (seat : Seat) × (slice_get all other_seat ≡ Some seat)
-  seat_under other_seat inside = some_at all other_seat (let count = seats.count in omega (arith, inside, count))
+  seat_under seat inside = some_at all seat (let count = seats.count in omega (arith, inside, count))
 
   -- the heap has these sizes
   heap_is : (index : ℕ) (seat : Seat) → slice_get all index ≡ Some seat → heap.config ≡ config

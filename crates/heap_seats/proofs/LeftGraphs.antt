@@ -30,8 +30,8 @@ use Rattle.heap_seats.specs.Renewing.{IsLeftRenewable}
 use Rattle.heap_seats.proofs.Merely.{placeable_merely, threads_merely}
 
 first_true : (holds other_holds : Bool) → (holds && other_holds) ≡ true → holds ≡ true
-first_true true other_holds is = refl
-first_true false other_holds is = is
+first_true true holds is = refl
+first_true false holds is = is
 
 entry_of : (threads : ℕ) (entry : Entry) → IsSettled threads entry → IsEntryOf threads entry
 entry_of threads entry settled = record {

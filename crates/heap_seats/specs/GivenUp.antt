@@ -60,7 +60,7 @@ pub record AreAllSeats (c : Config) (h : Heap) (seats : List Seat) : Type 0 wher
 
 -- each mutator and the control have ended
 abbrev pub AreOver : Config → List Seat → Type 0
-AreOver config seats = (mutator : ℕ) (seat : Seat) → slice_get seats mutator ≡ Some seat → (mutator < config.mutators) ⊎ (mutator ≡ control_number config) → state_in seat ≡ Ended
+AreOver config seats = (index : ℕ) (seat : Seat) → slice_get seats index ≡ Some seat → (index < config.mutators) ⊎ (index ≡ control_number config) → state_in seat ≡ Ended
 
 -- all seats of a heap are given up, by their numbers, and it is over
 pub record MayEndHeap (closing : Closing) : Type 0 where

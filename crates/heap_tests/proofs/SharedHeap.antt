@@ -63,7 +63,7 @@ fresh_can_call config heap bundle bundles k number fresh within dealt =
     }
 
 -- a bundle of all machines of a heap has them before the first event, and later
-pub fresh_has_all : (other_config : Config) (heap : Heap) (bundle after : Bundle) → IsFresh heap bundle (dealt_to 1 0 (whole (heap_opening other_config).machines)) → config_of heap ≡ other_config → IsSameBundle bundle after → HasAll after
+pub fresh_has_all : (config : Config) (heap : Heap) (bundle after : Bundle) → IsFresh heap bundle (dealt_to 1 0 (whole (heap_opening config).machines)) → config_of heap ≡ config → IsSameBundle bundle after → HasAll after
 fresh_has_all other_config heap bundle after fresh config same number below =
     let within : number < seat_count other_config.mutators other_config.helpers = subst (λ (config : Config). number < seat_count config.mutators config.helpers) (same.config ∙ fresh.of.config ∙ config) below in
     same_has bundle after number same (ap is_some (fresh_at other_config bundle 1 0 number fresh.machines within (omega arith)))

@@ -23,13 +23,13 @@ pub record SameButLoose (plot other_plot : Plot) : Type 0 where
 named_fixed : (piece : Block) (name : Name) → name_at (Some piece) ≡ Some name → is_loose piece ≡ false
 named_fixed (thing name refs nums) other_name is = refl
 named_fixed (moved name refs nums to) other_name is = refl
-named_fixed (spent words to) other_name is = refl
-named_fixed (hand seat words) other_name is = cc
-named_fixed (promised seat words) other_name is = refl
-named_fixed (dead words) other_name is = refl
-named_fixed (filler words) other_name is = cc
-named_fixed (spare seat words) other_name is = cc
-named_fixed (carved seat words) other_name is = cc
+named_fixed (spent words to) name is = refl
+named_fixed (hand seat words) name is = cc
+named_fixed (promised seat words) name is = refl
+named_fixed (dead words) name is = refl
+named_fixed (filler words) name is = cc
+named_fixed (spare seat words) name is = cc
+named_fixed (carved seat words) name is = cc
 
 module _ (config : Config) (plot other_plot : Plot) (same : SameButLoose plot other_plot) where
   -- what a word stands for it still stands for

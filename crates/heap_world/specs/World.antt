@@ -589,7 +589,7 @@ UsableIn config world = IsUsable config (world.memory Cset) (world.memory Evac) 
 
 -- what is noted in a world
 abbrev pub NotedIn : Config → World → ℕ → Type 0
-NotedIn config world seat = IsNoted config (λ n. world.memory (Grey n)) (λ t. world.memory (Count t)) (λ t k. world.memory (Buffer t k)) world.ghost.recording seat
+NotedIn config world address = IsNoted config (λ n. world.memory (Grey n)) (λ t. world.memory (Count t)) (λ t k. world.memory (Buffer t k)) world.ghost.recording address
 
 -- marking needs a field of the snapshot no more, if an object of it has that field
 abbrev pub IsCovered : Config → World → ℕ → ℕ → Type 0

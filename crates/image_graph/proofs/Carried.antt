@@ -42,13 +42,13 @@ pub record IsCarried (config : Config) (memory other_memory : Word → ℕ) (blo
   pub current : (address : ℕ) (name : Name) → name_at (plot address) ≡ Some name → IsCopy plot (now_in other_memory address) name
   pub now : (address : ℕ) (name : Name) → name_at (block address) ≡ Some name → origin (now_in other_memory address) ≡ now_in memory address
   pub lands : (address : ℕ) (name : Name) → name_at (block address) ≡ Some name → Lands (now_in other_memory address)
-  pub one : (other_address y : ℕ) → Lands other_address → Lands y → origin other_address ≡ origin y → other_address ≡ y
-  pub pieces : (other_address refs nums : ℕ) (name : Name) → plot other_address ≡ Some (thing name refs nums) → block (origin other_address) ≡ Some (thing name refs nums)
-  pub header : (other_address refs nums : ℕ) (name : Name) → plot other_address ≡ Some (thing name refs nums) → Lands other_address → memory (Heap (origin other_address)) ≡ plain_header → other_memory (Heap other_address) ≡ plain_header
-  pub words : (other_address k refs nums : ℕ) (name : Name) → plot other_address ≡ Some (thing name refs nums) → Lands other_address → refs_in (memory (Heap (origin other_address + 1))) ≡ refs
-      → 0 < k → k < 3 + refs + nums → (k < 3) ⊎ (3 + refs ≤ k) → other_memory (Heap (other_address + k)) ≡ memory (Heap (origin other_address + k))
-  pub fields : (other_address index refs nums : ℕ) (name : Name) → plot other_address ≡ Some (thing name refs nums) → Lands other_address → index < refs
-      → IsRenamed memory (memory (Heap (origin other_address + 3 + index))) (other_memory (Heap (other_address + 3 + index)))
+  pub one : (address y : ℕ) → Lands address → Lands y → origin address ≡ origin y → address ≡ y
+  pub pieces : (address refs nums : ℕ) (name : Name) → plot address ≡ Some (thing name refs nums) → block (origin address) ≡ Some (thing name refs nums)
+  pub header : (address refs nums : ℕ) (name : Name) → plot address ≡ Some (thing name refs nums) → Lands address → memory (Heap (origin address)) ≡ plain_header → other_memory (Heap address) ≡ plain_header
+  pub words : (address k refs nums : ℕ) (name : Name) → plot address ≡ Some (thing name refs nums) → Lands address → refs_in (memory (Heap (origin address + 1))) ≡ refs
+      → 0 < k → k < 3 + refs + nums → (k < 3) ⊎ (3 + refs ≤ k) → other_memory (Heap (address + k)) ≡ memory (Heap (origin address + k))
+  pub fields : (address index refs nums : ℕ) (name : Name) → plot address ≡ Some (thing name refs nums) → Lands address → index < refs
+      → IsRenamed memory (memory (Heap (origin address + 3 + index))) (other_memory (Heap (address + 3 + index)))
   pub roots : (mutator index : ℕ) → mutator < config.mutators → index < 16 → IsRenamed memory (memory (Root mutator index)) (other_memory (Root mutator index))
   pub answers : (mutator : ℕ) → mutator < config.mutators → IsRenamed memory (memory (Answer mutator)) (other_memory (Answer mutator))
   pub pins : (mutator index : ℕ) → mutator < config.mutators → index < 4 → other_memory (Pin mutator index) ≡ memory (Pin mutator index)

@@ -26,7 +26,7 @@ filled_at config set left memory word = memory word
 
 -- sets of addresses: those of a region below an offset
 abbrev pub is_below : Config → (region offset : ℕ) → ℕ → Bool
-is_below config other_region k x = nat_le (base_of config other_region) x && nat_lt x (base_of config other_region + k)
+is_below config region k x = nat_le (base_of config region) x && nat_lt x (base_of config region + k)
 
 -- words that only fill are as long as their header says
 pub filler_stride : (n shape : ℕ) → stride (filler_header n) shape ≡ n

@@ -14,8 +14,8 @@ use Rattle.image_graph.specs.Make.{heap_cleared}
 -- a store at the place of a word is a store at its name
 pub stored : (config other_config : Config) (before after : Word → ℕ) (other_word : Word) (at value : ℕ) → config ≡ other_config → IsWord other_config other_word → at ≡ word_at other_config other_word
     → ((word : Word) → IsWord config word → word_at config word ≡ at → after ≡ write before word value) → after ≡ write before other_word value
-stored config other_config before after other_word at value same is place named =
-    named other_word (subst (λ k. IsWord k other_word) (sym same) is) (ap (λ k. word_at k other_word) same ∙ sym place)
+stored config other_config before after word at value same is place named =
+    named word (subst (λ k. IsWord k word) (sym same) is) (ap (λ k. word_at k word) same ∙ sym place)
 
 -- and lies in the table
 pub placed_inside : (config other_config : Config) (word : Word) (at : ℕ) → config ≡ other_config → IsWord other_config word → at ≡ word_at other_config word → at < table_words config

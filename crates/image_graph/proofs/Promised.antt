@@ -91,7 +91,7 @@ module _ (config : Config) (top heap : ℕ → ℕ) (block : Plot) (now kept : �
   abbrev IsPlaced : Name → ℕ → Type 0
   IsPlaced name k = (k < count + (config.mutators + 1)) × (size (named (with_promised graph promises) (Some name)) ≤ words k) × IsOf k name
 
-  placed_old : (other_name : Name) → IsReachable graph other_name → (k : ℕ) × IsPlaced other_name k
+  placed_old : (name : Name) → IsReachable graph name → (k : ℕ) × IsPlaced name k
   placed_old other_name reached =
       let at = reach_is.all other_name reached in
       let name : get_or names at.0 hub ≡ other_name = get_or_default names at.0 hub other_name at.1 ∙ at.2 in

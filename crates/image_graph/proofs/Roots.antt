@@ -50,7 +50,7 @@ module _ (memory : Word → ℕ) where
       (has_either (roots_below memory mutator) (map (λ index. memory (Root mutator index)) (range_with_len 0 16)) q is)
 
   root_listed : (mutator other_mutator index : ℕ) → other_mutator < mutator → index < 16 → has (roots_below memory mutator) (memory (Root other_mutator index)) ≡ true
-  root_listed zero other_mutator index below few = absurd (omega (arith, below))
+  root_listed zero mutator index below few = absurd (omega (arith, below))
   root_listed (suc mutator) other_mutator index below few = ⊎_elim
       (λ (last : mutator ≡ other_mutator).
       has_second (roots_below memory mutator) (map (λ k. memory (Root mutator k)) (range_with_len 0 16)) (memory (Root other_mutator index))
@@ -72,7 +72,7 @@ module _ (memory : Word → ℕ) where
       (has_either (pins_below memory mutator) (map (λ index. memory (Pin mutator index)) (range_with_len 0 4)) q is)
 
   pub pin_listed : (mutator other_mutator index : ℕ) → other_mutator < mutator → index < 4 → has (pins_below memory mutator) (memory (Pin other_mutator index)) ≡ true
-  pin_listed zero other_mutator index below few = absurd (omega (arith, below))
+  pin_listed zero mutator index below few = absurd (omega (arith, below))
   pin_listed (suc mutator) other_mutator index below few = ⊎_elim
       (λ (last : mutator ≡ other_mutator).
       has_second (pins_below memory mutator) (map (λ k. memory (Pin mutator k)) (range_with_len 0 4)) (memory (Pin other_mutator index))

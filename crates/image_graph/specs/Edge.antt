@@ -13,11 +13,11 @@ is_last_in config memory r seat = not (memory (Current seat) == 0) && (buffer_re
 
 -- the lesser of a number, and of where the free words of so many seats begin that end at the top
 unfoldable pub edge_below : Config → (Word → ℕ) → (region : ℕ) → ℕ → ℕ
-edge_below config memory other_region zero = memory (Top other_region)
-edge_below config memory other_region (suc seat) =
-    if is_last_in config memory other_region seat && nat_lt (next_in (memory (Current seat)) - base_of config other_region) (edge_below config memory other_region seat)
-    then next_in (memory (Current seat)) - base_of config other_region
-    else edge_below config memory other_region seat
+edge_below config memory region zero = memory (Top region)
+edge_below config memory region (suc seat) =
+    if is_last_in config memory region seat && nat_lt (next_in (memory (Current seat)) - base_of config region) (edge_below config memory region seat)
+    then next_in (memory (Current seat)) - base_of config region
+    else edge_below config memory region seat
 
 -- The words of a region from its base that are in use, but for the free words of a buffer that ends at its top: the least, where several do.
 abbrev pub edge : Config → (Word → ℕ) → ℕ → ℕ

@@ -134,13 +134,13 @@ made_word address shape name before x =
 
 -- the words after the object that a thread asks for was made at the top of a region
 unfoldable pub made_in : Config → (Word → ℕ) → (thread region : ℕ) → Word → ℕ
-made_in config memory mutator other_region (Heap x) =
-    made_word (base_of config other_region + memory (Top other_region)) (request_shape_in (memory (Wait mutator))) (name_code (mutator + 1) (request_count_in (memory (Wait mutator)))) (memory (Heap x)) x
-made_in config memory mutator other_region (Top q) = if other_region == q then memory (Top other_region) + object_words (request_shape_in (memory (Wait mutator))) else memory (Top q)
-made_in config memory mutator other_region Free = bit_and (memory Free) (all_but other_region)
-made_in config memory mutator other_region (Answer u) = if mutator == u then base_of config other_region + memory (Top other_region) else memory (Answer u)
-made_in config memory mutator other_region (Wait u) = if mutator == u then 0 else memory (Wait u)
-made_in config memory mutator other_region word = memory word
+made_in config memory mutator region (Heap x) =
+    made_word (base_of config region + memory (Top region)) (request_shape_in (memory (Wait mutator))) (name_code (mutator + 1) (request_count_in (memory (Wait mutator)))) (memory (Heap x)) x
+made_in config memory mutator region (Top q) = if region == q then memory (Top region) + object_words (request_shape_in (memory (Wait mutator))) else memory (Top q)
+made_in config memory mutator region Free = bit_and (memory Free) (all_but region)
+made_in config memory mutator region (Answer u) = if mutator == u then base_of config region + memory (Top region) else memory (Answer u)
+made_in config memory mutator region (Wait u) = if mutator == u then 0 else memory (Wait u)
+made_in config memory mutator region word = memory word
 
 -- and where no region was found, as they were
 abbrev pub served_in : Config → (Word → ℕ) → (thread : ℕ) → Option ℕ → Word → ℕ

@@ -26,7 +26,7 @@ pub record HasMoved (config : Config) (memory : Word → ℕ) (block : Plot) (ad
 -- who waits asks for the thread's next object, and what a thread has been promised is its next object
 pub record AreNext (config : Config) (memory : Word → ℕ) (graph : Graph) (promises : Promises) : Type 0 where
   pub asked : (mutator : ℕ) → mutator < config.mutators → memory (Wait mutator) ≢ 0 → request_count_in (memory (Wait mutator)) ≡ graph.count (mutator + 1) + 1
-  pub promised : (mutator : ℕ) (name : Name) → promises.ref mutator ≡ Some name → name ≡ fresh graph mutator
+  pub promised : (thread : ℕ) (name : Name) → promises.ref thread ≡ Some name → name ≡ fresh graph thread
   pub given : (name : Name) (object : Object) → graph.object name ≡ Some object → IsGiven config graph.count name
 
 -- The words of an image hold a graph, by a division of its regions into pieces, what each region's owner is, and what

@@ -27,10 +27,10 @@ PinWordStands memory block word (Some p) = (word ≡ p.place) × IsCopy block wo
 pub record RootsStand (config : Config) (memory : Word → ℕ) (block : Plot) (graph : Graph) (p : Promises) : Type 0 where
   pub roots : (mutator index : ℕ) → mutator < config.mutators → index < 16 → Points block (memory (Root mutator index)) (graph.root (mutator + 1) index)
   pub answers : (mutator : ℕ) → mutator < config.mutators → AnswerStands block (memory (Answer mutator)) (p.ref (mutator + 1))
-  pub no_more_roots : (mutator index : ℕ) (name : Name) → graph.root mutator index ≡ Some name → (other_mutator : ℕ) × (other_mutator < config.mutators) × (mutator ≡ other_mutator + 1) × (index < 16)
+  pub no_more_roots : (thread index : ℕ) (name : Name) → graph.root thread index ≡ Some name → (mutator : ℕ) × (mutator < config.mutators) × (thread ≡ mutator + 1) × (index < 16)
   pub pins : (mutator index : ℕ) → mutator < config.mutators → index < 4 → PinWordStands memory block (memory (Pin mutator index)) (graph.pin (mutator + 1) index)
-  pub no_more_pins : (mutator index : ℕ) (p : Pinned) → graph.pin mutator index ≡ Some p → (other_mutator : ℕ) × (other_mutator < config.mutators) × (mutator ≡ other_mutator + 1) × (index < 4)
-  pub no_more_promised : (mutator : ℕ) (name : Name) → p.ref mutator ≡ Some name → (other_mutator : ℕ) × (other_mutator < config.mutators) × (mutator ≡ other_mutator + 1)
+  pub no_more_pins : (thread index : ℕ) (p : Pinned) → graph.pin thread index ≡ Some p → (mutator : ℕ) × (mutator < config.mutators) × (thread ≡ mutator + 1) × (index < 4)
+  pub no_more_promised : (thread : ℕ) (name : Name) → p.ref thread ≡ Some name → (mutator : ℕ) × (mutator < config.mutators) × (thread ≡ mutator + 1)
 
 -- The words stand for a graph with promised objects: pieces fill the regions and each is one of its objects, or words that only fill;
 -- roots, pins and answers stand for its roots, and the free word is right.

@@ -34,15 +34,15 @@ pub record IsBeforePacking (config : Config) (memory : Word → ℕ) (block : Pl
 -- After packing the words stand for the same graph: pieces fill the regions, and are the graph's objects or only fill; what a root word
 -- stood for it stands for once renewed, what lies in a shut region is where it was, and nobody has a region.
 pub record KeepsGraph (config : Config) (memory : Word → ℕ) (block : Plot) (graph : Graph) (shut : ℕ → Bool) (now kept : ℕ → ℕ) (roots : List ℕ) : Type 0 where
-  pub plotted : IsPlotted config (λ reference. packed config shut now kept memory (Top reference)) (packed_block config shut kept block)
-  pub filled : IsFilled config (λ reference. packed config shut now kept memory (Top reference)) (packed_block config shut kept block)
+  pub plotted : IsPlotted config (λ region. packed config shut now kept memory (Top region)) (packed_block config shut kept block)
+  pub filled : IsFilled config (λ region. packed config shut now kept memory (Top region)) (packed_block config shut kept block)
   pub objects : AreObjects (λ a. packed config shut now kept memory (Heap a)) (packed_block config shut kept block) graph.object
   pub root_words : (word : ℕ) (reference : Reference) → IsAmong roots word → Points block word reference → Points (packed_block config shut kept block) (renewed (place_in config shut kept) now word) reference
   pub stays : (word : ℕ) (name : Name) → IsAmong roots word → now word ≡ word → shut (word / config.region_words) ≡ true → IsCopy block word name → IsCopy (packed_block config shut kept block) word name
-  pub free_word : IsFreeWord config (packed config shut now kept memory Free) (λ reference. packed config shut now kept memory (Top reference)) (λ reference. None)
+  pub free_word : IsFreeWord config (packed config shut now kept memory Free) (λ region. packed config shut now kept memory (Top region)) (λ region. None)
   pub things : AreThings (packed_block config shut kept block)
   pub fillers : FillersSay (λ a. packed config shut now kept memory (Heap a)) (packed_block config shut kept block)
-  pub tops_sum : tops_where (λ reference. not (shut (reference + 1))) (λ reference. packed config shut now kept memory (Top reference)) config.regions ≡ sum_below (open_kept config.region_words shut kept) (heap_end config)
+  pub tops_sum : tops_where (λ region. not (shut (region + 1))) (λ region. packed config shut now kept memory (Top region)) config.regions ≡ sum_below (open_kept config.region_words shut kept) (heap_end config)
 
 abbrev pub PackingKeepsGraph : Type 0
 PackingKeepsGraph = (config : Config) (memory : Word → ℕ) (block : Plot) (graph : Graph) (shut : ℕ → Bool) (now kept : ℕ → ℕ) (roots : List ℕ)

@@ -15,11 +15,11 @@ pins_below memory (suc t) = pins_below memory t ++ map (λ i. memory (Pin t i)) 
 
 -- an address lies in a region
 abbrev pub lies_in : Config → (region : ℕ) → ℕ → Bool
-lies_in config other_region a = nat_le (base_of config other_region) a && nat_lt a (base_of config other_region + config.region_words)
+lies_in config region a = nat_le (base_of config region) a && nat_lt a (base_of config region + config.region_words)
 
 -- a pin slot of a mutator holds an address of a region
 abbrev pub has_pin : Config → (Word → ℕ) → (region mutator : ℕ) → Bool
-has_pin config memory r other_mutator = list_any (λ i. lies_in config r (memory (Pin other_mutator i))) (range_with_len 0 4)
+has_pin config memory r mutator = list_any (λ i. lies_in config r (memory (Pin mutator i))) (range_with_len 0 4)
 
 -- A region is pinned: some pin slot holds an address there. Its objects stay where they are.
 abbrev pub is_pinned : Config → (Word → ℕ) → ℕ → Bool
@@ -64,11 +64,11 @@ is_filled_from config left start memory word = if left start then write memory (
 
 -- An object begins at a distance behind the base of a region, or words that only fill: what is before it ends there.
 abbrev pub BeginsAt : Config → (Word → ℕ) → (region : ℕ) → ℕ → Type 0
-BeginsAt config memory other_region k = start_of (λ a. memory (Heap a)) (base_of config other_region) k ≡ k
+BeginsAt config memory region k = start_of (λ a. memory (Heap a)) (base_of config region) k ≡ k
 
 -- each object of a region ends at its top, or before, and so do words that only fill
 abbrev pub EndInRegion : Config → (Word → ℕ) → (region : ℕ) → Type 0
-EndInRegion config memory other_region = (k : ℕ) → k < memory (Top other_region) → BeginsAt config memory other_region k → k + stride_at (λ a. memory (Heap a)) (base_of config other_region + k) ≤ memory (Top other_region)
+EndInRegion config memory region = (k : ℕ) → k < memory (Top region) → BeginsAt config memory region k → k + stride_at (λ a. memory (Heap a)) (base_of config region + k) ≤ memory (Top region)
 
 -- what is left over of a region can be filled
 pub record CanFill (config : Config) (memory : Word → ℕ) (region : ℕ) : Type 0 where

@@ -31,8 +31,8 @@ asked_piece memory t = thing (asked_name memory t) (refs_in (asked_shape memory 
 
 -- the regions with it at the top of a region, if one was found
 abbrev pub made_block : Config → (Word → ℕ) → Plot → (thread : ℕ) → Option ℕ → Plot
-made_block config memory block address None = block
-made_block config memory block address (Some r) = λ a. if base_of config r + memory (Top r) == a then Some (asked_piece memory address) else block a
+made_block config memory block mutator None = block
+made_block config memory block mutator (Some r) = λ a. if base_of config r + memory (Top r) == a then Some (asked_piece memory mutator) else block a
 
 -- what threads are promised with it
 abbrev pub made_promise : (Word → ℕ) → Promises → (thread : ℕ) → Option ℕ → Promises

@@ -42,8 +42,8 @@ below_and_past n bound x y z below past = ⊎_elim
 
 -- two tests that say the same
 pub same_test : (holds other_holds : Bool) → (holds ≡ true → other_holds ≡ true) → (other_holds ≡ true → holds ≡ true) → holds ≡ other_holds
-same_test true other_holds there back = sym (there refl)
-same_test false other_holds there back = sym (false_from_ne_true other_holds (λ is. false≢true (back is)))
+same_test true holds there back = sym (there refl)
+same_test false holds there back = sym (false_from_ne_true holds (λ is. false≢true (back is)))
 
 -- Roots, answers and pin slots hold addresses of the heap.
 module _ (config : Config) (memory : Word → ℕ) (block : Plot) (owner : ℕ → Option ℕ) (promises : Promises) (graph : Graph) (holds : HoldsBy config memory block owner promises graph) where

@@ -152,7 +152,7 @@ leaves order _ is = absurd (cc)
 -- as one that gives a reply does
 gives : (spot : Spot) (reply : Reply) → given_at spot ≡ Some reply → spot ≡ Leave reply
 gives (Leave reply) other_reply is = cc
-gives _ other_reply is = absurd (cc)
+gives _ reply is = absurd (cc)
 
 done_leaves : (config : Config) (kept : Kept) (spot : Spot) (got : ℕ) → answer_at config kept spot got ≡ took.Done → (reply : Reply) × (spot ≡ Leave reply)
 done_leaves config kept spot got is = let given = done_gives config kept spot got is in (given.0, gives spot given.0 given.1)

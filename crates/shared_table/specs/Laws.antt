@@ -35,7 +35,7 @@ pub record TableLaws {R O : Type 0} (S : Type 0) (kind : MachineKind R O) (start
 pub record ReachLaws {R O : Type 0} (S : Type 0) (kind : MachineKind R O) (start : Stage R) : Type 0 where
   pub opens : AreReached kind start (whole start.machines)
   pub picked : (test : ℕ → Bool) (view : View R) → AreReached kind start view → AreReached kind start (machines_picked test view)
-  pub merged : (other_view w : View R) → AreReached kind start other_view → AreReached kind start w → AreReached kind start (merged other_view w)
+  pub merged : (view other_view : View R) → AreReached kind start view → AreReached kind start other_view → AreReached kind start (merged view other_view)
   pub steps : (number : ℕ) (order : O) (before after : Me S (View R)) (got : ℕ) → Took kind start number order before got after → AreReached kind start before.0 → AreReached kind start after.0
 
 -- Machines are dealt to so many bundles in turn. Bundles are cut off from the last to the first, and joined from the first
@@ -56,9 +56,9 @@ pub record KeptLaws {R T : Type 0} (kept : R → T) : Type 0 where
   pub machine : (view : View R) (number : ℕ) → machine_of (kept_in_view kept view) number ≡ kept_one kept (machine_of view number)
   pub count : (view : View R) → length (kept_in_view kept view) ≡ length view
   pub all : (machines : List R) → kept_in_view kept (whole machines) ≡ whole (map kept machines)
-  pub set : (view : View R) (number : ℕ) (found : Option R) → kept_in_view kept (slice_set view number found) ≡ slice_set (kept_in_view kept view) number (kept_one kept found)
+  pub set : (view : View R) (number : ℕ) (other : Option R) → kept_in_view kept (slice_set view number other) ≡ slice_set (kept_in_view kept view) number (kept_one kept other)
   pub picked : (test : ℕ → Bool) (view : View R) → kept_in_view kept (machines_picked test view) ≡ machines_picked test (kept_in_view kept view)
-  pub merged : (other_view w : View R) → kept_in_view kept (merged other_view w) ≡ merged (kept_in_view kept other_view) (kept_in_view kept w)
+  pub merged : (view other_view : View R) → kept_in_view kept (merged view other_view) ≡ merged (kept_in_view kept view) (kept_in_view kept other_view)
   pub here : (view : View R) (number : ℕ) (t : T) → machine_of (kept_in_view kept view) number ≡ Some t → (r : R) × (machine_of view number ≡ Some r) × (kept r ≡ t)
   pub some : (view : View R) (number : ℕ) → is_some (machine_of (kept_in_view kept view) number) ≡ is_some (machine_of view number)
 

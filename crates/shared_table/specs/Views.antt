@@ -44,8 +44,8 @@ machines_left test view = machines_picked (λ number. not (test number)) view
 
 -- the one that is there
 abbrev pub whichever_is_there : {R : Type 0} → Option R → Option R → Option R
-whichever_is_there None found = found
-whichever_is_there (Some r) found = Some r
+whichever_is_there None other = other
+whichever_is_there (Some r) other = Some r
 
 -- the machines of two bundles
 abbrev pub merged : {R : Type 0} → View R → View R → View R

@@ -175,7 +175,7 @@ pub record IsSound (config : Config) (graph : Graph) (stage : Stage Actor) (past
   pub no_more : HasNoMoreRoots config.mutators (after graph past)
   pub no_more_pins : HasNoMorePins config.mutators (after graph past)
   -- each pin word is 0 where the slot is empty, and else the place of its object, which is its current copy and has not moved
-  pub pinned : (other_mutator index : ℕ) → other_mutator < config.mutators → index < 4 → HoldsPin (settled config stage) (settled config stage (Pin other_mutator index)) ((after graph past).pin (other_mutator + 1) index)
+  pub pinned : (mutator index : ℕ) → mutator < config.mutators → index < 4 → HoldsPin (settled config stage) (settled config stage (Pin mutator index)) ((after graph past).pin (mutator + 1) index)
   -- the entries of each mutator are its calls, and one more where the call in progress is settled
   pub threads : (number : ℕ) (actor : Actor) (mutator : Mutating) → IsMutator stage number actor mutator → AreCalls (settled config stage) (view config stage.words (Answer number)) (of_thread past (number + 1)) number actor mutator
   -- each machine finds a fit word

@@ -68,8 +68,8 @@ pub view_is_calm : (view : View Actor) (number : ℕ) → view ≡ whole (machin
 view_is_calm view number all idle = idle_is_calm (slice_get (machines_of view) number) (λ actor is. idle actor (ap (λ v. machine_of v number) all ∙ machine_of-whole (machines_of view) number ∙ is))
 
 -- the same stage, with other names for the key, the configuration, the words and the view
-pub reached_as : (other_key k : HeapKey) (other_config : Config) (words read : List ℕ) (view seen : View Actor) → other_key ≡ k → k.config ≡ other_config → words ≡ read → view ≡ seen
-    → IsReached (heap_kind other_key.config) (start_of_key other_key) (record { words = words; machines = machines_of view }) → IsReached (heap_kind other_config) (start_of_key k) (record { words = read; machines = machines_of seen })
+pub reached_as : (other_key k : HeapKey) (config : Config) (words read : List ℕ) (view seen : View Actor) → other_key ≡ k → k.config ≡ config → words ≡ read → view ≡ seen
+    → IsReached (heap_kind other_key.config) (start_of_key other_key) (record { words = words; machines = machines_of view }) → IsReached (heap_kind config) (start_of_key k) (record { words = read; machines = machines_of seen })
 reached_as other_key k other_config words read view seen key config all same reached =
     subst (λ (config : Config). IsReached (heap_kind config) (start_of_key k) (record { words = read; machines = machines_of seen })) config
     (subst (λ (key : HeapKey). IsReached (heap_kind key.config) (start_of_key key) (record { words = read; machines = machines_of seen })) key

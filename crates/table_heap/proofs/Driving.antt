@@ -41,7 +41,7 @@ found_at (y ∷ ys) (suc index) low = found_at ys index (omega (arith, low))
 both : (holds other_holds : Bool) → holds ≡ true → other_holds ≡ true → (holds && other_holds) ≡ true
 both true true one two = refl
 both true false one two = absurd (false≢true two)
-both false other_holds one two = absurd (false≢true one)
+both false holds one two = absurd (false≢true one)
 
 -- a machine of the view that is a mutator
 pub is_mutator : (bundle : Bundle) (number : ℕ) (actor : Actor) → machine_of (view_of bundle) number ≡ Some actor → is_mutating actor.machine ≡ true → has_mutator bundle number ≡ true

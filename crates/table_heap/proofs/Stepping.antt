@@ -70,8 +70,8 @@ module _ {S : Type 0} (config : Config) (key : HeapKey) (sizes : key.config ≡ 
       role_after = ap is_mutating shown_is ∙ role_stays pause_image (config_of machine) (order_of machine) got (shown machine)
 
 -- the same step, with other names for key and order
-pub took_as : {S : Type 0} (key other_key : HeapKey) (number : ℕ) (other_order p : Order) (before : Me S (View (Counted Actor))) (got : ℕ) (after : Me S (View (Counted Actor))) → key ≡ other_key → other_order ≡ p
-    → Took (table_kind key) (table_start key) number other_order before got after → Took (table_kind other_key) (table_start other_key) number p before got after
+pub took_as : {S : Type 0} (key other_key : HeapKey) (number : ℕ) (order p : Order) (before : Me S (View (Counted Actor))) (got : ℕ) (after : Me S (View (Counted Actor))) → key ≡ other_key → order ≡ p
+    → Took (table_kind key) (table_start key) number order before got after → Took (table_kind other_key) (table_start other_key) number p before got after
 took_as key other_key number other_order p before got after same order took =
     subst (λ (key : HeapKey). Took (table_kind key) (table_start key) number p before got after) same
     (subst (λ (order : Order). Took (table_kind key) (table_start key) number order before got after) order took)
@@ -90,9 +90,9 @@ step_counted key number order before after got took =
     let counts = took_counts (heap_kind key.config) (start_of_key key) number order before after got took in
     counts.2 ∙ ap (λ o. slice_set (steps_in_view before.0) number (Some (unwrap_or o 0 + 1))) (sym counts.1)
 
-pub can_as : (config other_config : Config) (view : View Actor) (number : ℕ) (other_order p : Order) (access : Access) → config ≡ other_config → other_order ≡ p
+pub can_as : (config other_config : Config) (view : View Actor) (number : ℕ) (order p : Order) (access : Access) → config ≡ other_config → order ≡ p
     → (actor : Actor) × (machine_of view number ≡ Some actor) × ((heap_kind other_config).takes actor p ≡ true) × ((heap_kind other_config).plan actor p ≡ access)
-    → (actor : Actor) × (machine_of view number ≡ Some actor) × ((heap_kind config).takes actor other_order ≡ true) × ((heap_kind config).plan actor other_order ≡ access)
+    → (actor : Actor) × (machine_of view number ≡ Some actor) × ((heap_kind config).takes actor order ≡ true) × ((heap_kind config).plan actor order ≡ access)
 can_as config other_config view number other_order p access same order can_it =
     subst (λ (config : Config). (actor : Actor) × (machine_of view number ≡ Some actor) × ((heap_kind config).takes actor other_order ≡ true) × ((heap_kind config).plan actor other_order ≡ access)) (sym same)
     (subst (λ (order : Order). (actor : Actor) × (machine_of view number ≡ Some actor) × ((heap_kind other_config).takes actor order ≡ true) × ((heap_kind other_config).plan actor order ≡ access)) (sym order) can_it)

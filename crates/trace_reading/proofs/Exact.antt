@@ -60,15 +60,15 @@ not_both v config text it other =
     no_number l.thread small first
 
 same_next : (stage : LineStage) (text : List ℕ) (other_stage b : LineStage) → LineFollows stage text other_stage → LineFollows stage text b → other_stage ≡ b
-same_next Version text other_stage b f g = f.3 ∙ ap Heap (same_version f.0 g.0 f.1 g.1 (sym (version_again f.0 text f.1 f.2).2 ∙ (version_again g.0 text g.1 g.2).2)) ∙ sym g.3
-same_next (Heap v) text other_stage b f g = f.3 ∙ same_heap v f.0 g.0 (sym (heap_again v f.0 text f.1 f.2).2 ∙ (heap_again v g.0 text g.1 g.2).2) ∙ sym g.3
-same_next (Threads v r w e) text other_stage b f g =
+same_next Version text stage b f g = f.3 ∙ ap Heap (same_version f.0 g.0 f.1 g.1 (sym (version_again f.0 text f.1 f.2).2 ∙ (version_again g.0 text g.1 g.2).2)) ∙ sym g.3
+same_next (Heap v) text stage b f g = f.3 ∙ same_heap v f.0 g.0 (sym (heap_again v f.0 text f.1 f.2).2 ∙ (heap_again v g.0 text g.1 g.2).2) ∙ sym g.3
+same_next (Threads v r w e) text stage b f g =
     f.5 ∙ ap (Commands v) (same_threads r w e f.0 g.0 f.1 f.2 f.3 g.1 g.2 g.3 (sym (threads_again v r w e f.0 text f.4).2 ∙ (threads_again v r w e g.0 text g.4).2)) ∙ sym g.5
-same_next (Commands v c) text other_stage b (inl f) (inl g) = f.1 ∙ sym g.1
-same_next (Commands v c) text other_stage b (inl f) (inr g) = absurd (not_both v c text f.0 g.0)
-same_next (Commands v c) text other_stage b (inr f) (inl g) = absurd (not_both v c text g.0 f.0)
-same_next (Commands v c) text other_stage b (inr f) (inr g) = f.1 ∙ sym g.1
-same_next (Turns c) text other_stage b f g = f.1 ∙ sym g.1
+same_next (Commands v c) text stage b (inl f) (inl g) = f.1 ∙ sym g.1
+same_next (Commands v c) text stage b (inl f) (inr g) = absurd (not_both v c text f.0 g.0)
+same_next (Commands v c) text stage b (inr f) (inl g) = absurd (not_both v c text g.0 f.0)
+same_next (Commands v c) text stage b (inr f) (inr g) = f.1 ∙ sym g.1
+same_next (Turns c) text stage b f g = f.1 ∙ sym g.1
 
 -- ---- lines lead to one end
 

@@ -111,7 +111,7 @@ same_config config other_config same_regions same_words same_mutators same_helpe
     (λ p. ap (of config.regions config.region_words config.mutators config.helpers config.reserve) (one_proof config.regions config.region_words config.mutators config.helpers config.reserve config.in_range p)))))) other_config.in_range
 
 -- bytes are read as one trace at most
-pub read_once : (bytes : List ℕ) (v w : ℕ) (other_config d : Config) (xs ys : List (List Command)) (is js : List Item) → Reads bytes v other_config xs is → Reads bytes w d ys js → IsSameTrace v other_config xs is w d ys js
+pub read_once : (bytes : List ℕ) (v w : ℕ) (config d : Config) (xs ys : List (List Command)) (is js : List Item) → Reads bytes v config xs is → Reads bytes w d ys js → IsSameTrace v config xs is w d ys js
 read_once bytes v w other_config d xs ys is js p q =
     let rest = flat_map line p.lines ++ flat_map schedule_line p.turns in
     let after = flat_map line q.lines ++ flat_map schedule_line q.turns in

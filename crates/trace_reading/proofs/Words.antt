@@ -16,8 +16,8 @@ use Rattle.trace_reading.specs.Causes.{first_cause, is_same, parts_behind, is_pl
 use Rattle.trace_reading.proofs.Cuts.{cut_parts}
 
 pub both : (holds other_holds : Bool) → (holds && other_holds) ≡ true → (holds ≡ true) × (other_holds ≡ true)
-both true other_holds e = (refl, e)
-both false other_holds e = absurd cc
+both true holds e = (refl, e)
+both false holds e = absurd cc
 
 -- a number is digits
 pub number_digits : (w : List ℕ) → is_plain_number w ≡ true → AllDigits 10 w

@@ -62,7 +62,7 @@ fn version_cause(bytes: &[u8]) -> Option<Why>
 
 /// Why no line of the heap stands at the front.
 fn heap_cause(bytes: &[u8]) -> Option<Why>
-    ensures { (address : ℕ) → result ≡ cause_of (stage.Heap address) (parts 10 bytes.now) }
+    ensures { (version : ℕ) → result ≡ cause_of (stage.Heap version) (parts 10 bytes.now) }
 {
     match line_at(bytes) {
         Some((text, _)) => title_cause(

@@ -126,7 +126,7 @@ module _ (config : Config) (scripts : Scripts) (jobs : Jobs) (end : Closed) (don
   come_whole count = ends.whole config scripts done.reached.events count (subst (λ s. AreIdle config scripts s) (sym leads) done.idle) called
 
   -- the work has its replies
-  pub come_told : (other_mutator : ℕ) → other_mutator < config.mutators → work.replies_of jobs other_mutator ≡ history.replies_of (of_thread come_past (other_mutator + 1))
+  pub come_told : (mutator : ℕ) → mutator < config.mutators → work.replies_of jobs mutator ≡ history.replies_of (of_thread come_past (mutator + 1))
   come_told other_mutator below =
       let did = called other_mutator below in
       told other_mutator did.actor below did.here ∙ sym (ap history.replies_of (ends.entries_called config scripts done.reached.events other_mutator did))

@@ -130,8 +130,8 @@ module _ (heap : Heap) (scripts : Scripts) (first : Jobs) (bundles : List Bundle
       script_at n true (Some s) is other_found e has = ap (λ x. (unwrap_or x (begun [])).script) (e ∙ ap (option_map begun) is) ∙ sym (get_or_from_slice_get scripts n s [] is)
 
 -- the bundles that a heap was opened with
-pub can_be_dealt : (heap : Heap) (other_config : Config) (scripts : Scripts) (jobs : Jobs) (bundles : List Bundle) (w : ℕ) → config_of heap ≡ other_config → length bundles ≡ w
-    → ((index : ℕ) (bundle : Bundle) → slice_get bundles index ≡ Some bundle → IsFresh heap bundle (dealt_to w index (whole (heap_opening other_config).machines))) → jobs ≡ opened scripts → length scripts ≡ other_config.mutators → All IsRunnable scripts
+pub can_be_dealt : (heap : Heap) (config : Config) (scripts : Scripts) (jobs : Jobs) (bundles : List Bundle) (w : ℕ) → config_of heap ≡ config → length bundles ≡ w
+    → ((index : ℕ) (bundle : Bundle) → slice_get bundles index ≡ Some bundle → IsFresh heap bundle (dealt_to w index (whole (heap_opening config).machines))) → jobs ≡ opened scripts → length scripts ≡ config.mutators → All IsRunnable scripts
     → CanBeDealt heap scripts jobs bundles
 can_be_dealt heap other_config scripts jobs bundles w config count fresh jobs_are many runnable = record {
   fresh = λ index bundle here.

@@ -47,7 +47,7 @@ none_from (Some x) e = absurd cc
 
 -- what is dealt to the first bundles is not dealt to the others
 never_both : (holds other_holds : Bool) (x a b c : ℕ) → (holds && (nat_le a x && nat_lt x b)) ≡ true → (other_holds && (nat_le b x && nat_lt x c)) ≡ false
-never_both false other_holds x a b c e = absurd cc
+never_both false holds x a b c e = absurd cc
 never_both true false x a b c e = refl
 never_both true true x a b c e = grind (arith, nat_tests)
 
@@ -61,12 +61,12 @@ first_of None = refl
 first_of (Some x) = refl
 
 some_of : {R : Type 0} (found other_found : Option R) → is_some (views.whichever_is_there found other_found) ≡ (is_some found || is_some other_found)
-some_of None other_found = refl
-some_of (Some r) other_found = refl
+some_of None found = refl
+some_of (Some r) found = refl
 
 some_job : (found other_found : Option Progress) → is_some (one_of found other_found) ≡ (is_some found || is_some other_found)
-some_job None other_found = refl
-some_job (Some p) other_found = refl
+some_job None found = refl
+some_job (Some p) found = refl
 
 -- ---- scripts
 
@@ -194,8 +194,8 @@ role_of bundle n actor here =
     ap is_mutating (sym found.2) ∙ (bundle.of_heap n found.0 found.1).role
 
 both_hold : (holds other_holds : Bool) → (holds && other_holds) ≡ true → (holds ≡ true) × (other_holds ≡ true)
-both_hold true other_holds e = (refl, e)
-both_hold false other_holds e = absurd cc
+both_hold true holds e = (refl, e)
+both_hold false holds e = absurd cc
 
 module _ (heap : Heap) (w a b : ℕ) (part : Part) (is : IsPart heap w a b part) where
   -- each is dealt to these bundles

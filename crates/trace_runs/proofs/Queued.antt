@@ -96,8 +96,8 @@ crewed_part heap count bundles w index bundle crew small can many here are = rec
     part = record { of = idle.has.of; machines = idle.has.machines }
 
 -- the bundles that a heap was opened with
-pub can_be_crewed : (heap : Heap) (other_config : Config) (bundles : List Bundle) (w : ℕ) → config_of heap ≡ other_config → IsQueueHeap other_config → length bundles ≡ w → w ≡ seat_count other_config.mutators other_config.helpers
-    → ((index : ℕ) (bundle : Bundle) → slice_get bundles index ≡ Some bundle → IsFresh heap bundle (dealt_to w index (whole (heap_opening other_config).machines))) → CanBeCrewed heap bundles
+pub can_be_crewed : (heap : Heap) (config : Config) (bundles : List Bundle) (w : ℕ) → config_of heap ≡ config → IsQueueHeap config → length bundles ≡ w → w ≡ seat_count config.mutators config.helpers
+    → ((index : ℕ) (bundle : Bundle) → slice_get bundles index ≡ Some bundle → IsFresh heap bundle (dealt_to w index (whole (heap_opening config).machines))) → CanBeCrewed heap bundles
 can_be_crewed heap other_config bundles w config sizes count seats fresh = record {
   fresh = λ index bundle here.
       subst (λ n. IsFresh heap bundle (dealt_to n index (whole (heap_opening (config_of heap)).machines))) (sym count)

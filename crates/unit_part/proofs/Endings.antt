@@ -129,7 +129,7 @@ none_shape config at = by_tests (refs_in at.shape == 0) (nat_lt at.address (tams
 none_claim : (unit : ℕ) (holds other_holds : Bool) → SaysNone (if holds then (if other_holds then Ended Worked else LoadLimit unit) else LoadClaim) → ⊥
 none_claim unit true true end = cc
 none_claim unit true false end = cc
-none_claim unit false other_holds end = cc
+none_claim unit false holds end = cc
 
 none_limit : (region got : ℕ) (holds : Bool) → SaysNone (if holds then Ended Worked else LoadTams region got) → ⊥
 none_limit region got true end = cc

@@ -64,7 +64,7 @@ module _ (config : Config) (memory : Word → ℕ) (block : Plot) (graph : Graph
       (λ (one : (1 < memory (Answer mutator)) × (name : Name) × (promises.ref (mutator + 1) ≡ Some name) × (name_at (block (memory (Answer mutator))) ≡ Some name)). (one.1, one.2))
       (is_after.stands.rooted.answers mutator inside)
 
-  pub some_if_promised : (mutator : ℕ) (other_name : Name) → mutator < config.mutators → promises.ref (mutator + 1) ≡ Some other_name → 1 < memory (Answer mutator)
+  pub some_if_promised : (mutator : ℕ) (name : Name) → mutator < config.mutators → promises.ref (mutator + 1) ≡ Some name → 1 < memory (Answer mutator)
   some_if_promised mutator other_name inside is = ⊎_elim
       (λ (nothing : (memory (Answer mutator) ≤ 1) × (promises.ref (mutator + 1) ≡ None)). absurd (none-some other_name (sym nothing.1 ∙ is)))
       (λ (one : (1 < memory (Answer mutator)) × (name : Name) × (promises.ref (mutator + 1) ≡ Some name) × (name_at (block (memory (Answer mutator))) ≡ Some name)). one.0)

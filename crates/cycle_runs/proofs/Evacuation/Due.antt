@@ -71,7 +71,7 @@ module _ (config : Config) (graph : Graph) (stage : Stage Actor) (entries : List
 
     -- the roots of a mutator may be used
     thread_there : (other_mutator : ℕ) → other_mutator < config.mutators → (actor : Actor) × (mutator : Mutating) × (slice_get stage.machines other_mutator ≡ Some actor) × (actor.machine ≡ mutating mutator) × IsThread config stage.words (the_world config graph stage entries goes) (of_thread entries (other_mutator + 1)) other_mutator actor mutator
-    thread_there other_mutator below = mutator_there config stage.words (the_world config graph stage entries goes) entries stage.machines goes.follows.seats goes.follows.machines other_mutator below
+    thread_there mutator below = mutator_there config stage.words (the_world config graph stage entries goes) entries stage.machines goes.follows.seats goes.follows.machines mutator below
 
     root_outside : (mutator index : ℕ) → mutator < config.mutators → index < 16 → NamesNoSet config (settled config stage) (Root mutator index)
     root_outside mutator index below small some inside =

@@ -80,7 +80,7 @@ module _ (config : Config) (memory : Word → ℕ) (set : ℕ) (objects : List �
       omega (arith, there, inside, here, all)
 
   -- no object comes twice
-  once : (other_index k : ℕ) → other_index < length objects → k < length objects → get_or objects other_index 0 - w ≡ get_or objects k 0 - w → other_index ≡ k
+  once : (index k : ℕ) → index < length objects → k < length objects → get_or objects index 0 - w ≡ get_or objects k 0 - w → index ≡ k
   once other_index k inside below same =
       let least : (index : ℕ) → index < length objects → w ≤ get_or objects index 0 = λ index less. above_first (get_or objects index 0) (to_copy.marked (get_or objects index 0) (object_is index less)) in
       let one : get_or objects other_index 0 ≡ get_or objects k 0 = (let first = least other_index inside in let second = least k below in omega (arith, same, first, second)) in

@@ -4,8 +4,8 @@ use Rattle.std.specs.List.{range_with_len, list_any}
 use Rattle.std.proofs.lemmas.Bool.{or_cases, or_left, or_right, false≢true}
 
 both_false : (holds other_holds : Bool) → holds ≡ false → other_holds ≡ false → (holds || other_holds) ≡ false
-both_false false other_holds left right = right
-both_false true other_holds left right = absurd (false≢true (sym left))
+both_false false holds left right = right
+both_false true holds left right = absurd (false≢true (sym left))
 
 pub any_at : (p : ℕ → Bool) (first n k : ℕ) → k < n → p (first + k) ≡ true → list_any p (range_with_len first n) ≡ true
 any_at p first zero k below is = absurd (omega (arith, below))

@@ -44,10 +44,10 @@ copied_word heap from to words address =
 -- The words after an object was copied to the top of a region: its words stand there, the top has grown, the region is not
 -- free, and the old copy is forwarded to the new one. All other words stay.
 unfoldable pub copied_to : Config → (Word → ℕ) → (address region : ℕ) → Word → ℕ
-copied_to config memory a other_region (Heap x) = if a == x then header_word (top_address config memory other_region) else copied_word (λ y. memory (Heap y)) a (top_address config memory other_region) (words_at memory a) x
-copied_to config memory a other_region (Top q) = if other_region == q then memory (Top other_region) + words_at memory a else memory (Top q)
-copied_to config memory a other_region Free = bit_and (memory Free) (all_but other_region)
-copied_to config memory a other_region word = memory word
+copied_to config memory a region (Heap x) = if a == x then header_word (top_address config memory region) else copied_word (λ y. memory (Heap y)) a (top_address config memory region) (words_at memory a) x
+copied_to config memory a region (Top q) = if region == q then memory (Top region) + words_at memory a else memory (Top q)
+copied_to config memory a region Free = bit_and (memory Free) (all_but region)
+copied_to config memory a region word = memory word
 
 -- and where no region has room, as they were
 abbrev pub copied_in : Config → (Word → ℕ) → ℕ → Option ℕ → Word → ℕ
@@ -65,15 +65,15 @@ MayChange Free = ⊤
 MayChange word = ⊥
 
 -- The same as a relation: an object was copied from an address to the top of a region.
-pub record IsCopiedTo (config : Config) (before after : Word → ℕ) (address other_region : ℕ) : Type 0 where
-  pub header : after (Heap (top_address config before other_region)) ≡ plain_header
-  pub words : (k : ℕ) → 0 < k → k < words_at before address → after (Heap (top_address config before other_region + k)) ≡ before (Heap (address + k))
-  pub forwarded : after (Heap address) ≡ header_word (top_address config before other_region)
-  pub elsewhere : (other_address : ℕ) → other_address ≢ address → (other_address < top_address config before other_region) ⊎ (top_address config before other_region + words_at before address ≤ other_address) → after (Heap other_address) ≡ before (Heap other_address)
-  pub top : after (Top other_region) ≡ before (Top other_region) + words_at before address
-  pub other_tops : (region : ℕ) → region ≢ other_region → after (Top region) ≡ before (Top region)
-  pub in_use : IsOutside (after Free) other_region
-  pub others_free : (region : ℕ) → region < config.regions → region ≢ other_region → bit_at (after Free) region ≡ bit_at (before Free) region
+pub record IsCopiedTo (config : Config) (before after : Word → ℕ) (address region : ℕ) : Type 0 where
+  pub header : after (Heap (top_address config before region)) ≡ plain_header
+  pub words : (k : ℕ) → 0 < k → k < words_at before address → after (Heap (top_address config before region + k)) ≡ before (Heap (address + k))
+  pub forwarded : after (Heap address) ≡ header_word (top_address config before region)
+  pub elsewhere : (other_address : ℕ) → other_address ≢ address → (other_address < top_address config before region) ⊎ (top_address config before region + words_at before address ≤ other_address) → after (Heap other_address) ≡ before (Heap other_address)
+  pub top : after (Top region) ≡ before (Top region) + words_at before address
+  pub other_tops : (other_region : ℕ) → other_region ≢ region → after (Top other_region) ≡ before (Top other_region)
+  pub in_use : IsOutside (after Free) region
+  pub others_free : (other_region : ℕ) → other_region < config.regions → other_region ≢ region → bit_at (after Free) other_region ≡ bit_at (before Free) other_region
   pub others : (word : Word) → (MayChange word → ⊥) → after word ≡ before word
 
 -- the words after so many objects of a list were copied out, one after the other

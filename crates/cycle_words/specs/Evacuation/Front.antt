@@ -22,7 +22,7 @@ live_in regions live set = sum_below (λ r. if bit_at set r == 1 then live r els
 -- what lives in it is within a limit.
 pub record IsFront (regions limit : ℕ) (live : ℕ → ℕ) (candidate : ℕ → Bool) (set : ℕ) : Type 0 where
   pub in_heap : set < 2 ^ regions
-  pub candidates : (other_region : ℕ) → IsIn set other_region → candidate other_region ≡ true
+  pub candidates : (region : ℕ) → IsIn set region → candidate region ≡ true
   pub from_front : (region other_region : ℕ) → region < regions → candidate region ≡ true → ComesBefore live region other_region → IsIn set other_region → IsIn set region
   pub fits : live_in regions live set ≤ limit
 
@@ -44,11 +44,11 @@ abbrev pub longest_front : (regions limit : ℕ) (live : ℕ → ℕ) (candidate
 longest_front regions limit live candidate = bits_of (is_in_front regions limit live candidate) 0 regions
 
 -- A region is the next one of the candidates outside a set: none of these comes before it.
-pub record IsNext (regions : ℕ) (live : ℕ → ℕ) (candidate : ℕ → Bool) (set other_region : ℕ) : Type 0 where
-  pub below : other_region < regions
-  pub is : candidate other_region ≡ true
-  pub outside : IsOutside set other_region
-  pub none_before : (region : ℕ) → region < regions → candidate region ≡ true → IsOutside set region → ComesBefore live region other_region → ⊥
+pub record IsNext (regions : ℕ) (live : ℕ → ℕ) (candidate : ℕ → Bool) (set region : ℕ) : Type 0 where
+  pub below : region < regions
+  pub is : candidate region ≡ true
+  pub outside : IsOutside set region
+  pub none_before : (other_region : ℕ) → other_region < regions → candidate other_region ≡ true → IsOutside set other_region → ComesBefore live other_region region → ⊥
 
 -- a set has one region more than another
 pub record HasOneMore (set region more : ℕ) : Type 0 where

@@ -86,8 +86,8 @@ marked_in config memory block address = if is_black config memory address then p
 
 -- So many words are those of the objects of a region that are marked, where what is marked are objects.
 abbrev pub IsMarkedIn : Config → (Word → ℕ) → (region words : ℕ) → Type 0
-IsMarkedIn config memory other_region words = (block : Plot) → AreSized memory block → ((address : ℕ) → is_black config memory address ≡ true → HasObject block address)
-    → words ≡ sum_below (λ k. marked_in config memory block (base_of config other_region + k)) config.region_words
+IsMarkedIn config memory region words = (block : Plot) → AreSized memory block → ((address : ℕ) → is_black config memory address ≡ true → HasObject block address)
+    → words ≡ sum_below (λ k. marked_in config memory block (base_of config region + k)) config.region_words
 
 -- That is what lives in the region.
 abbrev pub LiveIsMarked : Type 0

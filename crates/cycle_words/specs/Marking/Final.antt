@@ -17,8 +17,8 @@ use Rattle.cycle_words.specs.Marking.Close.{closed}
 
 -- a seat has a buffer that ends in a region
 abbrev pub ends_in : Config → (Word → ℕ) → (region seat : ℕ) → Bool
-ends_in config memory other_region seat =
-    not (memory (Current seat) == 0) && (nat_lt (base_of config other_region) (end_in (memory (Current seat))) && nat_le (end_in (memory (Current seat))) (base_of config other_region + config.region_words))
+ends_in config memory region seat =
+    not (memory (Current seat) == 0) && (nat_lt (base_of config region) (end_in (memory (Current seat))) && nat_le (end_in (memory (Current seat))) (base_of config region + config.region_words))
 
 -- a region is current: it is the one that is shared, or some seat's buffer ends in it
 abbrev pub is_current : Config → (Word → ℕ) → ℕ → Bool

@@ -31,11 +31,11 @@ pub record IsLoosened (memory other_memory : Word → ℕ) (block plot : Plot) :
   pub same : SameButLoose block plot
   pub rooms : (address seat : ℕ) (piece : Block) → plot address ≡ Some piece → room_of piece ≡ Some seat → block address ≡ Some piece
   pub some : (address words : ℕ) → plot address ≡ Some (filler words) → 1 ≤ words
-  pub words : (address k : ℕ) (other_piece : Block) → is_loose other_piece ≡ false → block address ≡ Some other_piece → k < words_of other_piece → other_memory (Heap (address + k)) ≡ memory (Heap (address + k))
+  pub words : (address k : ℕ) (piece : Block) → is_loose piece ≡ false → block address ≡ Some piece → k < words_of piece → other_memory (Heap (address + k)) ≡ memory (Heap (address + k))
   pub headers : (address words : ℕ) → plot address ≡ Some (filler words) → (other_memory (Heap address) ≡ filler_header words) ⊎ ((block address ≡ Some (filler words)) × (other_memory (Heap address) ≡ memory (Heap address)))
   pub others : (word : Word) → is_of_buffers word ≡ false → other_memory word ≡ memory word
   pub lower : (region : ℕ) → other_memory (Top region) ≤ memory (Top region)
-  pub fewer : (other_seat : ℕ) → other_memory (Current other_seat) ≢ 0 → other_memory (Current other_seat) ≡ memory (Current other_seat)
+  pub fewer : (seat : ℕ) → other_memory (Current seat) ≢ 0 → other_memory (Current seat) ≡ memory (Current seat)
 
 -- so it is where nothing changes
 pub loosened_none : (memory : Word → ℕ) (block : Plot) → ((address words : ℕ) → block address ≡ Some (filler words) → 1 ≤ words) → IsLoosened memory memory block block

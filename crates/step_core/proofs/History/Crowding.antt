@@ -198,7 +198,7 @@ module _ (change : Change) (config : Config) (graph : Graph) (stage : Stage Acto
     at = image_start config + index
 
     -- into an answer
-    at_answer : (other_mutator : ℕ) → name_of config at ≡ Answer other_mutator → Crowded (told_word stage.machines (Answer other_mutator) (slice_index stage.words at) (slice_index image index))
+    at_answer : (mutator : ℕ) → name_of config at ≡ Answer mutator → Crowded (told_word stage.machines (Answer mutator) (slice_index stage.words at) (slice_index image index))
     at_answer other_mutator is =
         let block = goes.follows.block in
         let ghost = goes.follows.ghost in

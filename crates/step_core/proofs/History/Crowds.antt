@@ -97,14 +97,14 @@ module _ (regions region_words : ℕ) (graph : Graph) (scripts : List (List Comm
   crowded_append : (more : List Entry)
       → ((other_index index : ℕ) (entry : Entry) → other_index ≡ length history + index → slice_get more index ≡ Some entry → entry.reply ≡ Full → IsCrowded regions region_words graph scripts (take other_index (history ++ more)) entry)
       → AreCrowded regions region_words graph scripts (history ++ more)
-  crowded_append more later other_index entry there full = ⊎_elim
-      (λ (inside : (x : Entry) × (other_index < length history) × (slice_get history other_index ≡ Some x) × (get_or history other_index x ≡ x)).
-      subst (λ h. IsCrowded regions region_words graph scripts h entry) (sym (take-append-le other_index history more (let below = inside.1 in omega (arith, below))))
-      (crowded other_index entry (sym (get_left history more other_index inside.1) ∙ there) full))
-      (λ (past : (length history ≤ other_index) × (slice_get history other_index ≡ None)).
-      let is : other_index ≡ length history + (other_index - length history) = (let above = past.0 in omega (arith, above)) in
-      later other_index (other_index - length history) entry is (sym (get_right history more other_index (other_index - length history) is) ∙ there) full)
-      (slice_get_cases history other_index).1
+  crowded_append more later index entry there full = ⊎_elim
+      (λ (inside : (x : Entry) × (index < length history) × (slice_get history index ≡ Some x) × (get_or history index x ≡ x)).
+      subst (λ h. IsCrowded regions region_words graph scripts h entry) (sym (take-append-le index history more (let below = inside.1 in omega (arith, below))))
+      (crowded index entry (sym (get_left history more index inside.1) ∙ there) full))
+      (λ (past : (length history ≤ index) × (slice_get history index ≡ None)).
+      let is : index ≡ length history + (index - length history) = (let above = past.0 in omega (arith, above)) in
+      later index (index - length history) entry is (sym (get_right history more index (index - length history) is) ∙ there) full)
+      (slice_get_cases history index).1
 
   -- entries without Full
   pub crowded_none : (more : List Entry) → IsWithoutFull more → AreCrowded regions region_words graph scripts (history ++ more)

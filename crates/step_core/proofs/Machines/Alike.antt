@@ -30,7 +30,7 @@ pub record AreAlike (memory other_memory : Word → ℕ) : Type 0 where
   pub waits : (mutator : ℕ) → other_memory (Wait mutator) ≡ memory (Wait mutator)
   pub answers : (mutator : ℕ) → other_memory (Answer mutator) ≡ memory (Answer mutator)
   pub counts : (mutator : ℕ) → other_memory (Count mutator) ≡ memory (Count mutator)
-  pub buffers : (mutator other_index : ℕ) → other_memory (Buffer mutator other_index) ≡ memory (Buffer mutator other_index)
+  pub buffers : (mutator index : ℕ) → other_memory (Buffer mutator index) ≡ memory (Buffer mutator index)
   pub greys : (n : ℕ) → other_memory (Grey n) ≡ memory (Grey n)
   pub heap : (address : ℕ) → other_memory (Heap address) ≡ memory (Heap address)
 

@@ -119,7 +119,7 @@ module _ (config : Config) (world : World) (shared : Shared config world) where
   pub one_reference : (address other_address : ℕ) (reference other_reference : Reference) → Points world.block address reference → Points world.block other_address other_reference → NameTheSame world.block address other_address → same_reference reference other_reference ≡ true
   one_reference address other_address reference other_reference is_a is_b (inl null) =
       rw (null_if_0 config _ world.block shared.parsable.plotted address reference is_a null.0, null_if_0 config _ world.block shared.parsable.plotted other_address other_reference is_b null.1) refl
-  one_reference address other_address None other_reference is_a is_b (inr both) = absurd (none-some both.0 (sym (null_if_0 config _ world.block shared.parsable.plotted address (Some both.0) both.1 is_a)))
+  one_reference address other_address None reference is_a is_b (inr both) = absurd (none-some both.0 (sym (null_if_0 config _ world.block shared.parsable.plotted address (Some both.0) both.1 is_a)))
   one_reference address other_address (Some m) None is_a is_b (inr both) = absurd (none-some both.0 (sym (null_if_0 config _ world.block shared.parsable.plotted other_address (Some both.0) both.2 is_b)))
   one_reference address other_address (Some m) (Some n) is_a is_b (inr both) =
       let is : m ≡ n = same_Some m both.0 (sym is_a ∙ both.1) ∙ sym (same_Some n both.0 (sym is_b ∙ both.2)) in
@@ -127,7 +127,7 @@ module _ (config : Config) (world : World) (shared : Shared config world) where
 
   -- a word that is not null, and does not stand for the reference of another one, names an object that the other one does not
   pub named_otherwise : (address other_address : ℕ) (reference other_reference : Reference) → address ≢ 0 → Points world.block address reference → Points world.block other_address other_reference → same_reference reference other_reference ≡ false → NameOthers world.block address other_address
-  named_otherwise address other_address None other_reference some is_a is_b differs = absurd (some is_a)
+  named_otherwise address other_address None reference some is_a is_b differs = absurd (some is_a)
   named_otherwise address other_address (Some m) None some is_a is_b differs = record { name = m; is = is_a; other = inl is_b }
   named_otherwise address other_address (Some m) (Some n) some is_a is_b differs = record {
     name = m;
@@ -145,7 +145,7 @@ module _ (config : Config) (world : World) (shared : Shared config world) where
 
   -- and otherwise they do not stand for one
   pub not_one : (address other_address : ℕ) (reference other_reference : Reference) → Points world.block address reference → Points world.block other_address other_reference → NameOthers world.block address other_address → same_reference reference other_reference ≡ false
-  not_one address other_address None other_reference is_a is_b others = absurd (none-some others.name (sym (null_if_0 config _ world.block shared.parsable.plotted address (Some others.name) others.is is_a)))
+  not_one address other_address None reference is_a is_b others = absurd (none-some others.name (sym (null_if_0 config _ world.block shared.parsable.plotted address (Some others.name) others.is is_a)))
   not_one address other_address (Some m) None is_a is_b others = refl
   not_one address other_address (Some m) (Some n) is_a is_b others = ⊎_elim
       (λ (same : same_name m n ≡ true).

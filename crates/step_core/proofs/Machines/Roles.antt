@@ -153,8 +153,8 @@ number_of config words world entries k actor (controlling h) is = is.number_is
 -- that of a mutator's number is a mutator
 pub mutator_of : (config : Config) (other_mutator : ℕ) (machine : Machine) → HasNumber config other_mutator machine → other_mutator < config.mutators → (mutator : Mutating) × (machine ≡ mutating mutator)
 mutator_of config other_mutator (mutating mutator) number below = (mutator, refl)
-mutator_of config other_mutator (helping h) number below = absurd (omega (arith, number.1, below))
-mutator_of config other_mutator (controlling h) number below = absurd (omega (arith, number, below))
+mutator_of config mutator (helping h) number below = absurd (omega (arith, number.1, below))
+mutator_of config mutator (controlling h) number below = absurd (omega (arith, number, below))
 
 -- and that of the control's number is the control
 pub control_of : (config : Config) (k : ℕ) (machine : Machine) → HasNumber config k machine → k ≡ config.mutators + config.helpers → (control : Controlling) × (machine ≡ controlling control)
@@ -323,10 +323,10 @@ module _ (config : Config) (words : List ℕ) (world : World) (past : List Entry
   -- and the first of them are mutators
   pub mutator_there : ((index : ℕ) (actor : Actor) → slice_get machines index ≡ Some actor → IsMachine config words world (of_thread past (index + 1)) index actor actor.machine) → (other_mutator : ℕ) → other_mutator < config.mutators
       → (actor : Actor) × (mutator : Mutating) × (slice_get machines other_mutator ≡ Some actor) × (actor.machine ≡ mutating mutator) × IsThread config words world (of_thread past (other_mutator + 1)) other_mutator actor mutator
-  mutator_there known other_mutator below =
-      let there = machine_there other_mutator (omega (arith, below)) in
-      let role = mutator_of config other_mutator there.0.machine (number_of config words world (of_thread past (other_mutator + 1)) other_mutator there.0 there.0.machine (known other_mutator there.0 there.1)) below in
-      (there.0, role.0, there.1, role.1, subst (λ machine. IsMachine config words world (of_thread past (other_mutator + 1)) other_mutator there.0 machine) role.1 (known other_mutator there.0 there.1))
+  mutator_there known mutator below =
+      let there = machine_there mutator (omega (arith, below)) in
+      let role = mutator_of config mutator there.0.machine (number_of config words world (of_thread past (mutator + 1)) mutator there.0 there.0.machine (known mutator there.0 there.1)) below in
+      (there.0, role.0, there.1, role.1, subst (λ machine. IsMachine config words world (of_thread past (mutator + 1)) mutator there.0 machine) role.1 (known mutator there.0 there.1))
 
 -- a machine can make its next access
 abbrev pub CanGo : Config → Machine → Type 0

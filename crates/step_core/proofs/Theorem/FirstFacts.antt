@@ -46,7 +46,7 @@ first_world config = record { memory = first_memory config; block = first_block 
 -- the roots leave each other word as it was
 rooted_else : (config : Config) (word : Word) → ((mutator : ℕ) → same_word (Root mutator 0) word ≡ false) → (other_mutator : ℕ) → rooted_memory config other_mutator word ≡ 0
 rooted_else config word other zero = refl
-rooted_else config word other (suc other_mutator) = cond-false (same_word (Root other_mutator 0) word) _ _ (other other_mutator) ∙ rooted_else config word other other_mutator
+rooted_else config word other (suc mutator) = cond-false (same_word (Root mutator 0) word) _ _ (other mutator) ∙ rooted_else config word other mutator
 
 -- the first root of each mutator is the hub
 rooted_root : (config : Config) (t mutator : ℕ) → mutator < t → rooted_memory config t (Root mutator 0) ≡ config.region_words

@@ -55,7 +55,7 @@ stands plain shows =
       renewable = opening_renewable config.mutators;
     }
 
-of_opened : {E : Type 0} (other_config : Config) (P : Plain → Type 0) → ((plain : Plain) → Shows plain (opening (config_of plain)) → P plain) → (r : Result Plain E) → IfOk r (λ plain. config_of plain ≡ other_config) → IfOk r (λ plain. Shows plain (opening other_config)) → IfOk r P
+of_opened : {E : Type 0} (config : Config) (P : Plain → Type 0) → ((plain : Plain) → Shows plain (opening (config_of plain)) → P plain) → (r : Result Plain E) → IfOk r (λ plain. config_of plain ≡ config) → IfOk r (λ plain. Shows plain (opening config)) → IfOk r P
 of_opened other_config P so (Ok plain) config shows = so plain (subst (λ (config : Config). Shows plain (opening config)) (sym config) shows)
 of_opened other_config P so (Err e) config shows = tt
 
