@@ -51,7 +51,7 @@ pub names : (P : Object → Type 0) (graph : Graph) (reference : Reference) (nam
 names P graph reference name object is whole holds =
     subst (λ (reference : Reference). P (named graph reference)) (sym is) (subst (λ (found : Option Object). P (unwrap_or found (record { refs = []; nums = [] }))) (sym whole) holds)
 
--- Roots `a` name n, which is o.
+-- The root `a` names this object.
 
 pub gets : (P : Outcome → Type 0) (graph : Graph) (thread dst a field : ℕ) (name : Name) (object : Object) (value : Reference) → graph.root thread a ≡ Some name → graph.object name ≡ Some object → slice_get object.refs field ≡ Some value
     → P (answers (shown value) (with_root graph thread dst value)) → P (outcome graph thread (Get dst a field))

@@ -331,7 +331,7 @@ impl Mutator {
 
     /// Makes its next step on the words of the heap's table: the access of `plan`, and what `took` makes of the word that it finds. Spots
     /// at which every call stands have their step written out here, and two of the others are handed on as values, so that the compiler
-    /// makes a way of its own for each. More of these, and the function is too large for the compiler to leave it inline.
+    /// makes a way of its own for each. With all of them handed on the function is too large for the compiler to leave it inline.
     #[inline(always)]
     pub fn step(&mut self, words: &mut Vec<u64>) -> Took
         requires busy { is_idle self.old ≡ false }
